@@ -1,0 +1,71 @@
+-- The slot of a key is that of a candidate.
+use Rattle.std.proofs.Common.{◌≡◌, ℕ, inl, inr, Bool, true, false, cond, List, [], ◌∷◌, length, find, get_or, Option, Some, None, option_map, refl, sym, ap, ◌∙◌, arith}
+use Rattle.std.specs.List.{AllByRecursion}
+use Rattle.std.specs.Str.{bytes_eq}
+use Rattle.std.proofs.lemmas.List.Elements.{recursion_from_All}
+use Rattle.std.proofs.lemmas.Slice.Eq.{bytes_eq-Decides}
+use Rattle.silt_cuckoo.specs.declared.lookup.Candidate.{Candidate}
+use Rattle.silt_cuckoo.specs.Slots.{Slots, Entry, place_at}
+use Rattle.silt_cuckoo.specs.Keys.{first_bucket, second_bucket, key_pair}
+use Rattle.silt_cuckoo.specs.Lookup.{candidates_of, places_of}
+use Rattle.silt_cuckoo.specs.Index.{has_key, slot_of_key, candidate_of_key}
+use Rattle.silt_cuckoo.specs.Laws.{FindLaw}
+use Rattle.silt_cuckoo.proofs.Search.{found_in_range, none_in_range}
+use Rattle.silt_cuckoo.proofs.Paths.{IsOn, entry_inside}
+use Rattle.silt_cuckoo.proofs.Placed.{has_entry}
+use Rattle.silt_cuckoo.proofs.Matching.{Stands, candidates_standing, pair_candidate}
+use Rattle.silt_cuckoo.proofs.Indexing.{has_key_is, is_has_key, newest_apart}
+
+-- what is found among candidates passes and stands in its slot
+found_candidate : (slots : Slots) (p : Candidate → Bool) (cs : List Candidate) (c : Candidate) → AllByRecursion (Stands slots) cs → find p cs ≡ Some c → (p c ≡ true) × Stands slots c
+found_candidate slots p [] c stand e = absurd (cc)
+found_candidate slots p (x ∷ cs) c stand e = go (p x) refl (found_candidate slots p cs c stand.1) e
+  where
+    go : (b : Bool) → p x ≡ b → (find p cs ≡ Some c → (p c ≡ true) × Stands slots c) → cond b (Some x) (find p cs) ≡ Some c → (p c ≡ true) × Stands slots c
+    go true is rest h = let same : x ≡ c = cc in rw (← same) (is, stand.0)
+    go false is rest h = rest h
+
+-- where none is found, the test fails at each place
+none_found : (p : ℕ → Bool) (cs : List Candidate) (place : ℕ) → find (λ (c : Candidate). p c.place) cs ≡ None → IsOn place (places_of cs) → p place ≡ false
+none_found p [] place e on = absurd on
+none_found p (x ∷ cs) place e on = go (p x.place) refl (none_found p cs place) e on
+  where
+    go : (b : Bool) → p x.place ≡ b → (find (λ (c : Candidate). p c.place) cs ≡ None → IsOn place (places_of cs) → p place ≡ false)
+        → cond b (Some x) (find (λ (c : Candidate). p c.place) cs) ≡ None → IsOn place (places_of (x ∷ cs)) → p place ≡ false
+    go true is rest h on = absurd (cc)
+    go false is rest h (inl same) = ap p same ∙ is
+    go false is rest h (inr on) = rest h on
+
+-- the slot of a key is that of the first candidate with the key
+pub find_law : FindLaw
+find_law buckets keys slots key index =
+    go (slot_of_key keys slots key) refl (candidate_of_key keys slots buckets key) refl
+  where
+    test : ℕ → Bool
+    test place = bytes_eq (get_or keys place []) key
+
+    go : (s : Option ℕ) → slot_of_key keys slots key ≡ s → (o : Option Candidate) → candidate_of_key keys slots buckets key ≡ o → s ≡ option_map (λ (c : Candidate). c.slot) o
+    go None none None not_found = refl
+    go None none (Some c) found =
+        let it = found_candidate slots (λ (c : Candidate). test c.place) (candidates_of slots (first_bucket buckets key) (second_bucket buckets key)) c
+        (recursion_from_All (Stands slots) (candidates_of slots (first_bucket buckets key) (second_bucket buckets key)) (candidates_standing slots (first_bucket buckets key) (second_bucket buckets key))) found in
+        let entry = has_entry slots c.slot c.place it.1 in
+        let passes = is_has_key keys slots key c.slot entry.0 entry.1 (ap (λ n. get_or keys n []) entry.2 ∙ (bytes_eq-Decides (get_or keys c.place []) key).0 it.0) in
+        let there = entry_inside slots c.slot entry.0 entry.1 in
+        let fails = none_in_range (has_key keys slots key) 0 (length slots) none c.slot (omega arith) (omega arith) in
+        absurd (cc)
+    go (Some slot) is None not_found =
+        let entry = has_key_is keys slots key slot (found_in_range (has_key keys slots key) 0 (length slots) slot is).2 in
+        let newest = index.no_other entry.0.1 (slot, ap (option_map (λ (e : Entry). e.1)) entry.1) in
+        let pair = index.newest entry.0.1 newest ∙ ap (λ k. Some (key_pair buckets k)) entry.2 in
+        let on = pair_candidate slots (first_bucket buckets key) (second_bucket buckets key) entry.0.1 index.table.places_apart pair in
+        let fails = none_found test (candidates_of slots (first_bucket buckets key) (second_bucket buckets key)) entry.0.1 not_found on in
+        let passes : test entry.0.1 ≡ true = (bytes_eq-Decides (get_or keys entry.0.1 []) key).1 entry.2 in
+        absurd (cc)
+    go (Some slot) is (Some c) found =
+        let it = found_candidate slots (λ (c : Candidate). test c.place) (candidates_of slots (first_bucket buckets key) (second_bucket buckets key)) c
+        (recursion_from_All (Stands slots) (candidates_of slots (first_bucket buckets key) (second_bucket buckets key)) (candidates_standing slots (first_bucket buckets key) (second_bucket buckets key))) found in
+        let entry = has_key_is keys slots key slot (found_in_range (has_key keys slots key) 0 (length slots) slot is).2 in
+        let held : place_at slots slot ≡ Some entry.0.1 = ap (option_map (λ (e : Entry). e.1)) entry.1 in
+        let same = newest_apart keys entry.0.1 c.place (index.no_other entry.0.1 (slot, held)) (index.no_other c.place (c.slot, it.1)) (entry.2 ∙ sym ((bytes_eq-Decides (get_or keys c.place []) key).0 it.0)) in
+        ap Some (index.table.places_apart slot c.slot c.place (held ∙ ap Some same) it.1)

@@ -1,0 +1,232 @@
+-- What the table of some keys holds: the newest place of each key.
+use Rattle.std.proofs.Common.{◌≡◌, ◌≢◌, inl, inr, ℕ, zero, suc, ◌*◌, ◌/◌, ◌<◌, true, false, List, [], ◌∷◌, ◌++◌, length, fold, get_or, Option, Some, None, option_map, unwrap_or, refl, sym, subst, ap, ◌∙◌, arith, length-append, length-set}
+use Rattle.std.specs.Str.{bytes_eq}
+use Rattle.std.proofs.lemmas.Slice.Eq.{bytes_eq-Decides}
+use Rattle.std.proofs.lemmas.List.{length-replicate}
+use Rattle.std.proofs.lemmas.Bool.{cases_eq, cases_lt, cases_Bool, eq-eqb, ne_eqb}
+use Rattle.silt_cuckoo.specs.Slots.{Slots, Entry, IsTable, IsBucketCount, HoldsPlace, bucket_count, empty_slots, entry_at, tag_at, place_at}
+use Rattle.silt_cuckoo.specs.Placing.{placed, replaced}
+use Rattle.silt_cuckoo.specs.Pairs.{has_place, AddsPair, TakesSlot}
+use Rattle.silt_cuckoo.specs.Keys.{first_bucket, second_bucket, key_pair}
+use Rattle.silt_cuckoo.specs.Index.{Index, IsNewest, Indexes, has_key, slot_of_key, placed_or_replaced, added, indexed}
+use Rattle.silt_cuckoo.specs.Laws.{IndexLaw}
+use Rattle.silt_cuckoo.proofs.Search.{found_in_range, none_in_range}
+use Rattle.silt_cuckoo.proofs.Paths.{entry_inside}
+use Rattle.silt_cuckoo.proofs.Placed.{has_entry, has_place_is, is_has_place, table_pairs-held, table_law, pair_law}
+use Rattle.silt_cuckoo.proofs.Tables.{empty_table, entry_at-free}
+use Rattle.silt_cuckoo.proofs.Replaced.{replace_law}
+use Rattle.silt_cuckoo.proofs.Places.{held_before, holds_from_pair, pair_held}
+use Rattle.silt_cuckoo.proofs.KeyIndex.{next_index, stays_none, indexed_keys}
+
+-- the key at the end
+at_last : (keys : List (List ℕ)) (key : List ℕ) → get_or (keys ++ key ∷ []) (length keys) [] ≡ key
+at_last [] key = refl
+at_last (k ∷ keys) key = at_last keys key
+
+-- the keys before it stay
+at_before : (keys : List (List ℕ)) (key : List ℕ) (place : ℕ) → place < length keys → get_or (keys ++ key ∷ []) place [] ≡ get_or keys place []
+at_before [] key place low = absurd (omega arith)
+at_before (k ∷ keys) key zero low = refl
+at_before (k ∷ keys) key (suc place) low = at_before keys key place (omega arith)
+
+-- a further key is the newest
+newest_last : (keys : List (List ℕ)) (key : List ℕ) → IsNewest (keys ++ key ∷ []) (length keys)
+newest_last keys key = (omega (arith, length-append keys (key ∷ [])), λ later low high. absurd (omega (arith, length-append keys (key ∷ []))))
+
+-- another key's newest place stays the newest
+newest_before : (keys : List (List ℕ)) (key : List ℕ) (place : ℕ) → IsNewest keys place → get_or keys place [] ≢ key → IsNewest (keys ++ key ∷ []) place
+newest_before keys key place (low, none) other = (
+  omega (arith, length-append keys (key ∷ [])),
+  λ later above below same. elim (cases_lt later (length keys)) [
+    | inl there ↦ none later above there (sym (at_before keys key later there) ∙ same ∙ at_before keys key place low)
+    | inr past ↦
+        let last : later ≡ length keys = omega (arith, length-append keys (key ∷ [])) in
+        other (sym (at_before keys key place low) ∙ sym same ∙ ap (λ n. get_or (keys ++ key ∷ []) n []) last ∙ at_last keys key)
+  ],
+)
+
+-- and was it before
+before_newest : (keys : List (List ℕ)) (key : List ℕ) (place : ℕ) → IsNewest (keys ++ key ∷ []) place → place ≢ length keys → IsNewest keys place × (get_or keys place [] ≢ key)
+before_newest keys key place (low, none) other =
+    let there : place < length keys = omega (arith, length-append keys (key ∷ [])) in (
+      (there, λ later above below same. none later above (omega (arith, length-append keys (key ∷ []))) (at_before keys key later below ∙ same ∙ sym (at_before keys key place there))),
+      λ same. none (length keys) there (omega (arith, length-append keys (key ∷ []))) (at_last keys key ∙ sym same ∙ sym (at_before keys key place there)),
+    )
+
+-- a key has one newest place
+pub newest_apart : (keys : List (List ℕ)) (p q : ℕ) → IsNewest keys p → IsNewest keys q → get_or keys p [] ≡ get_or keys q [] → p ≡ q
+newest_apart keys p q (p_low, p_none) (q_low, q_none) same = elim (cases_lt p q) [
+  | inl below ↦ absurd (p_none q below q_low (sym same))
+  | inr above ↦ elim (cases_eq p q) [
+    | inl is ↦ is
+    | inr other ↦ absurd (q_none p (omega arith) p_low same)
+  ]
+]
+
+-- a slot that has the key
+pub has_key_is : (keys : List (List ℕ)) (slots : Slots) (key : List ℕ) (slot : ℕ) → has_key keys slots key slot ≡ true → (e : Entry) × (entry_at slots slot ≡ Some e) × (get_or keys e.1 [] ≡ key)
+has_key_is keys slots key slot h = go (entry_at slots slot) refl h
+  where
+    go : (o : Option Entry) → entry_at slots slot ≡ o → unwrap_or (option_map (λ (e : Entry). bytes_eq (get_or keys e.1 []) key) o) false ≡ true → (e : Entry) × (entry_at slots slot ≡ Some e) × (get_or keys e.1 [] ≡ key)
+    go None is h = absurd (cc)
+    go (Some e) is h = (e, is, (bytes_eq-Decides (get_or keys e.1 []) key).0 h)
+
+-- a slot whose entry is that of the key passes the test
+pub is_has_key : (keys : List (List ℕ)) (slots : Slots) (key : List ℕ) (slot : ℕ) (e : Entry) → entry_at slots slot ≡ Some e → get_or keys e.1 [] ≡ key → has_key keys slots key slot ≡ true
+is_has_key keys slots key slot e is same = let test = (bytes_eq-Decides (get_or keys e.1 []) key).1 same in rw (is, test) refl
+
+-- where no slot has the key, no place that is held is that of the key
+no_key : (keys : List (List ℕ)) (slots : Slots) (key : List ℕ) (place : ℕ) → slot_of_key keys slots key ≡ None → HoldsPlace slots place → get_or keys place [] ≢ key
+no_key keys slots key place none (slot, held) same =
+    let entry = has_entry slots slot place held in
+    let there = entry_inside slots slot entry.0 entry.1 in
+    let fails = none_in_range (has_key keys slots key) 0 (length slots) none slot (omega arith) (omega arith) in
+    let passes = is_has_key keys slots key slot entry.0 entry.1 (ap (λ n. get_or keys n []) entry.2 ∙ same) in
+    absurd (cc)
+
+-- a key's buckets are the table's
+key_there : (slots : Slots) (buckets : ℕ) (keys : List (List ℕ)) (key : List ℕ) → Indexes slots buckets keys → (first_bucket buckets key < bucket_count slots) × (second_bucket buckets key < bucket_count slots)
+key_there slots buckets keys key index =
+    let some : 0 < buckets = omega (arith, index.count, index.table.buckets.least) in
+    rw index.count (omega arith, omega arith)
+
+-- a key that is placed
+pub step_placed : (slots new : Slots) (buckets : ℕ) (keys : List (List ℕ)) (key : List ℕ) → Indexes slots buckets keys → slot_of_key keys slots key ≡ None
+    → placed slots (first_bucket buckets key) (second_bucket buckets key) (length keys) ≡ Some new → Indexes new buckets (keys ++ key ∷ [])
+step_placed slots new buckets keys key index none e = record {
+  table = kept.0;
+  count = ap (λ n. n / 4) kept.1 ∙ index.count;
+  newest = λ p is. elim (cases_eq p (length keys)) [
+    | inl same ↦
+        let test = eq-eqb p (length keys) same in
+        adds p ∙ (rw test refl) ∙ ap (λ k. Some (key_pair buckets k)) (sym (ap (λ n. get_or (keys ++ key ∷ []) n []) same ∙ at_last keys key))
+    | inr other ↦
+        let test = ne_eqb p (length keys) other in
+        let before = before_newest keys key p is other in
+        adds p ∙ (rw test refl) ∙ index.newest p before.0 ∙ ap (λ k. Some (key_pair buckets k)) (sym (at_before keys key p before.0.0))
+  ];
+  no_other = λ p (slot, held). elim (cases_eq p (length keys)) [
+    | inl same ↦ subst (IsNewest (keys ++ key ∷ [])) (sym same) (newest_last keys key)
+    | inr other ↦
+        let before = held_before slots new (length keys) (first_bucket buckets key) (second_bucket buckets key) slot p kept.0 adds held other in
+        newest_before keys key p (index.no_other p before) (no_key keys slots key p none before)
+  ];
+}
+  where
+    there : (first_bucket buckets key < bucket_count slots) × (second_bucket buckets key < bucket_count slots)
+    there = key_there slots buckets keys key index
+
+    is_new : ¬ HoldsPlace slots (length keys)
+    is_new holds = let newest = index.no_other (length keys) holds in omega (arith, newest.0)
+
+    kept : IsTable new × (length new ≡ length slots)
+    kept = table_law slots new (first_bucket buckets key) (second_bucket buckets key) (length keys) index.table there.0 there.1 is_new e
+
+    adds : AddsPair slots new (length keys) (first_bucket buckets key) (second_bucket buckets key)
+    adds = pair_law slots new (first_bucket buckets key) (second_bucket buckets key) (length keys) index.table there.0 there.1 is_new e
+
+-- a key that takes a new place
+pub step_replaced : (slots : Slots) (buckets slot : ℕ) (keys : List (List ℕ)) (key : List ℕ) → Indexes slots buckets keys → slot_of_key keys slots key ≡ Some slot → Indexes (replaced slots slot (length keys)) buckets (keys ++ key ∷ [])
+step_replaced slots buckets slot keys key index found = record {
+  table = law.0;
+  count = ap (λ n. n / 4) (length-set slots slot (Some (tag_at slots slot, length keys))) ∙ index.count;
+  newest = λ p is. elim (cases_eq p (length keys)) [
+    | inl same ↦
+        let test = eq-eqb p (length keys) same in
+        law.1 p ∙ (rw test refl) ∙ sym (table_pairs-held slots slot entry.0.1 index.table.places_apart held) ∙ index.newest entry.0.1 old_newest
+        ∙ ap (λ k. Some (key_pair buckets k)) (entry.2 ∙ sym (ap (λ n. get_or (keys ++ key ∷ []) n []) same ∙ at_last keys key))
+    | inr other ↦
+        let test = ne_eqb p (length keys) other in
+        let before = before_newest keys key p is other in
+        elim (cases_Bool (has_place slots p slot)) [
+          | inl passes ↦ absurd (before.1 (ap (λ n. get_or keys n []) (old_place p passes) ∙ entry.2))
+          | inr fails ↦ law.1 p ∙ (rw (test, fails) refl) ∙ index.newest p before.0 ∙ ap (λ k. Some (key_pair buckets k)) (sym (at_before keys key p before.0.0))
+        ]
+  ];
+  no_other = λ p (x, x_held). elim (cases_eq p (length keys)) [
+    | inl same ↦ subst (IsNewest (keys ++ key ∷ [])) (sym same) (newest_last keys key)
+    | inr other ↦
+        let test = ne_eqb p (length keys) other in
+        let pair = pair_held (replaced slots slot (length keys)) x p law.0 x_held in
+        elim (cases_Bool (has_place slots p slot)) [
+          | inl passes ↦ let gone = (rw (test, passes) at (law.1 p)) in absurd (cc)
+          | inr fails ↦
+              let kept = (rw (test, fails) at (law.1 p)) in
+              let newest = index.no_other p (holds_from_pair slots p pair.0 (sym kept ∙ pair.1)) in
+              newest_before keys key p newest (λ same. absurd (let is : p ≡ entry.0.1 = newest_apart keys p entry.0.1 newest old_newest (same ∙ sym entry.2) in let passes = is_has_place slots p slot (held ∙ ap Some (sym is)) in cc))
+        ]
+  ];
+}
+  where
+    entry : (e : Entry) × (entry_at slots slot ≡ Some e) × (get_or keys e.1 [] ≡ key)
+    entry = has_key_is keys slots key slot (found_in_range (has_key keys slots key) 0 (length slots) slot found).2
+
+    held : place_at slots slot ≡ Some entry.0.1
+    held = ap (option_map (λ (e : Entry). e.1)) entry.1
+
+    old_newest : IsNewest keys entry.0.1
+    old_newest = index.no_other entry.0.1 (slot, held)
+
+    old_place : (p : ℕ) → has_place slots p slot ≡ true → p ≡ entry.0.1
+    old_place p passes = let both : Some entry.0.1 ≡ Some p = sym held ∙ has_place_is slots p slot passes in cc
+
+    is_new : ¬ HoldsPlace slots (length keys)
+    is_new holds = let newest = index.no_other (length keys) holds in omega (arith, newest.0)
+
+    law : IsTable (replaced slots slot (length keys)) × TakesSlot slots (replaced slots slot (length keys)) slot (length keys)
+    law = replace_law slots slot (length keys) index.table (rw entry.1 refl) is_new
+
+-- a table with no place is that of no key
+indexes_none : (buckets : ℕ) → IsBucketCount buckets → Indexes (empty_slots buckets) buckets []
+indexes_none buckets count =
+    let size : length (empty_slots buckets) ≡ 4 * buckets = length-replicate (4 * buckets) None in
+    record {
+      table = empty_table buckets count;
+      count = omega arith;
+      newest = λ place is. absurd (omega (arith, is.0));
+      no_other = λ place (slot, is).
+          let none = entry_at-free (4 * buckets) slot in
+          let h : option_map (λ (e : Entry). e.1) None ≡ Some place = rw none at is in
+          absurd (cc);
+    }
+
+-- one key more
+step : (buckets : ℕ) (i j : Index) (key : List ℕ) → Indexes i.slots buckets i.keys → added buckets i key ≡ Some j → Indexes j.slots buckets j.keys
+unfolding added
+step buckets i j key index e = go (slot_of_key i.keys i.slots key) refl e
+  where
+    go : (s : Option ℕ) → slot_of_key i.keys i.slots key ≡ s
+        → option_map (λ slots. record { keys = i.keys ++ key ∷ []; slots = slots }) (placed_or_replaced buckets i.slots key (length i.keys) s) ≡ Some j → Indexes j.slots buckets j.keys
+    go (Some slot) found h =
+        let is : record { keys = i.keys ++ key ∷ []; slots = replaced i.slots slot (length i.keys) } ≡ j = cc in
+        rw (← is) (step_replaced i.slots buckets slot i.keys key index found)
+    go None none h = place (placed i.slots (first_bucket buckets key) (second_bucket buckets key) (length i.keys)) refl h
+      where
+        place : (r : Option Slots) → placed i.slots (first_bucket buckets key) (second_bucket buckets key) (length i.keys) ≡ r
+            → option_map (λ slots. record { keys = i.keys ++ key ∷ []; slots = slots }) r ≡ Some j → Indexes j.slots buckets j.keys
+        place None is h = absurd (cc)
+        place (Some new) is h =
+            let same : record { keys = i.keys ++ key ∷ []; slots = new } ≡ j = cc in
+            rw (← same) (step_placed i.slots new buckets i.keys key index none is)
+
+-- and many
+steps : (buckets : ℕ) (keys : List (List ℕ)) (i j : Index) → Indexes i.slots buckets i.keys → fold (next_index buckets) (Some i) keys ≡ Some j → Indexes j.slots buckets j.keys
+steps buckets [] i j index e = let same : i ≡ j = cc in rw (← same) index
+steps buckets (key ∷ keys) i j index e = go (added buckets i key) refl (λ k. steps buckets keys k j) e
+  where
+    go : (r : Option Index) → added buckets i key ≡ r → ((k : Index) → Indexes k.slots buckets k.keys → fold (next_index buckets) (Some k) keys ≡ Some j → Indexes j.slots buckets j.keys)
+        → fold (next_index buckets) r keys ≡ Some j → Indexes j.slots buckets j.keys
+    go None is rest h = let none = stays_none buckets keys in absurd (cc)
+    go (Some k) is rest h = rest k (step buckets i k key index is) h
+
+-- the table of some keys holds the newest place of each
+pub index_law : IndexLaw
+unfolding indexed
+index_law buckets keys slots count e = go (indexed buckets keys) refl e
+  where
+    go : (r : Option Index) → indexed buckets keys ≡ r → option_map (λ (index : Index). index.slots) r ≡ Some slots → Indexes slots buckets keys
+    go None is h = absurd (cc)
+    go (Some j) is h =
+        let same : j.slots ≡ slots = cc in
+        let made = steps buckets keys (record { keys = []; slots = empty_slots buckets }) j (indexes_none buckets count) is in
+        rw (← same, ← indexed_keys buckets keys j is) made

@@ -1,0 +1,14 @@
+pub mod Search
+pub mod Walks
+pub mod Moves
+pub mod KeyIndex
+pub mod Unpacking
+pub mod Paths
+pub mod Sources
+pub mod Placed
+pub mod Tables
+pub mod Matching
+pub mod Replaced
+pub mod Places
+pub mod Indexing
+pub mod Finding

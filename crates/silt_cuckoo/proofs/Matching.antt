@@ -1,0 +1,248 @@
+-- Candidates, slot by slot.
+use Rattle.std.proofs.Common.{◌≡◌, ◌≢◌, ◌⊎◌, inl, inr, ℕ, zero, suc, ◌+◌, ◌*◌, ◌/◌, ◌<◌, ◌≤◌, ◌==◌, min, max, ◌↔◌, if◌then◌else◌, Bool, true, false, List, [], ◌∷◌, ◌++◌, Option, Some, None, option_map, option_and_then, refl, sym, subst, ap, ◌∙◌, arith, append-nil}
+use Rattle.std.specs.List.{All, AllPairs, Contains, range_with_len, filter_map, cons_option}
+use Rattle.std.proofs.lemmas.Bool.{cases_eq, eq-eqb, ne_eqb}
+use Rattle.std.proofs.lemmas.List.Elements.{All-nil, All-cons, All-append}
+use Rattle.std.proofs.lemmas.Grind.{get_or_default_zero}
+use Rattle.silt_cuckoo.specs.declared.lookup.Candidate.{Candidate}
+use Rattle.silt_cuckoo.specs.Slots.{Slots, Entry, PlacesApart, entry_at, place_at}
+use Rattle.silt_cuckoo.specs.Pairs.{pair_of, table_pairs}
+use Rattle.silt_cuckoo.specs.Lookup.{match_at, matches_in, candidates_of, places_of}
+use Rattle.silt_cuckoo.proofs.Paths.{IsOn, NoneTwice, on_index, index_apart}
+use Rattle.silt_cuckoo.proofs.Sources.{pair_of-swap}
+use Rattle.silt_cuckoo.proofs.Placed.{table_pairs-held, table_pairs-not_held, cases_held}
+
+-- what a function gives of one number more
+pub filter_map_more : {X : Type 0} (f : ℕ → Option X) (a n j : ℕ) → a + n ≡ j → filter_map f (range_with_len a (n + 1)) ≡ filter_map f (range_with_len a n) ++ cons_option (f j) []
+filter_map_more f a zero j e = let same : a ≡ j = omega arith in rw same refl
+filter_map_more {X} f a (suc n) j e =
+    let one : suc n + 1 ≡ suc (n + 1) = omega arith in
+    let rest = filter_map_more f (a + 1) n j (omega arith) in
+    rw (one, rest) (go (f a))
+  where
+    go : (o : Option X) → cons_option o (filter_map f (range_with_len (a + 1) n) ++ cons_option (f j) []) ≡ cons_option o (filter_map f (range_with_len (a + 1) n)) ++ cons_option (f j) []
+    go None = refl
+    go (Some x) = refl
+
+-- what a match says: the slot has an entry with this tag and place
+pub match_is : (slots : Slots) (tag slot : ℕ) (c : Candidate) → match_at slots tag slot ≡ Some c → (c.slot ≡ slot) × (entry_at slots slot ≡ Some (tag, c.place))
+match_is slots tag slot c e = go (entry_at slots slot) e
+  where
+    go : (o : Option Entry) → option_and_then (λ (x : Entry). if x.0 == tag then Some (record { slot = slot; place = x.1 }) else None) o ≡ Some c → (c.slot ≡ slot) × (o ≡ Some (tag, c.place))
+    go None h = absurd (cc)
+    go (Some x) h = elim (cases_eq x.0 tag) [
+      | inl same ↦
+          let test = eq-eqb x.0 tag same in
+          let is : record { slot = slot; place = x.1 } ≡ c = (let h2 : Some (record { slot = slot; place = x.1 }) ≡ Some c = rw test at h in cc) in
+          (sym (ap (λ (k : Candidate). k.slot) is), rw (← same, ← ap (λ (k : Candidate). k.place) is) refl)
+      | inr other ↦ let test = ne_eqb x.0 tag other in absurd (let h2 : None ≡ Some c = rw test at h in cc)
+    ]
+
+-- an entry with this tag is a match
+pub is_match : (slots : Slots) (tag slot place : ℕ) → entry_at slots slot ≡ Some (tag, place) → match_at slots tag slot ≡ Some (record { slot = slot; place = place })
+is_match slots tag slot place is = let test = eq-eqb tag tag refl in rw (is, test) refl
+
+-- a place among the matches of some slots is that of an entry with the tag
+pub match_found : (slots : Slots) (tag place a n : ℕ) → IsOn place (places_of (filter_map (match_at slots tag) (range_with_len a n))) → (slot : ℕ) × (a ≤ slot) × (slot < a + n) × (entry_at slots slot ≡ Some (tag, place))
+match_found slots tag place a zero on = absurd on
+match_found slots tag place a (suc n) on = go (match_at slots tag a) refl (match_found slots tag place (a + 1) n) on
+  where
+    go : (o : Option Candidate) → match_at slots tag a ≡ o
+        → (IsOn place (places_of (filter_map (match_at slots tag) (range_with_len (a + 1) n))) → (slot : ℕ) × (a + 1 ≤ slot) × (slot < a + 1 + n) × (entry_at slots slot ≡ Some (tag, place)))
+        → IsOn place (places_of (cons_option o (filter_map (match_at slots tag) (range_with_len (a + 1) n)))) → (slot : ℕ) × (a ≤ slot) × (slot < a + suc n) × (entry_at slots slot ≡ Some (tag, place))
+    go None is rest on = let there = rest on in (there.0, omega (arith, there.1), omega (arith, there.2), there.3)
+    go (Some c) is rest (inl same) = let it = match_is slots tag a c is in (a, omega arith, omega arith, rw same it.1)
+    go (Some c) is rest (inr on) = let there = rest on in (there.0, omega (arith, there.1), omega (arith, there.2), there.3)
+
+-- the place of each entry with the tag is among the matches
+pub found_match : (slots : Slots) (tag place a n slot : ℕ) → a ≤ slot → slot < a + n → entry_at slots slot ≡ Some (tag, place) → IsOn place (places_of (filter_map (match_at slots tag) (range_with_len a n)))
+found_match slots tag place a zero slot low high is = absurd (omega arith)
+found_match slots tag place a (suc n) slot low high is = elim (cases_eq a slot) [
+  | inl same ↦ let here = is_match slots tag slot place is in rw (same, here) (inl refl)
+  | inr other ↦ go (match_at slots tag a) (found_match slots tag place (a + 1) n slot (omega arith) (omega arith) is)
+]
+  where
+    go : (o : Option Candidate) → IsOn place (places_of (filter_map (match_at slots tag) (range_with_len (a + 1) n))) → IsOn place (places_of (cons_option o (filter_map (match_at slots tag) (range_with_len (a + 1) n))))
+    go None on = on
+    go (Some c) on = inr on
+
+-- no place is twice among the matches
+pub matches_apart : (slots : Slots) (tag a n : ℕ) → PlacesApart slots → NoneTwice (places_of (filter_map (match_at slots tag) (range_with_len a n)))
+matches_apart slots tag a zero apart = tt
+matches_apart slots tag a (suc n) apart = go (match_at slots tag a) refl (matches_apart slots tag (a + 1) n apart)
+  where
+    go : (o : Option Candidate) → match_at slots tag a ≡ o → NoneTwice (places_of (filter_map (match_at slots tag) (range_with_len (a + 1) n)))
+        → NoneTwice (places_of (cons_option o (filter_map (match_at slots tag) (range_with_len (a + 1) n))))
+    go None is rest = rest
+    go (Some c) is rest = (
+      λ on.
+          let it = match_is slots tag a c is in
+          let there = match_found slots tag c.place (a + 1) n on in
+          let same = apart a there.0 c.place (ap (option_map (λ (e : Entry). e.1)) it.1) (ap (option_map (λ (e : Entry). e.1)) there.3) in
+          absurd (omega (arith, there.1)),
+      rest,
+    )
+
+-- a place of two lists
+pub on_append : (x : ℕ) (xs ys : List ℕ) → IsOn x (xs ++ ys) → IsOn x xs ⊎ IsOn x ys
+on_append x [] ys on = inr on
+on_append x (s ∷ xs) ys (inl same) = inl (inl same)
+on_append x (s ∷ xs) ys (inr on) = elim (on_append x xs ys on) [ inl there ↦ inl (inr there) | inr there ↦ inr there ]
+
+-- a place of the first list
+pub on_left : (x : ℕ) (xs ys : List ℕ) → IsOn x xs → IsOn x (xs ++ ys)
+on_left x [] ys on = absurd on
+on_left x (s ∷ xs) ys (inl same) = inl same
+on_left x (s ∷ xs) ys (inr on) = inr (on_left x xs ys on)
+
+-- a place of the second list
+pub on_right : (x : ℕ) (xs ys : List ℕ) → IsOn x ys → IsOn x (xs ++ ys)
+on_right x [] ys on = on
+on_right x (s ∷ xs) ys on = inr (on_right x xs ys on)
+
+-- two lists with no place in common
+none_twice_append : (xs ys : List ℕ) → NoneTwice xs → NoneTwice ys → ((x : ℕ) → IsOn x xs → IsOn x ys → ⊥) → NoneTwice (xs ++ ys)
+none_twice_append [] ys left right apart = right
+none_twice_append (s ∷ xs) ys left right apart = (
+  λ on. elim (on_append s xs ys on) [ inl there ↦ left.0 there | inr there ↦ apart s (inl refl) there ],
+  none_twice_append xs ys left.1 right (λ x there on. apart x (inr there) on),
+)
+
+-- the places of two lists
+places_of-append : (xs ys : List Candidate) → places_of (xs ++ ys) ≡ places_of xs ++ places_of ys
+places_of-append [] ys = refl
+places_of-append (c ∷ xs) ys = ap (λ ps. c.place ∷ ps) (places_of-append xs ys)
+
+-- the candidates of two buckets that differ
+candidates_differ : (slots : Slots) (first second : ℕ) → first ≢ second → places_of (candidates_of slots first second) ≡ places_of (matches_in slots first second) ++ places_of (matches_in slots second first)
+unfolding candidates_of
+candidates_differ slots first second other = let test = ne_eqb first second other in rw test (places_of-append (matches_in slots first second) (matches_in slots second first))
+
+-- the candidates of one bucket
+candidates_same : (slots : Slots) (first second : ℕ) → first ≡ second → candidates_of slots first second ≡ matches_in slots first second
+unfolding candidates_of
+candidates_same slots first second same = let test = eq-eqb first second same in rw test (append-nil (matches_in slots first second))
+
+-- each candidate's place has the pair
+candidate_pair : (slots : Slots) (first second place : ℕ) → PlacesApart slots → IsOn place (places_of (candidates_of slots first second)) → table_pairs slots place ≡ Some (pair_of first second)
+candidate_pair slots first second place apart on = elim (cases_eq first second) [
+  | inl same ↦ from first second (subst (λ (cs : List Candidate). IsOn place (places_of cs)) (candidates_same slots first second same) on)
+  | inr other ↦ elim (on_append place (places_of (matches_in slots first second)) (places_of (matches_in slots second first)) (subst (IsOn place) (candidates_differ slots first second other) on)) [
+    | inl there ↦ from first second there
+    | inr there ↦ from second first there ∙ ap Some (pair_of-swap second first)
+  ]
+]
+  where
+    from : (bucket tag : ℕ) → IsOn place (places_of (matches_in slots bucket tag)) → table_pairs slots place ≡ Some (pair_of bucket tag)
+    from bucket tag on =
+        let found = match_found slots tag place (4 * bucket) 4 on in
+        let here : found.0 / 4 ≡ bucket = omega (arith, found.1, found.2) in
+        table_pairs-held slots found.0 place apart (ap (option_map (λ (e : Entry). e.1)) found.3)
+        ∙ ap (option_map (λ (e : Entry). pair_of (found.0 / 4) e.0)) found.3 ∙ ap (λ b. Some (pair_of b tag)) here
+
+-- equal pairs are of the same two buckets
+same_pair : (a b c d : ℕ) → pair_of a b ≡ pair_of c d → ((a ≡ c) × (b ≡ d)) ⊎ ((a ≡ d) × (b ≡ c))
+same_pair a b c d same =
+    let low : min a b ≡ min c d = ap (λ p. p.0) same in
+    let high : max a b ≡ max c d = ap (λ p. p.1) same in
+    elim (cases_eq a c) [
+      | inl is ↦ inl (is, omega arith)
+      | inr other ↦ inr (omega arith, omega arith)
+    ]
+
+-- each place with the pair is among the candidates
+pub pair_candidate : (slots : Slots) (first second place : ℕ) → PlacesApart slots → table_pairs slots place ≡ Some (pair_of first second) → IsOn place (places_of (candidates_of slots first second))
+pair_candidate slots first second place apart is = elim (cases_held slots place) [
+  | inl (slot, held) ↦ at slot (entry_at slots slot) refl held (sym (table_pairs-held slots slot place apart held) ∙ is)
+  | inr not_held ↦ let none = table_pairs-not_held slots place not_held in absurd (cc)
+]
+  where
+    found : (bucket tag slot : ℕ) → slot / 4 ≡ bucket → entry_at slots slot ≡ Some (tag, place) → IsOn place (places_of (matches_in slots bucket tag))
+    found bucket tag slot here entry = found_match slots tag place (4 * bucket) 4 slot (omega arith) (omega arith) entry
+
+    in_first : IsOn place (places_of (matches_in slots first second)) → IsOn place (places_of (candidates_of slots first second))
+    in_first on = elim (cases_eq first second) [
+      | inl same ↦ subst (λ (cs : List Candidate). IsOn place (places_of cs)) (sym (candidates_same slots first second same)) on
+      | inr other ↦ subst (IsOn place) (sym (candidates_differ slots first second other)) (on_left place (places_of (matches_in slots first second)) (places_of (matches_in slots second first)) on)
+    ]
+
+    in_second : IsOn place (places_of (matches_in slots second first)) → IsOn place (places_of (candidates_of slots first second))
+    in_second on = elim (cases_eq first second) [
+      | inl same ↦ in_first (rw same (rw same at on))
+      | inr other ↦ subst (IsOn place) (sym (candidates_differ slots first second other)) (on_right place (places_of (matches_in slots first second)) (places_of (matches_in slots second first)) on)
+    ]
+
+    at : (slot : ℕ) (o : Option Entry) → entry_at slots slot ≡ o → option_map (λ (e : Entry). e.1) o ≡ Some place → option_map (λ (e : Entry). pair_of (slot / 4) e.0) o ≡ Some (pair_of first second)
+        → IsOn place (places_of (candidates_of slots first second))
+    at slot None entry held pair = absurd (cc)
+    at slot (Some e) entry held pair =
+        let place_is : e.1 ≡ place = cc in
+        let pair_is : pair_of (slot / 4) e.0 ≡ pair_of first second = cc in
+        elim (same_pair (slot / 4) e.0 first second pair_is) [
+          | inl (here, tag) ↦ in_first (found first second slot here (entry ∙ rw (← tag, ← place_is) refl))
+          | inr (here, tag) ↦ in_second (found second first slot here (entry ∙ rw (← tag, ← place_is) refl))
+        ]
+
+-- no candidate's place stands twice
+candidates_apart : (slots : Slots) (first second : ℕ) → PlacesApart slots → NoneTwice (places_of (candidates_of slots first second))
+candidates_apart slots first second apart = elim (cases_eq first second) [
+  | inl same ↦ subst (λ (cs : List Candidate). NoneTwice (places_of cs)) (sym (candidates_same slots first second same)) (matches_apart slots second (4 * first) 4 apart)
+  | inr other ↦ subst NoneTwice (sym (candidates_differ slots first second other)) (none_twice_append (places_of (matches_in slots first second)) (places_of (matches_in slots second first))
+      (matches_apart slots second (4 * first) 4 apart)
+      (matches_apart slots first (4 * second) 4 apart)
+      (λ x on also.
+      let here = match_found slots second x (4 * first) 4 on in
+      let there = match_found slots first x (4 * second) 4 also in
+      let same = apart here.0 there.0 x (ap (option_map (λ (e : Entry). e.1)) here.3) (ap (option_map (λ (e : Entry). e.1)) there.3) in
+      let is : first ≡ second = omega (arith, here.1, here.2, there.1, there.2) in
+      other is))
+]
+
+-- a number on a list is one that it contains
+contains_on : (xs : List ℕ) (x : ℕ) → Contains xs x → IsOn x xs
+contains_on xs x (k, low, is) = subst (λ y. IsOn y xs) (sym (get_or_default_zero xs k x low) ∙ is) (on_index xs k low)
+
+-- and the converse
+on_contains : (xs : List ℕ) (x : ℕ) → IsOn x xs → Contains xs x
+on_contains [] x on = absurd on
+on_contains (s ∷ xs) x (inl same) = (0, omega arith, sym same)
+on_contains (s ∷ xs) x (inr on) = let rest = on_contains xs x on in (suc rest.0, omega (arith, rest.1), rest.2)
+
+-- the candidates are exactly the places with the pair
+pub candidates_exact : (slots : Slots) (first second place : ℕ) → PlacesApart slots → Contains (places_of (candidates_of slots first second)) place ↔ (table_pairs slots place ≡ Some (pair_of first second))
+candidates_exact slots first second place apart = (
+  λ has. candidate_pair slots first second place apart (contains_on (places_of (candidates_of slots first second)) place has),
+  λ is. on_contains (places_of (candidates_of slots first second)) place (pair_candidate slots first second place apart is),
+)
+
+-- each once
+pub candidates_once : (slots : Slots) (first second : ℕ) → PlacesApart slots → AllPairs (λ p q. p ≢ q) (places_of (candidates_of slots first second))
+candidates_once slots first second apart = pairs_apart (places_of (candidates_of slots first second)) (candidates_apart slots first second apart)
+  where
+    pairs_apart : (xs : List ℕ) → NoneTwice xs → AllPairs (λ p q. p ≢ q) xs
+    pairs_apart xs twice i j d low high = λ same.
+        index_apart xs i j twice low high (sym (get_or_default_zero xs j d high) ∙ sym same ∙ get_or_default_zero xs i d (omega arith))
+
+-- the candidate's slot has its place
+abbrev pub Stands : Slots → Candidate → Type 0
+Stands slots c = place_at slots c.slot ≡ Some c.place
+
+-- each candidate stands in its slot
+pub candidates_standing : (slots : Slots) (first second : ℕ) → All (Stands slots) (candidates_of slots first second)
+unfolding candidates_of
+candidates_standing slots first second = go (first == second)
+  where
+    some_stand : (tag a n : ℕ) → All (Stands slots) (filter_map (match_at slots tag) (range_with_len a n))
+    some_stand tag a zero = All-nil (Stands slots)
+    some_stand tag a (suc n) = more (match_at slots tag a) refl (some_stand tag (a + 1) n)
+      where
+        more : (o : Option Candidate) → match_at slots tag a ≡ o → All (Stands slots) (filter_map (match_at slots tag) (range_with_len (a + 1) n))
+            → All (Stands slots) (cons_option o (filter_map (match_at slots tag) (range_with_len (a + 1) n)))
+        more None is rest = rest
+        more (Some c) is rest =
+            let it = match_is slots tag a c is in
+            All-cons (Stands slots) c (filter_map (match_at slots tag) (range_with_len (a + 1) n)) (ap (place_at slots) it.0 ∙ ap (option_map (λ (e : Entry). e.1)) it.1) rest
+
+    go : (b : Bool) → All (Stands slots) (matches_in slots first second ++ (if b then [] else matches_in slots second first))
+    go true = All-append (Stands slots) (matches_in slots first second) [] (some_stand second (4 * first) 4) (All-nil (Stands slots))
+    go false = All-append (Stands slots) (matches_in slots first second) (matches_in slots second first) (some_stand second (4 * first) 4) (some_stand first (4 * second) 4)

@@ -1,0 +1,150 @@
+-- Where the entry of each slot comes from, when entries move along a path.
+use Rattle.std.proofs.Common.{◌≡◌, ◌≢◌, ◌⊎◌, inl, inr, ℕ, ◌/◌, ◌<◌, ◌==◌, if◌then◌else◌, min, max, List, [], ◌∷◌, length, slice_set, Option, Some, None, option_map, unwrap_or, refl, sym, subst, ap, ◌∙◌, arith, get_or-set_other, get_or-set_same, length-set}
+use Rattle.std.proofs.lemmas.Bool.{cases_eq, eq-eqb, ne_eqb}
+use Rattle.silt_cuckoo.specs.Slots.{Slots, Entry, IsTable, bucket_count, entry_at, tag_at, place_at}
+use Rattle.silt_cuckoo.specs.Placing.{moved_along, moved_entry}
+use Rattle.silt_cuckoo.specs.Pairs.{pair_at, pair_of}
+use Rattle.silt_cuckoo.proofs.Paths.{IsOn, NoneTwice, LeadsOn, HasTag}
+
+-- the slot from which the entry of a slot came
+abbrev pub source : List ℕ → ℕ → ℕ
+source [] x = x
+source (s ∷ []) x = x
+source (s ∷ u ∷ path) x = if x == u then s else source (u ∷ path) x
+
+-- the next slot has the entry of the slot before it
+pub source_next : (s u : ℕ) (path : List ℕ) (x : ℕ) → x ≡ u → source (s ∷ u ∷ path) x ≡ s
+source_next s u path x same = let test = eq-eqb x u same in rw test refl
+
+-- every other slot has what it has without that move
+pub source_other : (s u : ℕ) (path : List ℕ) (x : ℕ) → x ≢ u → source (s ∷ u ∷ path) x ≡ source (u ∷ path) x
+source_other s u path x other = let test = ne_eqb x u other in rw test refl
+
+-- equal slots are on the same paths
+on_same : (a b : ℕ) (path : List ℕ) → a ≡ b → IsOn a path → IsOn b path
+on_same a b path same on = subst (λ x. IsOn x path) same on
+
+-- an entry comes from its own slot or from one of the path
+pub source_on : (path : List ℕ) (x : ℕ) → (source path x ≡ x) ⊎ IsOn (source path x) path
+source_on [] x = inl refl
+source_on (s ∷ []) x = inl refl
+source_on (s ∷ u ∷ path) x = elim (cases_eq x u) [
+  | inl same ↦ inr (inl (source_next s u path x same))
+  | inr other ↦
+      let is = source_other s u path x other in
+      elim (source_on (u ∷ path) x) [ inl stays ↦ inl (is ∙ stays) | inr on ↦ inr (inr (on_same (source (u ∷ path) x) (source (s ∷ u ∷ path) x) (u ∷ path) (sym is) on)) ]
+]
+
+-- an entry off the path stays
+pub source_off : (path : List ℕ) (x : ℕ) → ¬ IsOn x path → source path x ≡ x
+source_off [] x off = refl
+source_off (s ∷ []) x off = refl
+source_off (s ∷ u ∷ path) x off = source_other s u path x (λ same. off (inr (inl same))) ∙ source_off (u ∷ path) x (λ on. off (inr on))
+
+-- behind the path's first slot no other entry comes from it
+source_not_first : (s u : ℕ) (path : List ℕ) (y : ℕ) → NoneTwice (s ∷ u ∷ path) → y ≢ s → source (u ∷ path) y ≢ s
+source_not_first s u path y twice other same = elim (source_on (u ∷ path) y) [
+  | inl stays ↦ other (sym stays ∙ same)
+  | inr on ↦ twice.0 (on_same (source (u ∷ path) y) s (u ∷ path) same on)
+]
+
+-- but for the path's first slot, no two slots have their entries from one
+pub source_apart : (s : ℕ) (path : List ℕ) (x y : ℕ) → NoneTwice (s ∷ path) → x ≢ s → y ≢ s → source (s ∷ path) x ≡ source (s ∷ path) y → x ≡ y
+source_apart s [] x y twice x_not y_not same = same
+source_apart s (u ∷ path) x y twice x_not y_not same = elim (cases_eq x u) [
+  | inl x_next ↦ elim (cases_eq y u) [
+    | inl y_next ↦ x_next ∙ sym y_next
+    | inr y_other ↦ absurd (source_not_first s u path y twice y_not (sym (source_other s u path y y_other) ∙ sym same ∙ source_next s u path x x_next))
+  ]
+  | inr x_other ↦ elim (cases_eq y u) [
+    | inl y_next ↦ absurd (source_not_first s u path x twice x_not (sym (source_other s u path x x_other) ∙ same ∙ source_next s u path y y_next))
+    | inr y_other ↦ source_apart u path x y twice.1 x_other y_other (sym (source_other s u path x x_other) ∙ same ∙ source_other s u path y y_other)
+  ]
+]
+
+-- each entry goes to a slot other than the path's first
+pub target : (slots : Slots) (s : ℕ) (path : List ℕ) (y : ℕ) (e : Entry) → LeadsOn slots (s ∷ path) → NoneTwice (s ∷ path) → entry_at slots y ≡ Some e → (x : ℕ) × (x ≢ s) × (source (s ∷ path) x ≡ y)
+target slots s [] y e leads twice is = (y, λ same. let none = leads in let h : entry_at slots s ≡ Some e = rw same at is in absurd (cc), refl)
+target slots s (u ∷ path) y e leads twice is = elim (cases_eq y s) [
+  | inl same ↦ (u, λ is_s. twice.0 (inl (sym is_s)), source_next s u path u refl ∙ sym same)
+  | inr other ↦
+      let rest = target slots u path y e leads.1 twice.1 is in
+      (rest.0, λ is_s. source_not_first s u path y twice other (let off = source_off (u ∷ path) s twice.0 in let there = rest.2 in absurd (other (sym there ∙ ap (source (u ∷ path)) is_s ∙ off))), source_other s u path rest.0 rest.1 ∙ rest.2)
+]
+
+-- the moves keep the number of slots
+pub length_moved : (slots : Slots) (path : List ℕ) → length (moved_along slots path) ≡ length slots
+unfolding moved_along
+length_moved slots [] = refl
+length_moved slots (s ∷ []) = refl
+length_moved slots (s ∷ u ∷ path) = length-set (moved_along slots (u ∷ path)) u (moved_entry slots s) ∙ length_moved slots (u ∷ path)
+
+-- the place of an entry that moves
+place_moved : (slots : Slots) (s : ℕ) → option_map (λ (e : Entry). e.1) (moved_entry slots s) ≡ place_at slots s
+place_moved slots s = go (entry_at slots s)
+  where
+    go : (o : Option Entry) → option_map (λ (e : Entry). e.1) (option_map (λ (e : Entry). (s / 4, e.1)) o) ≡ option_map (λ (e : Entry). e.1) o
+    go None = refl
+    go (Some e) = refl
+
+-- two buckets in either order are one pair
+pub pair_of-swap : (a b : ℕ) → pair_of a b ≡ pair_of b a
+pair_of-swap a b =
+    let low : min a b ≡ min b a = omega arith in
+    let high : max a b ≡ max b a = omega arith in
+    rw (low, high) refl
+
+-- the pair of an entry that moves to the bucket of its tag
+pair_moved : (slots : Slots) (s u : ℕ) → HasTag slots s (u / 4) → option_map (λ (e : Entry). pair_of (u / 4) e.0) (moved_entry slots s) ≡ pair_at slots s
+pair_moved slots s u (e, is, tag) = rw is (ap Some (pair_of-swap (u / 4) (s / 4) ∙ ap (pair_of (s / 4)) (sym tag)))
+
+-- after the moves each slot has the place that its source had
+pub place_at-moved_along : (slots : Slots) (path : List ℕ) (x : ℕ) → ((s : ℕ) → IsOn s path → s < length slots) → place_at (moved_along slots path) x ≡ place_at slots (source path x)
+unfolding moved_along
+place_at-moved_along slots [] x inside = refl
+place_at-moved_along slots (s ∷ []) x inside = refl
+place_at-moved_along slots (s ∷ u ∷ path) x inside = elim (cases_eq x u) [
+  | inl same ↦
+      let long : u < length (moved_along slots (u ∷ path)) = omega (arith, length_moved slots (u ∷ path), inside u (inr (inl refl))) in
+      let there = get_or-set_same (moved_along slots (u ∷ path)) u (moved_entry slots s) None long in
+      ap (place_at (slice_set (moved_along slots (u ∷ path)) u (moved_entry slots s))) same
+      ∙ ap (option_map (λ (e : Entry). e.1)) there ∙ place_moved slots s ∙ ap (place_at slots) (sym (source_next s u path x same))
+  | inr other ↦
+      ap (option_map (λ (e : Entry). e.1)) (get_or-set_other (moved_along slots (u ∷ path)) u x (moved_entry slots s) None other)
+      ∙ place_at-moved_along slots (u ∷ path) x (λ t on. inside t (inr on)) ∙ ap (place_at slots) (sym (source_other s u path x other))
+]
+
+-- and the pair that its source had
+pub pair_at-moved_along : (slots : Slots) (path : List ℕ) (x : ℕ) → LeadsOn slots path → ((s : ℕ) → IsOn s path → s < length slots) → pair_at (moved_along slots path) x ≡ pair_at slots (source path x)
+unfolding moved_along
+pair_at-moved_along slots [] x leads inside = refl
+pair_at-moved_along slots (s ∷ []) x leads inside = refl
+pair_at-moved_along slots (s ∷ u ∷ path) x leads inside = elim (cases_eq x u) [
+  | inl same ↦
+      let long : u < length (moved_along slots (u ∷ path)) = omega (arith, length_moved slots (u ∷ path), inside u (inr (inl refl))) in
+      let there = get_or-set_same (moved_along slots (u ∷ path)) u (moved_entry slots s) None long in
+      ap (pair_at (slice_set (moved_along slots (u ∷ path)) u (moved_entry slots s))) same
+      ∙ ap (option_map (λ (e : Entry). pair_of (u / 4) e.0)) there ∙ pair_moved slots s u leads.0 ∙ ap (pair_at slots) (sym (source_next s u path x same))
+  | inr other ↦
+      ap (option_map (λ (e : Entry). pair_of (x / 4) e.0)) (get_or-set_other (moved_along slots (u ∷ path)) u x (moved_entry slots s) None other)
+      ∙ pair_at-moved_along slots (u ∷ path) x leads.1 (λ t on. inside t (inr on)) ∙ ap (pair_at slots) (sym (source_other s u path x other))
+]
+
+-- the tags after the moves are numbers of buckets
+pub tag_at-moved_along : (slots : Slots) (path : List ℕ) (x : ℕ) → IsTable slots → ((s : ℕ) → IsOn s path → s < length slots) → tag_at (moved_along slots path) x < bucket_count slots
+unfolding moved_along
+tag_at-moved_along slots [] x table inside = table.tags_below x
+tag_at-moved_along slots (s ∷ []) x table inside = table.tags_below x
+tag_at-moved_along slots (s ∷ u ∷ path) x table inside = elim (cases_eq x u) [
+  | inl same ↦
+      let long : u < length (moved_along slots (u ∷ path)) = omega (arith, length_moved slots (u ∷ path), inside u (inr (inl refl))) in
+      let there = get_or-set_same (moved_along slots (u ∷ path)) u (moved_entry slots s) None long in
+      let here : s < length slots = inside s (inl refl) in
+      let low : unwrap_or (option_map (λ (e : Entry). e.0) (moved_entry slots s)) 0 < bucket_count slots = moved_tag (entry_at slots s) s (omega (arith, table.four_each)) (omega (arith, table.buckets.least)) in
+      rw (same, there) low
+  | inr other ↦ rw (get_or-set_other (moved_along slots (u ∷ path)) u x (moved_entry slots s) None other) (tag_at-moved_along slots (u ∷ path) x table (λ t on. inside t (inr on)))
+]
+  where
+    moved_tag : (o : Option Entry) (s : ℕ) → s / 4 < bucket_count slots → 0 < bucket_count slots → unwrap_or (option_map (λ (e : Entry). e.0) (option_map (λ (e : Entry). (s / 4, e.1)) o)) 0 < bucket_count slots
+    moved_tag None s low some = some
+    moved_tag (Some e) s low some = low

@@ -1,0 +1,8 @@
+-- The entries from this slot of the path on have moved.
+use Rattle.std.proofs.Common.{◌≡◌, ◌-◌, drop}
+use Rattle.silt_cuckoo.specs.Packed.{unpacked_all}
+use Rattle.silt_cuckoo.specs.Placing.{moved_along}
+use Rattle.silt_cuckoo.proofs.cuckoo.move_along.Given as goal
+
+abbrev pub invariant-loop-k : goal.invariant-loop-k
+invariant-loop-k l = unpacked_all l.slots ≡ moved_along (unpacked_all l.initial.slots) (drop (l.k - 1) l.path)

@@ -1,0 +1,7 @@
+use Rattle.std.proofs.Common.{refl, arith}
+use lib.Count.{ones}
+use Rattle.silt_cuckoo.proofs.tests.finds_the_candidates_in_order.Goals as goal
+
+pub new-requires : goal.new-requires
+unfolding ones
+new-requires g c = record { least = omega arith; most = omega arith; power = refl }

@@ -1,0 +1,12 @@
+-- How a slot is stored: in three numbers of 16 bits.
+use Rattle.std.specs.Prelude.{◌+◌, ◌-◌, ◌*◌, ◌==◌, if◌then◌else◌, List, map, Option, Some, None}
+use Rattle.silt_cuckoo.specs.declared.packed.Slot.{Slot}
+use Rattle.silt_cuckoo.specs.Slots.{Entry, Slots}
+
+-- the entry that a stored slot stands for: none where its mark is 0, else the mark is the tag and 1
+abbrev pub unpacked : Slot → Option Entry
+unpacked slot = if slot.mark == 0 then None else Some (slot.mark - 1, 65536 * slot.high + slot.low)
+
+-- the slots that stored slots stand for
+abbrev pub unpacked_all : List Slot → Slots
+unpacked_all slots = map unpacked slots

@@ -1,0 +1,36 @@
+-- What a disk with a fault stands for.
+use Rattle.std.specs.Prelude.{◌≡◌, ℕ, ◌-◌, Bool, true, false, if◌then◌else◌}
+use Rattle.silt_device.specs.Disk.{Content}
+use Rattle.silt_device.specs.Memory.{memory_content, memory_gave}
+use Rattle.silt_device.specs.declared.disk.Call.{Call}
+use Rattle.silt_device.specs.declared.disk.Call.TheVariants.{Read, Write, Sync}
+use Rattle.silt_device.specs.declared.fault.FaultDisk.{FaultDisk}
+use Rattle.silt_device.specs.declared.memory.MemFault.{MemFault}
+
+-- what the disk in memory shows, has settled and has pending
+abbrev pub fault_content : FaultDisk → Content
+fault_content disk = memory_content disk.disk
+
+-- its count of failures, the named call's own among them
+abbrev pub fault_failures : FaultDisk → ℕ
+fault_failures disk = disk.disk.failures
+
+-- a fault of the disk in memory
+abbrev pub fault_gave : FaultDisk → MemFault → Call → ℕ → ℕ → Type 0
+fault_gave disk = memory_gave disk.disk
+
+-- the next call, of this kind, is the one that is to fail
+pub record IsNamed (call : Call) (disk : FaultDisk) : Type 0 where
+  pub kind : disk.call ≡ call
+  pub number : disk.left ≡ 1
+
+-- whether a call is of this kind
+abbrev pub is_kind : Call → Call → Bool
+is_kind Read Read = true
+is_kind Write Write = true
+is_kind Sync Sync = true
+is_kind _ _ = false
+
+-- the calls up to the one that is to fail, after one more of this kind
+abbrev pub left_after : Call → FaultDisk → ℕ
+left_after call disk = if is_kind disk.call call then disk.left - 1 else disk.left

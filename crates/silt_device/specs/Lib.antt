@@ -1,0 +1,5 @@
+pub mod Disk
+pub mod Fault
+pub mod Layout
+pub mod Lives
+pub mod Memory

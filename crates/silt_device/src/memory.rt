@@ -1,0 +1,264 @@
+// A disk in memory that can stop at a chosen write or sync, and then holds what such a stop could leave.
+ghost use Rattle.std.specs.Prelude.{◌≡◌, ◌+◌, ◌≤◌, ◌%◌, ◌^◌, ◌||◌, ℕ, true, false, length, get_or};
+ghost use Rattle.silt_device.specs.Disk.{splice, within};
+ghost use Rattle.silt_device.specs.Lives.{filled};
+
+use crate::life::{Fill, Lives, Stop, filled_byte};
+use crate::{Call, Disk, Stoppable};
+use std::alloc::{AllocError, Global};
+
+/// The fault of one device call: the call, its range, and how many calls had failed then. Only a disk makes one, and nothing
+/// copies it.
+#[derive(Debug, Drop)]
+pub struct MemFault {
+    call: Call,
+    at: u64,
+    count: u64,
+    failures: u64,
+}
+
+/// A disk in memory, on which the K-th write or sync of a life can be made to fail, and which can then be restarted with what
+/// such a stop could leave.
+#[derive(Drop)]
+pub struct MemDisk {
+    shown: Vec<u8>,
+    settled: Vec<u8>,
+    pending: Vec<bool>,
+    failures: u64,
+    lives: Lives,
+    ghost sizes: { length shown.items ≡ length settled.items },
+    ghost pending_size: { length pending.items ≡ length shown.items },
+    ghost agrees: { (place : ℕ) → get_or pending.items place false ≡ false
+        → get_or shown.items place 0 ≡ get_or settled.items place 0 },
+}
+
+// Marks a range.
+fn mark(pending: &mut [bool], at: usize, count: usize)
+    requires { at + count ≤ length pending.old }
+    ensures marks { (place : ℕ) → get_or pending.new place false
+        ≡ (get_or pending.old place false || within at count place) }
+{
+    let end = at + count;
+    pending[at..end].fill(true);
+}
+
+// Writes bytes, and marks their range.
+fn overwrite(shown: &mut [u8], pending: &mut [bool], at: usize, bytes: &[u8])
+    requires fits { at + length bytes.now ≤ length shown.old }
+    requires sizes { length pending.old ≡ length shown.old }
+    ensures bytes { shown.new ≡ splice at bytes.now shown.old }
+    ensures marks { (place : ℕ) → get_or pending.new place false
+        ≡ (get_or pending.old place false || within at (length bytes.now) place) }
+{
+    mark(pending, at, bytes.len());
+    shown[at..at + bytes.len()].copy_from_slice(bytes);
+}
+
+// Fills the pending places.
+fn fill_pending(shown: &mut [u8], settled: &[u8], pending: &[bool], fill: Fill)
+    requires settled { length settled.now ≡ length shown.old }
+    requires pending { length pending.now ≡ length shown.old }
+    ensures kept { (place : ℕ) → get_or pending.now place false ≡ false
+        → get_or shown.new place 0 ≡ get_or shown.old place 0 }
+    ensures filled { (place : ℕ) → get_or pending.now place false ≡ true
+        → get_or shown.new place 0 ≡ filled fill place (get_or shown.old place 0) (get_or settled.now place 0) }
+{
+    for i in 0..shown.len() {
+        if pending[i] {
+            shown[i] = filled_byte(fill, i, shown[i], settled[i]);
+        }
+    }
+}
+
+impl MemDisk {
+    ghost use Rattle.std.specs.Prelude.{IfOk, replicate};
+    ghost use Rattle.silt_device.specs.Disk.{Stays, Restarts, Settles, Tears};
+    ghost use Rattle.silt_device.specs.Memory.{memory_content, memory_gave, IsFresh, IsFilled};
+    ghost use Rattle.silt_device.specs.Lives.{next_life};
+
+    /// A disk of zeros, of this length in bytes, on which no call fails.
+    pub fn new(alloc: Global, len: usize) -> Result<Self, AllocError>
+        ensures { IfOk result (IsFresh (replicate len 0)) }
+    {
+        Ok(MemDisk {
+            shown: vec![in alloc; 0u8; len]?,
+            settled: vec![in alloc; 0u8; len]?,
+            pending: vec![in alloc; false; len]?,
+            failures: 0,
+            lives: Lives::endless(alloc),
+        })
+    }
+
+    /// A disk that shows these bytes, with nothing pending, on which no call fails.
+    pub fn with_bytes(alloc: Global, bytes: &[u8]) -> Result<Self, AllocError>
+        ensures { IfOk result (IsFresh bytes.now) }
+    {
+        let mut disk = MemDisk::new(alloc, bytes.len())?;
+        disk.shown.copy_from_slice(bytes);
+        disk.settled.copy_from_slice(bytes);
+        Ok(disk)
+    }
+
+    /// What reads give, the whole of it. It is no device call: no stop counts it, and it does not fail.
+    pub fn shown(&self) -> &[u8]
+        ensures { result.now ≡ (memory_content self.now).shown }
+    {
+        &self.shown
+    }
+
+    /// Begins a life at once, with the first of these stops. Each restart begins the next. Past the list no call fails, and the
+    /// fill is `Old`.
+    pub fn arm(mut self, stops: Vec<Stop>) -> Self
+        ensures content { Stays (memory_content self) (memory_content result) }
+        ensures lives { result.lives ≡ next_life stops.items }
+        ensures failures { result.failures ≡ self.failures }
+    {
+        self.lives = Lives::new(stops);
+        self
+    }
+
+    // The fault of a call of the disk as it stands.
+    pub(crate) fn fault(&self, call: Call, at: u64, count: usize) -> MemFault
+        ensures { memory_gave self.now result call at count }
+    {
+        MemFault {
+            call,
+            at,
+            count: count as u64,
+            failures: self.failures,
+        }
+    }
+
+    // Counts a failed write or sync, modulo 2^64, and gives its fault.
+    pub(crate) fn fail(&mut self, call: Call, at: u64, count: usize) -> MemFault
+        ensures counted { self.new ≡ record self.old { failures = (self.old.failures + 1) % 2 ^ 64 } }
+        ensures gave { memory_gave self.new result call at count }
+    {
+        self.failures = self.failures.wrapping_add(1);
+        self.fault(call, at, count)
+    }
+
+    // A failed write that shows nothing new.
+    pub(crate) fn refuse_write(&mut self, at: u64, count: usize) -> MemFault
+        requires { at + count ≤ length self.old.shown.items }
+        ensures shown { self.new.shown.items ≡ self.old.shown.items }
+        ensures torn { Tears at count (memory_content self.old) (memory_content self.new) }
+        ensures failures { self.new.failures ≡ (self.old.failures + 1) % 2 ^ 64 }
+        ensures gave { memory_gave self.new result Call.Write at count }
+    {
+        mark(&mut self.pending, at as usize, count);
+        self.fail(Call::Write, at, count)
+    }
+
+    // Settles all that is shown.
+    fn settle(&mut self)
+        ensures content { Settles (memory_content self.old) (memory_content self.new) }
+        ensures lives { self.new.lives ≡ self.old.lives }
+        ensures failures { self.new.failures ≡ self.old.failures }
+    {
+        self.settled.copy_from_slice(&self.shown);
+        self.pending.fill(false);
+    }
+
+    // Leaves what this stop leaves.
+    fn stop(&mut self)
+        ensures content { Restarts (memory_content self.old) (memory_content self.new) }
+        ensures filled { IsFilled self.old self.new.shown.items }
+        ensures lives { self.new.lives ≡ self.old.lives }
+        ensures failures { self.new.failures ≡ self.old.failures }
+    {
+        fill_pending(
+            &mut self.shown,
+            &self.settled,
+            &self.pending,
+            self.lives.fill(),
+        );
+        self.settle()
+    }
+}
+
+impl Disk for MemDisk {
+    ghost use Rattle.std.specs.Prelude.{OnOk, OnErr, IfErr, IsErr, IsTrue, MatchResult, slice_range, ◌↔◌};
+    ghost use Rattle.silt_device.specs.declared.disk.Call.TheVariants.{Read, Write, Sync};
+    ghost use Rattle.silt_device.specs.Disk.{Tears, Writes, Settles, Stays};
+    ghost use Rattle.silt_device.specs.Lives.{is_stopped, plan_after_call};
+    ghost use Rattle.silt_device.specs.Memory.{memory_content, memory_gave};
+
+    type Fault = MemFault;
+
+    ghost content = { memory_content };
+
+    ghost failures = { λ disk. disk.failures };
+
+    ghost gave = { memory_gave };
+
+    fn len(&self) -> u64 {
+        self.shown.len() as u64
+    }
+
+    fn read(&self, at: u64, buf: &mut [u8]) -> Result<(), MemFault>
+        requires { at + length buf.old ≤ length self.now.shown.items }
+        ensures bytes { OnOk result (buf.new ≡ slice_range self.now.shown.items at (at + length buf.old)) }
+        ensures fails { IsErr result ↔ IsTrue (is_stopped self.now.lives.life) }
+        ensures fault { IfErr result (λ fault. memory_gave self.now fault Read at (length buf.old)) }
+    {
+        if self.lives.is_stopped() {
+            return Err(self.fault(Call::Read, at, buf.len()));
+        }
+        let start = at as usize;
+        buf.copy_from_slice(&self.shown[start..start + buf.len()]);
+        Ok(())
+    }
+
+    // The bytes of a write that fails are shown as well.
+    fn write(&mut self, at: u64, buf: &[u8]) -> Result<(), MemFault>
+        requires { at + length buf.now ≤ length self.old.shown.items }
+        ensures torn { Tears at (length buf.now) (memory_content self.old) (memory_content self.new) }
+        ensures written { self.new.shown.items ≡ splice at buf.now self.old.shown.items }
+        ensures lives { self.new.lives ≡ plan_after_call self.old.lives }
+        ensures fails { IsErr result ↔ IsTrue (is_stopped self.new.lives.life) }
+        ensures failures { MatchResult result (λ _. self.new.failures ≡ self.old.failures)
+            (λ fault. (self.new.failures ≡ (self.old.failures + 1) % 2 ^ 64)
+            × memory_gave self.new fault Write at (length buf.now)) }
+    {
+        overwrite(&mut self.shown, &mut self.pending, at as usize, buf);
+        if self.lives.count_call() {
+            return Err(self.fail(Call::Write, at, buf.len()));
+        }
+        Ok(())
+    }
+
+    fn sync(&mut self) -> Result<(), MemFault>
+        ensures settled { OnOk result (Settles (memory_content self.old) (memory_content self.new)) }
+        ensures unchanged { OnErr result (Stays (memory_content self.old) (memory_content self.new)) }
+        ensures lives { self.new.lives ≡ plan_after_call self.old.lives }
+        ensures fails { IsErr result ↔ IsTrue (is_stopped self.new.lives.life) }
+        ensures failures { MatchResult result (λ _. self.new.failures ≡ self.old.failures)
+            (λ fault. (self.new.failures ≡ (self.old.failures + 1) % 2 ^ 64)
+            × memory_gave self.new fault Sync 0 (length self.new.shown.items)) }
+    {
+        if self.lives.count_call() {
+            let count = self.shown.len();
+            return Err(self.fail(Call::Sync, 0, count));
+        }
+        self.settle();
+        Ok(())
+    }
+}
+
+impl Stoppable for MemDisk {
+    ghost use Rattle.silt_device.specs.Disk.{Restarts};
+    ghost use Rattle.silt_device.specs.Lives.{next_life};
+    ghost use Rattle.silt_device.specs.Memory.{memory_content, IsFilled};
+
+    fn restart(mut self) -> Self
+        ensures content { Restarts (memory_content self) (memory_content result) }
+        ensures filled { IsFilled self result.shown.items }
+        ensures lives { result.lives ≡ next_life self.lives.to_come }
+        ensures failures { result.failures ≡ self.failures }
+    {
+        self.stop();
+        self.lives.begin_next();
+        self
+    }
+}

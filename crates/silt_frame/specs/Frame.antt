@@ -1,0 +1,43 @@
+-- The bytes of rows and entries, both ways.
+use Rattle.std.specs.Prelude.{◌≡◌, ◌<◌, ℕ, length, ◌==◌, if◌then◌else◌, List, ◌∷◌, ◌++◌, take, drop, slice_index, Option, Some, None}
+use Rattle.std.specs.Option.{option_map}
+use Rattle.silt_frame.specs.declared.key.Key.{Key}
+use Rattle.silt_frame.specs.declared.key.Kind.{Kind}
+use Rattle.silt_frame.specs.declared.key.Kind.TheVariants.{Put, Delete}
+
+-- the byte that stands for a kind
+abbrev pub kind_byte : Kind → ℕ
+kind_byte Put = 1
+kind_byte Delete = 2
+
+-- the kind that a byte stands for
+abbrev pub kind_of : ℕ → Option Kind
+kind_of byte = if byte == 1 then Some Put else if byte == 2 then Some Delete else None
+
+-- the head of a row
+abbrev pub head_bytes : Kind → Key → List ℕ
+head_bytes kind key = kind_byte kind ∷ key.0
+
+-- what the 21 bytes of a head say
+abbrev pub head_of : List ℕ → Option (Kind × Key)
+head_of bytes = option_map (λ kind. (kind, record { 0 = drop 1 bytes })) (kind_of (slice_index bytes 0))
+
+-- an entry of a sorted region
+abbrev pub entry_bytes : Key → List ℕ → List ℕ
+entry_bytes key value = key.0 ++ value
+
+-- the key and the value of an entry
+abbrev pub entry_of : List ℕ → Key × List ℕ
+entry_of bytes = (record { 0 = take 20 bytes }, drop 20 bytes)
+
+-- what is written as a head reads back, and a head that reads is what would be written
+abbrev pub HeadLaw : Type 0
+HeadLaw =
+    ((kind : Kind) (key : Key) → head_of (head_bytes kind key) ≡ Some (kind, key))
+    × ((bytes : List ℕ) (kind : Kind) (key : Key) → 0 < length bytes → head_of bytes ≡ Some (kind, key) → bytes ≡ head_bytes kind key)
+
+-- an entry reads back, and what reads is what would be written
+abbrev pub EntryLaw : Type 0
+EntryLaw =
+    ((key : Key) (value : List ℕ) → length key.0 ≡ 20 → entry_of (entry_bytes key value) ≡ (key, value))
+    × ((bytes : List ℕ) → entry_bytes (entry_of bytes).0 (entry_of bytes).1 ≡ bytes)

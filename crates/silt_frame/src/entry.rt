@@ -1,0 +1,32 @@
+// An entry of a sorted region: a key and its value.
+ghost use Rattle.std.specs.Prelude.{◌≡◌, ◌+◌, ◌<◌, ◌≤◌, length};
+ghost use Rattle.silt_frame.specs.Frame.{entry_bytes, entry_of, EntryLaw};
+
+use crate::Key;
+
+/// Writes the bytes of an entry, the key and then the value, over a buffer of just that length.
+pub fn write_entry(key: &Key, value: &[u8], out: &mut [u8])
+    requires { length out.old ≡ 20 + length value.now }
+    ensures { out.new ≡ entry_bytes key.now value.now }
+{
+    let (head, rest) = out.split_at_mut(20);
+    head.copy_from_slice(&key.0);
+    rest.copy_from_slice(value);
+}
+
+/// The key and the value of an entry of at least 20 bytes.
+pub fn entry_of(bytes: &[u8]) -> (Key, &[u8])
+    requires { 20 ≤ length bytes.now }
+    ensures { (result.0, result.1.now) ≡ entry_of bytes.now }
+{
+    let (head, value) = bytes.split_at(20);
+    let mut key = [0; 20];
+    key.copy_from_slice(head);
+    (Key(key), value)
+}
+
+/// An entry reads back as what was written, and no other bytes read as the same.
+pub fn entry_reads_back()
+    ensures { EntryLaw }
+{
+}

@@ -1,0 +1,79 @@
+// The head of a row: its kind and its key.
+ghost use Rattle.std.specs.Prelude.{◌≡◌};
+ghost use Rattle.silt_frame.specs.Frame.{head_bytes, head_of, kind_byte, kind_of, HeadLaw};
+
+use crate::{Key, Kind};
+
+/// How many bytes the head of a row has.
+pub const HEAD_LEN: usize = 21;
+
+// The byte that stands for a kind.
+fn kind_byte(kind: Kind) -> u8
+    ensures { result ≡ kind_byte kind }
+{
+    match kind {
+        Kind::Put => 1,
+        Kind::Delete => 2,
+    }
+}
+
+// The kind that a byte stands for.
+fn kind_of(byte: u8) -> Option<Kind>
+    ensures { result ≡ kind_of byte }
+{
+    match byte {
+        1 => Some(Kind::Put),
+        2 => Some(Kind::Delete),
+        _ => None,
+    }
+}
+
+/// The head of a row: the kind in one byte, then the key.
+pub fn head_bytes(kind: Kind, key: &Key) -> [u8; 21]
+    ensures { result ≡ head_bytes kind key.now }
+{
+    let mut bytes = [0; HEAD_LEN];
+    bytes[0] = kind_byte(kind);
+    bytes[1..].copy_from_slice(&key.0);
+    bytes
+}
+
+/// What the head of a row says: `None` exactly for a kind byte other than 1 and 2.
+pub fn head_of(bytes: &[u8; 21]) -> Option<(Kind, Key)>
+    ensures { result ≡ head_of bytes.now }
+{
+    let kind = kind_of(bytes[0])?;
+    let mut key = [0; 20];
+    key.copy_from_slice(&bytes[1..]);
+    Some((kind, Key(key)))
+}
+
+/// A head reads back as what was written, and no other bytes read as the same.
+pub fn head_reads_back()
+    ensures { HeadLaw }
+{
+}
+
+#[cfg(test)]
+mod tests {
+    use super::*;
+
+    // The head of a put of the key that is the SHA-1 digest of "abc".
+    #[test]
+    fn writes_a_head(rt: HostRuntime) {
+        let key = Key(*b"\xa9\x99\x3e\x36\x47\x06\x81\x6a\xba\x3e\x25\x71\x78\x50\xc2\x6c\x9c\xd0\xd8\x9d");
+        let head = *b"\x01\xa9\x99\x3e\x36\x47\x06\x81\x6a\xba\x3e\x25\x71\x78\x50\xc2\x6c\x9c\xd0\xd8\x9d";
+        assert_eq!(rt; head_bytes(Kind::Put, &key), head);
+        assert_eq!(rt; head_of(&head), Some((Kind::Put, key)));
+        assert_eq!(rt; head_bytes(Kind::Delete, &key)[0], 2);
+    }
+
+    #[test]
+    fn reads_no_other_kind(rt: HostRuntime) {
+        for kind in [0, 3, 255] {
+            let mut head = [7; HEAD_LEN];
+            head[0] = kind;
+            assert_eq!(rt; head_of(&head), None);
+        }
+    }
+}

@@ -1,0 +1,15 @@
+//! The bytes of rows and entries.
+//!
+//! A row of a log or of a hash region is a head and a value. The head is 21 bytes: the kind (1 for a put,
+//! 2 for a delete) and the 20 bytes of the key. An entry of a sorted region is a key and a value.
+#![tactic(auto)]
+
+mod entry;
+mod head;
+mod key;
+mod value;
+
+pub use entry::{entry_of, entry_reads_back, write_entry};
+pub use head::{HEAD_LEN, head_bytes, head_of, head_reads_back};
+pub use key::{KEY_LEN, Key, Kind, Row};
+pub use value::Value;

@@ -1,0 +1,40 @@
+// The value of a key.
+ghost use Rattle.std.specs.Prelude.{◌≡◌, ℕ, List};
+
+use std::marker::Model;
+
+/// A value: as many bytes as all values of a store have.
+#[derive(Debug, Drop)]
+pub struct Value {
+    bytes: Vec<u8>,
+}
+
+impl Model for Value {
+    ghost Value = { List ℕ };
+
+    ghost view = { λ v. v.bytes.items };
+}
+
+impl Value {
+    /// The value of these bytes.
+    pub fn new(bytes: Vec<u8>) -> Self
+        ensures { result ≡ bytes.items }
+    {
+        Value { bytes }
+    }
+
+    /// Its bytes.
+    pub fn as_slice(&self) -> &[u8]
+        ensures { result.now ≡ self.now }
+    {
+        self.bytes.as_slice()
+    }
+
+    /// Its bytes, taken out.
+    pub fn into_vec(self) -> Vec<u8>
+        ensures { result.items ≡ self }
+    {
+        let Value { bytes } = self;
+        bytes
+    }
+}

@@ -1,0 +1,46 @@
+-- A write behind a sync.
+use Rattle.std.proofs.Common.{◌≡◌, ℕ, List, sym, ap, subst, ◌∙◌, inl, inr}
+use Rattle.silt_device.specs.Disk.{Content, Torn, ChangesWithin, Writes, Settles, Stays, splice}
+use Rattle.silt_device.proofs.Images.{shown_left, left_after_sync, left_after_failed_sync, torn_refl}
+use Rattle.silt_log.specs.Calls.{SyncsAndTears}
+
+-- the sync failed
+pub not_begun : (at count : ℕ) (old new : Content) → Stays old new → SyncsAndTears at count old new
+not_begun at count old new stays = record {
+  honest = stays.honest;
+  shown = λ honest. subst (λ image. Torn at count old.shown image) (sym (stays.shown honest)) (torn_refl at count old.shown);
+  left = λ honest image left. inl (left_after_failed_sync stays honest image left);
+}
+
+-- the sync was answered Ok, and the write was begun
+pub begun : (at count : ℕ) (old between new : Content) → Settles old between → ChangesWithin at count between new → SyncsAndTears at count old new
+begun at count old between new settles changes = record {
+  honest = changes.honest ∙ settles.honest;
+  shown = λ honest. subst (λ image. Torn at count image new.shown) (settles.shown honest) (changes.shown (settles.honest ∙ honest));
+  left = λ honest image left.
+      let from = changes.left (settles.honest ∙ honest) image left in
+      inr (subst (λ before. Torn at count before image) (left_after_sync settles honest from.0 from.1) from.2);
+}
+
+-- both were answered Ok
+pub written_after_sync : (at : ℕ) (bytes : List ℕ) (old between new : Content) → Settles old between → Writes at bytes between new → Writes at bytes old new
+written_after_sync at bytes old between new settles writes = record {
+  honest = writes.honest ∙ settles.honest;
+  shown = λ honest. writes.shown (settles.honest ∙ honest) ∙ ap (λ (image : List ℕ). splice at bytes image) (settles.shown honest);
+}
+
+-- only the range is changed
+pub barrier_within : (at count : ℕ) (old new : Content) → SyncsAndTears at count old new → ChangesWithin at count old new
+barrier_within at count old new tears = record {
+  honest = tears.honest;
+  shown = tears.shown;
+  left = λ honest image left. elim (tears.left honest image left) [
+    | inl before ↦ (image, before, torn_refl at count image)
+    | inr torn ↦ (old.shown, shown_left old, torn)
+  ];
+}
+
+-- a range that is named in another way
+pub tears_at : (at count at_other count_other : ℕ) (old new : Content) → at ≡ at_other → count ≡ count_other → SyncsAndTears at count old new → SyncsAndTears at_other count_other old new
+tears_at at count at_other count_other old new same_at same_count tears =
+    subst (λ n. SyncsAndTears at_other n old new) same_count (subst (λ n. SyncsAndTears n count old new) same_at tears)

@@ -1,0 +1,14 @@
+pub mod Barriers
+pub mod Bodies
+pub mod Counts
+pub mod Elsewhere
+pub mod Exits
+pub mod GateExits
+pub mod Named
+pub mod Parts
+pub mod ScanExits
+pub mod Scanned
+pub mod SealExits
+pub mod Splices
+pub mod Standing
+pub mod Waiting

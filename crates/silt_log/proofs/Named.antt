@@ -1,0 +1,32 @@
+-- The places and counts of a log in memory, of which a proof knows the fields, by the log that they stand for.
+use Rattle.std.proofs.Common.{◌≡◌, ℕ, ◌+◌, ◌-◌, ◌≤◌, List, length, take, ap, ◌∙◌, arith, length-take-le}
+use Rattle.silt_device.specs.Layout.{gates_at}
+use Rattle.silt_log.specs.Rows.{body_at}
+use Rattle.silt_log.specs.State.{LogState, IsHeld}
+
+-- the body behind the rows
+pub body_place : (fields log : LogState) (at : ℕ) → fields ≡ log → at ≡ body_at log.shape log.region fields.used → at ≡ body_at log.shape log.region log.used
+body_place fields log at same is = is ∙ ap (λ (l : LogState). body_at log.shape log.region l.used) same
+
+-- the first gate of a row that waits
+pub waiting_place : (fields log : LogState) (gates from : ℕ) → fields ≡ log → gates ≡ gates_at fields.shape fields.region → from ≡ fields.settled → gates + from ≡ gates_at log.shape log.region + log.settled
+waiting_place fields log gates from same is first =
+    ap (λ n. n + from) is ∙ ap (λ n. gates_at fields.shape fields.region + n) first ∙ ap (λ (l : LogState). gates_at l.shape l.region + l.settled) same
+
+-- as many bytes of the buffer as rows wait
+pub waiting_count : (fields log : LogState) (buffer : List ℕ) → fields ≡ log → IsHeld fields (length buffer) → length (take (fields.used - fields.settled) buffer) ≡ log.used - log.settled
+waiting_count fields log buffer same held =
+    let enough : fields.used - fields.settled ≤ length buffer = omega (arith, held.buffer, held.bounds.room) in
+    length-take-le _ buffer enough ∙ ap (λ (l : LogState). l.used - l.settled) same
+
+-- the gate past the first closed one
+pub past_place : (fields log : LogState) (gates from : ℕ) → fields ≡ log → gates ≡ gates_at fields.shape fields.region → from ≡ fields.used + 1 → gates + from ≡ gates_at log.shape log.region + log.used + 1
+past_place fields log gates from same is first =
+    let one_further : (n : ℕ) → n + (fields.used + 1) ≡ n + fields.used + 1 = λ n. omega arith in
+    ap (λ n. n + from) is ∙ ap (λ n. gates_at fields.shape fields.region + n) first ∙ one_further (gates_at fields.shape fields.region) ∙ ap (λ (l : LogState). gates_at l.shape l.region + l.used + 1) same
+
+-- as many bytes of the buffer as gates are past the first closed one
+pub past_count : (fields log : LogState) (capacity : ℕ) (buffer : List ℕ) → fields ≡ log → capacity ≡ fields.shape.log_capacity → IsHeld fields (length buffer) → length (take (capacity - (fields.used + 1)) buffer) ≡ log.shape.log_capacity - (log.used + 1)
+past_count fields log capacity buffer same is held =
+    let enough : capacity - (fields.used + 1) ≤ length buffer = omega (arith, held.buffer) in
+    length-take-le _ buffer enough ∙ ap (λ n. n - (fields.used + 1)) is ∙ ap (λ (l : LogState). l.shape.log_capacity - (l.used + 1)) same

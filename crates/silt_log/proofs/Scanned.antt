@@ -1,0 +1,112 @@
+-- The rows that a scan reads.
+use Rattle.std.proofs.Common.{cond, ◌≡◌, ℕ, ◌+◌, ◌-◌, ◌*◌, ◌≤◌, ◌<◌, true, false, List, [], ◌∷◌, ◌++◌, length, map, drop, get_or, slice_range, Some, None, Result, Ok, Err, eqb, inl, inr, refl, sym, ap, ◌∙◌, subst, arith, below_more}
+use Rattle.std.specs.List.{range_with_len}
+use Rattle.std.specs.Option.{is_some, option_map}
+use Rattle.std.specs.Result.{is_ok, OnOk}
+use Rattle.std.proofs.lemmas.Bool.{cases_Bool, cond-true, cond-false, eqb-true, false≢true}
+use Rattle.std.proofs.lemmas.List.{map_push, map-id, length_push}
+use Rattle.std.proofs.lemmas.List.FromFn.{map-range_with_len_more, length-map-range_with_len}
+use Rattle.std.proofs.lemmas.List.Edits.{length-between, get_or-between}
+use Rattle.silt_frame.specs.Frame.{kind_byte, kind_of, head_of}
+use Rattle.silt_frame.specs.declared.key.Key.{Key}
+use Rattle.silt_frame.specs.declared.key.Kind.{Kind}
+use Rattle.silt_frame.specs.declared.key.Kind.TheVariants.{Put, Delete}
+use Rattle.silt_frame.specs.declared.key.Row.{Row}
+use Rattle.silt_log.specs.declared.scan.ScanError.{ScanError}
+use Rattle.silt_log.specs.declared.scan.ScanError.TheVariants.{Damaged, Device, NoMemory}
+use Rattle.silt_log.specs.Scans.{IsRefused}
+use Rattle.silt_log.specs.Rows.{StoredRow, IsRow, AreRows, FirstUnknown, body_row, has_known_kind}
+use Rattle.silt_log.proofs.Parts.{slice_of_slice, drop_front}
+
+-- one more number
+range_more : (n : ℕ) → range_with_len 0 (n + 1) ≡ range_with_len 0 n ++ n ∷ []
+range_more n = sym (map-id (range_with_len 0 (n + 1))) ∙ map-range_with_len_more (λ k. k) 0 n n (omega arith) ∙ ap (λ (l : List ℕ). l ++ n ∷ []) (map-id (range_with_len 0 n))
+
+-- no rows
+pub rows_none : AreRows [] []
+rows_none = record { kinds = refl; keys = refl; places = refl }
+
+-- one more row
+pub rows_push : (rows : List Row) (stored : List StoredRow) (row : Row) (next : StoredRow) → AreRows rows stored → IsRow (length stored) next row → AreRows (rows ++ row ∷ []) (stored ++ next ∷ [])
+rows_push rows stored row next are is = record {
+  kinds = map_push (λ (r : Row). kind_byte r.kind) rows row ∙ ap (λ (l : List ℕ). l ++ kind_byte row.kind ∷ []) are.kinds ∙ ap (λ k. map (λ (r : StoredRow). r.kind) stored ++ k ∷ []) is.kind ∙ sym (map_push (λ (r : StoredRow). r.kind) stored next);
+  keys = map_push (λ (r : Row). r.key.0) rows row ∙ ap (λ (l : List (List ℕ)). l ++ row.key.0 ∷ []) are.keys ∙ ap (λ (k : List ℕ). map (λ (r : StoredRow). r.key) stored ++ k ∷ []) is.key ∙ sym (map_push (λ (r : StoredRow). r.key) stored next);
+  places = map_push (λ (r : Row). r.place) rows row ∙ ap (λ (l : List ℕ). l ++ row.place ∷ []) are.places ∙ ap (λ k. range_with_len 0 (length stored) ++ k ∷ []) is.place
+      ∙ sym (range_more (length stored)) ∙ ap (range_with_len 0) (sym (length_push stored next));
+}
+
+-- one more of the rows in the bodies
+pub rows_more : (rows : List Row) (stored : ℕ → StoredRow) (row : Row) (n : ℕ) → AreRows rows (map stored (range_with_len 0 n)) → IsRow n (stored n) row → AreRows (rows ++ row ∷ []) (map stored (range_with_len 0 (n + 1)))
+rows_more rows stored row n are is =
+    let numbered : IsRow (length (map stored (range_with_len 0 n))) (stored n) row = subst (λ k. IsRow k (stored n) row) (sym (length-map-range_with_len stored 0 n)) is in
+    subst (AreRows (rows ++ row ∷ [])) (sym (map-range_with_len_more stored 0 n n (omega arith))) (rows_push rows (map stored (range_with_len 0 n)) row (stored n) are numbered)
+
+-- so far all kinds were known
+pub known_more : (stored : ℕ → StoredRow) (n : ℕ) → ((earlier : ℕ) → earlier < n → has_known_kind (stored earlier) ≡ true) → has_known_kind (stored n) ≡ true → (earlier : ℕ) → earlier < n + 1 → has_known_kind (stored earlier) ≡ true
+known_more stored n known here = below_more _ _ known here
+
+-- what an answer says where it is Ok
+pub on_ok_at : {T E P : Type 0} (r : Result T E) → is_ok r ≡ true → OnOk r P → P
+on_ok_at (Ok x) is holds = holds
+on_ok_at (Err e) is holds = absurd (false≢true is)
+
+-- a kind that was read, by the two tests
+kind_by_tests : (byte : ℕ) (kind : Kind) (key rest : Key) → option_map {U = Kind × Key} (λ (k : Kind). (k, rest)) (kind_of byte) ≡ Some (kind, key) → (is_some (kind_of byte) ≡ true) × (kind_byte kind ≡ byte) × (rest ≡ key)
+kind_by_tests byte kind key rest read = elim (cases_Bool (eqb byte 1)) [
+  | inl one ↦
+      let is : byte ≡ 1 = eqb-true byte 1 one in
+      let known : kind_of byte ≡ Some Put = cond-true _ _ _ one in
+      let here : (Put, rest) ≡ (kind, key) = cc in
+      (ap is_some known, ap (λ (p : Kind × Key). kind_byte p.0) (sym here) ∙ sym is, ap (λ (p : Kind × Key). p.1) here)
+  | inr other ↦ elim (cases_Bool (eqb byte 2)) [
+    | inl two ↦
+        let is : byte ≡ 2 = eqb-true byte 2 two in
+        let known : kind_of byte ≡ Some Delete = cond-false _ _ _ other ∙ cond-true _ _ _ two in
+        let here : (Delete, rest) ≡ (kind, key) = cc in
+        (ap is_some known, ap (λ (p : Kind × Key). kind_byte p.0) (sym here) ∙ sym is, ap (λ (p : Kind × Key). p.1) here)
+    | inr neither ↦
+        let unknown : kind_of byte ≡ None = cond-false _ _ _ other ∙ cond-false _ _ _ neither in
+        absurd (cc)
+  ]
+]
+
+-- a row whose head was read
+pub row_read : (bodies len place : ℕ) (shown head : List ℕ) (kind : Kind) (key : Key) → bodies + place * len + len ≤ length shown → 21 ≤ len → head ≡ slice_range shown (bodies + place * len) (bodies + place * len + 21) → head_of head ≡ Some (kind, key)
+    → IsRow place (body_row bodies len shown place) (record { kind = kind; key = key; place = place })
+row_read bodies len place shown head kind key fits long read says =
+    let at : ℕ = bodies + place * len in
+    let body : List ℕ = slice_range shown at (at + len) in
+    let front : head ≡ slice_range body 0 21 = read ∙ ap (λ n. slice_range shown n (n + 21)) (omega arith) ∙ slice_of_slice shown at len 0 21 long fits in
+    let rest : Key = record { 0 = drop 1 head } in
+    let parts = kind_by_tests (get_or head 0 0) kind key rest says in
+    let body_long : length body ≡ at + len - at = length-between shown at (at + len) fits in
+    let byte : get_or head 0 0 ≡ get_or body 0 0 = ap (λ (l : List ℕ). get_or l 0 0) front ∙ get_or-between body 0 21 0 0 (omega arith) in
+    let bytes : drop 1 head ≡ slice_range body 1 21 = ap (λ (l : List ℕ). drop 1 l) front ∙ drop_front body 1 20 in
+    record {
+      known = ap (λ n. is_some (kind_of n)) (sym byte) ∙ parts.0;
+      kind = parts.1 ∙ byte;
+      key = ap (λ (k : Key). k.0) (sym parts.2) ∙ bytes;
+      place = refl;
+    }
+
+-- a refusal that says less of a damaged row
+pub refused_weaker : {F : Type 0} (strong weak : ℕ → Type 0) (was_given : F → Type 0) (error : ScanError F) → ((place : ℕ) → strong place → weak place) → IsRefused strong was_given error → IsRefused weak was_given error
+refused_weaker strong weak was_given (Damaged place) step refused = step place refused
+refused_weaker strong weak was_given (Device fault) step refused = refused
+refused_weaker strong weak was_given NoMemory step refused = refused
+
+-- the first row of an unknown kind, where all before it are of known kinds
+pub unknown_here : (stored : ℕ → StoredRow) (count place here : ℕ) → place < count → here ≡ place → has_known_kind (stored place) ≡ false → ((earlier : ℕ) → earlier < place → has_known_kind (stored earlier) ≡ true) → FirstUnknown stored count here
+unknown_here stored count place here below same unknown known =
+    subst (FirstUnknown stored count) (sym same) (record { counts = below; unknown = unknown; known = known })
+
+-- a refusal at this row, where all before it are of known kinds
+pub refused_here : {F : Type 0} (honest : Type 0) (stored : ℕ → StoredRow) (count place : ℕ) (was_given : F → Type 0) (error : ScanError F) → place < count → (honest → (earlier : ℕ) → earlier < place → has_known_kind (stored earlier) ≡ true)
+    → IsRefused (λ damaged. (damaged ≡ place) × (honest → has_known_kind (stored place) ≡ false)) was_given error → IsRefused (λ damaged. honest → FirstUnknown stored count damaged) was_given error
+refused_here honest stored count place was_given error below known refused =
+    refused_weaker (λ damaged. (damaged ≡ place) × (honest → has_known_kind (stored place) ≡ false)) (λ damaged. honest → FirstUnknown stored count damaged) was_given error
+    (λ here damaged is. unknown_here stored count place here below damaged.0 (damaged.1 is) (known is)) refused
+
+-- a list after a push that was answered Ok
+pub pushed_ok : {X T E : Type 0} (answer : Result T E) (was now : List X) (x : X) → is_ok answer ≡ true → now ≡ cond (is_ok answer) (was ++ x ∷ []) was → now ≡ was ++ x ∷ []
+pushed_ok answer was now x ok pushed = pushed ∙ ap (λ b. cond b (was ++ x ∷ []) was) ok

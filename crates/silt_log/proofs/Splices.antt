@@ -1,0 +1,86 @@
+-- One write after another.
+use Rattle.std.proofs.Common.{◌≡◌, ℕ, ◌+◌, ◌-◌, ◌≤◌, List, ◌++◌, length, take, drop, replicate, sym, ap, ◌∙◌, subst, inl, inr, arith}
+use Rattle.std.proofs.lemmas.Bool.{cases_lt}
+use Rattle.std.proofs.lemmas.List.{ext_get_or, append_assoc, length-append, length-take-le, take_at, drop_at, drop-drop}
+use Rattle.silt_device.specs.Disk.{Content, Torn, ChangesWithin, Tears, Writes, size, splice}
+use Rattle.silt_device.proofs.Images.{torn_splice, splice_byte, write_within, within_wider, within_trans}
+use Rattle.silt_frame.specs.Frame.{head_bytes, kind_byte}
+use Rattle.silt_frame.specs.declared.key.Key.{Key}
+use Rattle.silt_frame.specs.declared.key.Kind.{Kind}
+use Rattle.silt_log.specs.Rows.{StoredRow, row_of, stored_row}
+use Rattle.silt_log.proofs.Counts.{same_byte}
+
+-- the same bytes over a range hide what a write did there
+pub spliced_over : (at : ℕ) (bytes old new : List ℕ) → at + length bytes ≤ length old → Torn at (length bytes) old new → splice at bytes new ≡ splice at bytes old
+spliced_over at bytes old new fits torn =
+    let fits_new : at + length bytes ≤ length new = omega (arith, torn.size) in
+    let over_old = torn_splice at bytes old fits in
+    let over_new = torn_splice at bytes new fits_new in
+    ext_get_or 0 (splice at bytes new) (splice at bytes old) (over_new.size ∙ torn.size ∙ sym over_old.size)
+    (λ place _. elim (cases_lt place at) [
+      | inl low ↦ over_new.before place low ∙ torn.before place low ∙ sym (over_old.before place low)
+      | inr high ↦ elim (cases_lt place (at + length bytes)) [
+        | inl inside ↦
+            let here : place ≡ at + (place - at) = omega arith in
+            same_byte (splice at bytes new) place (at + (place - at)) here ∙ splice_byte at bytes new (place - at) fits_new (omega arith)
+            ∙ sym (same_byte (splice at bytes old) place (at + (place - at)) here ∙ splice_byte at bytes old (place - at) fits (omega arith))
+        | inr past ↦ over_new.after place past ∙ torn.after place past ∙ sym (over_old.after place past)
+      ]
+    ])
+
+-- two writes, one behind the other, write both parts
+pub spliced_twice : (at : ℕ) (first second image : List ℕ) → at + length first ≤ length image → splice (at + length first) second (splice at first image) ≡ splice at (first ++ second) image
+spliced_twice at first second image fits =
+    let front : List ℕ = take at image ++ first in
+    let rest : List ℕ = drop (at + length first) image in
+    let long : length front ≡ at + length first = omega (arith, length-append (take at image) first, length-take-le at image (omega arith)) in
+    let kept : take (at + length first) (front ++ rest) ≡ front = take_at front rest (at + length first) long in
+    let left : drop (at + length first + length second) (front ++ rest) ≡ drop (at + length (first ++ second)) image =
+    sym (drop-drop (length second) (at + length first) (front ++ rest)) ∙ ap (drop (length second)) (drop_at front rest (at + length first) long)
+    ∙ drop-drop (length second) (at + length first) image ∙ ap (λ n. drop n image) (omega (arith, length-append first second)) in
+    ap (λ (l : List ℕ). l ++ second ++ drop (at + length first + length second) (front ++ rest)) kept
+    ∙ ap (λ (l : List ℕ). front ++ second ++ l) left
+    ∙ ap (λ (l : List ℕ). l ++ drop (at + length (first ++ second)) image) (append_assoc (take at image) first second)
+
+-- the first of two writes that follow each other
+pub first_write_within : (at first second : ℕ) (old new : Content) → Tears at first old new → ChangesWithin at (first + second) old new
+first_write_within at first second old new tears = within_wider at (first + second) (omega arith) (omega arith) (write_within tears)
+
+-- both of them
+pub both_writes_within : (at first second : ℕ) (old between new : Content) → Tears at first old between → Tears (at + first) second between new → ChangesWithin at (first + second) old new
+both_writes_within at first second old between new tears later =
+    within_trans (first_write_within at first second old between tears) (within_wider at (first + second) (omega arith) (omega arith) (write_within later))
+
+-- both of them, each answered Ok
+pub both_written : (at : ℕ) (first second : List ℕ) (old between new : Content) → at + (length first + length second) ≤ size old → Writes at first old between → Writes (at + length first) second between new → Writes at (first ++ second) old new
+both_written at first second old between new fits writes later = record {
+  honest = later.honest ∙ writes.honest;
+  shown = λ honest.
+      later.shown (writes.honest ∙ honest) ∙ ap (λ (image : List ℕ). splice (at + length first) second image) (writes.shown honest)
+      ∙ spliced_twice at first second old.shown (omega arith);
+}
+
+-- a change of a range that is named in another way
+pub within_at : (at count at_other count_other : ℕ) (old new : Content) → at ≡ at_other → count ≡ count_other → ChangesWithin at count old new → ChangesWithin at_other count_other old new
+within_at at count at_other count_other old new same_at same_count changes =
+    subst (λ n. ChangesWithin at_other n old new) same_count (subst (λ n. ChangesWithin n count old new) same_at changes)
+
+-- a write to a place that is named in another way
+pub writes_at : (at at_other : ℕ) (bytes : List ℕ) (old new : Content) → at ≡ at_other → Writes at bytes old new → Writes at_other bytes old new
+writes_at at at_other bytes old new same writes = subst (λ n. Writes n bytes old new) same writes
+
+-- a write of one byte to some places that are named in another way
+pub fills_at : (at at_other count count_other byte : ℕ) (old new : Content) → at ≡ at_other → count ≡ count_other → Writes at (replicate count byte) old new → Writes at_other (replicate count_other byte) old new
+fills_at at at_other count count_other byte old new same_at same_count writes =
+    writes_at at at_other (replicate count_other byte) old new same_at (subst (λ n. Writes at (replicate n byte) old new) same_count writes)
+
+-- the row of a head and a value
+pub row_of_parts : (kind : Kind) (key : Key) (head value : List ℕ) → head ≡ head_bytes kind key → length head ≡ 21 → row_of (head ++ value) ≡ stored_row kind key value
+row_of_parts kind key head value is long =
+    let bytes : List ℕ = key.0 in
+    let key_long : length bytes ≡ 20 = omega (arith, ap length is, long) in
+    let here : row_of (head ++ value) ≡ row_of (head_bytes kind key ++ value) = ap (λ (l : List ℕ). row_of (l ++ value)) is in
+    let front : take 20 (bytes ++ value) ≡ bytes = take_at bytes value 20 key_long in
+    let back : drop 20 (bytes ++ value) ≡ value = drop_at bytes value 20 key_long in
+    here ∙ ap (λ (l : List ℕ). let row : StoredRow = record { kind = kind_byte kind; key = l; value = drop 20 (bytes ++ value) } in row) front
+    ∙ ap (λ (l : List ℕ). stored_row kind key l) back

@@ -1,0 +1,71 @@
+-- Images in which the rows of a log stand.
+use Rattle.std.proofs.Common.{◌≡◌, ℕ, ◌+◌, ◌-◌, ◌*◌, ◌≤◌, ◌<◌, List, length, map, replicate, ap, ◌∙◌, inl, inr, arith}
+use Rattle.std.specs.List.{prefix_len, range_with_len}
+use Rattle.std.proofs.lemmas.Bool.{cases_lt}
+use Rattle.std.proofs.lemmas.List.{get_or-replicate, length-replicate}
+use Rattle.silt_device.specs.Disk.{Torn, splice}
+use Rattle.silt_device.proofs.Images.{torn_splice, splice_byte}
+use Rattle.silt_log.specs.Rows.{StoredRow, GatesAre, gate_bytes, is_open, body_row}
+use Rattle.silt_log.proofs.Counts.{same_byte, count_is, count_between, torn_gates}
+use Rattle.silt_log.proofs.Bodies.{rows_below, rows_behind}
+
+-- where the parts of a log region lie: its gates before its bodies, all within the device
+pub record Lies (gates count bodies len whole : ℕ) : Type 0 where
+  pub apart : gates + count ≤ bodies
+  pub inside : bodies + count * len ≤ whole
+
+-- the gates of these rows are open and all others closed, in an image of this size
+pub record Stands (gates count bodies len whole n : ℕ) (rows : List StoredRow) (image : List ℕ) : Type 0 where
+  pub long : length image ≡ whole
+  pub are : GatesAre gates count n image
+  pub hold : map (body_row bodies len image) (range_with_len 0 n) ≡ rows
+
+module _ (gates count bodies len whole : ℕ) (lies : Lies gates count bodies len whole) where
+  -- the gates lie within an image of this size
+  pub gates_within : (image : List ℕ) → length image ≡ whole → gates + count ≤ length image
+  gates_within image long = omega (arith, lies.apart, lies.inside)
+
+  -- an image's rows are those that stand in it
+  pub rows_standing : (n : ℕ) (rows : List StoredRow) (image : List ℕ) → n ≤ count → Stands gates count bodies len whole n rows image → map (body_row bodies len image) (range_with_len 0 (prefix_len is_open (gate_bytes gates count image))) ≡ rows
+  rows_standing n rows image most stands =
+      ap (λ k. map (body_row bodies len image) (range_with_len 0 k)) (count_is gates count image (gates_within image stands.long) n most stands.are) ∙ stands.hold
+
+  -- a write over a body behind the rows
+  pub body_torn : (used n : ℕ) (rows : List StoredRow) (before after : List ℕ) → used < count → n ≤ used → Stands gates count bodies len whole n rows before → Torn (bodies + used * len) len before after → Stands gates count bodies len whole n rows after
+  body_torn used n rows before after room most stands torn = record {
+    long = torn.size ∙ stands.long;
+    are = torn_gates gates count n (bodies + used * len) len before after (omega (arith, room, most)) (omega (arith, lies.apart)) torn stands.are;
+    hold = rows_below bodies len before after used count n room (omega (arith, lies.inside, stands.long)) torn most ∙ stands.hold;
+  }
+
+  -- a write over some of the gates
+  pub gates_torn_rows : (at long from n : ℕ) (before after : List ℕ) → length before ≡ whole → gates ≤ at → at + long ≤ gates + count → from + n ≤ count → Torn at long before after → map (body_row bodies len after) (range_with_len from n) ≡ map (body_row bodies len before) (range_with_len from n)
+  gates_torn_rows at long from n before after size_is low high most torn =
+      rows_behind bodies len before after at long count from n (omega (arith, lies.apart, high)) most (omega (arith, lies.inside, size_is)) torn
+
+  -- with some more gates open
+  pub gates_spliced : (n more : ℕ) (rows : List StoredRow) (before : List ℕ) → n + more ≤ count → Stands gates count bodies len whole n rows before
+      → Stands gates count bodies len whole (n + more) (map (body_row bodies len before) (range_with_len 0 (n + more))) (splice (gates + n) (replicate more 167) before)
+  gates_spliced n more rows before most stands =
+      let ones : List ℕ = replicate more 167 in
+      let long : length ones ≡ more = length-replicate more 167 in
+      let fits : gates + n + length ones ≤ length before = omega (arith, long, lies.apart, lies.inside, stands.long) in
+      let torn : Torn (gates + n) (length ones) before (splice (gates + n) ones before) = torn_splice (gates + n) ones before fits in
+      record {
+        long = torn.size ∙ stands.long;
+        are = record {
+          opened = λ place below. elim (cases_lt place n) [
+            | inl low ↦ ap is_open (torn.before (gates + place) (omega arith)) ∙ stands.are.opened place low
+            | inr high ↦ ap is_open (same_byte (splice (gates + n) ones before) (gates + place) (gates + n + (place - n)) (omega arith) ∙ splice_byte (gates + n) ones before (place - n) fits (omega (arith, long)) ∙ get_or-replicate more (place - n) 167 0 (omega arith))
+          ];
+          closed = λ place past below. ap is_open (torn.after (gates + place) (omega (arith, long))) ∙ stands.are.closed place (omega arith) below;
+        };
+        hold = gates_torn_rows (gates + n) (length ones) 0 (n + more) before _ stands.long (omega arith) (omega (arith, long)) (omega arith) torn;
+      }
+
+  -- a write over the gates of the rows that wait leaves the rows and a beginning of these
+  pub gates_torn : (n more : ℕ) (rows : List StoredRow) (before after : List ℕ) → n + more ≤ count → Stands gates count bodies len whole n rows before → Torn (gates + n) more before after
+      → (n ≤ prefix_len is_open (gate_bytes gates count after)) × (prefix_len is_open (gate_bytes gates count after) ≤ n + more)
+  gates_torn n more rows before after most stands torn = count_between gates count after (gates_within after (torn.size ∙ stands.long)) n (n + more) (omega arith) most
+      (λ place below. ap is_open (torn.before (gates + place) (omega arith)) ∙ stands.are.opened place below)
+      (λ below. ap is_open (torn.after (gates + (n + more)) (omega arith)) ∙ stands.are.closed (n + more) (omega arith) below)

@@ -1,0 +1,63 @@
+-- What the calls of a log do to it and to the disk.
+use Rattle.std.specs.Prelude.{◌≡◌, ℕ, ◌+◌, ◌%◌, ◌^◌, ◌≤◌, ◌⊎◌, false, IsTrue, List, [], ◌∷◌, ◌++◌, length, take}
+use Rattle.silt_device.specs.Disk.{Content, Torn, Left, LeavesOnly, GaveAny}
+use Rattle.silt_device.specs.declared.disk.Call.{Call}
+use Rattle.silt_log.specs.Rows.{StoredRow, log_rows}
+use Rattle.silt_log.specs.State.{LogState, IsLog, settled_rows, waiting_rows, all_rows, full_image}
+
+-- one more write or sync has failed, and the disk gave this fault for it
+abbrev pub CountsFault : {D F : Type 0} → (D → ℕ) → (D → F → Call → ℕ → ℕ → Type 0) → D → D → F → Type 0
+CountsFault failures gave old new fault = (failures new ≡ (failures old + 1) % 2 ^ 64) × GaveAny gave new fault
+
+-- A sync and then a write to this range, as far as they came: what a stop may leave is what it might have left before, or
+-- what was shown, torn in the range.
+pub record SyncsAndTears (at count : ℕ) (old new : Content) : Type 0 where
+  pub honest : new.honest ≡ old.honest
+  pub shown : IsTrue old.honest → Torn at count old.shown new.shown
+  pub left : IsTrue old.honest → (image : List ℕ) → Left new image → Left old image ⊎ Torn at count old.shown image
+
+-- the log has no rows, and whatever a stop leaves has none
+pub record Empties (new : Content) (before after : LogState) : Type 0 where
+  pub log : after ≡ record before { settled = 0; used = 0; loose = false }
+  pub stands : IsLog new after
+  pub images : LeavesOnly new (λ image. log_rows before.shape before.region image ≡ [])
+
+-- one more row waits
+pub record Appends (row : StoredRow) (old new : Content) (before after : LogState) : Type 0 where
+  pub log : after ≡ record before { used = before.used + 1 }
+  pub stands : IsLog new after
+  pub settled : IsTrue old.honest → settled_rows new after ≡ settled_rows old before
+  pub all : IsTrue old.honest → all_rows new after ≡ all_rows old before ++ row ∷ []
+
+-- the log stands as before, with the same rows
+pub record Keeps (old new : Content) (before after : LogState) : Type 0 where
+  pub log : after ≡ before
+  pub stands : IsLog new after
+  pub settled : IsTrue old.honest → settled_rows new after ≡ settled_rows old before
+  pub all : IsTrue old.honest → all_rows new after ≡ all_rows old before
+  pub full : IsTrue old.honest → log_rows before.shape before.region (full_image new before) ≡ all_rows old before
+
+-- the rows that waited are settled
+pub record Opens (old new : Content) (before after : LogState) : Type 0 where
+  pub log : after ≡ record before { settled = before.used }
+  pub stands : IsLog new after
+  pub settled : IsTrue old.honest → settled_rows new after ≡ all_rows old before
+  pub all : IsTrue old.honest → all_rows new after ≡ all_rows old before
+
+-- an image has the settled rows and then a beginning of the waiting ones
+abbrev pub HasBeginning : Content → LogState → List ℕ → Type 0
+HasBeginning content log image =
+    (n : ℕ) × (n ≤ length (waiting_rows content log))
+    × (log_rows log.shape log.region image ≡ settled_rows content log ++ take n (waiting_rows content log))
+
+-- some of the gates of the waiting rows may be open, and the rows that would be found with all of them open are the same
+pub record OpensSome (old new : Content) (before after : LogState) : Type 0 where
+  pub log : after ≡ before
+  pub images : LeavesOnly new (HasBeginning old before)
+  pub full : IsTrue old.honest → log_rows before.shape before.region (full_image new before) ≡ all_rows old before
+
+-- all gates past the first closed one are closed, and the rows are the same
+pub record Seals (old new : Content) (before after : LogState) : Type 0 where
+  pub log : after ≡ record before { loose = false }
+  pub stands : IsLog new after
+  pub settled : IsTrue old.honest → settled_rows new after ≡ settled_rows old before

@@ -1,0 +1,96 @@
+-- What the bytes of a log region say: its gates, and the rows in its bodies.
+use Rattle.std.specs.Prelude.{◌≡◌, ℕ, ◌+◌, ◌*◌, ◌≤◌, ◌<◌, ◌==◌, Bool, true, false, List, length, map, drop, slice_index, slice_range}
+use Rattle.std.specs.List.{prefix_len, range_with_len, list_any}
+use Rattle.std.specs.Option.{is_some}
+use Rattle.silt_device.specs.Layout.{Shape, row_len, gates_at, bodies_at}
+use Rattle.silt_frame.specs.Frame.{kind_byte, kind_of}
+use Rattle.silt_frame.specs.declared.key.Key.{Key}
+use Rattle.silt_frame.specs.declared.key.Kind.{Kind}
+use Rattle.silt_frame.specs.declared.key.Row.{Row}
+
+-- a gate is open exactly where it is 0xA7
+abbrev pub is_open : ℕ → Bool
+is_open gate = gate == 167
+
+-- a row as it lies on the device: the kind byte, the key and the value
+pub record StoredRow : Type 0 where
+  pub kind : ℕ
+  pub key : List ℕ
+  pub value : List ℕ
+
+-- the row that these bytes hold: the kind in one byte, the key in 20, and the value
+abbrev pub row_of : List ℕ → StoredRow
+row_of body = record { kind = slice_index body 0; key = slice_range body 1 21; value = drop 21 body }
+
+-- the row that is written for this kind, key and value
+abbrev pub stored_row : Kind → Key → List ℕ → StoredRow
+stored_row kind key value = record { kind = kind_byte kind; key = key.0; value = value }
+
+-- the kind byte stands for a put or a delete
+abbrev pub has_known_kind : StoredRow → Bool
+has_known_kind row = is_some (kind_of row.kind)
+
+-- ---- by offsets: where the gates begin and how many there are, where the bodies begin and how long each is
+
+-- the bytes of the gates
+abbrev pub gate_bytes : ℕ → ℕ → List ℕ → List ℕ
+gate_bytes gates count image = slice_range image gates (gates + count)
+
+-- the row in the body of this number
+abbrev pub body_row : ℕ → ℕ → List ℕ → ℕ → StoredRow
+body_row bodies len image place = row_of (slice_range image (bodies + place * len) (bodies + place * len + len))
+
+-- of this many gates the first n are open and all others closed
+pub record GatesAre (gates count n : ℕ) (image : List ℕ) : Type 0 where
+  pub opened : (place : ℕ) → place < n → is_open (slice_index image (gates + place)) ≡ true
+  pub closed : (place : ℕ) → n ≤ place → place < count → is_open (slice_index image (gates + place)) ≡ false
+
+-- ---- of a log region
+
+-- where a row's body begins
+abbrev pub body_at : Shape → ℕ → ℕ → ℕ
+body_at shape region place = bodies_at shape region + place * row_len shape
+
+-- the row in the body of this number, behind whatever gate
+unfoldable pub row_at : Shape → ℕ → List ℕ → ℕ → StoredRow
+row_at shape region image place = body_row (bodies_at shape region) (row_len shape) image place
+
+-- how many gates stand open before the first closed one
+unfoldable pub open_count : Shape → ℕ → List ℕ → ℕ
+open_count shape region image = prefix_len is_open (gate_bytes (gates_at shape region) shape.log_capacity image)
+
+-- a gate past the first closed one is open
+unfoldable pub has_loose_gate : Shape → ℕ → List ℕ → Bool
+has_loose_gate shape region image =
+    list_any is_open (drop (open_count shape region image) (gate_bytes (gates_at shape region) shape.log_capacity image))
+
+-- this many rows from a place on, the oldest first
+unfoldable pub rows_from : Shape → ℕ → List ℕ → ℕ → ℕ → List StoredRow
+rows_from shape region image from count = map (row_at shape region image) (range_with_len from count)
+
+-- the first n bodies as rows, the oldest first
+abbrev pub first_rows : Shape → ℕ → List ℕ → ℕ → List StoredRow
+first_rows shape region image n = rows_from shape region image 0 n
+
+-- the rows before the first closed gate, the oldest first
+unfoldable pub log_rows : Shape → ℕ → List ℕ → List StoredRow
+log_rows shape region image = first_rows shape region image (open_count shape region image)
+
+-- the kind and the key of this stored row, which is of a known kind, with its number
+pub record IsRow (number : ℕ) (stored : StoredRow) (row : Row) : Type 0 where
+  pub known : has_known_kind stored ≡ true
+  pub kind : kind_byte row.kind ≡ stored.kind
+  pub key : row.key.0 ≡ stored.key
+  pub place : row.place ≡ number
+
+-- the kind, the key and the number of each of these stored rows, in order
+pub record AreRows (rows : List Row) (stored : List StoredRow) : Type 0 where
+  pub kinds : map (λ row. kind_byte row.kind) rows ≡ map (λ row. row.kind) stored
+  pub keys : map (λ row. row.key.0) rows ≡ map (λ row. row.key) stored
+  pub places : map (λ row. row.place) rows ≡ range_with_len 0 (length stored)
+
+-- of the first rows, this many, the one of this number is the first of an unknown kind
+pub record FirstUnknown (row : ℕ → StoredRow) (count place : ℕ) : Type 0 where
+  pub counts : place < count
+  pub unknown : has_known_kind (row place) ≡ false
+  pub known : (earlier : ℕ) → earlier < place → has_known_kind (row earlier) ≡ true

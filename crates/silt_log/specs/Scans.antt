@@ -1,0 +1,10 @@
+-- Why a scan was refused.
+use Rattle.std.specs.Prelude.{ℕ}
+use Rattle.silt_log.specs.declared.scan.ScanError.{ScanError}
+use Rattle.silt_log.specs.declared.scan.ScanError.TheVariants.{Damaged, Device, NoMemory}
+
+-- by the damaged row's number, or by the fault of a read; want of memory says nothing
+abbrev pub IsRefused : {F : Type 0} → (ℕ → Type 0) → (F → Type 0) → ScanError F → Type 0
+IsRefused IsDamaged WasGiven (Damaged place) = IsDamaged place
+IsRefused IsDamaged WasGiven (Device fault) = WasGiven fault
+IsRefused IsDamaged WasGiven NoMemory = Unit {0}

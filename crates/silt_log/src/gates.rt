@@ -1,0 +1,92 @@
+// Writes of gates and of rows, at offsets.
+ghost use Rattle.std.specs.Prelude.{◌≡◌, ◌==◌, ◌+◌, ◌<◌, ◌≤◌, ◌++◌, length, drop, replicate, IsTrue, IfOk, IfErr, OnOk, MatchResult};
+ghost use Rattle.std.specs.List.{list_any, prefix_len};
+ghost use Rattle.silt_device.specs.Disk.{ChangesWithin, GaveAny, Rests, Writes, size};
+ghost use Rattle.silt_log.specs.Rows.{gate_bytes, is_open};
+ghost use Rattle.silt_log.specs.Calls.{CountsFault, SyncsAndTears};
+
+use silt_device::{Disk, write_synced};
+
+/// The byte of an open gate.
+pub const OPEN: u8 = 0xA7;
+
+/// The byte that closes a gate.
+pub const CLOSED: u8 = 0x00;
+
+// Writes this byte over the gates from here on, as many as the buffer has bytes, and syncs.
+pub fn write_gates<D: Disk>(
+    disk: &mut D,
+    at: u64,
+    buffer: &mut [u8],
+    gate: u8,
+) -> Result<(), D::Fault>
+    requires { at + length buffer.old ≤ size (D.content disk.old) }
+    ensures size { size (D.content disk.new) ≡ size (D.content disk.old) }
+    ensures changes { ChangesWithin at (length buffer.old) (D.content disk.old) (D.content disk.new) }
+    ensures written { OnOk result (Writes at (replicate (length buffer.old) gate) (D.content disk.old) (D.content disk.new)) }
+    ensures rests { OnOk result (Rests (D.content disk.new)) }
+    ensures failures { MatchResult result (λ _. D.failures disk.new ≡ D.failures disk.old) (CountsFault D.failures D.gave disk.old disk.new) }
+{
+    buffer.fill(gate);
+    write_synced(disk, at, buffer)?;
+    Ok(())
+}
+
+// Syncs, so that the bodies stand first, and then opens the gates from here on, as many as the buffer has bytes, and syncs.
+#[tactic(auto, using(crate::proofs::Barriers::not_begun, crate::proofs::Barriers::begun, crate::proofs::Barriers::written_after_sync))]
+pub fn open_behind_sync<D: Disk>(disk: &mut D, at: u64, buffer: &mut [u8]) -> Result<(), D::Fault>
+    requires { at + length buffer.old ≤ size (D.content disk.old) }
+    ensures size { size (D.content disk.new) ≡ size (D.content disk.old) }
+    ensures begun { SyncsAndTears at (length buffer.old) (D.content disk.old) (D.content disk.new) }
+    ensures written { OnOk result (Writes at (replicate (length buffer.old) 167) (D.content disk.old) (D.content disk.new)) }
+    ensures rests { OnOk result (Rests (D.content disk.new)) }
+    ensures failures { MatchResult result (λ _. D.failures disk.new ≡ D.failures disk.old) (CountsFault D.failures D.gave disk.old disk.new) }
+{
+    disk.sync()?;
+    write_gates(disk, at, buffer, OPEN)?;
+    Ok(())
+}
+
+// Writes the head of a row and then its value.
+pub fn write_row<D: Disk>(disk: &mut D, at: u64, head: &[u8], value: &[u8]) -> Result<(), D::Fault>
+    requires { at + (length head.now + length value.now) ≤ size (D.content disk.old) }
+    ensures size { size (D.content disk.new) ≡ size (D.content disk.old) }
+    ensures changes { ChangesWithin at (length head.now + length value.now) (D.content disk.old) (D.content disk.new) }
+    ensures written { OnOk result (Writes at (head.now ++ value.now) (D.content disk.old) (D.content disk.new)) }
+    ensures failures { MatchResult result (λ _. D.failures disk.new ≡ D.failures disk.old) (CountsFault D.failures D.gave disk.old disk.new) }
+{
+    let _size = disk.len();
+    disk.write(at, head)?;
+    disk.write(at + head.len() as u64, value)?;
+    Ok(())
+}
+
+// Reads the gates from here on, as many as the buffer has bytes: how many stand open before the first closed one, and
+// whether one past it is open.
+pub fn read_gates<D: Disk>(disk: &D, at: u64, buffer: &mut [u8]) -> Result<(usize, bool), D::Fault>
+    requires { at + length buffer.old ≤ size (D.content disk.now) }
+    ensures found { IsTrue (D.content disk.now).honest → IfOk result (λ found. (found.0 ≡ prefix_len is_open (gate_bytes at (length buffer.old) (D.content disk.now).shown))
+        × (found.1 ≡ list_any is_open (drop found.0 (gate_bytes at (length buffer.old) (D.content disk.now).shown)))) }
+    ensures most { IfOk result (λ found. found.0 ≤ length buffer.old) }
+    ensures gap { IfOk result (λ found. IsTrue found.1 → found.0 < length buffer.old) }
+    ensures fault { IfErr result (GaveAny D.gave disk.now) }
+{
+    disk.read(at, buffer)?;
+    let count = count_open(buffer);
+    Ok((count, has_open(&buffer[count..])))
+}
+
+// How many gates stand open before the first closed one.
+fn count_open(gates: &[u8]) -> usize
+    ensures count { result ≡ prefix_len is_open gates.now }
+    ensures most { result ≤ length gates.now }
+{
+    gates.iter().take_while(|gate| **gate == OPEN).count()
+}
+
+// Whether some gate is open.
+fn has_open(gates: &[u8]) -> bool
+    ensures { result ≡ list_any is_open gates.now }
+{
+    gates.contains(&OPEN)
+}

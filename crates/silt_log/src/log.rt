@@ -1,0 +1,315 @@
+// A log region as the store holds it in memory, and the calls that change it.
+ghost use Rattle.std.specs.Prelude.{vec_len, ◌≡◌, ◌==◌, ◌+◌, ◌-◌, ◌<◌, ◌≤◌, ◌++◌, length, replicate, nat_lt, false, IsTrue, IfOk, IfErr, OnOk, OnErr, MatchResult};
+ghost use Rattle.silt_device.specs.Disk.{ChangesWithin, GaveAny, LeavesOnly, Rests, Writes, size};
+ghost use Rattle.silt_device.specs.Layout.{device_size, gates_at, row_len};
+ghost use Rattle.silt_frame.specs.Frame.{head_bytes};
+ghost use Rattle.silt_log.specs.Rows.{AreRows, FirstUnknown, body_at, log_rows, open_count, row_at, stored_row};
+ghost use Rattle.silt_log.specs.Scans.{IsRefused};
+ghost use Rattle.silt_log.specs.Calls.{CountsFault};
+
+use crate::gates::{CLOSED, open_behind_sync, read_gates, write_gates, write_row};
+use crate::scan::{ScanError, read_rows};
+use silt_device::{Disk, Geometry};
+use silt_frame::{HEAD_LEN, KEY_LEN, Key, Kind, Row, head_bytes};
+use std::alloc::{AllocError, Global};
+use std::marker::Model;
+
+/// A log region: how many rows it has, and how many of them are settled behind open gates.
+///
+/// It holds one byte for each row that the region has room for, so that no later call but `scan` takes memory.
+#[derive(Drop)]
+pub struct Log {
+    geometry: Geometry,
+    region: u32,
+    settled: u32,
+    used: u32,
+    loose: bool,
+    gates: Vec<u8>,
+}
+
+impl Model for Log {
+    ghost use Rattle.std.specs.Prelude.{vec_len};
+    ghost use Rattle.silt_log.specs.State.{LogState, IsHeld};
+
+    ghost Value = { LogState };
+
+    ghost view = { λ a. record { shape = a.geometry; region = a.region; settled = a.settled; used = a.used; loose = a.loose } };
+
+    ghost invariant = { λ a. IsHeld (record { shape = a.geometry; region = a.region; settled = a.settled; used = a.used; loose = a.loose }) (vec_len a.gates) };
+}
+
+impl Log {
+    ghost use Rattle.std.specs.Prelude.{◌^◌};
+    ghost use Rattle.silt_log.specs.State.{LogState, InBounds, IsLog, IsScanned, settled_rows};
+    ghost use Rattle.silt_log.specs.Calls.{Empties, Appends, Keeps, Opens, OpensSome, Seals};
+
+    /// A log of this region with no rows. It is `prepare`d or scanned before it is used.
+    ///
+    /// # Errors
+    ///
+    /// Where the bytes for the gates find no memory.
+    pub fn new(alloc: Global, geometry: Geometry, region: u32) -> Result<Self, AllocError>
+        requires { region < geometry.logs }
+        ensures { IfOk result (λ log. log ≡ record { shape = geometry; region = region; settled = 0; used = 0; loose = false }) }
+    {
+        let capacity = geometry.log_capacity() as usize;
+        Ok(Log {
+            geometry,
+            region,
+            settled: 0,
+            used: 0,
+            loose: false,
+            gates: vec![in alloc; CLOSED; capacity]?,
+        })
+    }
+
+    /// How many rows there are, those that wait included.
+    pub fn len(&self) -> u32
+        ensures value { result ≡ self.now.used }
+        ensures bounds { InBounds self.now }
+    {
+        self.used
+    }
+
+    /// Whether there is no row, not even one that waits.
+    pub fn is_empty(&self) -> bool
+        ensures { result ≡ (self.now.used == 0) }
+    {
+        self.used == 0
+    }
+
+    /// How many rows are settled behind open gates.
+    pub fn settled(&self) -> u32
+        ensures value { result ≡ self.now.settled }
+        ensures bounds { InBounds self.now }
+    {
+        self.settled
+    }
+
+    /// Whether a row waits for its gate to be opened.
+    pub fn has_waiting(&self) -> bool
+        ensures value { result ≡ nat_lt self.now.settled self.now.used }
+        ensures bounds { InBounds self.now }
+    {
+        self.settled < self.used
+    }
+
+    /// Whether there is no room for a further row.
+    pub fn is_full(&self) -> bool
+        ensures value { result ≡ (self.now.used == self.now.shape.log_capacity) }
+        ensures bounds { InBounds self.now }
+    {
+        self.used == self.geometry.log_capacity()
+    }
+
+    /// How many rows the region has room for.
+    pub fn capacity(&self) -> u32
+        ensures value { result ≡ self.now.shape.log_capacity }
+        ensures bounds { InBounds self.now }
+    {
+        self.geometry.log_capacity()
+    }
+
+    /// Whether a gate past the first closed one is open, so that the log is to be sealed.
+    pub fn is_loose(&self) -> bool
+        ensures { result ≡ self.now.loose }
+    {
+        self.loose
+    }
+
+    /// The number of the region.
+    pub fn region(&self) -> u32
+        ensures value { result ≡ self.now.region }
+        ensures bounds { InBounds self.now }
+    {
+        self.region
+    }
+
+    /// The geometry of the store.
+    pub fn geometry(&self) -> Geometry
+        ensures { result ≡ self.now.shape }
+    {
+        self.geometry
+    }
+
+    /// Closes all gates of the region, and syncs. Then the log has no rows.
+    ///
+    /// # Errors
+    ///
+    /// The fault of the write or of the sync.
+    pub fn prepare<D: Disk>(&mut self, disk: &mut D) -> Result<(), D::Fault>
+        requires size { device_size self.old.shape ≤ size (D.content disk.old) }
+        ensures size { size (D.content disk.new) ≡ size (D.content disk.old) }
+        ensures changes { ChangesWithin (gates_at self.old.shape self.old.region) self.old.shape.log_capacity (D.content disk.old) (D.content disk.new) }
+        ensures written { OnOk result (Writes (gates_at self.old.shape self.old.region) (replicate self.old.shape.log_capacity 0) (D.content disk.old) (D.content disk.new)) }
+        ensures rests { OnOk result (Rests (D.content disk.new)) }
+        ensures ok { OnOk result (Empties (D.content disk.new) self.old self.new) }
+        ensures err { OnErr result (self.new ≡ self.old) }
+        ensures failures { MatchResult result (λ _. D.failures disk.new ≡ D.failures disk.old) (CountsFault D.failures D.gave disk.old disk.new) }
+    {
+        let at = self.geometry.gates_at(self.region);
+        write_gates(disk, at, &mut self.gates, CLOSED)?;
+        self.settled = 0;
+        self.used = 0;
+        self.loose = false;
+        Ok(())
+    }
+
+    /// Writes a row behind the others: the head, then the value. Its gate stays closed.
+    ///
+    /// # Errors
+    ///
+    /// The fault of a write. The log has the same rows as before.
+    pub fn append<D: Disk>(
+        &mut self,
+        disk: &mut D,
+        kind: Kind,
+        key: &Key,
+        value: &[u8],
+    ) -> Result<(), D::Fault>
+        requires room { self.old.used < self.old.shape.log_capacity }
+        requires value { length value.now ≡ self.old.shape.value_len }
+        requires size { device_size self.old.shape ≤ size (D.content disk.old) }
+        requires log { IsLog (D.content disk.old) self.old }
+        ensures size { size (D.content disk.new) ≡ size (D.content disk.old) }
+        ensures changes { ChangesWithin (body_at self.old.shape self.old.region self.old.used) (row_len self.old.shape) (D.content disk.old) (D.content disk.new) }
+        ensures written { OnOk result (Writes (body_at self.old.shape self.old.region self.old.used) (head_bytes kind key.now ++ value.now) (D.content disk.old) (D.content disk.new)) }
+        ensures images { LeavesOnly (D.content disk.new) (λ image. log_rows self.old.shape self.old.region image ≡ settled_rows (D.content disk.old) self.old) }
+        ensures ok { OnOk result (Appends (stored_row kind key.now value.now) (D.content disk.old) (D.content disk.new) self.old self.new) }
+        ensures err { OnErr result (Keeps (D.content disk.old) (D.content disk.new) self.old self.new) }
+        ensures failures { MatchResult result (λ _. D.failures disk.new ≡ D.failures disk.old) (CountsFault D.failures D.gave disk.old disk.new) }
+    {
+        let at = self.body_at(self.used);
+        write_row(disk, at, &head_bytes(kind, key), value)?;
+        self.used += 1;
+        Ok(())
+    }
+
+    /// Opens the gates of the rows that wait: a sync, one write over these gates, a sync.
+    ///
+    /// # Errors
+    ///
+    /// The fault of a sync or of the write. A stop then leaves the settled rows and a beginning of those that wait.
+    pub fn open_gates<D: Disk>(&mut self, disk: &mut D) -> Result<(), D::Fault>
+        requires waiting { self.old.settled < self.old.used }
+        requires size { device_size self.old.shape ≤ size (D.content disk.old) }
+        requires log { IsLog (D.content disk.old) self.old }
+        ensures size { size (D.content disk.new) ≡ size (D.content disk.old) }
+        ensures changes { ChangesWithin (gates_at self.old.shape self.old.region + self.old.settled) (self.old.used - self.old.settled) (D.content disk.old) (D.content disk.new) }
+        ensures written { OnOk result (Writes (gates_at self.old.shape self.old.region + self.old.settled) (replicate (self.old.used - self.old.settled) 167) (D.content disk.old) (D.content disk.new)) }
+        ensures rests { OnOk result (Rests (D.content disk.new)) }
+        ensures ok { OnOk result (Opens (D.content disk.old) (D.content disk.new) self.old self.new) }
+        ensures err { OnErr result (OpensSome (D.content disk.old) (D.content disk.new) self.old self.new) }
+        ensures failures { MatchResult result (λ _. D.failures disk.new ≡ D.failures disk.old) (CountsFault D.failures D.gave disk.old disk.new) }
+    {
+        let at = self.geometry.gates_at(self.region) + u64::from(self.settled);
+        let waiting = (self.used - self.settled) as usize;
+        open_behind_sync(disk, at, &mut self.gates[..waiting])?;
+        self.settled = self.used;
+        Ok(())
+    }
+
+    /// Closes all gates past the first closed one, which is not touched, and syncs. Where they are closed already it makes
+    /// no device call.
+    ///
+    /// # Errors
+    ///
+    /// The fault of the write or of the sync. The log has the same rows as before.
+    pub fn seal<D: Disk>(&mut self, disk: &mut D) -> Result<(), D::Fault>
+        requires size { device_size self.old.shape ≤ size (D.content disk.old) }
+        requires rests { Rests (D.content disk.old) }
+        requires scanned { IsTrue (D.content disk.old).honest → IsScanned (D.content disk.old) self.old }
+        ensures size { size (D.content disk.new) ≡ size (D.content disk.old) }
+        ensures changes { ChangesWithin (gates_at self.old.shape self.old.region + self.old.used + 1) (self.old.shape.log_capacity - (self.old.used + 1)) (D.content disk.old) (D.content disk.new) }
+        ensures images { LeavesOnly (D.content disk.new) (λ image. log_rows self.old.shape self.old.region image ≡ log_rows self.old.shape self.old.region (D.content disk.old).shown) }
+        ensures quiet { self.old.loose ≡ false → disk.new ≡ disk.old }
+        ensures written { IsTrue self.old.loose → OnOk result (Writes (gates_at self.old.shape self.old.region + self.old.used + 1) (replicate (self.old.shape.log_capacity - (self.old.used + 1)) 0) (D.content disk.old) (D.content disk.new)) }
+        ensures rests { OnOk result (Rests (D.content disk.new)) }
+        ensures ok { OnOk result (Seals (D.content disk.old) (D.content disk.new) self.old self.new) }
+        ensures err { OnErr result ((self.new ≡ self.old) × IsTrue self.old.loose) }
+        ensures failures { MatchResult result (λ _. D.failures disk.new ≡ D.failures disk.old) (CountsFault D.failures D.gave disk.old disk.new) }
+    {
+        if !self.loose {
+            return Ok(());
+        }
+        let first = self.used + 1;
+        let at = self.geometry.gates_at(self.region) + u64::from(first);
+        let past = (self.geometry.log_capacity() - first) as usize;
+        write_gates(disk, at, &mut self.gates[..past], CLOSED)?;
+        self.loose = false;
+        Ok(())
+    }
+
+    /// Reads which gates are open, and the kind and key of each row before the first closed gate.
+    ///
+    /// # Errors
+    ///
+    /// `Damaged` with the number of the first row of an unknown kind, `Device` with the fault of a read, and `NoMemory`
+    /// where the list finds none. The log is then as it was.
+    pub fn scan<D: Disk>(
+        &mut self,
+        alloc: Global,
+        disk: &D,
+    ) -> Result<Vec<Row>, ScanError<D::Fault>>
+        requires size { device_size self.old.shape ≤ size (D.content disk.now) }
+        ensures region { (self.new.shape ≡ self.old.shape) × (self.new.region ≡ self.old.region) }
+        ensures settled { OnOk result (self.new.settled ≡ self.new.used) }
+        ensures len { IfOk result (λ rows. vec_len rows ≡ self.new.used) }
+        ensures ok { IsTrue (D.content disk.now).honest → IfOk result (λ rows. IsScanned (D.content disk.now) self.new × AreRows rows.items (log_rows self.old.shape self.old.region (D.content disk.now).shown)) }
+        ensures err { OnErr result (self.new ≡ self.old) }
+        ensures refusal { IfErr result (IsRefused (λ place. IsTrue (D.content disk.now).honest → FirstUnknown (row_at self.old.shape self.old.region (D.content disk.now).shown) (open_count self.old.shape self.old.region (D.content disk.now).shown) place) (GaveAny D.gave disk.now)) }
+    {
+        let at = self.geometry.gates_at(self.region);
+        let (count, loose) = read_gates(disk, at, &mut self.gates).map_err(ScanError::Device)?;
+        let count = count as u32;
+        let bodies = self.geometry.bodies_at(self.region);
+        let row_len = self.geometry.row_len() as u64;
+        let rows = read_rows(alloc, disk, bodies, row_len, count)?;
+        self.settled = count;
+        self.used = count;
+        self.loose = loose;
+        Ok(rows)
+    }
+
+    // Where the body of this number begins.
+    pub(crate) fn body_at(&self, place: u32) -> u64
+        requires { place < self.now.shape.log_capacity }
+        ensures value { result ≡ body_at self.now.shape self.now.region place }
+        ensures fits { result + row_len self.now.shape ≤ device_size self.now.shape }
+        ensures most { device_size self.now.shape ≤ 2 ^ 39 }
+    {
+        self.geometry.bodies_at(self.region) + u64::from(place) * self.geometry.row_len() as u64
+    }
+
+    /// Reads the key in the body of this number, behind whatever gate.
+    ///
+    /// # Errors
+    ///
+    /// The fault of the read.
+    pub fn read_key<D: Disk>(&self, disk: &D, place: u32) -> Result<Key, D::Fault>
+        requires place { place < self.now.shape.log_capacity }
+        requires size { device_size self.now.shape ≤ size (D.content disk.now) }
+        ensures key { IsTrue (D.content disk.now).honest → IfOk result (λ key. key.0 ≡ (row_at self.now.shape self.now.region (D.content disk.now).shown place).key) }
+        ensures fault { IfErr result (GaveAny D.gave disk.now) }
+    {
+        let mut key = [0; KEY_LEN];
+        disk.read(self.body_at(place) + 1, &mut key)?;
+        Ok(Key(key))
+    }
+
+    /// Reads the value in the body of this number, behind whatever gate.
+    ///
+    /// # Errors
+    ///
+    /// The fault of the read. The bytes of `out` are then open.
+    pub fn read_value<D: Disk>(&self, disk: &D, place: u32, out: &mut [u8]) -> Result<(), D::Fault>
+        requires place { place < self.now.shape.log_capacity }
+        requires out { length out.old ≡ self.now.shape.value_len }
+        requires size { device_size self.now.shape ≤ size (D.content disk.now) }
+        ensures value { IsTrue (D.content disk.now).honest → OnOk result (out.new ≡ (row_at self.now.shape self.now.region (D.content disk.now).shown place).value) }
+        ensures fault { IfErr result (GaveAny D.gave disk.now) }
+    {
+        disk.read(self.body_at(place) + HEAD_LEN as u64, out)?;
+        Ok(())
+    }
+}

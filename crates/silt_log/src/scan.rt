@@ -1,0 +1,64 @@
+// Reading the rows of a log.
+ghost use Rattle.std.specs.Prelude.{vec_len, ◌≡◌, ◌+◌, ◌*◌, ◌≤◌, ℕ, map, true, false, IsTrue, IfOk, IfErr, MatchResult};
+ghost use Rattle.std.specs.List.{range_with_len};
+ghost use Rattle.silt_device.specs.Disk.{GaveAny, size};
+ghost use Rattle.silt_log.specs.Rows.{AreRows, FirstUnknown, IsRow, body_row, has_known_kind};
+ghost use Rattle.silt_log.specs.Scans.{IsRefused};
+
+use silt_device::Disk;
+use silt_frame::{HEAD_LEN, Row, head_of};
+use std::alloc::Global;
+
+/// Why a log was not scanned.
+#[derive(Debug, Drop)]
+pub enum ScanError<F> {
+    /// The row of this number is the first with a kind byte other than 1 and 2.
+    Damaged(u32),
+    /// A read failed with this fault.
+    Device(F),
+    /// The list of the rows found no memory.
+    NoMemory,
+}
+
+// Reads the heads of the first rows, whose bodies have this length and begin here.
+pub fn read_rows<D: Disk>(
+    alloc: Global,
+    disk: &D,
+    bodies: u64,
+    row_len: u64,
+    count: u32,
+) -> Result<Vec<Row>, ScanError<D::Fault>>
+    requires len { 21 ≤ row_len }
+    requires fits { bodies + count * row_len ≤ size (D.content disk.now) }
+    ensures len { IfOk result (λ rows. vec_len rows ≡ count) }
+    ensures rows { IsTrue (D.content disk.now).honest → IfOk result (λ rows. AreRows rows.items (map (body_row bodies row_len (D.content disk.now).shown) (range_with_len 0 count))) }
+    ensures err { IfErr result (IsRefused (λ place. IsTrue (D.content disk.now).honest → FirstUnknown (body_row bodies row_len (D.content disk.now).shown) count place) (GaveAny D.gave disk.now)) }
+{
+    let _size = disk.len();
+    let mut rows = Vec::with_capacity(alloc, count as usize).map_err(|_| ScanError::NoMemory)?;
+    for place in 0..count {
+        let row = read_row(disk, bodies, row_len, place)?;
+        rows.push(row).map_err(|_| ScanError::NoMemory)?;
+    }
+    Ok(rows)
+}
+
+// Reads the head of the row of this number.
+fn read_row<D: Disk>(
+    disk: &D,
+    bodies: u64,
+    row_len: u64,
+    place: u32,
+) -> Result<Row, ScanError<D::Fault>>
+    requires len { 21 ≤ row_len }
+    requires fits { bodies + place * row_len + row_len ≤ size (D.content disk.now) }
+    ensures row { IsTrue (D.content disk.now).honest → IfOk result (IsRow place (body_row bodies row_len (D.content disk.now).shown place)) }
+    ensures err { IfErr result (IsRefused (λ damaged. (damaged ≡ place) × (IsTrue (D.content disk.now).honest → has_known_kind (body_row bodies row_len (D.content disk.now).shown place) ≡ false)) (GaveAny D.gave disk.now)) }
+{
+    let _size = disk.len();
+    let mut head = [0; HEAD_LEN];
+    disk.read(bodies + u64::from(place) * row_len, &mut head)
+        .map_err(ScanError::Device)?;
+    let (kind, key) = head_of(&head).ok_or(ScanError::Damaged(place))?;
+    Ok(Row { kind, key, place })
+}

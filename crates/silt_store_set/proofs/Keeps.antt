@@ -1,0 +1,189 @@
+-- What a stop keeps of a run.
+use Rattle.std.proofs.Common.{◌≡◌, ◌≤◌, ◌<◌, ℕ, ◌+◌, ◌||◌, Bool, true, false, IsTrue, List, [], ◌∷◌, ◌++◌, length, refl, ap, sym, ◌∙◌, subst, arith, append_assoc, length-append}
+use Rattle.silt_device.specs.Disk.{Content, Left, LeavesOnly}
+use Rattle.silt_device.specs.Layout.{Shape}
+use Rattle.silt_store_set.specs.declared.event.Event.{Event}
+use Rattle.silt_store_set.specs.declared.event.Event.TheVariants.{Put, Delete, Flush, Get, Convert, Merge}
+use Rattle.silt_store_set.specs.declared.event.Refusal.{Refusal}
+use Rattle.silt_store_set.specs.declared.event.Refusal.TheVariants.{Failed}
+use Rattle.silt_store_set.specs.declared.event.Reply.{Reply}
+use Rattle.silt_store_set.specs.declared.event.Reply.TheVariants.{Accepted, Acknowledged, Found, Absent, Progress, Refused}
+use Rattle.silt_store_set.specs.Commands.{Command, Map, map_after, Begins}
+use Rattle.silt_store_set.specs.Events.{Counts, accepted_command, accepted_commands, acknowledged_by, acknowledged_after, is_fault, is_failed, FailsAfterFault}
+use Rattle.silt_store_set.specs.CoreState.{CoreState, Cause, Does, Runs, Moves, Torn, Settles, KeepsFrom, StandsKept}
+use Rattle.silt_store_set.specs.Image.{StandsFor}
+use Rattle.silt_store_set.proofs.Maps.{map_after-append, append_nil}
+use Rattle.silt_store_set.proofs.Calls.{none_refused}
+
+-- ---- numbers
+
+or_true : (b : Bool) → (b || true) ≡ true
+or_true true = refl
+or_true false = refl
+
+-- as many commands are counted as an event adds
+own_counts : {D F : Type 0} (failures : D → ℕ) (gave : D → F → Type 0) (old new : CoreState D) (event : Event) (reply : Reply F) (c d : ℕ) → Cause failures gave old new event reply → Counts c reply d → d ≡ c + length (accepted_command event reply)
+own_counts failures gave old new (Put key value) (Accepted n) c d cause counts = counts.1
+own_counts failures gave old new (Delete key) (Accepted n) c d cause counts = counts.1
+own_counts failures gave old new Flush (Accepted n) c d cause counts = absurd cause
+own_counts failures gave old new (Get key) (Accepted n) c d cause counts = absurd cause
+own_counts failures gave old new Convert (Accepted n) c d cause counts = absurd cause
+own_counts failures gave old new Merge (Accepted n) c d cause counts = absurd cause
+own_counts failures gave old new (Put key value) (Acknowledged n) c d cause counts = absurd cause
+own_counts failures gave old new (Delete key) (Acknowledged n) c d cause counts = absurd cause
+own_counts failures gave old new Flush (Acknowledged n) c d cause counts = omega (arith, counts.1)
+own_counts failures gave old new (Get key) (Acknowledged n) c d cause counts = absurd cause
+own_counts failures gave old new Convert (Acknowledged n) c d cause counts = absurd cause
+own_counts failures gave old new Merge (Acknowledged n) c d cause counts = absurd cause
+own_counts failures gave old new (Put key value) (Found v) c d cause counts = absurd cause
+own_counts failures gave old new (Delete key) (Found v) c d cause counts = absurd cause
+own_counts failures gave old new Flush (Found v) c d cause counts = absurd cause
+own_counts failures gave old new (Get key) (Found v) c d cause counts = omega (arith, counts)
+own_counts failures gave old new Convert (Found v) c d cause counts = absurd cause
+own_counts failures gave old new Merge (Found v) c d cause counts = absurd cause
+own_counts failures gave old new (Put key value) Absent c d cause counts = absurd cause
+own_counts failures gave old new (Delete key) Absent c d cause counts = absurd cause
+own_counts failures gave old new Flush Absent c d cause counts = absurd cause
+own_counts failures gave old new (Get key) Absent c d cause counts = omega (arith, counts)
+own_counts failures gave old new Convert Absent c d cause counts = absurd cause
+own_counts failures gave old new Merge Absent c d cause counts = absurd cause
+own_counts failures gave old new (Put key value) (Progress p) c d cause counts = absurd cause
+own_counts failures gave old new (Delete key) (Progress p) c d cause counts = absurd cause
+own_counts failures gave old new Flush (Progress p) c d cause counts = absurd cause
+own_counts failures gave old new (Get key) (Progress p) c d cause counts = absurd cause
+own_counts failures gave old new Convert (Progress p) c d cause counts = omega (arith, counts)
+own_counts failures gave old new Merge (Progress p) c d cause counts = omega (arith, counts)
+own_counts failures gave old new event (Refused refusal) c d cause counts = omega (arith, counts, ap length (none_refused event refusal))
+
+-- more that was acknowledged before is more after
+acknowledged_more : {F : Type 0} (a b : ℕ) (replies : List (Reply F)) → a ≤ b → acknowledged_after a replies ≤ acknowledged_after b replies
+acknowledged_more a b [] less = less
+acknowledged_more a b (Accepted n ∷ replies) less = acknowledged_more a b replies less
+acknowledged_more a b (Acknowledged n ∷ replies) less = acknowledged_more n n replies (omega arith)
+acknowledged_more a b (Found v ∷ replies) less = acknowledged_more a b replies less
+acknowledged_more a b (Absent ∷ replies) less = acknowledged_more a b replies less
+acknowledged_more a b (Progress p ∷ replies) less = acknowledged_more a b replies less
+acknowledged_more a b (Refused r ∷ replies) less = acknowledged_more a b replies less
+
+-- ---- runs of a failed store
+
+-- a failed store answers no more
+pub record Ended {D F : Type 0} (old new : CoreState D) (events : List Event) (replies : List (Reply F)) : Type 0 where
+  pub same : new ≡ old
+  pub none : accepted_commands events replies ≡ []
+  pub acknowledged : (n : ℕ) → acknowledged_after n replies ≡ n
+  pub nines : FailsAfterFault true replies
+
+pub ended : {D F : Type 0} (content : D → Content) (failures : D → ℕ) (gave : D → F → Type 0) (old new : CoreState D) (events : List Event) (replies : List (Reply F)) → old.failed ≡ true → Runs content failures gave old events replies new → Ended old new events replies
+ended content failures gave old new [] [] failed runs = record { same = runs; none = refl; acknowledged = λ n. refl; nines = tt }
+ended {D} {F} content failures gave old new (event ∷ events) (reply ∷ replies) failed runs =
+    let is = runs.1.failed failed in
+    let rest : Ended old new events replies = ended content failures gave old new events replies failed (subst (λ (c : CoreState D). Runs content failures gave c events replies new) is.0 runs.2) in
+    record {
+      same = rest.same;
+      none = ap (λ (r : Reply F). accepted_command event r ++ accepted_commands events replies) is.1 ∙ ap (λ (cs : List Command). cs ++ accepted_commands events replies) (none_refused {F = F} event Failed) ∙ rest.none;
+      acknowledged = λ n. ap (λ (r : Reply F). acknowledged_after (acknowledged_by n r) replies) is.1 ∙ rest.acknowledged n;
+      nines = (λ _. refl, rest.nines);
+    }
+ended content failures gave old new [] (reply ∷ replies) failed runs = absurd runs
+ended content failures gave old new (event ∷ events) [] failed runs = absurd runs
+
+-- ---- runs of a store that is not failed
+
+-- Failed comes only after a fault
+pub nines : {D F : Type 0} (content : D → Content) (failures : D → ℕ) (gave : D → F → Type 0) (old new : CoreState D) (events : List Event) (replies : List (Reply F)) (before : Bool) → old.failed ≡ false → Runs content failures gave old events replies new → FailsAfterFault before replies
+nines content failures gave old new [] [] before working runs = tt
+nines content failures gave old new (event ∷ events) (reply ∷ replies) before working runs =
+    let next = runs.0 in
+    let told : IsTrue (is_failed reply) → IsTrue before = λ t. absurd (let no : false ≡ true = sym working ∙ runs.1.told t in cc) in
+    let go : (b : Bool) → next.failed ≡ b → FailsAfterFault (before || is_fault reply) replies = elim [
+      | false ↦ λ e. nines content failures gave next new events replies (before || is_fault reply) e runs.2
+      | true ↦ λ e.
+          let fault : (before || is_fault reply) ≡ true = ap (λ (b : Bool). before || b) (runs.1.faulted working e) ∙ or_true before in
+          subst (λ (b : Bool). FailsAfterFault b replies) (sym fault) (ended content failures gave next new events replies e runs.2).nines
+    ] in
+    (told, go next.failed refl)
+nines content failures gave old new [] (reply ∷ replies) before working runs = absurd runs
+nines content failures gave old new (event ∷ events) [] before working runs = absurd runs
+
+
+-- what was acknowledged by one reply is settled after it
+acknowledged_one : {D F : Type 0} (old next : CoreState D) (reply : Reply F) (settled moved : ℕ) → Counts old.count reply next.count → Settles next reply → settled + moved + length next.waiting ≡ next.count → acknowledged_by settled reply ≤ settled + moved
+acknowledged_one old next (Accepted n) settled moved counts none sum = omega arith
+acknowledged_one old next (Acknowledged n) settled moved counts none sum = omega (arith, counts.0, counts.1, ap length none)
+acknowledged_one old next (Found v) settled moved counts none sum = omega arith
+acknowledged_one old next Absent settled moved counts none sum = omega arith
+acknowledged_one old next (Progress p) settled moved counts none sum = omega arith
+acknowledged_one old next (Refused r) settled moved counts none sum = omega arith
+
+-- a fault acknowledges nothing and adds nothing
+fault_adds : {F : Type 0} (event : Event) (reply : Reply F) → IsTrue (is_fault reply) → (accepted_command event reply ≡ []) × ((n : ℕ) → acknowledged_by n reply ≡ n)
+fault_adds event (Accepted n) fault = absurd (cc)
+fault_adds event (Acknowledged n) fault = absurd (cc)
+fault_adds event (Found v) fault = absurd (cc)
+fault_adds event Absent fault = absurd (cc)
+fault_adds event (Progress p) fault = absurd (cc)
+fault_adds event (Refused r) fault = (none_refused event r, λ n. refl)
+
+module _ {D F : Type 0} (content : D → Content) (failures : D → ℕ) (gave : D → F → Type 0) where
+  -- the first call did not fail
+  keeps_on : (old next : CoreState D) (event : Event) (reply : Reply F) (events : List Event) (replies : List (Reply F)) (image : List ℕ) → old.failed ≡ false → next.failed ≡ false → IsTrue (content old.disk).honest
+      → Does content failures gave old next event reply → StandsKept next events replies image → StandsKept old (event ∷ events) (reply ∷ replies) image
+  keeps_on old next event reply events replies image working goes h does kept =
+      let moves = does.moves goes h in
+      let own : List Command = accepted_command event reply in
+      let more : List Command = accepted_commands events replies in
+      let counts : next.count ≡ old.count + length own = own_counts failures gave old next event reply old.count next.count does.cause does.counts in
+      let waits : length moves.moved + length next.waiting ≡ length old.waiting + length own = sym (length-append moves.moved next.waiting) ∙ ap length moves.rest ∙ length-append old.waiting own in
+      (
+        moves.moved ++ kept.0,
+        record {
+          begins = record {
+            rest = kept.1.begins.rest;
+            is = append_assoc moves.moved kept.0 kept.1.begins.rest ∙ ap (λ (cs : List Command). moves.moved ++ cs) kept.1.begins.is ∙ sym (append_assoc moves.moved next.waiting more)
+                ∙ ap (λ (cs : List Command). cs ++ more) moves.rest ∙ append_assoc old.waiting own more;
+          };
+          acknowledged = λ settled sum.
+              let now : settled + length moves.moved + length next.waiting ≡ next.count = omega (arith, waits, counts, sum) in
+              let one = acknowledged_one old next reply settled (length moves.moved) does.counts (does.settles h) now in
+              omega (arith, acknowledged_more (acknowledged_by settled reply) (settled + length moves.moved) replies one, kept.1.acknowledged (settled + length moves.moved) now, length-append moves.moved kept.0);
+        },
+        subst (λ (m : Map). StandsFor old.shape m image) (sym (map_after-append old.base moves.moved kept.0))
+        (subst (λ (m : Map). StandsFor old.shape (map_after m kept.0) image) moves.base (subst (λ (s : Shape). StandsFor s (map_after next.base kept.0) image) does.shape kept.2)),
+      )
+
+  -- the first call failed, and so did all after it
+  keeps_out : (old next new : CoreState D) (event : Event) (reply : Reply F) (events : List Event) (replies : List (Reply F)) (image : List ℕ) → old.failed ≡ false → next.failed ≡ true → IsTrue (content next.disk).honest
+      → Does content failures gave old next event reply → Runs content failures gave next events replies new → Left (content new.disk) image → StandsKept old (event ∷ events) (reply ∷ replies) image
+  keeps_out old next new event reply events replies image working fails h does runs left =
+      let rest = ended content failures gave next new events replies fails runs in
+      let torn = (does.crash working fails).each h image (subst (λ (c : CoreState D). Left (content c.disk) image) rest.same left) in
+      let adds = fault_adds event reply (does.faulted working fails) in
+      let none : accepted_command event reply ++ accepted_commands events replies ≡ [] = ap (λ (cs : List Command). cs ++ accepted_commands events replies) adds.0 ∙ rest.none in
+      (
+        torn.kept,
+        record {
+          begins = record { rest = torn.begins.rest; is = torn.begins.is ∙ sym (append_nil old.waiting) ∙ ap (λ (cs : List Command). old.waiting ++ cs) (sym none) };
+          acknowledged = λ settled sum. omega (arith, adds.1 settled, rest.acknowledged (acknowledged_by settled reply));
+        },
+        torn.stands,
+      )
+
+  -- after a run each image stands for the base after what a stop may keep
+  pub keeps_runs : (old new : CoreState D) (events : List Event) (replies : List (Reply F)) → old.failed ≡ false → LeavesOnly (content old.disk) (StandsFor old.shape old.base)
+      → Runs content failures gave old events replies new → IsTrue (content old.disk).honest → (image : List ℕ) → Left (content new.disk) image → StandsKept old events replies image
+  keeps_runs old new [] [] working safe runs h image left = (
+    [],
+    record { begins = record { rest = old.waiting ++ []; is = refl }; acknowledged = λ settled sum. omega arith },
+    safe.each h image (subst (λ (c : CoreState D). Left (content c.disk) image) runs left),
+  )
+  keeps_runs old new (event ∷ events) (reply ∷ replies) working safe runs h image left =
+      let next = runs.0 in
+      let there : IsTrue (content next.disk).honest = runs.1.disk.honest ∙ h in
+      let go : (b : Bool) → next.failed ≡ b → StandsKept old (event ∷ events) (reply ∷ replies) image = elim [
+        | false ↦ λ goes. keeps_on old next event reply events replies image working goes h runs.1 (keeps_runs next new events replies goes (runs.1.safe goes) runs.2 there image left)
+        | true ↦ λ fails. keeps_out old next new event reply events replies image working fails there runs.1 runs.2 left
+      ] in
+      go next.failed refl
+  keeps_runs old new [] (reply ∷ replies) working safe runs h image left = absurd runs
+  keeps_runs old new (event ∷ events) [] working safe runs h image left = absurd runs

@@ -1,0 +1,17 @@
+pub mod Maps
+pub mod Index
+pub mod Frame
+pub mod Standing
+pub mod Calls
+pub mod Flushes
+pub mod Runs
+pub mod Headers
+pub mod Cores
+pub mod Gets
+pub mod Puts
+pub mod Openings
+pub mod Takings
+pub mod Entries
+pub mod Formats
+pub mod Keeps
+pub mod Histories

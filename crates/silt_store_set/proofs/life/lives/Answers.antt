@@ -1,0 +1,38 @@
+use Rattle.std.proofs.Common.{◌≡◌, ◌+◌, ◌++◌, ◌∷◌, [], List, IsTrue, Vec, take, ap, sym, ◌∙◌, subst, arith, rules, refl}
+use Rattle.std.specs.declared.alloc.Global.{Global}
+use Rattle.std.proofs.lemmas.List.{take_more, take_all}
+use Rattle.silt_store_set.specs.declared.event.Event.{Event}
+use Rattle.silt_store_set.specs.declared.event.LifeReply.{LifeReply}
+use Rattle.silt_store_set.specs.Commands.{Map}
+use Rattle.silt_store_set.specs.Events.{LifeHistory, LivesHistory}
+use Rattle.silt_store_set.proofs.Histories.{lives_more}
+use Rattle.silt_store_set.proofs.life.lives.Goals as goal
+
+pub loop-events-init : goal.loop-events-init
+loop-events-init g c = record {
+  honest = refl;
+  so_far = λ m h safe. (m, rw c.in_ok-replies.ensures.items refl, safe);
+}
+
+pub loop-events-preserved : goal.loop-events-preserved
+loop-events-preserved g c = record {
+  honest = c.live-reply.ensures.honest ∙ c.loop-events.invariant.honest;
+  so_far = λ m h safe.
+      let before = c.loop-events.invariant.so_far m h safe in
+      let here : IsTrue (g.D.Disk.content c.loop-events.disk).honest = c.loop-events.invariant.honest ∙ h in
+      let now = c.live-reply.ensures.life before.0 here before.2 in
+      let life = rw c.deref.ensures.value at now.1 in
+      let taken : take (c.loop-events.events-index + 1) c.args.lives.now ≡ take c.loop-events.events-index c.args.lives.now ++ c.events-item.result ∷ [] =
+      take_more c.args.lives.now c.loop-events.events-index c.events-item.result c.loop-events-test.true ∙ ap (λ (x : Vec Event Global). take c.loop-events.events-index c.args.lives.now ++ x ∷ []) (sym c.events-item.is) in
+      (
+        now.0,
+        rw (taken, c.in_ok-push.ensures.items) (lives_more m (take c.loop-events.events-index c.args.lives.now) c.loop-events.replies.items before.0 now.0 c.events-item.result c.live-reply.result.0 before.1 life),
+        now.2,
+      );
+}
+
+pub returns : goal.returns
+returns g c = λ m h safe.
+    let so_far = c.loop-events.invariant.so_far m h safe in
+    let all = take_all c.loop-events.events-index c.args.lives.now c.loop-events-test.false in
+    (so_far.0, rw all at so_far.1)

@@ -1,0 +1,34 @@
+-- Maps from keys to values, and the commands that change them.
+use Rattle.std.specs.Prelude.{◌≡◌, ℕ, ◌==◌, if◌then◌else◌, List, [], ◌∷◌, ◌++◌}
+use Rattle.std.specs.Ordering.{nat_cmp}
+use Rattle.std.specs.Cmp.Lexicographic.{slice_cmp}
+use Rattle.std.specs.FinMap.{FinMap, insert, remove, code}
+use Rattle.std.specs.Coded.{Coded, coded_ℕ, coded_list}
+
+-- a change of the map
+pub data Command : Type 0 where
+  put : List ℕ → List ℕ → Command
+  delete : List ℕ → Command
+
+-- a finite map from the bytes of keys to the bytes of values
+abbrev pub Map : Type 0
+Map = FinMap (slice_cmp nat_cmp) (List ℕ)
+
+-- the map after one command
+abbrev pub changed : Map → Command → Map
+changed map (put key value) = insert map key value
+changed map (delete key) = remove map key
+
+-- the map after these commands, in order
+abbrev pub map_after : Map → List Command → Map
+map_after map [] = map
+map_after map (command ∷ commands) = map_after (changed map command) commands
+
+-- these are the first of all commands
+pub record Begins (some all : List Command) : Type 0 where
+  pub rest : List Command
+  pub is : some ++ rest ≡ all
+
+-- how a proof tells two maps apart
+abbrev pub map_code : Coded Map
+map_code = code (coded_list coded_ℕ) (coded_list coded_ℕ)

@@ -1,0 +1,37 @@
+-- Results of calls as replies.
+use Rattle.std.specs.Prelude.{◌≡◌, Bool, true, false, List, ℕ, Option, Some, None, Result, Ok, Err}
+use Rattle.silt_store_set.specs.declared.event.Progress.{Progress as ProgressOf}
+use Rattle.silt_store_set.specs.declared.event.Refusal.{Refusal}
+use Rattle.silt_store_set.specs.declared.event.Refusal.TheVariants.{Device, NoMemory}
+use Rattle.silt_store_set.specs.declared.event.Reply.{Reply}
+use Rattle.silt_store_set.specs.declared.event.Reply.TheVariants.{Accepted, Acknowledged, Found, Absent, Progress, Refused}
+
+abbrev pub change_reply : {F : Type 0} → Result ℕ (Refusal F) → Reply F
+change_reply (Ok n) = Accepted n
+change_reply (Err refusal) = Refused refusal
+
+abbrev pub flush_reply : {F : Type 0} → Result ℕ (Refusal F) → Reply F
+flush_reply (Ok n) = Acknowledged n
+flush_reply (Err refusal) = Refused refusal
+
+-- what is in the buffer of a get that found the key, or nothing
+abbrev pub get_reply : {F : Type 0} → List ℕ → Result Bool (Refusal F) → Reply F
+get_reply out (Ok true) = Found out
+get_reply out (Ok false) = Absent
+get_reply out (Err refusal) = Refused refusal
+
+-- what a read answers
+abbrev pub read_reply : {F : Type 0} → Result (Option (List ℕ)) (Refusal F) → Reply F
+read_reply (Ok (Some value)) = Found value
+read_reply (Ok None) = Absent
+read_reply (Err refusal) = Refused refusal
+
+abbrev pub progress_reply : {F : Type 0} → Result ProgressOf (Refusal F) → Reply F
+progress_reply (Ok progress) = Progress progress
+progress_reply (Err refusal) = Refused refusal
+
+-- a read is refused for want of memory, or with a fault that the device gave
+abbrev pub ReadCause : {F : Type 0} → (F → Type 0) → Refusal F → Type 0
+ReadCause gave NoMemory = Unit {0}
+ReadCause gave (Device fault) = gave fault
+ReadCause gave refusal = ⊥

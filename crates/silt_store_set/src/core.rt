@@ -1,0 +1,323 @@
+// The store over one device: what it holds in memory, and its calls.
+ghost use Rattle.std.specs.Prelude.{◌≡◌, ◌≢◌, ◌<◌, ◌≤◌, ◌*◌, length, false, Ok, All, IsTrue, IfOk, IfErr, OnErr, MatchResult};
+ghost use Rattle.silt_store_set.specs.Events.{Legal};
+ghost use Rattle.silt_device.specs.Disk.{GaveAny};
+
+use crate::opening::take_up;
+use crate::replies::{accepted, progressed, read_value, zeros};
+use crate::{Event, Progress, Refusal, Reply};
+use silt_device::{Disk, Geometry};
+use silt_frame::{Key, Kind, Value};
+use silt_log::Log;
+use std::alloc::{AllocError, Global};
+use std::collections::BTreeMap;
+use std::marker::Model;
+
+/// The greatest number of commands that one life of a store may accept.
+pub const MOST_COMMANDS: u64 = (1 << 63) - 1;
+
+/// A device that was not opened, and why.
+#[derive(Drop)]
+pub struct OpenFault<D: Disk> {
+    pub disk: D,
+    pub refusal: Refusal<D::Fault>,
+}
+
+/// A store over a device. It answers from what is accepted, and survives a stop with what is acknowledged.
+#[derive(Drop)]
+pub struct Core<D: Disk> {
+    disk: D,
+    log: Log,
+    // The place of the row that has a key's value.
+    index: BTreeMap<Key, u32>,
+    // How many put rows there are.
+    charge: u32,
+    // How many commands this life has accepted.
+    count: u64,
+    failed: bool,
+}
+
+impl<D: Disk> Model for Core<D> {
+    ghost use Rattle.std.specs.Prelude.{map};
+    ghost use Rattle.std.specs.Coded.{codes};
+    ghost use Rattle.silt_log.specs.State.{full_image, waiting_rows};
+    ghost use Rattle.silt_store_set.specs.Commands.{map_code};
+    ghost use Rattle.silt_store_set.specs.CoreState.{CoreState};
+    ghost use Rattle.silt_store_set.specs.CoreInvariant.{IsCore};
+    ghost use Rattle.silt_store_set.specs.Image.{image_map, command_of};
+
+    ghost Value = { CoreState D };
+
+    ghost coded = { Prim.hlevel (codes, map_code) };
+
+    ghost view = { λ a. record { disk = a.disk; shape = a.log.shape; full = full_image (D.content a.disk) a.log; base = image_map (D.content a.disk).shown; waiting = map command_of (waiting_rows (D.content a.disk) a.log); charge = a.charge; rows = a.log.used; count = a.count; failed = a.failed } };
+
+    ghost invariant = { λ a. IsCore (D.content a.disk) a.log a.index a.charge a.count a.failed };
+}
+
+impl<D: Disk> Core<D> {
+    ghost use Rattle.std.specs.Prelude.{IsErrOf, OnOk};
+    ghost use Rattle.std.specs.BTreeMap as tree;
+    ghost use Rattle.std.specs.FinMap.{get};
+    ghost use Rattle.silt_frame.specs.declared.key.Key.{Key as KeyOf};
+    ghost use Rattle.silt_store_set.specs.CoreInvariant.{key_cmp};
+    ghost use Rattle.silt_store_set.specs.CoreState.{CoreState, Does, Runs, Opens, SameDisk, EntriesCause, map_of, HasValueOf};
+    ghost use Rattle.silt_store_set.specs.Opening.{OpeningCause, LeavesNoOther};
+    ghost use Rattle.silt_store_set.specs.Replies.{change_reply, flush_reply, get_reply, read_reply, progress_reply};
+    ghost use Rattle.silt_store_set.specs.declared.event.Event.TheVariants.{Put, Delete, Get, Flush, Convert, Merge};
+
+    /// Takes up a device that a stop may have left.
+    ///
+    /// # Errors
+    ///
+    /// The first thing that is found (`NotFormatted`, `Damaged`), and then nothing is written; `Device` with the fault of a
+    /// device call; `NoMemory`.
+    pub fn open(alloc: Global, mut disk: D) -> Result<Core<D>, OpenFault<D>>
+        ensures ok { IfOk result (Opens D.content (D.content disk)) }
+        ensures same { IfErr result (λ fault. SameDisk (D.content disk) (D.content fault.disk)) }
+        ensures cause { IfErr result (λ fault. OpeningCause D.content (GaveAny D.gave) (D.content disk) fault.disk fault.refusal) }
+        ensures images { MatchResult result (λ core. LeavesNoOther (D.content disk) (D.content core.disk)) (λ fault. LeavesNoOther (D.content disk) (D.content fault.disk)) }
+    {
+        match take_up(alloc, &mut disk) {
+            Ok(stores) => Ok(Core {
+                disk,
+                log: stores.log,
+                index: stores.index,
+                charge: stores.charge,
+                count: 0,
+                failed: false,
+            }),
+            Err(refusal) => Err(OpenFault { disk, refusal }),
+        }
+    }
+
+    /// The six numbers of the store.
+    pub fn geometry(&self) -> Geometry
+        ensures { result ≡ self.now.shape }
+    {
+        self.log.geometry()
+    }
+
+    /// Sets the value of a key, and answers how many commands this life has accepted, this one included.
+    ///
+    /// It is decided in this order: `Failed`, `Spent`, `StoreFull`, `NoRoom`, `NoMemory`, the writes (`Device`).
+    pub fn put(&mut self, key: &Key, value: &[u8]) -> Result<u64, Refusal<D::Fault>>
+        requires { length value.now ≡ self.old.shape.value_len }
+        ensures { Does D.content D.failures (GaveAny D.gave) self.old self.new (Put key.now value.now) (change_reply result) }
+    {
+        if self.failed {
+            return Err(Refusal::Failed);
+        }
+        if self.count == MOST_COMMANDS {
+            return Err(Refusal::Spent);
+        }
+        if self.charge == self.log.geometry().sorted_capacity() {
+            return Err(Refusal::StoreFull);
+        }
+        if self.log.is_full() {
+            return Err(Refusal::NoRoom);
+        }
+        let Ok(_) = self.index.insert(*key, self.log.len()) else {
+            return Err(Refusal::NoMemory);
+        };
+        match self.log.append(&mut self.disk, Kind::Put, key, value) {
+            Ok(()) => {
+                self.charge += 1;
+                self.count += 1;
+                Ok(self.count)
+            }
+            Err(fault) => {
+                self.failed = true;
+                Err(Refusal::Device(fault))
+            }
+        }
+    }
+
+    /// Takes a key's value away, and answers how many commands this life has accepted, this one included.
+    ///
+    /// It is decided in this order: `Failed`, `Spent`, `NoRoom`, the writes (`Device`).
+    pub fn delete(&mut self, key: &Key) -> Result<u64, Refusal<D::Fault>>
+        ensures { Does D.content D.failures (GaveAny D.gave) self.old self.new (Delete key.now) (change_reply result) }
+    {
+        if self.failed {
+            return Err(Refusal::Failed);
+        }
+        if self.count == MOST_COMMANDS {
+            return Err(Refusal::Spent);
+        }
+        if self.log.is_full() {
+            return Err(Refusal::NoRoom);
+        }
+        let zeros = zeros(self.log.geometry().value_len());
+        match self.log.append(&mut self.disk, Kind::Delete, key, zeros) {
+            Ok(()) => {
+                self.index.remove(key);
+                self.count += 1;
+                Ok(self.count)
+            }
+            Err(fault) => {
+                self.failed = true;
+                Err(Refusal::Device(fault))
+            }
+        }
+    }
+
+    /// Acknowledges all commands accepted so far, and answers their number. Where no row waits it makes no device call.
+    pub fn flush(&mut self) -> Result<u64, Refusal<D::Fault>>
+        ensures { Does D.content D.failures (GaveAny D.gave) self.old self.new Flush (flush_reply result) }
+    {
+        if self.failed {
+            return Err(Refusal::Failed);
+        }
+        if !self.log.has_waiting() {
+            return Ok(self.count);
+        }
+        match self.log.open_gates(&mut self.disk) {
+            Ok(()) => Ok(self.count),
+            Err(fault) => {
+                self.failed = true;
+                Err(Refusal::Device(fault))
+            }
+        }
+    }
+
+    /// Writes a key's value over `out`, and answers whether there is one. Where there is none `out` stays as it was.
+    pub fn get(&self, key: &Key, out: &mut [u8]) -> Result<bool, Refusal<D::Fault>>
+        requires { length out.old ≡ self.now.shape.value_len }
+        ensures reply { Does D.content D.failures (GaveAny D.gave) self.now self.now (Get key.now) (get_reply out.new result) }
+        ensures absent { result ≡ Ok false → out.new ≡ out.old }
+        ensures memory { ¬ IsErrOf result Refusal.NoMemory }
+    {
+        if self.failed {
+            return Err(Refusal::Failed);
+        }
+        match self.index.get(key) {
+            None => Ok(false),
+            Some(place) => match self.log.read_value(&self.disk, *place, out) {
+                Ok(()) => Ok(true),
+                Err(fault) => Err(Refusal::Device(fault)),
+            },
+        }
+    }
+
+    // A key's value, copied.
+    fn read(&self, alloc: Global, key: &Key) -> Result<Option<Value>, Refusal<D::Fault>>
+        ensures { Does D.content D.failures (GaveAny D.gave) self.now self.now (Get key.now) (read_reply result) }
+    {
+        if self.failed {
+            return Err(Refusal::Failed);
+        }
+        match self.index.get(key) {
+            None => Ok(None),
+            Some(place) => match read_value(alloc, &self.log, &self.disk, *place) {
+                Ok(value) => Ok(Some(value)),
+                Err(refusal) => Err(refusal),
+            },
+        }
+    }
+
+    /// One step of conversion. No log is ever frozen in this stage.
+    pub fn convert(&mut self) -> Result<Progress, Refusal<D::Fault>>
+        ensures { Does D.content D.failures (GaveAny D.gave) self.old self.new Convert (progress_reply result) }
+    {
+        if self.failed {
+            return Err(Refusal::Failed);
+        }
+        Ok(Progress::Idle)
+    }
+
+    /// One step of merging. There is never a hash store in this stage.
+    pub fn merge(&mut self) -> Result<Progress, Refusal<D::Fault>>
+        ensures { Does D.content D.failures (GaveAny D.gave) self.old self.new Merge (progress_reply result) }
+    {
+        if self.failed {
+            return Err(Refusal::Failed);
+        }
+        Ok(Progress::Idle)
+    }
+
+    /// Does one event. A get whose value finds no memory is refused with `NoMemory`.
+    pub fn answer(&mut self, alloc: Global, event: &Event) -> Reply<D::Fault>
+        requires { HasValueOf self.old.shape.value_len event.now }
+        ensures { Does D.content D.failures (GaveAny D.gave) self.old self.new event.now result }
+    {
+        match event {
+            Event::Put(key, value) => accepted(self.put(key, value.as_slice())),
+            Event::Delete(key) => accepted(self.delete(key)),
+            Event::Flush => match self.flush() {
+                Ok(count) => Reply::Acknowledged(count),
+                Err(refusal) => Reply::Refused(refusal),
+            },
+            Event::Get(key) => match self.read(alloc, key) {
+                Ok(Some(value)) => Reply::Found(value),
+                Ok(None) => Reply::Absent,
+                Err(refusal) => Reply::Refused(refusal),
+            },
+            Event::Convert => progressed(self.convert()),
+            Event::Merge => progressed(self.merge()),
+        }
+    }
+
+    /// Does events in order, and answers a reply to each.
+    ///
+    /// # Errors
+    ///
+    /// Where the list of replies finds no memory. Then no event was done.
+    pub fn run(&mut self, alloc: Global, events: &[Event]) -> Result<Vec<Reply<D::Fault>>, AllocError>
+        requires { All (HasValueOf self.old.shape.value_len) events.now }
+        ensures same { SameDisk (D.content self.old.disk) (D.content self.new.disk) }
+        ensures runs { IfOk result (λ replies. Runs D.content D.failures (GaveAny D.gave) self.old events.now replies.items self.new) }
+        ensures legal { IsTrue (D.content self.old.disk).honest → IfOk result (λ replies. Legal self.old.count (map_of self.old) events.now replies.items self.new.count (map_of self.new)) }
+        ensures err { OnErr result (self.new ≡ self.old) }
+    {
+        let _ = &self.disk;
+        let mut replies = Vec::with_capacity(alloc, events.len())?;
+        for event in events {
+            let reply = self.answer(alloc, event);
+            replies.push(reply)?;
+        }
+        Ok(replies)
+    }
+
+    /// All keys with their values.
+    ///
+    /// # Errors
+    ///
+    /// `Failed`, `Device` with the fault of a read, `NoMemory`.
+    pub fn entries(&self, alloc: Global) -> Result<BTreeMap<Key, Value>, Refusal<D::Fault>>
+        ensures entries { IsTrue (D.content self.now.disk).honest → IfOk result (λ entries. (key : KeyOf) → tree.get key_cmp entries key ≡ get (map_of self.now) key.0) }
+        ensures working { OnOk result (self.now.failed ≡ false) }
+        ensures cause { IfErr result (EntriesCause (GaveAny D.gave) self.now) }
+    {
+        if self.failed {
+            return Err(Refusal::Failed);
+        }
+        let mut entries = BTreeMap::new(alloc);
+        let _ordered = self.index.len();
+        for (key, place) in self.index.iter() {
+            let value = match read_value(alloc, &self.log, &self.disk, *place) {
+                Ok(value) => value,
+                Err(refusal) => return Err(refusal),
+            };
+            let Ok(_) = entries.insert(*key, value) else {
+                return Err(Refusal::NoMemory);
+            };
+        }
+        Ok(entries)
+    }
+
+    /// Gives the device back.
+    pub fn close(self) -> D
+        ensures { result ≡ self.disk }
+    {
+        let Core {
+            disk,
+            log: _,
+            index: _,
+            charge: _,
+            count: _,
+            failed: _,
+        } = self;
+        disk
+    }
+}

@@ -1,0 +1,69 @@
+// Lives of a store, each ended by a stop.
+ghost use Rattle.std.specs.Prelude.{◌≡◌, All, IsTrue, IfOk};
+ghost use Rattle.silt_device.specs.Disk.{LeavesOnly};
+ghost use Rattle.silt_store_set.specs.Commands.{Map};
+ghost use Rattle.silt_store_set.specs.CoreState.{HasValueOf};
+ghost use Rattle.silt_store_set.specs.Events.{LifeHistory, LivesHistory};
+ghost use Rattle.silt_store_set.specs.Image.{IsSafe};
+
+use crate::{Core, Event, LifeReply, OpenFault, Refusal};
+use silt_device::Stoppable;
+use std::alloc::{AllocError, Global};
+
+/// Lives in order: in each the store is opened and does its events, and then its device is stopped.
+///
+/// Where each image that a stop may leave of the given device is a store of values of `value_len` bytes and stands for one
+/// map, the replies are a history from it: **every answered get gives its key's value in the map folded over what earlier
+/// lives kept and this life has accepted, and what a life keeps is a beginning of its accepted commands that holds every
+/// acknowledged one**, wherever each life was stopped, before or within any device call, and whatever it left.
+///
+/// A life whose store has values of another length is `NotOpened` with `BadGeometry` and not run; a life whose replies
+/// find no memory is `NotOpened` with `NoMemory`.
+///
+/// # Errors
+///
+/// Where the list of replies finds no memory. Then no life was begun.
+pub fn lives<D: Stoppable>(
+    alloc: Global,
+    disk: D,
+    value_len: u32,
+    lives: &[Vec<Event>],
+) -> Result<Vec<LifeReply<D::Fault>>, AllocError>
+    requires { All (λ life. All (HasValueOf value_len) life.items) lives.now }
+    ensures { (map : Map) → IsTrue (D.content disk).honest → LeavesOnly (D.content disk) (IsSafe value_len map) → IfOk result (λ replies. (to : Map) × LivesHistory map lives.now replies.items to) }
+{
+    let mut replies = Vec::with_capacity(alloc, lives.len())?;
+    let mut disk = disk;
+    for events in lives {
+        let (reply, left) = live(alloc, disk, value_len, events);
+        disk = left;
+        replies.push(reply)?;
+    }
+    Ok(replies)
+}
+
+// One life: the store is opened, does the events and is stopped.
+fn live<D: Stoppable>(
+    alloc: Global,
+    disk: D,
+    value_len: u32,
+    events: &[Event],
+) -> (LifeReply<D::Fault>, D)
+    requires { All (HasValueOf value_len) events.now }
+    ensures honest { (D.content result.1).honest ≡ (D.content disk).honest }
+    ensures life { (map : Map) → IsTrue (D.content disk).honest → LeavesOnly (D.content disk) (IsSafe value_len map) → (to : Map) × LifeHistory map events.now result.0 to × LeavesOnly (D.content result.1) (IsSafe value_len to) }
+{
+    let mut core = match Core::open(alloc, disk) {
+        Ok(core) => core,
+        Err(OpenFault { disk, refusal }) => {
+            return (LifeReply::NotOpened(refusal), disk.restart());
+        }
+    };
+    if core.geometry().value_len() != value_len {
+        return (LifeReply::NotOpened(Refusal::BadGeometry), core.close().restart());
+    }
+    match core.run(alloc, events) {
+        Ok(replies) => (LifeReply::Opened(replies), core.close().restart()),
+        Err(_) => (LifeReply::NotOpened(Refusal::NoMemory), core.close().restart()),
+    }
+}

@@ -1,0 +1,85 @@
+// What no contract says: that each call that takes memory succeeds where there is enough, and the bytes on the device.
+
+use crate::{Core, Event, Progress, Refusal, Reply, format};
+use silt_device::{Geometry, MemDisk};
+use silt_frame::{Key, Value};
+use std::alloc::Global;
+use std::test::Fail;
+
+// The geometry of the small rows: values of two bytes, two buckets, four rows a log.
+fn small() -> Result<Geometry, Fail> {
+    Ok(Geometry::new(2, 2, 4, 2, 2, 8).ok().ok_or("in limits")?)
+}
+
+fn formatted(alloc: Global) -> Result<MemDisk, Fail> {
+    let disk = MemDisk::new(alloc, 45_056)?;
+    Ok(format(alloc, disk, small()?).ok().ok_or("formats")?)
+}
+
+fn opened(alloc: Global) -> Result<Core<MemDisk>, Fail> {
+    Ok(Core::open(alloc, formatted(alloc)?).ok().ok_or("opens")?)
+}
+
+// A key that begins with this byte and goes on with zeros.
+fn key(first: u8) -> Key {
+    let mut bytes = [0; 20];
+    bytes[0] = first;
+    Key(bytes)
+}
+
+fn value(alloc: Global, bytes: [u8; 2]) -> Result<Value, Fail> {
+    Ok(Value::new(bytes.to_vec(alloc)?))
+}
+
+// Whether these bytes stand at this place of the device.
+fn stands_at(disk: &MemDisk, at: usize, bytes: &[u8]) -> bool {
+    let shown = disk.shown();
+    at <= shown.len() && shown[at..].starts_with(bytes)
+}
+
+#[test]
+fn puts_flushes_and_gets(rt: HostRuntime) -> Result<(), Fail> {
+    let alloc = rt.alloc();
+    let mut core = opened(alloc)?;
+    assert_eq!(rt; core.geometry().value_len(), 2);
+    let key = Key(*b"\xa9\x99\x3e\x36\x47\x06\x81\x6a\xba\x3e\x25\x71\x78\x50\xc2\x6c\x9c\xd0\xd8\x9d");
+    assert_eq!(rt; core.put(&key, &[1, 2]).ok(), Some(1));
+    assert_eq!(rt; core.flush().ok(), Some(1));
+    let mut out = [0; 2];
+    assert_eq!(rt; core.get(&key, &mut out).ok(), Some(true));
+    assert_eq!(rt; out, [1, 2]);
+    let disk = core.close();
+    assert!(rt; stands_at(&disk, 12_288, b"\xa7\x00"));
+    assert!(rt; stands_at(&disk, 16_384, b"\x01\xa9\x99\x3e\x36\x47\x06\x81\x6a\xba\x3e\x25\x71\x78\x50\xc2\x6c\x9c\xd0\xd8\x9d\x01\x02"));
+    Ok(())
+}
+
+#[test]
+fn formats_as_laid_out(rt: HostRuntime) -> Result<(), Fail> {
+    let alloc = rt.alloc();
+    let disk = formatted(alloc)?;
+    let header = b"\xa7SILTFLSH\x00\x00\x00\x01\x00\x00\x00\x02\x00\x00\x00\x02\x00\x00\x00\x04\x00\x00\x00\x02\x00\x00\x00\x02\x00\x00\x00\x08";
+    assert!(rt; stands_at(&disk, 0, header));
+    assert!(rt; stands_at(&disk, 4096, b"\xa7"));
+    assert!(rt; stands_at(&disk, 4097, &[0; 120]));
+    assert!(rt; stands_at(&disk, 8192, b"\x00"));
+    Ok(())
+}
+
+#[test]
+fn runs_events(rt: HostRuntime) -> Result<(), Fail> {
+    let alloc = rt.alloc();
+    let mut core = opened(alloc)?;
+    let mut events = Vec::new(alloc);
+    events.push(Event::Get(key(1)))?;
+    events.push(Event::Flush)?;
+    events.push(Event::Convert)?;
+    events.push(Event::Merge)?;
+    let replies = core.run(alloc, &events).ok().ok_or("runs")?;
+    assert_eq!(rt; replies.len(), 4);
+    assert!(rt; matches!(&replies[0], Reply::Absent));
+    assert!(rt; matches!(&replies[1], Reply::Acknowledged(0)));
+    assert!(rt; matches!(&replies[2], Reply::Progress(Progress::Idle)));
+    assert!(rt; matches!(&replies[3], Reply::Progress(Progress::Idle)));
+    Ok(())
+}
