@@ -28,5 +28,4 @@ pub fn entry_of(bytes: &[u8]) -> (Key, &[u8])
 /// An entry reads back as what was written, and no other bytes read as the same.
 pub fn entry_reads_back()
     ensures { EntryLaw }
-{
-}
+{}

@@ -51,8 +51,7 @@ pub fn head_of(bytes: &[u8; 21]) -> Option<(Kind, Key)>
 /// A head reads back as what was written, and no other bytes read as the same.
 pub fn head_reads_back()
     ensures { HeadLaw }
-{
-}
+{}
 
 #[cfg(test)]
 mod tests {
@@ -61,8 +60,11 @@ mod tests {
     // The head of a put of the key that is the SHA-1 digest of "abc".
     #[test]
     fn writes_a_head(rt: HostRuntime) {
-        let key = Key(*b"\xa9\x99\x3e\x36\x47\x06\x81\x6a\xba\x3e\x25\x71\x78\x50\xc2\x6c\x9c\xd0\xd8\x9d");
-        let head = *b"\x01\xa9\x99\x3e\x36\x47\x06\x81\x6a\xba\x3e\x25\x71\x78\x50\xc2\x6c\x9c\xd0\xd8\x9d";
+        let key = Key(
+            *b"\xa9\x99\x3e\x36\x47\x06\x81\x6a\xba\x3e\x25\x71\x78\x50\xc2\x6c\x9c\xd0\xd8\x9d",
+        );
+        let head =
+            *b"\x01\xa9\x99\x3e\x36\x47\x06\x81\x6a\xba\x3e\x25\x71\x78\x50\xc2\x6c\x9c\xd0\xd8\x9d";
         assert_eq!(rt; head_bytes(Kind::Put, &key), head);
         assert_eq!(rt; head_of(&head), Some((Kind::Put, key)));
         assert_eq!(rt; head_bytes(Kind::Delete, &key)[0], 2);

@@ -1,30 +1,30 @@
 -- What the calls of a store do, from what its log's calls do.
-use Rattle.std.proofs.Common.{◌≡◌, ◌≤◌, ◌<◌, ℕ, ◌+◌, ◌-◌, ◌*◌, ◌%◌, ◌^◌, ◌&&◌, Bool, true, false, IsTrue, List, [], ◌∷◌, ◌++◌, length, map, take, drop, refl, ap, sym, ◌∙◌, subst, arith, append_assoc}
-use Rattle.std.specs.List.{list_all, range_with_len}
+use Rattle.std.proofs.Common.{◌≡◌, ◌≤◌, ◌<◌, ℕ, ◌+◌, ◌&&◌, Bool, true, false, IsTrue, List, [], ◌∷◌, ◌++◌, map, refl, ap, sym, ◌∙◌, subst, arith, append_assoc}
+use Rattle.std.specs.List.{list_all}
 use Rattle.std.specs.BTreeMap.{BTreeMap}
-use Rattle.std.proofs.lemmas.List.{map-append, take-append-drop}
+use Rattle.std.proofs.lemmas.List.{map-append}
 use Rattle.std.proofs.lemmas.List.Folds.{list_all-append}
 use Rattle.silt_device.specs.Disk.{Content, LeavesOnly, ChangesWithin, size}
-use Rattle.silt_device.specs.Layout.{Shape, device_size, gates_at, row_len}
+use Rattle.silt_device.specs.Layout.{device_size, row_len}
 use Rattle.silt_frame.specs.declared.key.Key.{Key}
-use Rattle.silt_log.specs.Rows.{StoredRow, has_known_kind, log_rows, body_at, rows_from}
-use Rattle.silt_log.specs.State.{LogState, InBounds, IsLog, settled_rows, waiting_rows, all_rows, full_image}
-use Rattle.silt_log.specs.Calls.{Appends, Keeps, Opens, OpensSome, HasBeginning}
+use Rattle.silt_log.specs.Rows.{StoredRow, has_known_kind, body_at}
+use Rattle.silt_log.specs.State.{LogState, IsLog, settled_rows, waiting_rows, all_rows, full_image}
+use Rattle.silt_log.specs.Calls.{Appends, Keeps}
 use Rattle.silt_store_set.specs.declared.event.Event.{Event}
 use Rattle.silt_store_set.specs.declared.event.Event.TheVariants.{Put, Delete, Flush, Get, Convert, Merge}
 use Rattle.silt_store_set.specs.declared.event.Refusal.{Refusal}
 use Rattle.silt_store_set.specs.declared.event.Refusal.TheVariants.{Device, Failed}
 use Rattle.silt_store_set.specs.declared.event.Reply.{Reply}
-use Rattle.silt_store_set.specs.declared.event.Reply.TheVariants.{Accepted, Acknowledged, Refused}
-use Rattle.silt_store_set.specs.Commands.{Command, Map, changed, map_after, Begins}
-use Rattle.silt_store_set.specs.Events.{Step, Counts, accepted_command, is_fault, is_failed}
-use Rattle.silt_store_set.specs.CoreState.{CoreState, map_of, FailsBy, Cause, SameDisk, Moves, Torn, Settles, is_refused, Does}
+use Rattle.silt_store_set.specs.declared.event.Reply.TheVariants.{Accepted, Refused}
+use Rattle.silt_store_set.specs.Commands.{Map, changed}
+use Rattle.silt_store_set.specs.Events.{Step, Counts, accepted_command, is_failed}
+use Rattle.silt_store_set.specs.CoreState.{CoreState, map_of, Cause, Settles, Does}
 use Rattle.silt_store_set.specs.CoreInvariant.{Fits, Indexes}
 use Rattle.silt_store_set.specs.Image.{IsStore, AreSound, StandsFor, image_map, command_of, map_of_rows, charge_of_rows}
-use Rattle.silt_store_set.proofs.Maps.{map_after-append, append_nil, map_of_rows-append, charge_of_rows-append, sound_first}
+use Rattle.silt_store_set.proofs.Maps.{append_nil, map_of_rows-append, charge_of_rows-append}
 use Rattle.silt_store_set.proofs.Index.{IsBelow}
-use Rattle.silt_store_set.proofs.Frame.{store_changes, store_stands}
-use Rattle.silt_store_set.proofs.Standing.{seen, Standing, rows_join, stands_seen, full_store, full_image_map, full_map, base_map, base_safe}
+use Rattle.silt_store_set.proofs.Frame.{store_changes}
+use Rattle.silt_store_set.proofs.Standing.{seen, Standing, rows_join, stands_seen, full_map, base_map, base_safe}
 
 -- what stands before both of two lists can be left out
 after_same : {A : Type 0} (xs ys zs : List A) → xs ++ ys ≡ xs ++ zs → ys ≡ zs
@@ -139,10 +139,10 @@ module _ {D F : Type 0} (content : D → Content) (failures : D → ℕ) (gave :
     waits : IsTrue (content disk).honest → waiting_rows (content new) after ≡ waiting_rows (content disk) log ++ row ∷ []
     waits h = after_same (settled_rows (content disk) log) _ _ (
         ap (λ rows. rows ++ waiting_rows (content new) after) (sym (app.settled h))
-            ∙ sym (rows_join (content new) after app.stands.bounds.order) ∙ app.all h
-            ∙ ap (λ rows. rows ++ row ∷ []) (rows_join (content disk) log fits.stands.bounds.order)
-            ∙ append_assoc (settled_rows (content disk) log) (waiting_rows (content disk) log) (row ∷ [])
-    )
+        ∙ sym (rows_join (content new) after app.stands.bounds.order) ∙ app.all h
+        ∙ ap (λ rows. rows ++ row ∷ []) (rows_join (content disk) log fits.stands.bounds.order)
+        ∙ append_assoc (settled_rows (content disk) log) (waiting_rows (content disk) log) (row ∷ [])
+        )
 
     -- the command is accepted
     pub appended : (event : Event) → accepted_command {F = F} event (Accepted (count + 1)) ≡ command_of row ∷ []
@@ -163,9 +163,9 @@ module _ {D F : Type 0} (content : D → Content) (failures : D → ℕ) (gave :
           faulted = λ _ f. absurd (cc);
           step = λ _ h. step _ _ (
               full_map (content new) after later more fits_appended same_region new_sized (there h) ∙ ap map_of_rows (app.all h)
-                  ∙ map_of_rows-append (all_rows (content disk) log) (row ∷ [])
-                  ∙ ap (λ m. changed m (command_of row)) (sym (full_map (content disk) log index charge fits first sized h))
-          );
+              ∙ map_of_rows-append (all_rows (content disk) log) (row ∷ [])
+              ∙ ap (λ m. changed m (command_of row)) (sym (full_map (content disk) log index charge fits first sized h))
+              );
           joins = λ _ h. stands.joins (there h);
           moves = λ _ h. record {
             moved = [];

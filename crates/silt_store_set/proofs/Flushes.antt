@@ -1,23 +1,22 @@
 -- What a flush does, from what the opening of the log's gates does.
-use Rattle.std.proofs.Common.{◌≡◌, ◌≤◌, ◌<◌, ℕ, ◌+◌, ◌-◌, ◌*◌, Bool, true, false, IsTrue, List, [], ◌∷◌, ◌++◌, length, map, take, drop, refl, ap, sym, ◌∙◌, subst, arith, append_assoc}
+use Rattle.std.proofs.Common.{◌≡◌, ◌≤◌, ◌<◌, ℕ, ◌-◌, true, false, IsTrue, List, [], ◌++◌, map, take, drop, refl, ap, sym, ◌∙◌, subst, arith, append_assoc}
 use Rattle.std.specs.List.{range_with_len}
 use Rattle.std.specs.BTreeMap.{BTreeMap}
 use Rattle.std.proofs.lemmas.List.{map-append, take-append-drop}
 use Rattle.silt_device.specs.Disk.{Content, LeavesOnly, ChangesWithin, size}
-use Rattle.silt_device.specs.Layout.{Shape, device_size, gates_at}
-use Rattle.silt_device.proofs.Images.{shown_left}
+use Rattle.silt_device.specs.Layout.{device_size}
 use Rattle.silt_frame.specs.declared.key.Key.{Key}
-use Rattle.silt_log.specs.Rows.{StoredRow, log_rows, row_at, rows_from}
-use Rattle.silt_log.specs.State.{LogState, IsLog, settled_rows, waiting_rows, all_rows, full_image}
+use Rattle.silt_log.specs.Rows.{log_rows, row_at, rows_from}
+use Rattle.silt_log.specs.State.{LogState, settled_rows, waiting_rows, all_rows, full_image}
 use Rattle.silt_log.specs.Calls.{Opens, OpensSome, HasBeginning}
 use Rattle.silt_store_set.specs.declared.event.Event.TheVariants.{Flush}
 use Rattle.silt_store_set.specs.declared.event.Refusal.TheVariants.{Device}
 use Rattle.silt_store_set.specs.declared.event.Reply.TheVariants.{Acknowledged, Refused}
-use Rattle.silt_store_set.specs.Commands.{Command, Map, map_after, Begins}
-use Rattle.silt_store_set.specs.CoreState.{CoreState, map_of, Cause, Torn, Does}
+use Rattle.silt_store_set.specs.Commands.{Command, map_after}
+use Rattle.silt_store_set.specs.CoreState.{Cause, Does}
 use Rattle.silt_store_set.specs.CoreInvariant.{Fits, Indexes}
 use Rattle.silt_store_set.specs.Image.{IsStore, AreSound, StandsFor, image_map, command_of, map_of_rows, charge_of_rows}
-use Rattle.silt_store_set.proofs.Maps.{append_nil, map_of_rows-append, sound_first}
+use Rattle.silt_store_set.proofs.Maps.{map_of_rows-append, sound_first}
 use Rattle.silt_store_set.proofs.Frame.{store_changes, store_stands}
 use Rattle.silt_store_set.proofs.Standing.{seen, rows_join, stands_seen, full_store, full_image_map, full_map, base_map}
 use Rattle.silt_store_set.proofs.Calls.{unchanged}
@@ -107,7 +106,7 @@ module _ {D F : Type 0} (content : D → Content) (failures : D → ℕ) (gave :
         let settled = settled_rows (content disk) log in
         let same_map : IsTrue (content disk).honest → image_map (full_image (content new) log) ≡ image_map (full_image (content disk) log) =
         λ h. full_image_map (content new) log (all_rows (content disk) log) (full_store (content new) log store fits.stands.bounds here (there h)) first (opens.full h)
-            ∙ sym (full_map (content disk) log index charge fits first sized h) in
+        ∙ sym (full_map (content disk) log index charge fits first sized h) in
         subst (λ (l : LogState). Does content failures gave (seen content disk log charge count false) (seen content new l charge count true) Flush (Refused (Device fault))) (sym opens.log) (record {
           disk = record { size = sizes; honest = changes.honest };
           shape = refl;

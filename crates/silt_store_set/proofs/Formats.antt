@@ -1,13 +1,12 @@
 -- What formatting writes is what an opening reads.
-use Rattle.std.proofs.Common.{◌≡◌, ◌≢◌, ◌≤◌, ◌<◌, ℕ, ◌+◌, ◌-◌, ◌*◌, ◌^◌, Bool, true, false, IsTrue, List, [], ◌∷◌, ◌++◌, length, map, take, drop, slice_range, slice_index, refl, ap, sym, ◌∙◌, subst, arith, take-add}
+use Rattle.std.proofs.Common.{◌≡◌, ◌≤◌, ◌<◌, ℕ, ◌+◌, ◌-◌, ◌^◌, IsTrue, List, [], ◌∷◌, ◌++◌, length, take, drop, slice_range, slice_index, refl, ap, sym, ◌∙◌, subst, arith, take-add}
 use Rattle.std.specs.FinMap.{empty}
-use Rattle.std.specs.List.{prefix_len, range_with_len}
 use Rattle.std.proofs.lemmas.List.{drop-drop}
 use Rattle.byteorder.specs.Endian.{big_number, big_bytes}
 use Rattle.byteorder.specs.Numbers.{big_number-reads_back}
 use Rattle.silt_device.specs.Disk.{Content, Torn, ChangesWithin, Writes, LeavesOnly, Rests, size, splice}
 use Rattle.silt_device.specs.Layout.{Shape, InLimits, device_size, gates_at}
-use Rattle.silt_device.proofs.Images.{splice_slice, torn_splice, length-splice, torn_slice_after, torn_slice_before, left_at_rest}
+use Rattle.silt_device.proofs.Images.{splice_slice, torn_splice, length-splice, torn_slice_after, left_at_rest}
 use Rattle.silt_device.proofs.Images.{splice_byte, shown_left}
 use Rattle.silt_device.proofs.Regions.{bucket_count_most, regions_apart}
 use Rattle.silt_log.specs.Rows.{is_open, GatesAre, log_rows, first_rows, rows_from, open_count}
@@ -15,7 +14,7 @@ use Rattle.silt_log.proofs.Counts.{count_is}
 use Rattle.silt_log.proofs.Exits.{log_inside}
 use Rattle.silt_store_set.specs.Format.{HasHeader}
 use Rattle.silt_store_set.proofs.Frame.{store_stands}
-use Rattle.silt_store_set.specs.Image.{header_bytes, header_of, header_shape, IsHeader, first_manifest, HasFirstManifest, IsStore, StandsFor}
+use Rattle.silt_store_set.specs.Image.{header_bytes, header_shape, IsHeader, first_manifest, IsStore, StandsFor}
 
 -- a part and the one behind it
 slice_join : (xs : List ℕ) (a b c : ℕ) → a ≤ b → b ≤ c → slice_range xs a c ≡ slice_range xs a b ++ slice_range xs b c
@@ -88,7 +87,7 @@ module _ (shape : Shape) (limits : InLimits shape) (c1 c2 c3 c4 c5 : Content) (s
       let apart = (regions_apart shape).gates 0 in
       let byte : slice_index c5.shown 8192 ≡ 0 =
       torn5.after 8192 (omega arith) ∙ torn4.after 8192 (omega arith) ∙ torn3.before 8192 (omega arith) ∙ ap (λ (image : List ℕ). slice_index image 8192) (slot.shown h1)
-          ∙ splice_byte 8192 (0 ∷ []) c1.shown 0 (omega (arith, sized)) (omega arith) in
+      ∙ splice_byte 8192 (0 ∷ []) c1.shown 0 (omega (arith, sized)) (omega arith) in
       let closed = gates_behind (gates_at shape 0) shape.log_capacity 0 37 c4.shown c5.shown (omega arith) torn5
       (gates_behind (gates_at shape 0) shape.log_capacity 4096 121 c3.shown c4.shown (omega arith) torn4 (gates.each h3 c3.shown (shown_left c3))) in
       let store : IsStore shape c5.shown = record {

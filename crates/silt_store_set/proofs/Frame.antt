@@ -1,11 +1,10 @@
 -- Changes behind the manifest slots leave a store a store.
-use Rattle.std.proofs.Common.{◌≡◌, ◌≤◌, ◌<◌, ℕ, ◌+◌, List, ◌++◌, length, map, IsTrue, refl, ap, sym, ◌∙◌, subst, arith}
+use Rattle.std.proofs.Common.{◌≡◌, ◌≤◌, ℕ, List, length, ap, sym, ◌∙◌, subst, arith}
 use Rattle.silt_device.specs.Disk.{Content, LeavesOnly, ChangesWithin, Torn}
-use Rattle.silt_device.specs.Layout.{Shape, device_size}
+use Rattle.silt_device.specs.Layout.{Shape}
 use Rattle.silt_device.proofs.Images.{torn_slice_before, within_leaves}
 use Rattle.silt_log.specs.Rows.{StoredRow, log_rows}
-use Rattle.silt_store_set.specs.Commands.{Map}
-use Rattle.silt_store_set.specs.Image.{header_of, shape_of, header_shape, IsHeader, HasFirstManifest, IsStore, AreSound, IsGood, StandsFor, image_rows, image_map, map_of_rows}
+use Rattle.silt_store_set.specs.Image.{header_of, header_shape, IsHeader, IsStore, AreSound, StandsFor, image_rows, image_map, map_of_rows}
 
 -- the header is as it was
 header_torn : (at count : ℕ) (before image : List ℕ) → Torn at count before image → 12288 ≤ at → 12288 ≤ length before → header_of image ≡ header_of before

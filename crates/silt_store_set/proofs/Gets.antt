@@ -1,5 +1,5 @@
 -- What a get answers, from what the index and the log give.
-use Rattle.std.proofs.Common.{◌≡◌, ◌≤◌, ◌<◌, ℕ, ◌+◌, Bool, true, false, IsTrue, List, [], ◌∷◌, length, map, get_or, Option, Some, None, refl, ap, sym, ◌∙◌, subst, arith}
+use Rattle.std.proofs.Common.{◌≡◌, ◌<◌, ℕ, Bool, false, IsTrue, List, [], map, Option, Some, None, refl, ap, sym, ◌∙◌, arith}
 use Rattle.std.specs.Option.{option_map}
 use Rattle.std.specs.List.{range_with_len}
 use Rattle.std.specs.BTreeMap.{BTreeMap}
@@ -16,9 +16,9 @@ use Rattle.silt_store_set.specs.declared.event.Event.TheVariants.{Get}
 use Rattle.silt_store_set.specs.declared.event.Refusal.{Refusal}
 use Rattle.silt_store_set.specs.declared.event.Refusal.TheVariants.{Device, NoMemory}
 use Rattle.silt_store_set.specs.declared.event.Reply.TheVariants.{Found, Absent, Refused}
-use Rattle.silt_store_set.specs.CoreState.{CoreState, Does}
+use Rattle.silt_store_set.specs.CoreState.{Does}
 use Rattle.silt_store_set.specs.CoreInvariant.{key_cmp, value_at, Fits}
-use Rattle.silt_store_set.specs.Image.{image_map, map_of_rows}
+use Rattle.silt_store_set.specs.Image.{image_map}
 use Rattle.silt_store_set.specs.Replies.{ReadCause}
 use Rattle.silt_store_set.proofs.Standing.{seen, full_map, stands_seen}
 use Rattle.silt_store_set.proofs.Calls.{answered, refused}

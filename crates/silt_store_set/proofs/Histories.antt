@@ -1,5 +1,5 @@
 -- Lives, from their openings, runs and stops.
-use Rattle.std.proofs.Common.{◌≡◌, ◌≢◌, ◌≤◌, ◌<◌, ℕ, ◌+◌, ◌⊎◌, inl, inr, Bool, true, false, IsTrue, List, [], ◌∷◌, ◌++◌, length, map, get_or, Vec, refl, ap, sym, ◌∙◌, subst, arith}
+use Rattle.std.proofs.Common.{◌≡◌, ℕ, ◌+◌, inl, inr, true, false, IsTrue, List, [], ◌∷◌, ◌++◌, length, map, get_or, Vec, refl, ap, sym, ◌∙◌, subst, arith}
 use Rattle.std.specs.List.{list_all, range_with_len}
 use Rattle.std.specs.declared.alloc.Global.{Global}
 use Rattle.std.proofs.lemmas.List.Folds.{list_all_at}
@@ -17,9 +17,9 @@ use Rattle.silt_store_set.specs.declared.event.Refusal.{Refusal}
 use Rattle.silt_store_set.specs.declared.event.Refusal.TheVariants.{NotFormatted, Damaged, Device, NoMemory}
 use Rattle.silt_store_set.specs.declared.event.Reply.{Reply}
 use Rattle.silt_store_set.specs.Commands.{Command, Map, map_after}
-use Rattle.silt_store_set.specs.Events.{Legal, Keeps, accepted_commands, IsOpeningRefusal, LifeHistory, LivesHistory}
-use Rattle.silt_store_set.specs.CoreState.{CoreState, SameDisk, map_of, Runs, Opens, KeepsFrom}
-use Rattle.silt_store_set.specs.Image.{shape_of, image_map, image_rows, IsGood, IsDamaged, StandsFor, IsSafe}
+use Rattle.silt_store_set.specs.Events.{Legal, accepted_commands, IsOpeningRefusal, LifeHistory, LivesHistory}
+use Rattle.silt_store_set.specs.CoreState.{CoreState, SameDisk, map_of, Runs, Opens}
+use Rattle.silt_store_set.specs.Image.{shape_of, image_rows, IsGood, IsDamaged, StandsFor, IsSafe}
 use Rattle.silt_store_set.specs.Opening.{OpeningCause, LeavesNoOther}
 use Rattle.silt_store_set.proofs.Index.{blank}
 use Rattle.silt_store_set.proofs.Keeps.{keeps_runs, nines}
@@ -98,7 +98,7 @@ module _ {D F : Type 0} (content : D → Content) (failures : D → ℕ) (gave :
     m,
     (tt, refl),
     restarted value_len m (content core.disk) new restarts (λ honest image left.
-      stands_safe value_len core.shape m image (opened_len core opens) (subst (λ (n : Map). StandsFor core.shape n image) (opens.base h ∙ shown_safe.has_map) (opens.safe.each honest image left))),
+        stands_safe value_len core.shape m image (opened_len core opens) (subst (λ (n : Map). StandsFor core.shape n image) (opens.base h ∙ shown_safe.has_map) (opens.safe.each honest image left))),
   )
 
   -- a store that was opened and did its events
@@ -111,8 +111,7 @@ module _ {D F : Type 0} (content : D → Content) (failures : D → ℕ) (gave :
       let legal = legal_runs content failures gave core after events replies.items here runs in
       let start : map_of core ≡ m = opens.has_map h ∙ shown_safe.has_map in
       let base : core.base ≡ m = opens.base h ∙ shown_safe.has_map in
-      let none : core.waiting ≡ [] = opens.waiting h in
-      (
+      let none : core.waiting ≡ [] = opens.waiting h in (
         map_after m kept.0,
         (
           after.count,

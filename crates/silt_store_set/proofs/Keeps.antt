@@ -1,16 +1,15 @@
 -- What a stop keeps of a run.
-use Rattle.std.proofs.Common.{◌≡◌, ◌≤◌, ◌<◌, ℕ, ◌+◌, ◌||◌, Bool, true, false, IsTrue, List, [], ◌∷◌, ◌++◌, length, refl, ap, sym, ◌∙◌, subst, arith, append_assoc, length-append}
+use Rattle.std.proofs.Common.{◌≡◌, ◌≤◌, ℕ, ◌+◌, ◌||◌, Bool, true, false, IsTrue, List, [], ◌∷◌, ◌++◌, length, refl, ap, sym, ◌∙◌, subst, arith, append_assoc, length-append}
 use Rattle.silt_device.specs.Disk.{Content, Left, LeavesOnly}
 use Rattle.silt_device.specs.Layout.{Shape}
 use Rattle.silt_store_set.specs.declared.event.Event.{Event}
 use Rattle.silt_store_set.specs.declared.event.Event.TheVariants.{Put, Delete, Flush, Get, Convert, Merge}
-use Rattle.silt_store_set.specs.declared.event.Refusal.{Refusal}
 use Rattle.silt_store_set.specs.declared.event.Refusal.TheVariants.{Failed}
 use Rattle.silt_store_set.specs.declared.event.Reply.{Reply}
 use Rattle.silt_store_set.specs.declared.event.Reply.TheVariants.{Accepted, Acknowledged, Found, Absent, Progress, Refused}
-use Rattle.silt_store_set.specs.Commands.{Command, Map, map_after, Begins}
+use Rattle.silt_store_set.specs.Commands.{Command, Map, map_after}
 use Rattle.silt_store_set.specs.Events.{Counts, accepted_command, accepted_commands, acknowledged_by, acknowledged_after, is_fault, is_failed, FailsAfterFault}
-use Rattle.silt_store_set.specs.CoreState.{CoreState, Cause, Does, Runs, Moves, Torn, Settles, KeepsFrom, StandsKept}
+use Rattle.silt_store_set.specs.CoreState.{CoreState, Cause, Does, Runs, Settles, StandsKept}
 use Rattle.silt_store_set.specs.Image.{StandsFor}
 use Rattle.silt_store_set.proofs.Maps.{map_after-append, append_nil}
 use Rattle.silt_store_set.proofs.Calls.{none_refused}
@@ -106,7 +105,6 @@ nines content failures gave old new (event ∷ events) (reply ∷ replies) befor
 nines content failures gave old new [] (reply ∷ replies) before working runs = absurd runs
 nines content failures gave old new (event ∷ events) [] before working runs = absurd runs
 
-
 -- what was acknowledged by one reply is settled after it
 acknowledged_one : {D F : Type 0} (old next : CoreState D) (reply : Reply F) (settled moved : ℕ) → Counts old.count reply next.count → Settles next reply → settled + moved + length next.waiting ≡ next.count → acknowledged_by settled reply ≤ settled + moved
 acknowledged_one old next (Accepted n) settled moved counts none sum = omega arith
@@ -134,8 +132,7 @@ module _ {D F : Type 0} (content : D → Content) (failures : D → ℕ) (gave :
       let own : List Command = accepted_command event reply in
       let more : List Command = accepted_commands events replies in
       let counts : next.count ≡ old.count + length own = own_counts failures gave old next event reply old.count next.count does.cause does.counts in
-      let waits : length moves.moved + length next.waiting ≡ length old.waiting + length own = sym (length-append moves.moved next.waiting) ∙ ap length moves.rest ∙ length-append old.waiting own in
-      (
+      let waits : length moves.moved + length next.waiting ≡ length old.waiting + length own = sym (length-append moves.moved next.waiting) ∙ ap length moves.rest ∙ length-append old.waiting own in (
         moves.moved ++ kept.0,
         record {
           begins = record {
@@ -149,7 +146,7 @@ module _ {D F : Type 0} (content : D → Content) (failures : D → ℕ) (gave :
               omega (arith, acknowledged_more (acknowledged_by settled reply) (settled + length moves.moved) replies one, kept.1.acknowledged (settled + length moves.moved) now, length-append moves.moved kept.0);
         },
         subst (λ (m : Map). StandsFor old.shape m image) (sym (map_after-append old.base moves.moved kept.0))
-        (subst (λ (m : Map). StandsFor old.shape (map_after m kept.0) image) moves.base (subst (λ (s : Shape). StandsFor s (map_after next.base kept.0) image) does.shape kept.2)),
+            (subst (λ (m : Map). StandsFor old.shape (map_after m kept.0) image) moves.base (subst (λ (s : Shape). StandsFor s (map_after next.base kept.0) image) does.shape kept.2)),
       )
 
   -- the first call failed, and so did all after it
@@ -159,8 +156,7 @@ module _ {D F : Type 0} (content : D → Content) (failures : D → ℕ) (gave :
       let rest = ended content failures gave next new events replies fails runs in
       let torn = (does.crash working fails).each h image (subst (λ (c : CoreState D). Left (content c.disk) image) rest.same left) in
       let adds = fault_adds event reply (does.faulted working fails) in
-      let none : accepted_command event reply ++ accepted_commands events replies ≡ [] = ap (λ (cs : List Command). cs ++ accepted_commands events replies) adds.0 ∙ rest.none in
-      (
+      let none : accepted_command event reply ++ accepted_commands events replies ≡ [] = ap (λ (cs : List Command). cs ++ accepted_commands events replies) adds.0 ∙ rest.none in (
         torn.kept,
         record {
           begins = record { rest = torn.begins.rest; is = torn.begins.is ∙ sym (append_nil old.waiting) ∙ ap (λ (cs : List Command). old.waiting ++ cs) (sym none) };

@@ -1,15 +1,13 @@
 -- Maps after commands, and what rows make.
-use Rattle.std.proofs.Common.{◌≡◌, ◌≤◌, ◌<◌, ℕ, ◌+◌, ◌==◌, ◌&&◌, Bool, true, false, cond, IsTrue, List, [], ◌∷◌, ◌++◌, length, map, take, drop, refl, ap, sym, ◌∙◌, arith}
-use Rattle.std.specs.Prelude.{count_by}
-use Rattle.std.specs.List.{list_all}
+use Rattle.std.proofs.Common.{◌≡◌, ◌+◌, ◌==◌, cond, List, [], ◌∷◌, ◌++◌, map, refl, ap, sym, ◌∙◌, arith}
 use Rattle.std.specs.FinMap.{empty}
-use Rattle.std.proofs.lemmas.List.{map-append, take-append-drop}
+use Rattle.std.proofs.lemmas.List.{map-append}
 use Rattle.std.proofs.lemmas.List.Folds.{list_all-append}
 use Rattle.std.proofs.lemmas.List.Sums.{sum_by-append}
 use Rattle.std.proofs.lemmas.Bool.{and_parts}
 use Rattle.silt_device.specs.Layout.{Shape}
 use Rattle.silt_log.specs.Rows.{StoredRow, has_known_kind}
-use Rattle.silt_store_set.specs.Commands.{Command, Map, changed, map_after, Begins}
+use Rattle.silt_store_set.specs.Commands.{Command, Map, changed, map_after}
 use Rattle.silt_store_set.specs.Image.{command_of, map_of_rows, charge_of_rows, AreSound}
 
 pub map_after-append : (m : Map) (some more : List Command) → map_after m (some ++ more) ≡ map_after (map_after m some) more

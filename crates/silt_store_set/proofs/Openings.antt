@@ -1,5 +1,5 @@
 -- What an opening holds of the device that it looked at.
-use Rattle.std.proofs.Common.{◌≡◌, ◌≤◌, ◌<◌, ℕ, ◌+◌, ◌&&◌, ◌==◌, Bool, true, false, IsTrue, List, [], ◌∷◌, length, map, Some, refl, ap, sym, ◌∙◌, subst, arith}
+use Rattle.std.proofs.Common.{◌≡◌, ◌≤◌, ◌<◌, ℕ, ◌&&◌, ◌==◌, Bool, true, false, IsTrue, List, [], ◌∷◌, length, map, Some, refl, ap, sym, ◌∙◌, subst}
 use Rattle.std.specs.Prelude.{count_by}
 use Rattle.std.specs.List.{list_all}
 use Rattle.std.specs.Option.{is_some}
@@ -16,7 +16,7 @@ use Rattle.silt_log.specs.Rows.{StoredRow, AreRows, has_known_kind, log_rows}
 use Rattle.silt_log.specs.State.{LogState, InBounds, IsScanned}
 use Rattle.silt_store_set.specs.declared.event.Place.TheVariants.{Charge}
 use Rattle.silt_store_set.specs.CoreInvariant.{key_cmp, Indexes}
-use Rattle.silt_store_set.specs.Image.{shape_of, IsStore, IsDamaged, AreSound, image_rows, charge_of_rows}
+use Rattle.silt_store_set.specs.Image.{shape_of, IsStore, IsDamaged, image_rows, charge_of_rows}
 use Rattle.silt_store_set.specs.Opening.{Found}
 use Rattle.silt_store_set.proofs.Index.{charge_counted}
 
@@ -63,7 +63,7 @@ module _ (content : Content) (shape : Shape) (old new : LogState) (rows : List R
     here h,
     known_rows rows (image_rows content.shown) (are h),
     let most : shape.sorted_capacity < charge_of_rows (image_rows content.shown) = subst (λ n. shape.sorted_capacity < n) (counted ∙ charge_counted rows (image_rows content.shown) (are h)) above in
-    subst (λ (s : Shape). s.sorted_capacity < charge_of_rows (image_rows content.shown)) (sym (store h).has_shape) most,
+        subst (λ (s : Shape). s.sorted_capacity < charge_of_rows (image_rows content.shown)) (sym (store h).has_shape) most,
   )
 
   pub log_found : (index : BTreeMap Key ℕ) → new.settled ≡ new.used → length rows ≡ new.used → InBounds new → charge ≤ shape.sorted_capacity

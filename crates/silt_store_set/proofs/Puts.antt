@@ -1,11 +1,11 @@
 -- The index of a store after a put and after a delete.
-use Rattle.std.proofs.Common.{◌≡◌, ◌≤◌, ◌<◌, ℕ, ◌+◌, Bool, IsTrue, List, [], ◌∷◌, ◌++◌, length, Some, None, refl, ap, sym, ◌∙◌, subst, arith}
+use Rattle.std.proofs.Common.{◌≡◌, ℕ, ◌+◌, IsTrue, List, [], ◌∷◌, ◌++◌, length, Some, None, refl, sym, ◌∙◌, subst, arith}
 use Rattle.std.specs.BTreeMap.{BTreeMap}
 use Rattle.std.specs.BTreeMap as tree
 use Rattle.silt_device.specs.Disk.{Content}
 use Rattle.silt_frame.specs.declared.key.Key.{Key}
 use Rattle.silt_frame.specs.declared.key.Kind.TheVariants.{Put, Delete}
-use Rattle.silt_log.specs.Rows.{StoredRow, stored_row}
+use Rattle.silt_log.specs.Rows.{stored_row}
 use Rattle.silt_log.specs.State.{LogState, all_rows}
 use Rattle.silt_store_set.specs.CoreInvariant.{Fits, Indexes, key_cmp}
 use Rattle.silt_store_set.proofs.Index.{IsBelow, indexes_put, indexes_delete, below_put, below_delete}

@@ -1,19 +1,19 @@
 -- What is true of a store that fits its disk.
-use Rattle.std.proofs.Common.{◌≡◌, ◌≤◌, ◌<◌, ℕ, ◌+◌, ◌-◌, ◌*◌, Bool, true, false, IsTrue, List, [], ◌∷◌, ◌++◌, length, map, replicate, refl, ap, sym, ◌∙◌, subst, arith}
+use Rattle.std.proofs.Common.{◌≡◌, ◌≤◌, ℕ, ◌+◌, ◌-◌, Bool, IsTrue, List, ◌++◌, length, map, replicate, ap, sym, ◌∙◌, subst, arith}
 use Rattle.std.specs.List.{range_with_len}
 use Rattle.std.specs.BTreeMap.{BTreeMap}
 use Rattle.std.proofs.lemmas.List.{length-replicate}
 use Rattle.std.proofs.lemmas.List.FromFn.{length-map-range_with_len}
-use Rattle.silt_device.specs.Disk.{Content, LeavesOnly, Torn, ChangesWithin, size, splice}
+use Rattle.silt_device.specs.Disk.{Content, LeavesOnly, size}
 use Rattle.silt_device.specs.Layout.{Shape, device_size, gates_at}
-use Rattle.silt_device.proofs.Images.{shown_left, weaker_leaves, both_leaves, torn_splice}
+use Rattle.silt_device.proofs.Images.{shown_left, torn_splice}
 use Rattle.silt_device.proofs.Regions.{regions_apart}
 use Rattle.silt_frame.specs.declared.key.Key.{Key}
 use Rattle.silt_log.specs.Rows.{StoredRow, rows_from, row_at, log_rows}
-use Rattle.silt_log.specs.State.{LogState, InBounds, IsLog, settled_rows, waiting_rows, all_rows, full_image}
+use Rattle.silt_log.specs.State.{LogState, InBounds, settled_rows, waiting_rows, all_rows, full_image}
 use Rattle.silt_log.proofs.Bodies.{range_split}
 use Rattle.silt_log.proofs.Exits.{log_inside}
-use Rattle.silt_store_set.specs.Commands.{Command, Map, map_after}
+use Rattle.silt_store_set.specs.Commands.{map_after}
 use Rattle.silt_store_set.specs.CoreState.{CoreState, map_of}
 use Rattle.silt_store_set.specs.CoreInvariant.{Fits}
 use Rattle.silt_store_set.specs.Image.{IsStore, AreSound, StandsFor, image_map, command_of, map_of_rows}

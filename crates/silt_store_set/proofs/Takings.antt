@@ -1,18 +1,17 @@
 -- What stands at the exits of an opening.
-use Rattle.std.proofs.Common.{◌≡◌, ◌≤◌, ◌<◌, ℕ, ◌+◌, ◌-◌, ◌*◌, ◌⊎◌, inl, inr, Bool, true, false, IsTrue, List, [], ◌++◌, length, map, Some, refl, ap, sym, ◌∙◌, subst, arith}
-use Rattle.std.specs.List.{range_with_len}
+use Rattle.std.proofs.Common.{◌≡◌, ◌≤◌, ◌<◌, ℕ, inl, inr, false, IsTrue, List, [], map, refl, ap, sym, ◌∙◌, subst, arith}
 use Rattle.std.specs.BTreeMap.{BTreeMap}
-use Rattle.silt_device.specs.Disk.{Content, Left, LeavesOnly, Settles, Stays, Rests, ChangesWithin, size}
-use Rattle.silt_device.specs.Layout.{Shape, device_size, gates_at}
+use Rattle.silt_device.specs.Disk.{Content, Left, LeavesOnly, Settles, Stays, ChangesWithin, size}
+use Rattle.silt_device.specs.Layout.{Shape, device_size}
 use Rattle.silt_device.proofs.Images.{left_at_rest, left_after_failed_sync, shown_left, rests_leaves}
 use Rattle.silt_frame.specs.declared.key.Key.{Key}
-use Rattle.silt_log.specs.Rows.{StoredRow, rows_from, row_at, log_rows, first_rows, open_count}
+use Rattle.silt_log.specs.Rows.{StoredRow, log_rows, first_rows}
 use Rattle.silt_log.specs.State.{LogState, IsScanned, settled_rows, waiting_rows, all_rows}
 use Rattle.silt_log.specs.Calls.{Seals}
 use Rattle.silt_store_set.specs.declared.event.Refusal.{Refusal}
 use Rattle.silt_store_set.specs.declared.event.Refusal.TheVariants.{NotFormatted, Damaged, Device, NoMemory}
-use Rattle.silt_store_set.specs.CoreInvariant.{Indexes, Fits, IsCore}
-use Rattle.silt_store_set.specs.CoreState.{SameDisk, Opens}
+use Rattle.silt_store_set.specs.CoreInvariant.{Indexes, Fits}
+use Rattle.silt_store_set.specs.CoreState.{Opens}
 use Rattle.silt_store_set.specs.Commands.{map_after}
 use Rattle.silt_store_set.specs.Image.{header_of, IsHeader, IsDamaged, shape_of, IsStore, AreSound, IsGood, StandsFor, image_rows, image_map, map_of_rows, command_of, charge_of_rows}
 use Rattle.silt_store_set.specs.Opening.{LookingCause, Found, OpeningCause, LeavesNoOther, TakesUp}
@@ -100,7 +99,7 @@ module _ (old between new : Content) (log : LogState) (index : BTreeMap Key ℕ)
       let settled : after.settled ≡ after.used = ap (λ (l : LogState). l.settled) seals.log ∙ found.settled ∙ sym used in
       let rows : IsTrue between.honest → all_rows new after ≡ image_rows between.shown =
       λ h. ap (λ (n : ℕ). first_rows after.shape after.region new.shown n) (sym settled) ∙ seals.settled h ∙ scanned_rows between log (found.scanned h)
-          ∙ ap (λ (n : ℕ). log_rows log.shape n between.shown) found.first ∙ shown_rows h in
+      ∙ ap (λ (n : ℕ). log_rows log.shape n between.shown) found.first ∙ shown_rows h in
       let fits : Fits new after index charge = record {
         stands = seals.stands;
         places = λ key place is. subst (λ (n : ℕ). place < n) (sym used) (found.places key place is);
@@ -125,7 +124,7 @@ module _ (old between new : Content) (log : LogState) (index : BTreeMap Key ℕ)
             let h : IsTrue between.honest = here o in
             let n : IsTrue new.honest = changes.honest ∙ h in
             store_map log.shape new.shown (store.each n new.shown (shown_left new)) ∙ ap (λ (n : ℕ). map_of_rows (log_rows log.shape n new.shown)) (sym found.first) ∙ ap map_of_rows (images.each n new.shown (shown_left new))
-                ∙ ap (λ (n : ℕ). map_of_rows (log_rows log.shape n between.shown)) found.first ∙ ap map_of_rows (shown_rows h) ∙ shown_map h ∙ ap image_map (settles.shown o);
+            ∙ ap (λ (n : ℕ). map_of_rows (log_rows log.shape n between.shown)) found.first ∙ ap map_of_rows (shown_rows h) ∙ shown_map h ∙ ap image_map (settles.shown o);
       }
 
 -- a store that was taken up is open

@@ -1,5 +1,5 @@
 -- What is true of each store.
-use Rattle.std.specs.Prelude.{◌≡◌, ◌≤◌, ◌<◌, ◌^◌, ◌*◌, ◌+◌, ℕ, Bool, false, IsTrue, List, [], Option, Some, get_or, length, map}
+use Rattle.std.specs.Prelude.{◌≡◌, ◌≤◌, ◌<◌, ◌^◌, ℕ, Bool, false, IsTrue, List, [], Some, get_or, map}
 use Rattle.std.specs.Option.{option_map}
 use Rattle.std.specs.Ordering.{nat_cmp}
 use Rattle.std.specs.declared.cmp.Ordering.{Ordering}
@@ -8,7 +8,7 @@ use Rattle.std.specs.BTreeMap.{BTreeMap}
 use Rattle.std.specs.BTreeMap as tree
 use Rattle.std.specs.FinMap.{get}
 use Rattle.silt_device.specs.Disk.{Content, LeavesOnly, size}
-use Rattle.silt_device.specs.Layout.{Shape, device_size}
+use Rattle.silt_device.specs.Layout.{device_size}
 use Rattle.silt_frame.specs.declared.key.Key.{Key}
 use Rattle.silt_log.specs.Rows.{StoredRow}
 use Rattle.silt_log.specs.State.{LogState, IsLog, all_rows}

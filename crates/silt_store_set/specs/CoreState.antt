@@ -1,18 +1,16 @@
 -- What contracts see of a store, and what its calls do.
-use Rattle.std.specs.Prelude.{◌≡◌, ◌≢◌, ◌⊎◌, ◌≤◌, ◌<◌, ◌-◌, ◌^◌, ◌%◌, ℕ, ◌+◌, Bool, true, false, IsTrue, List, [], ◌∷◌, ◌++◌, length, Option, Some, None, Result, Ok, Err}
+use Rattle.std.specs.Prelude.{◌≡◌, ◌≤◌, ◌<◌, ◌-◌, ◌^◌, ◌%◌, ℕ, ◌+◌, Bool, true, false, IsTrue, List, [], ◌∷◌, ◌++◌, length}
 use Rattle.silt_device.specs.Disk.{Content, LeavesOnly, size}
 use Rattle.silt_device.specs.Layout.{Shape}
-use Rattle.silt_frame.specs.declared.key.Key.{Key}
 use Rattle.silt_store_set.specs.declared.event.Event.{Event}
 use Rattle.silt_store_set.specs.declared.event.Event.TheVariants.{Put, Delete, Flush, Get, Convert, Merge}
-use Rattle.silt_store_set.specs.declared.event.Progress.{Progress as ProgressOf}
 use Rattle.silt_store_set.specs.declared.event.Progress.TheVariants.{Idle}
 use Rattle.silt_store_set.specs.declared.event.Refusal.{Refusal}
 use Rattle.silt_store_set.specs.declared.event.Refusal.TheVariants.{Device, NoMemory, StoreFull, NoRoom, Failed, Spent}
 use Rattle.silt_store_set.specs.declared.event.Reply.{Reply}
 use Rattle.silt_store_set.specs.declared.event.Reply.TheVariants.{Accepted, Acknowledged, Found, Absent, Progress, Refused}
 use Rattle.silt_store_set.specs.Commands.{Command, Map, map_after, Begins}
-use Rattle.silt_store_set.specs.Events.{Step, Counts, Legal, accepted_command, accepted_commands, acknowledged_after, is_fault, is_failed}
+use Rattle.silt_store_set.specs.Events.{Step, Counts, accepted_command, accepted_commands, acknowledged_after, is_fault, is_failed}
 use Rattle.silt_store_set.specs.Image.{shape_of, image_map, IsGood, StandsFor}
 
 pub record CoreState (D : Type 0) : Type 0 where

@@ -4,7 +4,7 @@ use Rattle.silt_device.specs.Disk.{Content, size}
 use Rattle.silt_device.specs.Layout.{Shape, device_size}
 use Rattle.silt_store_set.specs.declared.event.Refusal.{Refusal}
 use Rattle.silt_store_set.specs.declared.event.Refusal.TheVariants.{BadGeometry, Device, NoMemory}
-use Rattle.silt_store_set.specs.Image.{header_bytes, first_manifest}
+use Rattle.silt_store_set.specs.Image.{header_bytes}
 
 -- Why a device was not formatted: it has another length, and then it is as it was; or a growth or a device call failed.
 abbrev pub FormatCause : {D F : Type 0} → (D → Content) → (D → F → Type 0) → Shape → D → D → Refusal F → Type 0

@@ -1,5 +1,5 @@
 -- What an image, the bytes of a whole device, stands for. In this stage log 0 alone holds rows.
-use Rattle.std.specs.Prelude.{◌≡◌, ◌≢◌, ◌≤◌, ◌<◌, ℕ, ◌+◌, ◌==◌, if◌then◌else◌, true, List, ◌∷◌, ◌++◌, length, map, replicate, count_by, slice_index, slice_range, codes, IsTrue}
+use Rattle.std.specs.Prelude.{◌≡◌, ◌≢◌, ◌≤◌, ◌<◌, ℕ, ◌+◌, ◌==◌, if◌then◌else◌, true, List, ◌∷◌, ◌++◌, length, map, replicate, count_by, slice_index, slice_range, codes}
 use Rattle.std.specs.List.{list_all}
 use Rattle.std.specs.FinMap.{empty}
 use Rattle.byteorder.specs.Endian.{big_number, big_bytes}

@@ -1,9 +1,9 @@
 -- What an opening finds on a device, and what it leaves.
-use Rattle.std.specs.Prelude.{◌≡◌, ◌⊎◌, ◌≤◌, ◌<◌, ◌%◌, ◌^◌, ◌+◌, ℕ, false, IsTrue, List, [], Some, length}
+use Rattle.std.specs.Prelude.{◌≡◌, ◌⊎◌, ◌≤◌, ◌<◌, ℕ, false, IsTrue, Some}
 use Rattle.std.specs.BTreeMap.{BTreeMap}
 use Rattle.std.specs.BTreeMap as tree
-use Rattle.silt_device.specs.Disk.{Content, Left, LeavesOnly, Rests, size}
-use Rattle.silt_device.specs.Layout.{Shape, device_size}
+use Rattle.silt_device.specs.Disk.{Content, Left, LeavesOnly, size}
+use Rattle.silt_device.specs.Layout.{device_size}
 use Rattle.silt_frame.specs.declared.key.Key.{Key}
 use Rattle.silt_log.specs.State.{LogState, InBounds, IsScanned}
 use Rattle.silt_store_set.specs.declared.event.Refusal.{Refusal}

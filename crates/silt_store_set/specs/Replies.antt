@@ -1,5 +1,5 @@
 -- Results of calls as replies.
-use Rattle.std.specs.Prelude.{◌≡◌, Bool, true, false, List, ℕ, Option, Some, None, Result, Ok, Err}
+use Rattle.std.specs.Prelude.{Bool, true, false, List, ℕ, Option, Some, None, Result, Ok, Err}
 use Rattle.silt_store_set.specs.declared.event.Progress.{Progress as ProgressOf}
 use Rattle.silt_store_set.specs.declared.event.Refusal.{Refusal}
 use Rattle.silt_store_set.specs.declared.event.Refusal.TheVariants.{Device, NoMemory}

@@ -127,7 +127,7 @@ impl<D: Disk> Core<D> {
                 Ok(self.count)
             }
             Err(fault) => {
-                self.failed = true;
+                self.failed = true; // the put's row may stand in part
                 Err(Refusal::Device(fault))
             }
         }
@@ -156,7 +156,7 @@ impl<D: Disk> Core<D> {
                 Ok(self.count)
             }
             Err(fault) => {
-                self.failed = true;
+                self.failed = true; // the delete's row may stand in part
                 Err(Refusal::Device(fault))
             }
         }
@@ -175,7 +175,7 @@ impl<D: Disk> Core<D> {
         match self.log.open_gates(&mut self.disk) {
             Ok(()) => Ok(self.count),
             Err(fault) => {
-                self.failed = true;
+                self.failed = true; // some of the gates may be open
                 Err(Refusal::Device(fault))
             }
         }
@@ -263,7 +263,11 @@ impl<D: Disk> Core<D> {
     /// # Errors
     ///
     /// Where the list of replies finds no memory. Then no event was done.
-    pub fn run(&mut self, alloc: Global, events: &[Event]) -> Result<Vec<Reply<D::Fault>>, AllocError>
+    pub fn run(
+        &mut self,
+        alloc: Global,
+        events: &[Event],
+    ) -> Result<Vec<Reply<D::Fault>>, AllocError>
         requires { All (HasValueOf self.old.shape.value_len) events.now }
         ensures same { SameDisk (D.content self.old.disk) (D.content self.new.disk) }
         ensures runs { IfOk result (λ replies. Runs D.content D.failures (GaveAny D.gave) self.old events.now replies.items self.new) }

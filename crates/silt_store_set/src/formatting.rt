@@ -27,11 +27,7 @@ pub struct FormatFault<D: Disk> {
 ///
 /// `BadGeometry` exactly where the device is not as long as the geometry asks, and then nothing is written; `NoMemory`
 /// before the first write; `Device` with the fault of a write or sync.
-pub fn format<D: Disk>(
-    alloc: Global,
-    mut disk: D,
-    geometry: Geometry,
-) -> Result<D, FormatFault<D>>
+pub fn format<D: Disk>(alloc: Global, mut disk: D, geometry: Geometry) -> Result<D, FormatFault<D>>
     ensures size { OnOk result (size (D.content disk) ≡ device_size geometry) }
     ensures images { MatchResult result (λ new. LeavesOnly (D.content new) (StandsFor geometry empty)) (λ _. Unit {0}) }
     ensures same { MatchResult result (λ new. SameDisk (D.content disk) (D.content new)) (λ fault. SameDisk (D.content disk) (D.content fault.disk)) }

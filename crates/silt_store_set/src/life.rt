@@ -60,10 +60,16 @@ fn live<D: Stoppable>(
         }
     };
     if core.geometry().value_len() != value_len {
-        return (LifeReply::NotOpened(Refusal::BadGeometry), core.close().restart());
+        return (
+            LifeReply::NotOpened(Refusal::BadGeometry),
+            core.close().restart(),
+        );
     }
     match core.run(alloc, events) {
         Ok(replies) => (LifeReply::Opened(replies), core.close().restart()),
-        Err(_) => (LifeReply::NotOpened(Refusal::NoMemory), core.close().restart()),
+        Err(_) => (
+            LifeReply::NotOpened(Refusal::NoMemory),
+            core.close().restart(),
+        ),
     }
 }

@@ -27,6 +27,7 @@ pub const HEADER_LEN: usize = 37;
 
 /// Where the manifest slots begin.
 pub const FIRST_SLOT: u64 = 4096;
+
 pub const SECOND_SLOT: u64 = 8192;
 
 /// A manifest slot's gate and body.

@@ -42,7 +42,9 @@ fn puts_flushes_and_gets(rt: HostRuntime) -> Result<(), Fail> {
     let alloc = rt.alloc();
     let mut core = opened(alloc)?;
     assert_eq!(rt; core.geometry().value_len(), 2);
-    let key = Key(*b"\xa9\x99\x3e\x36\x47\x06\x81\x6a\xba\x3e\x25\x71\x78\x50\xc2\x6c\x9c\xd0\xd8\x9d");
+    let key = Key(
+        *b"\xa9\x99\x3e\x36\x47\x06\x81\x6a\xba\x3e\x25\x71\x78\x50\xc2\x6c\x9c\xd0\xd8\x9d",
+    );
     assert_eq!(rt; core.put(&key, &[1, 2]).ok(), Some(1));
     assert_eq!(rt; core.flush().ok(), Some(1));
     let mut out = [0; 2];
@@ -50,7 +52,13 @@ fn puts_flushes_and_gets(rt: HostRuntime) -> Result<(), Fail> {
     assert_eq!(rt; out, [1, 2]);
     let disk = core.close();
     assert!(rt; stands_at(&disk, 12_288, b"\xa7\x00"));
-    assert!(rt; stands_at(&disk, 16_384, b"\x01\xa9\x99\x3e\x36\x47\x06\x81\x6a\xba\x3e\x25\x71\x78\x50\xc2\x6c\x9c\xd0\xd8\x9d\x01\x02"));
+    assert!(rt;
+        stands_at(
+            &disk,
+            16_384,
+            b"\x01\xa9\x99\x3e\x36\x47\x06\x81\x6a\xba\x3e\x25\x71\x78\x50\xc2\x6c\x9c\xd0\xd8\x9d\x01\x02"
+        )
+    );
     Ok(())
 }
 
@@ -58,7 +66,8 @@ fn puts_flushes_and_gets(rt: HostRuntime) -> Result<(), Fail> {
 fn formats_as_laid_out(rt: HostRuntime) -> Result<(), Fail> {
     let alloc = rt.alloc();
     let disk = formatted(alloc)?;
-    let header = b"\xa7SILTFLSH\x00\x00\x00\x01\x00\x00\x00\x02\x00\x00\x00\x02\x00\x00\x00\x04\x00\x00\x00\x02\x00\x00\x00\x02\x00\x00\x00\x08";
+    let header =
+        b"\xa7SILTFLSH\x00\x00\x00\x01\x00\x00\x00\x02\x00\x00\x00\x02\x00\x00\x00\x04\x00\x00\x00\x02\x00\x00\x00\x02\x00\x00\x00\x08";
     assert!(rt; stands_at(&disk, 0, header));
     assert!(rt; stands_at(&disk, 4096, b"\xa7"));
     assert!(rt; stands_at(&disk, 4097, &[0; 120]));

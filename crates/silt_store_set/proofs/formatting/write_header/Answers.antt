@@ -1,4 +1,4 @@
-use Rattle.std.proofs.Common.{◌≡◌, ◌≤◌, ◌+◌, IsTrue, List, ℕ, sym, ◌∙◌, ap, arith}
+use Rattle.std.proofs.Common.{List, ℕ, sym, ◌∙◌, ap, arith}
 use Rattle.silt_device.specs.Disk.{splice}
 use Rattle.silt_store_set.specs.Image.{header_bytes}
 use Rattle.silt_store_set.proofs.Formats.{gated}

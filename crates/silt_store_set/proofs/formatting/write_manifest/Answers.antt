@@ -1,4 +1,4 @@
-use Rattle.std.proofs.Common.{◌≡◌, ◌≤◌, ◌+◌, IsTrue, sym, ◌∙◌, arith, replicate}
+use Rattle.std.proofs.Common.{sym, ◌∙◌, arith, replicate}
 use Rattle.silt_store_set.proofs.Formats.{gated}
 use Rattle.silt_store_set.proofs.formatting.write_manifest.Goals as goal
 

@@ -1,4 +1,4 @@
-use Rattle.std.proofs.Common.{◌≡◌, ◌≤◌, ◌+◌, IsTrue, ℕ, false, sym, ◌∙◌, ap, subst, arith}
+use Rattle.std.proofs.Common.{◌≡◌, false, ◌∙◌, ap, subst}
 use Rattle.silt_device.specs.Disk.{ChangesWithin, LeavesOnly}
 use Rattle.silt_device.specs.Layout.{gates_at}
 use Rattle.silt_log.specs.Rows.{GatesAre}

@@ -1,5 +1,5 @@
-use Rattle.std.proofs.Common.{◌≡◌, IsTrue, sym, ◌∙◌, ap, rules, subst}
-use Rattle.silt_device.specs.Disk.{GaveAny, Restarts}
+use Rattle.std.proofs.Common.{◌∙◌, ap}
+use Rattle.silt_device.specs.Disk.{GaveAny}
 use Rattle.silt_device.specs.Layout.{Shape}
 use Rattle.silt_store_set.proofs.Histories.{life_unopened, life_idle, life_ran, opened_len}
 use Rattle.silt_store_set.proofs.life.live.Goals as goal

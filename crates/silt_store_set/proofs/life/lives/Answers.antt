@@ -1,10 +1,7 @@
-use Rattle.std.proofs.Common.{◌≡◌, ◌+◌, ◌++◌, ◌∷◌, [], List, IsTrue, Vec, take, ap, sym, ◌∙◌, subst, arith, rules, refl}
+use Rattle.std.proofs.Common.{◌≡◌, ◌+◌, ◌++◌, ◌∷◌, [], IsTrue, Vec, take, ap, sym, ◌∙◌, refl}
 use Rattle.std.specs.declared.alloc.Global.{Global}
 use Rattle.std.proofs.lemmas.List.{take_more, take_all}
 use Rattle.silt_store_set.specs.declared.event.Event.{Event}
-use Rattle.silt_store_set.specs.declared.event.LifeReply.{LifeReply}
-use Rattle.silt_store_set.specs.Commands.{Map}
-use Rattle.silt_store_set.specs.Events.{LifeHistory, LivesHistory}
 use Rattle.silt_store_set.proofs.Histories.{lives_more}
 use Rattle.silt_store_set.proofs.life.lives.Goals as goal
 
@@ -23,8 +20,7 @@ loop-events-preserved g c = record {
       let now = c.live-reply.ensures.life before.0 here before.2 in
       let life = rw c.deref.ensures.value at now.1 in
       let taken : take (c.loop-events.events-index + 1) c.args.lives.now ≡ take c.loop-events.events-index c.args.lives.now ++ c.events-item.result ∷ [] =
-      take_more c.args.lives.now c.loop-events.events-index c.events-item.result c.loop-events-test.true ∙ ap (λ (x : Vec Event Global). take c.loop-events.events-index c.args.lives.now ++ x ∷ []) (sym c.events-item.is) in
-      (
+      take_more c.args.lives.now c.loop-events.events-index c.events-item.result c.loop-events-test.true ∙ ap (λ (x : Vec Event Global). take c.loop-events.events-index c.args.lives.now ++ x ∷ []) (sym c.events-item.is) in (
         now.0,
         rw (taken, c.in_ok-push.ensures.items) (lives_more m (take c.loop-events.events-index c.args.lives.now) c.loop-events.replies.items before.0 now.0 c.events-item.result c.live-reply.result.0 before.1 life),
         now.2,

@@ -1,8 +1,7 @@
-use Rattle.std.proofs.Common.{◌≡◌, List, get_or, refl, subst, sym, arith, take, rules}
+use Rattle.std.proofs.Common.{◌≡◌, get_or, refl, subst, arith, take}
 use Rattle.std.proofs.lemmas.List.{take_all}
-use Rattle.silt_log.specs.Rows.{StoredRow}
 use Rattle.silt_store_set.specs.CoreInvariant.{Indexes}
-use Rattle.silt_store_set.proofs.Index.{IndexesFirst, first_none, first_more, stored_rows, blank_row}
+use Rattle.silt_store_set.proofs.Index.{first_none, first_more, stored_rows, blank_row}
 use Rattle.silt_store_set.proofs.opening.index_of.Goals as goal
 
 pub loop-row-init : goal.loop-row-init

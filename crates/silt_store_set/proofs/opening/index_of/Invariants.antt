@@ -1,4 +1,4 @@
-use Rattle.std.proofs.Common.{◌≡◌, ◌≤◌, length}
+use Rattle.std.proofs.Common.{◌≡◌}
 use Rattle.silt_store_set.proofs.Index.{IndexesFirst}
 use Rattle.silt_store_set.proofs.opening.index_of.Given as goal
 

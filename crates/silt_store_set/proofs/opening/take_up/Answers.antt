@@ -1,4 +1,4 @@
-use Rattle.std.proofs.Common.{◌≡◌, ◌≤◌, ◌+◌, ◌*◌, arith}
+use Rattle.std.proofs.Common.{arith}
 use Rattle.silt_device.specs.Disk.{GaveAny}
 use Rattle.silt_store_set.proofs.Takings.{settled_image, looked_up, sealed_images, taken_up}
 use Rattle.silt_store_set.proofs.opening.take_up.Goals as goal

@@ -1,4 +1,4 @@
-use Rattle.std.proofs.Common.{◌≡◌, ◌≤◌, ◌<◌, ℕ, List, take, get_or, replicate, length, inl, inr, ◌∙◌, ap, refl, arith, length-take}
+use Rattle.std.proofs.Common.{◌≡◌, ℕ, List, take, get_or, replicate, inl, inr, ◌∙◌, ap, refl, arith, length-take}
 use Rattle.std.proofs.lemmas.Bool.{cases_lt}
 use Rattle.std.proofs.lemmas.List.{get_or-take, get_or-replicate, get_or_past, length-replicate}
 use Rattle.silt_store_set.proofs.replies.zeros.Goals as goal

@@ -1,4 +1,4 @@
-use Rattle.std.proofs.Common.{◌≡◌, ◌≤◌, ◌<◌, ◌++◌, ◌∷◌, [], List, ℕ, IsTrue, Some, None, sym, ◌∙◌, ap, subst, arith, rules, append_assoc, refl, false}
+use Rattle.std.proofs.Common.{◌≡◌, ◌++◌, ◌∷◌, [], List, ℕ, IsTrue, Some, sym, ◌∙◌, ap, subst, arith, append_assoc, refl}
 use Rattle.std.specs.BTreeMap as tree
 use Rattle.std.specs.FinMap.{get}
 use Rattle.std.specs.Option.{option_map}
@@ -7,10 +7,9 @@ use Rattle.std.proofs.lemmas.Map.Iter.{rest_more, rest_all}
 use Rattle.std.proofs.lemmas.List.{append-nil}
 use Rattle.silt_device.specs.Disk.{GaveAny}
 use Rattle.silt_frame.specs.declared.key.Key.{Key}
-use Rattle.silt_log.specs.State.{all_rows, full_image}
+use Rattle.silt_log.specs.State.{all_rows}
 use Rattle.silt_store_set.specs.CoreInvariant.{key_cmp, value_at}
-use Rattle.silt_store_set.specs.CoreState.{CoreState, EntriesCause, map_of}
-use Rattle.silt_store_set.specs.Image.{image_map}
+use Rattle.silt_store_set.specs.CoreState.{map_of}
 use Rattle.silt_store_set.proofs.Entries.{IsCopy, copy_none, copy_more, copy_all, next_place, entries_cause}
 use Rattle.silt_store_set.proofs.Standing.{seen}
 use Rattle.silt_store_set.proofs.Gets.{gives, given_value}
@@ -34,8 +33,7 @@ loop-key-preserved-in-Ok-insert g c =
     let rest = rest_more deref_pair c.loop-key.key-iterator c.next.new.self c.next.result (c.in-Some.key, c.in-Some.place) c.in-Some.is c.next.ensures.steps in
     let fits = c.self.invariant.fits c.if-self.false in
     let are = ap (λ (es : List (Key × ℕ)). c.loop-key.invariant.0 ++ es) (sym rest) ∙ c.loop-key.invariant.1 in
-    let there = next_place c.self.inside.index c.loop-key.invariant.0 c.next.new.self c.in-Some.key.now c.in-Some.place.now c.len-ordered.ensures.ordered are in
-    (
+    let there = next_place c.self.inside.index c.loop-key.invariant.0 c.next.new.self c.in-Some.key.now c.in-Some.place.now c.len-ordered.ensures.ordered are in (
       c.loop-key.invariant.0 ++ (c.in-Some.key.now, c.in-Some.place.now) ∷ [],
       append_assoc c.loop-key.invariant.0 ((c.in-Some.key.now, c.in-Some.place.now) ∷ []) c.next.new.self ∙ are,
       λ h. copy_more c.loop-key.entries c.insert.new.self (map_of c.args.self.now) c.loop-key.invariant.0 c.in-Some.key.now c.in-Some.place.now c.in-Ok.value c.in-Ok-insert.ensures.updates
@@ -49,8 +47,7 @@ loop-key-preserved-in-Ok-insert-2 g c =
     let rest = rest_more deref_pair c.loop-key.key-iterator c.next.new.self c.next.result (c.in-Some.key, c.in-Some.place) c.in-Some.is c.next.ensures.steps in
     let fits = c.self.invariant.fits c.if-self.false in
     let are = ap (λ (es : List (Key × ℕ)). c.loop-key.invariant.0 ++ es) (sym rest) ∙ c.loop-key.invariant.1 in
-    let there = next_place c.self.inside.index c.loop-key.invariant.0 c.next.new.self c.in-Some.key.now c.in-Some.place.now c.len-ordered.ensures.ordered are in
-    (
+    let there = next_place c.self.inside.index c.loop-key.invariant.0 c.next.new.self c.in-Some.key.now c.in-Some.place.now c.len-ordered.ensures.ordered are in (
       c.loop-key.invariant.0 ++ (c.in-Some.key.now, c.in-Some.place.now) ∷ [],
       append_assoc c.loop-key.invariant.0 ((c.in-Some.key.now, c.in-Some.place.now) ∷ []) c.next.new.self ∙ are,
       λ h. copy_more c.loop-key.entries c.insert.new.self (map_of c.args.self.now) c.loop-key.invariant.0 c.in-Some.key.now c.in-Some.place.now c.in-Ok.value c.in-Ok-insert.ensures.updates

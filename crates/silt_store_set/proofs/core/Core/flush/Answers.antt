@@ -1,8 +1,6 @@
-use Rattle.std.proofs.Common.{◌∙◌, ◌≡◌, ◌≤◌, ◌*◌, ◌+◌, refl, sym, ap, arith, true, false, rules}
+use Rattle.std.proofs.Common.{◌∙◌, refl, sym, arith}
 use Rattle.std.proofs.lemmas.Bool.{ltb-false}
 use Rattle.silt_device.specs.Disk.{GaveAny}
-use Rattle.silt_store_set.specs.declared.event.Event.TheVariants.{Flush}
-use Rattle.silt_store_set.specs.CoreState.{Does}
 use Rattle.silt_store_set.proofs.Flushes.{flush_nothing, flushed, flush_failed}
 use Rattle.silt_store_set.proofs.Cores.{core_opened}
 use Rattle.silt_store_set.proofs.core.Core.flush.Goals as goal

@@ -1,4 +1,4 @@
-use Rattle.std.proofs.Common.{◌≡◌, ◌≤◌, ◌<◌, ◌∙◌, ◌*◌, ◌+◌, refl, sym, ap, arith, true, false, rules}
+use Rattle.std.proofs.Common.{sym, arith}
 use Rattle.silt_device.specs.Disk.{GaveAny}
 use Rattle.silt_store_set.specs.declared.event.Refusal.TheVariants.{Device}
 use Rattle.silt_store_set.proofs.Gets.{get_absent, get_found, get_refused}

@@ -1,8 +1,7 @@
-use Rattle.std.proofs.Common.{◌≡◌, ◌+◌, ◌++◌, ◌∷◌, [], List, IsTrue, take, length, refl, sym, ◌∙◌, ap, subst, arith, rules, vec_len}
+use Rattle.std.proofs.Common.{◌≡◌, ◌+◌, ◌++◌, ◌∷◌, [], List, take, sym, ◌∙◌, ap, subst, rules}
 use Rattle.std.proofs.lemmas.List.{take_more, take_all}
 use Rattle.silt_device.specs.Disk.{GaveAny}
 use Rattle.silt_store_set.specs.declared.event.Event.{Event}
-use Rattle.silt_store_set.specs.declared.event.Event.TheVariants.{Flush}
 use Rattle.silt_store_set.specs.CoreState.{Runs}
 use Rattle.silt_store_set.proofs.Runs.{runs_more, legal_runs}
 use Rattle.silt_store_set.proofs.core.Core.run.Goals as goal

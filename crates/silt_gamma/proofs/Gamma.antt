@@ -1,0 +1,119 @@
+-- Laws of the gamma code.
+use Rattle.std.proofs.Common.{◌≡◌, ℕ, zero, suc, ◌+◌, ◌*◌, ◌/◌, ◌%◌, ◌^◌, ◌<◌, ◌≤◌, inl, inr, Bool, true, false, nat_le, if◌then◌else◌, List, ◌∷◌, ◌++◌, replicate, refl, sym, ap, ◌∙◌, arith}
+use Rattle.std.proofs.Math.Pow.{pow_mono, pow_pos}
+use Rattle.std.proofs.Math.Nat.{pow-succ', mul-le-mul_right, mod-lt}
+use Rattle.std.proofs.lemmas.Bool.{leb-true, leb-false, cases_order}
+use Rattle.std.proofs.lemmas.List.{append_assoc}
+use Rattle.std.proofs.lemmas.Nat.{mod-pow-add, shr_split}
+use Rattle.silt_gamma.specs.Gamma.{exponent_up_to, gamma_code, HasCode, GammaLaw, PrefixLaw}
+use Rattle.silt_gamma.specs.Bits.{low_bits}
+
+-- the exponent is that of the greatest power of two up to n
+pub exponent_fits : (k n : ℕ) → 1 ≤ n → n < 2 ^ (k + 1) → (2 ^ exponent_up_to k n ≤ n) × (n < 2 ^ (exponent_up_to k n + 1))
+exponent_fits zero n low high = (omega arith, omega arith)
+exponent_fits (suc k) n low high = go (nat_le (2 ^ suc k) n) refl (exponent_fits k n low)
+  where
+    go : (b : Bool) → nat_le (2 ^ suc k) n ≡ b → (n < 2 ^ (k + 1) → (2 ^ exponent_up_to k n ≤ n) × (n < 2 ^ (exponent_up_to k n + 1)))
+        → (2 ^ (if b then suc k else exponent_up_to k n) ≤ n) × (n < 2 ^ ((if b then suc k else exponent_up_to k n) + 1))
+    go true e rest = (leb-true (2 ^ suc k) n e, high)
+    go false e rest = rest (let h = leb-false (2 ^ suc k) n e in let s : 2 ^ (k + 1) ≡ 2 ^ suc k = ap (λ (x : ℕ). 2 ^ x) (omega arith) in omega arith)
+
+-- the exponent is at most the limit
+pub exponent_least : (k n : ℕ) → exponent_up_to k n ≤ k
+exponent_least zero n = omega arith
+exponent_least (suc k) n = let h = exponent_least k n in elim (nat_le (2 ^ suc k) n) as (λ b. (if b then suc k else exponent_up_to k n) ≤ suc k) [ true ↦ omega arith | false ↦ omega arith ]
+
+-- one exponent fits
+pub one_exponent : (j k n : ℕ) → 2 ^ j ≤ n → n < 2 ^ (j + 1) → 2 ^ k ≤ n → n < 2 ^ (k + 1) → j ≡ k
+one_exponent j k n a b c d = elim (cases_order j k) [
+  | inl same ↦ same
+  | inr (inl below) ↦ let h : 2 ^ (j + 1) ≤ 2 ^ k = pow_mono {i = j + 1} {j = k} (omega arith) in absurd (omega arith)
+  | inr (inr above) ↦ let h : 2 ^ (k + 1) ≤ 2 ^ j = pow_mono {i = k + 1} {j = j} (omega arith) in absurd (omega arith)
+]
+
+-- the code is what the standard says
+pub gamma_law : GammaLaw
+unfolding gamma_code
+gamma_law n within =
+    let fits = exponent_fits 31 n within.0 within.1 in (
+      record { zeros = exponent_up_to 31 n; at_least = fits.0; below = fits.1; code = refl },
+      λ bits is.
+          let same = one_exponent is.zeros (exponent_up_to 31 n) n is.at_least is.below fits.0 fits.1 in
+          rw same at is.code,
+    )
+
+-- the highest bit of a code's number is 1
+top_bit : (k n : ℕ) → 2 ^ k ≤ n → n < 2 ^ (k + 1) → n / 2 ^ k ≡ 1
+top_bit k n low high = go (n / 2 ^ k) refl
+  where
+    double : 2 ^ (k + 1) ≡ 2 * 2 ^ k
+    double = let e : k + 1 ≡ suc k = omega arith in ap (λ (x : ℕ). 2 ^ x) e ∙ pow-succ' 2 k
+
+    go : (q : ℕ) → n / 2 ^ k ≡ q → q ≡ 1
+    go zero e =
+        let s = shr_split n k in
+        let positive : 0 < 2 ^ k = pow_pos k in
+        let r : n % 2 ^ k < 2 ^ k = mod-lt n positive in
+        let h = rw e at s in
+        absurd (omega (arith, h))
+    go (suc zero) e = refl
+    go (suc (suc q)) e =
+        let s = shr_split n k in
+        let h = rw e at s in
+        let more : 2 * 2 ^ k ≤ suc (suc q) * 2 ^ k = mul-le-mul_right (2 ^ k) (omega arith) in
+        absurd (omega (arith, h, double))
+
+-- zeros up to the first one
+zeros_same : (a b : ℕ) (us vs : List ℕ) → replicate a 0 ++ 1 ∷ us ≡ replicate b 0 ++ 1 ∷ vs → (a ≡ b) × (us ≡ vs)
+zeros_same zero zero us vs e = (refl, cc)
+zeros_same zero (suc b) us vs e = absurd (cc)
+zeros_same (suc a) zero us vs e = absurd (cc)
+zeros_same (suc a) (suc b) us vs e = let h : replicate a 0 ++ 1 ∷ us ≡ replicate b 0 ++ 1 ∷ vs = cc in let both = zeros_same a b us vs h in (ap suc both.0, both.1)
+
+-- the same bits, as many, are the same number
+pub low_bits_same : (w m n : ℕ) (xs ys : List ℕ) → low_bits w m ++ xs ≡ low_bits w n ++ ys → (m % 2 ^ w ≡ n % 2 ^ w) × (xs ≡ ys)
+low_bits_same zero m n xs ys e = (let a : m % 1 < 1 = mod-lt m (omega arith) in let b : n % 1 < 1 = mod-lt n (omega arith) in omega arith, e)
+low_bits_same (suc w) m n xs ys e =
+    let head : m / 2 ^ w % 2 ≡ n / 2 ^ w % 2 = cc in
+    let tail : low_bits w m ++ xs ≡ low_bits w n ++ ys = cc in
+    let rest = low_bits_same w m n xs ys tail in
+    let next : 1 + w ≡ suc w = omega arith in
+    let sm : m % 2 ^ (1 + w) ≡ (m / 2 ^ w % 2) * 2 ^ w + m % 2 ^ w = mod-pow-add m 1 w in
+    let sn : n % 2 ^ (1 + w) ≡ (n / 2 ^ w % 2) * 2 ^ w + n % 2 ^ w = mod-pow-add n 1 w in
+    let one : m % 2 ^ (1 + w) ≡ n % 2 ^ (1 + w) = sm ∙ ap (λ (x : ℕ). x * 2 ^ w + m % 2 ^ w) head ∙ ap (λ (x : ℕ). (n / 2 ^ w % 2) * 2 ^ w + x) rest.0 ∙ sym sn in
+    (rw next at one, rest.1)
+
+-- the code with its first one
+front : (k n : ℕ) (xs : List ℕ) → 2 ^ k ≤ n → n < 2 ^ (k + 1) → (replicate k 0 ++ low_bits (suc k) n) ++ xs ≡ replicate k 0 ++ 1 ∷ (low_bits k n ++ xs)
+front k n xs low high = append_assoc (replicate k 0) (low_bits (suc k) n) xs ∙ ap (λ (b : ℕ). replicate k 0 ++ b ∷ (low_bits k n ++ xs)) (ap (λ (q : ℕ). q % 2) (top_bit k n low high))
+
+-- two codes that begin alike, with their exponents
+prefix_from : (a b m n : ℕ) (xs ys : List ℕ) → 2 ^ a ≤ m → m < 2 ^ (a + 1) → 2 ^ b ≤ n → n < 2 ^ (b + 1)
+    → (replicate a 0 ++ low_bits (suc a) m) ++ xs ≡ (replicate b 0 ++ low_bits (suc b) n) ++ ys → (m ≡ n) × (xs ≡ ys)
+prefix_from a b m n xs ys ma mb na nb e =
+    let both = zeros_same a b (low_bits a m ++ xs) (low_bits b n ++ ys) (sym (front a m xs ma mb) ∙ e ∙ front b n ys na nb) in
+    let same = both.0 in
+    let bits : low_bits a m ++ xs ≡ low_bits a n ++ ys = both.1 ∙ ap (λ (w : ℕ). low_bits w n ++ ys) (sym same) in
+    let rest = low_bits_same a m n xs ys bits in
+    let nb' : n < 2 ^ (a + 1) = rw (← same) at nb in
+    let na' : 2 ^ a ≤ n = rw (← same) at na in
+    let qm = top_bit a m ma mb in
+    let qn = top_bit a n na' nb' in
+    let sm = rw qm at (shr_split m a) in
+    let sn = rw qn at (shr_split n a) in
+    (omega (arith, sm, sn, rest.0), rest.1)
+
+-- the law, for two codes and what follows them
+pub codes_apart : (m n : ℕ) (xs ys : List ℕ) → HasCode m → HasCode n → gamma_code m ++ xs ≡ gamma_code n ++ ys → (m ≡ n) × (xs ≡ ys)
+unfolding gamma_code
+codes_apart m n xs ys inm inn e =
+    let fm = exponent_fits 31 m inm.0 inm.1 in
+    let fn = exponent_fits 31 n inn.0 inn.1 in
+    let a : exponent_up_to 31 m + 1 ≡ suc (exponent_up_to 31 m) = omega arith in
+    let b : exponent_up_to 31 n + 1 ≡ suc (exponent_up_to 31 n) = omega arith in
+    prefix_from (exponent_up_to 31 m) (exponent_up_to 31 n) m n xs ys fm.0 fm.1 fn.0 fn.1
+    (sym (ap (λ (w : ℕ). (replicate (exponent_up_to 31 m) 0 ++ low_bits w m) ++ xs) a) ∙ e ∙ ap (λ (w : ℕ). (replicate (exponent_up_to 31 n) 0 ++ low_bits w n) ++ ys) b)
+
+-- no code begins another
+pub prefix_law : PrefixLaw
+prefix_law bits m n xs ys one other = codes_apart m n xs ys one.in_range other.in_range (sym one.split ∙ other.split)

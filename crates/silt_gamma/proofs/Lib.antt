@@ -1,0 +1,5 @@
+pub mod BitLists
+pub mod Gamma
+pub mod Words
+pub mod Reading
+pub mod Writing

@@ -1,0 +1,105 @@
+//! A writer of bits.
+ghost use Rattle.std.specs.Prelude.{◌≡◌, ℕ, ◌+◌, ◌-◌, ◌*◌, ◌/◌, ◌^◌, ◌<◌, ◌≤◌, List, [], ◌++◌, length, take, drop, replicate, OnOk, OnErr};
+ghost use Rattle.silt_gamma.specs.Bits.{low_bits, high_bits, first_bits, IsFilled, IsFilledTo};
+ghost use Rattle.silt_gamma.specs.Gamma.{gamma_code};
+
+use super::reader::BitReader;
+use std::alloc::{AllocError, Global};
+use std::marker::Model;
+
+/// Bits in memory, as they were appended: they fill bytes from the highest bit of the first byte
+/// on. To contracts it is the list of its bits.
+#[derive(Drop)]
+pub struct BitWriter {
+    bytes: Vec<u8>,
+    len: usize,
+}
+
+impl Model for BitWriter {
+    ghost Value = { List ℕ };
+
+    ghost view = { λ w. first_bits w.len w.bytes.items };
+
+    ghost invariant = { λ w. IsFilledTo w.len w.bytes.items };
+}
+
+impl BitWriter {
+    /// No bits.
+    pub fn new(alloc: Global) -> BitWriter
+        ensures { result ≡ [] }
+    {
+        BitWriter {
+            bytes: Vec::new(alloc),
+            len: 0,
+        }
+    }
+
+    /// How many bits there are.
+    pub fn len(&self) -> usize
+        ensures { result ≡ length self.now }
+    {
+        self.len
+    }
+
+    /// The bytes that the bits fill; the last one ends in zeros.
+    pub fn as_bytes(&self) -> &[u8]
+        ensures { IsFilled result.now self.now }
+    {
+        self.bytes.as_slice()
+    }
+
+    /// A reader of the `count` bits from place `start` on.
+    pub fn reader(&self, start: usize, count: usize) -> BitReader<'_>
+        requires { start + count ≤ length self.now }
+        ensures { result ≡ take count (drop start self.now) }
+    {
+        let _len = self.len;
+        BitReader::new(&self.bytes, start, count)
+    }
+
+    /// Appends the gamma code of `n`. Bits that a `usize` can't count are want of memory too.
+    pub fn write_gamma(&mut self, n: u32) -> Result<(), AllocError>
+        requires { 1 ≤ n }
+        ensures ok { OnOk result (self.new ≡ self.old ++ gamma_code n) }
+        ensures err { OnErr result (self.new ≡ self.old) }
+    {
+        let zeros = n.ilog2() as usize;
+        self.write_bits(u64::from(n), 2 * zeros + 1)
+    }
+
+    /// Appends the lowest `width` bits of `value`, which has no others.
+    fn write_bits(&mut self, value: u64, width: usize) -> Result<(), AllocError>
+        requires some { 1 ≤ width }
+        requires word { width ≤ 64 }
+        requires small { value < 2 ^ width }
+        ensures ok { OnOk result (self.new ≡ self.old ++ low_bits width value) }
+        ensures err { OnErr result (self.new ≡ self.old) }
+    {
+        let len = self.len.checked_add(width).ok_or(AllocError)?;
+        append(&mut self.bytes, self.len, value << (64 - width), width)?;
+        self.len = len;
+        Ok(())
+    }
+}
+
+/// Appends the highest `width` bits of `word`, which has no others, to the `len` bits in `bytes`.
+fn append(bytes: &mut Vec<u8>, len: usize, word: u64, width: usize) -> Result<(), AllocError>
+    requires some { 1 ≤ width }
+    requires word { width ≤ 64 }
+    requires alone { low_bits 64 word ≡ high_bits width word ++ replicate (64 - width) 0 }
+    requires filled { IsFilledTo len bytes.old.items }
+    ensures ok { OnOk result
+        (IsFilled bytes.new.items (first_bits len bytes.old.items ++ high_bits width word)) }
+    ensures err { OnErr result (bytes.new.items ≡ bytes.old.items) }
+{
+    let used = len % 8;
+    if used == 0 {
+        let more = word.to_be_bytes();
+        bytes.extend_from_slice(&more[..width.div_ceil(8)])?;
+        return Ok(());
+    }
+    let more = (word << (8 - used)).to_be_bytes();
+    bytes.extend_from_slice(&more[..(used + width - 1) / 8])?;
+    bytes[len / 8] |= (word >> (56 + used)) as u8;
+    Ok(())
+}

@@ -1,0 +1,6 @@
+pub mod KeyBits
+pub mod Order
+pub mod Sides
+pub mod Codes
+pub mod Pending
+pub mod Gathered

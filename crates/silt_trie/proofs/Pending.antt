@@ -1,0 +1,107 @@
+-- Lemmas on codes that are still to be skipped.
+use Rattle.std.proofs.Common.{◌≡◌, ℕ, zero, suc, ◌+◌, ◌-◌, ◌<◌, ◌≤◌, min, leb, List, ◌++◌, length, get_or, refl, sym, ap, ◌∙◌, inl, inr, subst, arith, get_or-set_other, get_or-set_same}
+use Rattle.std.proofs.Math.ListN.{set}
+use Rattle.std.proofs.lemmas.Bool.{cases_lt, le-leb, lt-leb}
+use Rattle.std.proofs.lemmas.List.{length-set}
+use Rattle.std.specs.Int.{from_bool}
+use Rattle.silt_gamma.specs.Gamma.{BeginsWithCode}
+use Rattle.silt_trie.specs.Code.{trie_code, with_bit, IsCodable}
+use Rattle.silt_trie.proofs.Codes.{short_code, deep_few, node, left_within, length_rights}
+use Rattle.silt_trie.proofs.Sides.{lefts_codable, rights_codable}
+
+-- keys whose number stands at place t, with codes to come below depth d + t
+pub record Waits (d t : ℕ) (counts : List ℕ) (keys : List (List ℕ)) (e : ℕ) : Type 0 where
+  pub codable : IsCodable keys e
+  pub many : 2 ≤ length keys
+  pub count : length keys ≡ get_or counts t 0
+  pub deep : d + t ≤ e
+
+-- bits are the codes of keys whose numbers are the first t, the last of them first, and then the rest
+abbrev pub Pending : ℕ → List ℕ → ℕ → List ℕ → List ℕ → Type 0
+Pending d counts zero bits rest = bits ≡ rest
+Pending d counts (suc t) bits rest =
+    (keys : List (List ℕ)) × (e : ℕ) × (more : List ℕ) × Waits d t counts keys e × (bits ≡ trie_code keys e ++ more) × Pending d counts t more rest
+
+-- only the first t numbers matter
+same_below : (d t : ℕ) (counts others bits rest : List ℕ) → ((j : ℕ) → j < t → get_or counts j 0 ≡ get_or others j 0) → Pending d counts t bits rest → Pending d others t bits rest
+same_below d zero counts others bits rest same pending = pending
+same_below d (suc t) counts others bits rest same pending =
+    let waits = pending.3 in (
+      pending.0,
+      pending.1,
+      pending.2,
+      record { codable = waits.codable; many = waits.many; count = waits.count ∙ same t (omega arith); deep = waits.deep },
+      pending.4,
+      same_below d t counts others pending.2 rest (λ j h. same j (omega arith)) pending.5,
+    )
+
+-- one more number, which stays where its keys have a code
+pub push_one : (d t e n top : ℕ) (counts bits more rest : List ℕ) (keys : List (List ℕ)) → IsCodable keys e → n ≡ length keys → d + t ≤ e → t < length counts → bits ≡ trie_code keys e ++ more
+    → (2 ≤ n → top ≡ suc t) → (n < 2 → top ≡ t) → Pending d counts t more rest → Pending d (set counts t n) top bits rest
+push_one d t e n top counts bits more rest keys codable count deep within is long short pending =
+    let below : (j : ℕ) → j < t → get_or counts j 0 ≡ get_or (set counts t n) j 0 = λ j h. sym (get_or-set_other counts t j n 0 (λ same. absurd (omega arith))) in
+    let kept = same_below d t counts (set counts t n) more rest below pending in
+    elim (cases_lt n 2) [
+      | inl few ↦
+          let none : bits ≡ more = is ∙ ap (λ (xs : List ℕ). xs ++ more) (short_code keys e (omega arith)) in
+          let family : ℕ → Type 0 = λ m. Pending d (set counts t n) m bits rest in
+          let here : family t = rw none kept in
+          subst family (sym (short few)) here
+      | inr many ↦
+          let family : ℕ → Type 0 = λ m. Pending d (set counts t n) m bits rest in
+          let here : family (suc t) = (keys, e, more, record { codable = codable; many = omega arith; count = sym count ∙ sym (get_or-set_same counts t n 0 within); deep = deep }, is, kept) in
+          subst family (sym (long many)) here
+    ]
+
+-- there are no more than there are depths
+pub few_pending : (d t : ℕ) (counts bits rest : List ℕ) → Pending d counts t bits rest → t ≤ 160
+few_pending d zero counts bits rest pending = omega arith
+few_pending d (suc t) counts bits rest pending =
+    let waits = pending.3 in
+    let many = waits.many in
+    let deep = waits.deep in
+    elim (cases_lt pending.1 160) [ inl within ↦ omega arith | inr past ↦ let few = deep_few pending.1 pending.0 waits.codable past in absurd (omega arith) ]
+
+-- the number that a test counts
+pub counted : (n r : ℕ) → r ≡ from_bool (leb 2 n) → (2 ≤ n → r ≡ 1) × (n < 2 → r ≡ 0)
+counted n r is = (λ many. is ∙ ap from_bool (le-leb 2 n many), λ few. is ∙ ap from_bool (lt-leb 2 n few))
+
+-- keys of which there are two have bits left
+inside : (keys : List (List ℕ)) (e : ℕ) → IsCodable keys e → 2 ≤ length keys → e < 160
+inside keys e codable many = elim (cases_lt e 160) [ inl within ↦ within | inr past ↦ let few = deep_few e keys codable past in absurd (omega arith) ]
+
+-- the next number in the bits is that of the keys on the left of those that are pending last
+pub next_begins : (d t : ℕ) (counts bits rest : List ℕ) → Pending d counts (suc t) bits rest → (left : ℕ) × (tail : List ℕ) × BeginsWithCode bits (left + 1) tail
+next_begins d t counts bits rest pending =
+    let waits = pending.3 in
+    (length (with_bit 0 pending.1 pending.0), _, node pending.0 pending.1 bits pending.2 waits.codable waits.many (inside pending.0 pending.1 waits.codable waits.many) pending.4)
+
+-- one code taken off the front: both sides of its keys are pending in their place
+pub turn : (d t next left right r s : ℕ) (counts bits after rest : List ℕ) → Pending d counts (suc t) bits rest → length counts ≡ 161 → t < 160 → ((m : ℕ) (tail : List ℕ) → BeginsWithCode bits m tail → (next ≡ m) × (after ≡ tail))
+    → left ≡ min (next - 1) (get_or counts t 0) → right ≡ get_or counts t 0 - left → r ≡ from_bool (leb 2 right) → s ≡ from_bool (leb 2 left) → Pending d (set (set counts t right) (t + r) left) (t + r + s) after rest
+turn d t next left right r s counts bits after rest pending size within reads left_is right_is r_is s_is =
+    let keys = pending.0 in
+    let e = pending.1 in
+    let more = pending.2 in
+    let waits = pending.3 in
+    let codable = waits.codable in
+    let deep = waits.deep in
+    let count = waits.count in
+    let begins = node keys e bits more codable waits.many (inside keys e codable waits.many) pending.4 in
+    let read = reads (length (with_bit 0 e keys) + 1) _ begins in
+    let number = read.0 in
+    let upto = left_within e keys codable in
+    let others = length_rights e keys codable in
+    let left_count : left ≡ length (with_bit 0 e keys) = omega arith in
+    let right_count : right ≡ length (with_bit 1 e keys) = omega arith in
+    let r_long = (counted right r r_is).0 in
+    let r_short = (counted right r r_is).1 in
+    let s_long = (counted left s s_is).0 in
+    let s_short = (counted left s s_is).1 in
+    let r_small : r ≤ 1 = elim (cases_lt right 2) [ inl few ↦ let one = r_short few in omega arith | inr many ↦ let one = r_long many in omega arith ] in
+    let one = push_one d t (e + 1) right (t + r) counts (trie_code (with_bit 1 e keys) (e + 1) ++ more) more rest (with_bit 1 e keys) (rights_codable e keys codable) right_count (omega arith) (omega arith) refl
+    (λ many. let h = r_long many in omega arith) (λ few. let h = r_short few in omega arith) pending.5
+    in
+    let sized = length-set counts t right in
+    push_one d (t + r) (e + 1) left (t + r + s) (set counts t right) after (trie_code (with_bit 1 e keys) (e + 1) ++ more) rest (with_bit 0 e keys) (lefts_codable e keys codable) left_count (omega arith) (omega arith) read.1
+    (λ many. let h = s_long many in omega arith) (λ few. let h = s_short few in omega arith) one

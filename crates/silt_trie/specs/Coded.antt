@@ -1,0 +1,26 @@
+-- What contracts see of keys and of a coded trie.
+use Rattle.std.specs.Prelude.{◌≡◌, ℕ, List, ◌++◌, length, map}
+use Rattle.silt_frame.specs.declared.key.Key.{Key}
+use Rattle.silt_trie.specs.Code.{IsCodable, StandsAt, trie_code}
+
+-- the bytes of keys
+abbrev pub bytes_of : List Key → List (List ℕ)
+bytes_of keys = map (λ key. key.0) keys
+
+-- a coded trie: its code, the number of its keys, and the number of bits in which they agree
+pub record Coded : Type 0 where
+  pub code : List ℕ
+  pub count : ℕ
+  pub depth : ℕ
+
+-- where bits begin with the code of so many keys, this is the place of a key that is one of them
+abbrev pub IsPlaceIn : List ℕ → ℕ → ℕ → List ℕ → ℕ → Type 0
+IsPlaceIn bits count depth key place =
+    (keys : List (List ℕ)) (i : ℕ) (rest : List ℕ)
+    → IsCodable keys depth → length keys ≡ count → bits ≡ trie_code keys depth ++ rest → StandsAt keys i key → place ≡ i
+
+-- where bits begin with the code of so many keys, these are the bits behind it
+abbrev pub ArePast : List ℕ → ℕ → ℕ → List ℕ → Type 0
+ArePast bits count depth after =
+    (keys : List (List ℕ)) (rest : List ℕ)
+    → IsCodable keys depth → length keys ≡ count → bits ≡ trie_code keys depth ++ rest → after ≡ rest

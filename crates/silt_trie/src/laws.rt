@@ -1,0 +1,12 @@
+//! Laws of keys. Their calls do nothing: what they ensure is proved of all keys.
+ghost use Rattle.silt_trie.specs.Code.{GroupLaw, OrderLaw};
+
+/// The order of keys by their bits is that by their bytes.
+pub fn order_law()
+    ensures { OrderLaw }
+{}
+
+/// Keys with the same first byte agree in their first 8 bits.
+pub fn group_law()
+    ensures { GroupLaw }
+{}

@@ -1,0 +1,159 @@
+//! Worked examples of codes and places.
+use crate::{Trie, is_codable, locate_in, write_code};
+use sha1::Sha1;
+use silt_frame::Key;
+use silt_gamma::BitWriter;
+use std::alloc::{AllocError, Global};
+use std::process::Abort;
+use std::test::Fail;
+
+/// The key that begins with these two bytes and goes on with zeros.
+fn key(first: u8, second: u8) -> Key {
+    let mut bytes = [0; 20];
+    bytes[0] = first;
+    bytes[1] = second;
+    Key(bytes)
+}
+
+/// The code of some keys.
+fn encode(rt: &impl Abort, alloc: Global, keys: &[Key], depth: usize) -> Result<Trie, AllocError> {
+    assert!(rt; is_codable(keys, depth));
+    Trie::encode(alloc, keys, depth)
+}
+
+/// The code as text, a digit for each bit.
+fn digits(alloc: Global, trie: &Trie) -> Result<Vec<u8>, AllocError> {
+    let mut text = Vec::new(alloc);
+    for byte in trie.as_bytes() {
+        for at in 0..8u32 {
+            text.push(b'0' + (*byte >> (7 - at) & 1))?;
+        }
+    }
+    text.truncate(trie.code_len());
+    Ok(text)
+}
+
+/// The place of a key, where there is one.
+fn place(trie: &Trie, key: Key) -> Option<usize> {
+    if trie.len() == 0 {
+        return None;
+    }
+    Some(trie.locate(&key))
+}
+
+#[test]
+fn codes_two_keys(rt: HostRuntime) -> Result<(), Fail> {
+    let alloc = rt.alloc();
+    let pairs: [(u8, u8, &[u8]); 3] = [
+        (0b0000_0000, 0b1000_0000, b"010"),
+        (0b0000_0000, 0b0100_0000, b"011010"),
+        (0b1000_0000, 0b1100_0000, b"1010"),
+    ];
+    for (low, high, code) in pairs {
+        let trie = encode(&rt, alloc, &[key(low, 0), key(high, 0)], 0)?;
+        assert_eq!(rt; digits(alloc, &trie)?.as_slice(), code);
+        assert_eq!(rt; place(&trie, key(low, 0)), Some(0));
+        assert_eq!(rt; place(&trie, key(high, 0)), Some(1));
+    }
+    Ok(())
+}
+
+#[test]
+fn codes_no_key_and_one(rt: HostRuntime) -> Result<(), Fail> {
+    let alloc = rt.alloc();
+    let none = encode(&rt, alloc, &[], 0)?;
+    assert_eq!(rt; none.len(), 0);
+    assert_eq!(rt; none.code_len(), 0);
+    let one = encode(&rt, alloc, &[key(0x35, 0x17)], 0)?;
+    assert_eq!(rt; one.code_len(), 0);
+    for first in 0..=255u8 {
+        assert_eq!(rt; place(&one, key(first, 0x80)), Some(0));
+    }
+    Ok(())
+}
+
+#[test]
+fn codes_a_group(rt: HostRuntime) -> Result<(), Fail> {
+    let alloc = rt.alloc();
+    let trie = encode(&rt, alloc, &[key(0, 0), key(0, 0x40), key(0, 0x80)], 8)?;
+    assert_eq!(rt; digits(alloc, &trie)?.as_slice(), b"011010".as_slice());
+    assert_eq!(rt; place(&trie, key(0, 0x20)), Some(0));
+    assert_eq!(rt; place(&trie, key(0, 0xc0)), Some(2));
+    Ok(())
+}
+
+#[test]
+fn codes_keys_that_differ_in_their_last_bit(rt: HostRuntime) -> Result<(), Fail> {
+    let alloc = rt.alloc();
+    let mut last = [0; 20];
+    last[19] = 1;
+    let trie = encode(&rt, alloc, &[Key([0; 20]), Key(last)], 8)?;
+    let mut code = Vec::new(alloc);
+    for _ in 0..151 {
+        code.extend_from_slice(b"011")?;
+    }
+    code.extend_from_slice(b"010")?;
+    assert_eq!(rt; trie.code_len(), 456);
+    assert_eq!(rt; digits(alloc, &trie)?.as_slice(), code.as_slice());
+    assert_eq!(rt; place(&trie, Key(last)), Some(1));
+    Ok(())
+}
+
+#[test]
+fn refuses_keys_out_of_order(rt: HostRuntime) {
+    assert!(rt; !is_codable(&[key(1, 0), key(0, 0)], 0));
+    assert!(rt; !is_codable(&[key(1, 0), key(1, 0)], 0));
+    assert!(rt; !is_codable(&[key(0, 0), key(1, 0)], 8));
+    assert!(rt; is_codable(&[key(0, 0), key(1, 0)], 7));
+}
+
+#[test]
+fn locates_ten_thousand_keys(rt: HostRuntime) -> Result<(), Fail> {
+    let alloc = rt.alloc();
+    let mut keys = Vec::new(alloc);
+    for number in 0..10_000u32 {
+        keys.push(Key(Sha1::digest(&number.to_be_bytes())))?;
+    }
+    keys.sort_unstable();
+    let mut rest = keys.as_slice();
+    for first in 0..=255u8 {
+        let count = rest.iter().take_while(|key| key.0[0] == first).count();
+        let (group, others) = rest.split_at(count);
+        let trie = encode(&rt, alloc, group, 8)?;
+        for (at, key) in group.iter().enumerate() {
+            assert_eq!(rt; place(&trie, *key), Some(at));
+        }
+        rest = others;
+    }
+    assert_eq!(rt; rest.len(), 0);
+    let few = &keys[..keys.len().min(500)];
+    let trie = encode(&rt, alloc, few, 0)?;
+    for (at, key) in few.iter().enumerate() {
+        assert_eq!(rt; place(&trie, *key), Some(at));
+    }
+    Ok(())
+}
+
+#[test]
+fn locates_in_one_buffer(rt: HostRuntime) -> Result<(), Fail> {
+    let groups = [
+        [key(0, 1), key(0, 2), key(0, 0xf0)],
+        [key(1, 0), key(1, 0x7f), key(1, 0x80)],
+        [key(9, 3), key(9, 4), key(9, 5)],
+    ];
+    let mut bits = BitWriter::new(rt.alloc());
+    let mut starts = [0; 3];
+    for (group, keys) in groups.iter().enumerate() {
+        starts[group] = bits.len();
+        assert!(rt; is_codable(keys, 8));
+        write_code(&mut bits, keys, 8)?;
+    }
+    for (keys, start) in groups.iter().zip(starts) {
+        let rest = bits.len().saturating_sub(start);
+        assert!(rt; start + rest == bits.len());
+        for (at, key) in keys.iter().enumerate() {
+            assert_eq!(rt; locate_in(bits.reader(start, rest), 3, 8, key), at);
+        }
+    }
+    Ok(())
+}
