@@ -1,0 +1,93 @@
+-- What stands after the first write of a manifest.
+use Rattle.std.proofs.Common.{◌≡◌, ℕ, ◌+◌, ◌≤◌, true, false, List, [], ◌∷◌, length, slice_range, slice_index, Some, refl, sym, ap, ◌∙◌, arith}
+use Rattle.std.proofs.lemmas.Bool.Decides.{nat_tests}
+use Rattle.silt_device.specs.Disk.{Content, LeavesOnly, Torn, Writes, Rests, size, splice}
+use Rattle.silt_device.specs.Layout.{Shape, InLimits, slot_at}
+use Rattle.silt_device.proofs.Images.{write_shows, rests_leaves, leaves_shows, sized_shows, torn_splice, torn_slice_after, splice_slice}
+use Rattle.silt_manifest.specs.Body.{FitsSlot, body_bytes, first_body, is_well_formed}
+use Rattle.silt_manifest.specs.Ruling.{slot_of, is_open, is_slot_open, open_body}
+use Rattle.silt_manifest.specs.Standing.{IsFirst}
+use Rattle.silt_manifest.proofs.SlotImages.{slot_parts, gate_of, closed_body, other_same, gate_written}
+use Rattle.silt_manifest.proofs.RulingLemmas.{alone_rules}
+use Rattle.silt_manifest.proofs.CommitExits.{holds_body}
+
+-- the first body's numbers fit their fields
+pub first_fits : FitsSlot first_body
+first_fits = record {
+  generation = omega arith;
+  active = omega arith;
+  frozen_count = omega arith;
+  frozen = refl;
+  hashed_count = omega arith;
+  hashed = refl;
+  sorted = omega arith;
+  sorted_count = omega arith;
+}
+
+-- and it is well formed in each geometry
+pub first_sound : (s : Shape) → InLimits s → is_well_formed s 0 first_body ≡ true
+first_sound s limits = grind (arith, nat_tests, limits.logs_least)
+
+-- in an image of this length the slot 1 is closed
+pub record IsAlone (n : ℕ) (image : List ℕ) : Type 0 where
+  pub size : length image ≡ n
+  pub closed : is_slot_open image 1 ≡ false
+
+-- and the first body's bytes stand in the slot 0
+pub record HasBytes (n : ℕ) (image : List ℕ) : Type 0 where
+  pub size : length image ≡ n
+  pub closed : is_slot_open image 1 ≡ false
+  pub bytes : slice_range image 4097 4217 ≡ body_bytes first_body
+
+module _ (n : ℕ) (fits : slot_at 1 + 4096 ≤ n) where
+  -- a change in the slot 0 leaves the slot 1 closed
+  still_alone : (at count : ℕ) (before after : List ℕ) → 4096 ≤ at → at + count ≤ 8192 → IsAlone n before → Torn at count before after → IsAlone n after
+  still_alone at count before after low high was torn =
+      let size = was.size in
+      record {
+        size = torn.size ∙ was.size;
+        closed = ap (λ bytes. is_open (slice_index bytes 0)) (other_same 1 0 at count before after refl low high (omega arith) torn) ∙ was.closed;
+      }
+
+  -- after the zero
+  after_zero : (before : List ℕ) → IsAlone n before → IsAlone n (splice 4096 (0 ∷ []) before)
+  after_zero before was = let size = was.size in still_alone 4096 1 before (splice 4096 (0 ∷ []) before) (omega arith) (omega arith) was (torn_splice 4096 (0 ∷ []) before (omega arith))
+
+  -- after the body
+  after_body : (bytes : List ℕ) → length bytes ≡ 120 → bytes ≡ body_bytes first_body → (before : List ℕ) → IsAlone n before → HasBytes n (splice 4097 bytes before)
+  after_body bytes long are before was =
+      let size = was.size in
+      let now = still_alone 4097 (length bytes) before (splice 4097 bytes before) (omega arith) (omega arith) was (torn_splice 4097 bytes before (omega arith)) in
+      let end : 4097 + length bytes ≡ 4217 = omega arith in
+      record {
+        size = now.size;
+        closed = now.closed;
+        bytes = sym (ap (λ (j : ℕ). slice_range (splice 4097 bytes before) 4097 j) end) ∙ splice_slice 4097 bytes before (omega arith) ∙ are;
+      }
+
+  -- after the gate
+  after_gate : (before : List ℕ) → HasBytes n before → IsFirst (splice 4096 (167 ∷ []) before)
+  after_gate before was =
+      let size = was.size in
+      let after = splice 4096 (167 ∷ []) before in
+      let torn : Torn 4096 1 before after = torn_splice 4096 (167 ∷ []) before (omega arith) in
+      let now = still_alone 4096 1 before after (omega arith) (omega arith) (record { size = was.size; closed = was.closed }) torn in
+      let room : slot_at 0 + 121 ≤ length after = omega (arith, torn.size) in
+      let gate : slice_index (slot_of after 0) 0 ≡ 167 = gate_written 167 0 before (omega arith) in
+      let bytes : slice_range after 4097 4217 ≡ body_bytes first_body = torn_slice_after 4096 1 before after torn 4097 4217 (omega arith) (omega arith) ∙ was.bytes in
+      let holds : open_body after 0 ≡ Some first_body = holds_body after 0 first_body room first_fits (ap is_open gate) bytes in
+      record {
+        rules = λ s limits. alone_rules s 0 1 first_body after refl (first_sound s limits) holds (closed_body (slot_of after 1) now.closed);
+        bytes = slot_parts after 0 room ∙ ap (λ (g : ℕ). g ∷ slice_range after 4097 4217) (sym (gate_of after 0 room) ∙ gate) ∙ ap (λ (rest : List ℕ). 167 ∷ rest) bytes;
+      }
+
+-- 120 bytes
+pub first_length : (bytes : List ℕ) → bytes ≡ body_bytes first_body → length bytes ≡ 120
+first_length bytes are = ap length are
+
+-- all is written
+pub all_first : (bytes : List ℕ) (a b c d : Content) → slot_at 1 + 4096 ≤ size a → LeavesOnly a (λ image. is_slot_open image 1 ≡ false) → bytes ≡ body_bytes first_body → Writes 4096 (0 ∷ []) a b → Writes 4097 bytes b c → Writes 4096 (167 ∷ []) c d → Rests d → LeavesOnly d IsFirst
+all_first bytes a b c d fits closed are first second third rests =
+    let alone = sized_shows (leaves_shows closed) in
+    let zeroed = write_shows {Q = IsAlone (size a)} first alone (λ before had. after_zero (size a) fits before (record { size = had.0; closed = had.1 })) in
+    rests_leaves rests (write_shows third (write_shows second zeroed (after_body (size a) fits bytes (first_length bytes are) are)) (after_gate (size a) fits))

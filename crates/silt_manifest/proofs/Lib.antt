@@ -1,0 +1,10 @@
+pub mod BodyBytes
+pub mod CommitExits
+pub mod FirstExits
+pub mod Laws
+pub mod PrepareExits
+pub mod ReadExits
+pub mod RoundTrip
+pub mod RulingLemmas
+pub mod SlotImages
+pub mod SoundBodies

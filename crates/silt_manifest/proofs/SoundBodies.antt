@@ -1,0 +1,93 @@
+-- What a body that is well formed has.
+use Rattle.std.proofs.Common.{◌≡◌, ℕ, ◌%◌, ◌^◌, ◌<◌, ◌≤◌, ◌⊎◌, ◌==◌, inl, inr, true, false, nat_lt, nat_le, List, [], ◌∷◌, length, refl, ap, ◌∙◌, arith}
+use Rattle.std.proofs.lemmas.Bool.{cases_Bool, and_parts, ltb-true}
+use Rattle.std.proofs.lemmas.Bool.Decides.{nat_tests}
+use Rattle.silt_device.specs.Layout.{Shape, InLimits}
+use Rattle.silt_manifest.specs.Body.{FitsSlot, all_below, is_well_formed}
+use Rattle.silt_manifest.specs.declared.body.Body.{Body}
+
+-- the numbers of a body that is well formed
+pub record SoundParts (s : Shape) (slot : ℕ) (b : Body) : Type 0 where
+  pub generation : b.generation < 2 ^ 63
+  pub slot_is : b.generation % 2 ≡ slot
+  pub frozen_count : length b.frozen < s.logs
+  pub active : b.active < s.logs
+  pub frozen : all_below s.logs b.frozen ≡ true
+  pub hashed_count : length b.hashed ≤ s.hashes
+  pub hashed : all_below s.hashes b.hashed ≡ true
+  pub sorted : b.sorted < 2
+  pub sorted_count : b.sorted_count ≤ s.sorted_capacity
+
+-- a test of order that succeeds
+less : (a b : ℕ) → nat_lt a b ≡ true → a < b
+less a b is = ltb-true a b is
+
+-- a test of order that succeeds
+at_most : (a b : ℕ) → nat_le a b ≡ true → a ≤ b
+at_most a b is = grind (arith, nat_tests)
+
+-- a test of equality that succeeds
+equal : (a b : ℕ) → (a == b) ≡ true → a ≡ b
+equal a b is = grind (arith, nat_tests)
+
+-- the parts of the test
+pub sound_parts : (s : Shape) (slot : ℕ) (b : Body) → is_well_formed s slot b ≡ true → SoundParts s slot b
+sound_parts s slot b sound =
+    let p1 = and_parts _ _ sound in
+    let p2 = and_parts _ _ p1.0 in
+    let p3 = and_parts _ _ p2.0 in
+    let p4 = and_parts _ _ p3.0 in
+    let p5 = and_parts _ _ p4.0 in
+    let l1 = and_parts _ _ p4.1 in
+    let l2 = and_parts _ _ l1.0 in
+    let l3 = and_parts _ _ l2.0 in
+    let l4 = and_parts _ _ l3.0 in
+    let h1 = and_parts _ _ p3.1 in
+    let h2 = and_parts _ _ h1.0 in
+    record {
+      generation = less _ _ p5.0;
+      slot_is = equal _ _ p5.1;
+      frozen_count = less _ _ l4.0;
+      active = less _ _ l4.1;
+      frozen = l3.1;
+      hashed_count = at_most _ _ h2.0;
+      hashed = h2.1;
+      sorted = less _ _ p2.1;
+      sorted_count = at_most _ _ p1.1;
+    }
+
+-- a body with more ids than regions is not well formed
+pub too_many_ids : (s : Shape) (slot : ℕ) (b : Body) → (s.logs ≤ length b.frozen) ⊎ (s.hashes < length b.hashed) → is_well_formed s slot b ≡ false
+too_many_ids s slot b many =
+    elim (cases_Bool (is_well_formed s slot b)) [
+      | inl sound ↦ let parts = sound_parts s slot b sound in elim many [ inl logs ↦ absurd (omega (arith, parts.frozen_count)) | inr hashes ↦ absurd (omega (arith, parts.hashed_count)) ]
+      | inr unsound ↦ unsound
+    ]
+
+-- numbers below a bound are below a greater one
+all_below_more : (low high : ℕ) (ids : List ℕ) → low ≤ high → all_below low ids ≡ true → all_below high ids ≡ true
+all_below_more low high [] more below = refl
+all_below_more low high (id ∷ ids) more below =
+    let parts = and_parts (nat_lt id low) (all_below low ids) below in
+    let first : nat_lt id high ≡ true = grind (arith, nat_tests) in
+    let rest = all_below_more low high ids more parts.1 in
+    rw (first, rest) refl
+
+-- within the limits its numbers fit the fields of a slot
+pub fits_slot : (s : Shape) (slot : ℕ) (b : Body) → InLimits s → is_well_formed s slot b ≡ true → FitsSlot b
+fits_slot s slot b limits sound =
+    let parts = sound_parts s slot b sound in
+    record {
+      generation = omega (arith, parts.generation);
+      active = omega (arith, parts.active, limits.logs_most);
+      frozen_count = omega (arith, parts.frozen_count, limits.logs_most);
+      frozen = all_below_more s.logs (256 ^ 4) b.frozen (omega (arith, limits.logs_most)) parts.frozen;
+      hashed_count = omega (arith, parts.hashed_count, limits.hashes_most);
+      hashed = all_below_more s.hashes (256 ^ 4) b.hashed (omega (arith, limits.hashes_most)) parts.hashed;
+      sorted = omega (arith, parts.sorted);
+      sorted_count = omega (arith, parts.sorted_count, limits.sorted_capacity_most);
+    }
+
+-- a body stands in the slot of its generation
+pub own_slot : (s : Shape) (slot : ℕ) (b : Body) → is_well_formed s slot b ≡ true → is_well_formed s (b.generation % 2) b ≡ true
+own_slot s slot b sound = ap (λ (at : ℕ). is_well_formed s at b) (sound_parts s slot b sound).slot_is ∙ sound

@@ -1,0 +1,68 @@
+-- A manifest body: its bytes, and when it is well formed.
+use Rattle.std.specs.Prelude.{◌≡◌, ◌<◌, ◌≤◌, ℕ, ◌%◌, ◌^◌, ◌==◌, nat_le, nat_lt, Bool, true, ◌&&◌, not, List, [], ◌∷◌, ◌++◌, length}
+use Rattle.std.specs.List.{list_any, list_all}
+use Rattle.byteorder.specs.Endian.{big_bytes}
+use Rattle.silt_device.specs.Layout.{Shape}
+use Rattle.silt_manifest.specs.Numbers.{number_at, ids_bytes, ids_at}
+use Rattle.silt_manifest.specs.declared.body.Body.{Body}
+
+-- the body of a store that was just formatted
+abbrev pub first_body : Body
+first_body = record { generation = 0; active = 0; frozen = []; hashed = []; sorted = 0; sorted_count = 0 }
+
+-- what follows the gate of a slot, 120 bytes
+abbrev pub body_bytes : Body → List ℕ
+body_bytes b =
+    big_bytes 8 b.generation ++ big_bytes 4 b.active ++ ids_bytes 7 b.frozen ++ ids_bytes 16 b.hashed
+    ++ big_bytes 4 b.sorted ++ big_bytes 4 b.sorted_count
+
+-- the body of a slot, whose first byte is the gate
+abbrev pub body_of : List ℕ → Body
+body_of slot = record {
+  generation = number_at 8 1 slot;
+  active = number_at 4 9 slot;
+  frozen = ids_at 13 slot;
+  hashed = ids_at 45 slot;
+  sorted = number_at 4 113 slot;
+  sorted_count = number_at 4 117 slot;
+}
+
+-- no number stands twice
+abbrev pub is_distinct : List ℕ → Bool
+is_distinct [] = true
+is_distinct (id ∷ ids) = not (list_any (λ other. other == id) ids) && is_distinct ids
+
+-- all are below n
+abbrev pub all_below : ℕ → List ℕ → Bool
+all_below n ids = list_all (λ id. nat_lt id n) ids
+
+-- of so many logs one is free of the frozen ones, and these and the active one exist and differ from each other
+abbrev pub has_sound_logs : ℕ → Body → Bool
+has_sound_logs logs b =
+    nat_lt (length b.frozen) logs && nat_lt b.active logs && all_below logs b.frozen
+    && not (list_any (λ id. id == b.active) b.frozen) && is_distinct b.frozen
+
+-- the hash stores exist, of so many, and differ from each other
+abbrev pub has_sound_hashes : ℕ → Body → Bool
+has_sound_hashes hashes b = nat_le (length b.hashed) hashes && all_below hashes b.hashed && is_distinct b.hashed
+
+-- a body may stand in the slot of this number
+abbrev pub is_well_formed : Shape → ℕ → Body → Bool
+is_well_formed s slot b =
+    nat_lt b.generation (2 ^ 63) && (b.generation % 2 == slot) && has_sound_logs s.logs b && has_sound_hashes s.hashes b
+    && nat_lt b.sorted 2 && nat_le b.sorted_count s.sorted_capacity
+
+-- numbers that the fields of a slot hold
+pub record FitsSlot (b : Body) : Type 0 where
+  pub generation : b.generation < 256 ^ 8
+  pub active : b.active < 256 ^ 4
+  pub frozen_count : length b.frozen ≤ 7
+  pub frozen : all_below (256 ^ 4) b.frozen ≡ true
+  pub hashed_count : length b.hashed ≤ 16
+  pub hashed : all_below (256 ^ 4) b.hashed ≡ true
+  pub sorted : b.sorted < 256 ^ 4
+  pub sorted_count : b.sorted_count < 256 ^ 4
+
+-- a body reads back
+abbrev pub BodyLaw : Type 0
+BodyLaw = (b : Body) (gate : ℕ) (rest : List ℕ) → FitsSlot b → body_of (gate ∷ body_bytes b ++ rest) ≡ b

@@ -1,0 +1,33 @@
+-- Why a slot or a manifest was not read, and what a failed write or sync gave.
+use Rattle.std.specs.Prelude.{◌≡◌, ℕ, ◌+◌, ◌%◌, ◌^◌, false, List, Err}
+use Rattle.silt_device.specs.Disk.{Content, GaveAny, Shows}
+use Rattle.silt_device.specs.Layout.{Shape}
+use Rattle.silt_device.specs.declared.disk.Call.{Call}
+use Rattle.silt_manifest.specs.Ruling.{open_body, is_sound_slot, manifest_found}
+use Rattle.silt_manifest.specs.declared.slot.Damage.{Damage}
+use Rattle.silt_manifest.specs.declared.slot.Damage.TheVariants.{Slot}
+use Rattle.silt_manifest.specs.declared.slot.ReadFault.{ReadFault}
+use Rattle.silt_manifest.specs.declared.slot.ReadFault.TheVariants.{Damaged, Device}
+
+-- a slot of an image is open, and its body is not well formed
+pub record IsUnsound (s : Shape) (slot : ℕ) (damage : Damage) (image : List ℕ) : Type 0 where
+  pub place : damage ≡ Slot slot
+  pub unsound : is_sound_slot s slot (open_body image slot) ≡ false
+
+-- a slot was refused: for what it shows, or by a fault of a read
+abbrev pub IsRefused : {F : Type 0} → Content → Shape → (F → Type 0) → ℕ → ReadFault F → Type 0
+IsRefused content s WasGiven slot (Damaged damage) = Shows content (IsUnsound s slot damage)
+IsRefused content s WasGiven slot (Device fault) = WasGiven fault
+
+-- the first finding in an image is this damage
+pub record IsDamaged (s : Shape) (damage : Damage) (image : List ℕ) : Type 0 where
+  pub found : manifest_found s image ≡ Err damage
+
+-- no manifest was read: for what is shown, or by a fault of a read
+abbrev pub IsNotRead : {F : Type 0} → Content → Shape → (F → Type 0) → ReadFault F → Type 0
+IsNotRead content s WasGiven (Damaged damage) = Shows content (IsDamaged s damage)
+IsNotRead content s WasGiven (Device fault) = WasGiven fault
+
+-- one more write or sync has failed, and the disk gave this fault for it
+abbrev pub CountsFault : {D F : Type 0} → (D → ℕ) → (D → F → Call → ℕ → ℕ → Type 0) → D → D → F → Type 0
+CountsFault failures gave old new fault = (failures new ≡ (failures old + 1) % 2 ^ 64) × GaveAny gave new fault

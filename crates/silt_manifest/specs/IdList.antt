@@ -1,0 +1,25 @@
+-- The numbers of a list of ids, in an array with zeros behind them.
+use Rattle.std.proofs.Common.{◌≡◌, ℕ, ◌+◌, ◌-◌, ◌≤◌, List, ◌++◌, length, take, drop, replicate, get_or, sym, ◌∙◌, ap, arith}
+use Rattle.std.proofs.Common.{take-append-drop, length-take-le, length-drop}
+use Rattle.std.proofs.lemmas.List.{ext_get_or, get_or-drop, get_or-replicate, length-replicate}
+
+-- at most 16 numbers, and zeros in the places behind them
+pub record IsFilled (numbers : List ℕ) (count : ℕ) : Type 0 where
+  pub most : count ≤ 16
+  pub room : length numbers ≡ 16
+  pub zeros : (k : ℕ) → count ≤ k → get_or numbers k 0 ≡ 0
+
+-- the count is that of the numbers
+pub count_back : (numbers : List ℕ) (count : ℕ) → IsFilled numbers count → length (take count numbers) ≡ count
+count_back numbers count filled = length-take-le count numbers (omega arith)
+
+-- the numbers with zeros behind them are the whole array
+pub numbers_back : (numbers : List ℕ) (count : ℕ) → IsFilled numbers count → take count numbers ++ replicate (16 - length (take count numbers)) 0 ≡ numbers
+numbers_back numbers count filled =
+    let counted = count_back numbers count filled in
+    let long : length {A = ℕ} (replicate (16 - length (take count numbers)) 0) ≡ 16 - length (take count numbers) = length-replicate (16 - length (take count numbers)) 0 in
+    let zeros : replicate (16 - length (take count numbers)) 0 ≡ drop count numbers =
+    ext_get_or 0 (replicate (16 - length (take count numbers)) 0) (drop count numbers)
+    (omega (arith, counted, long, length-drop count numbers))
+    (λ place inside. get_or-replicate (16 - length (take count numbers)) place 0 0 (omega (arith, long)) ∙ sym (get_or-drop count numbers place 0 ∙ filled.zeros (count + place) (omega arith))) in
+    ap (λ (rest : List ℕ). take count numbers ++ rest) zeros ∙ take-append-drop count numbers

@@ -1,0 +1,6 @@
+pub mod Body
+pub mod Faults
+pub mod IdList
+pub mod Numbers
+pub mod Ruling
+pub mod Standing

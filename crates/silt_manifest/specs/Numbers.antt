@@ -1,0 +1,21 @@
+-- Numbers as bytes, big-endian, and lists of them.
+use Rattle.std.specs.Prelude.{ℕ, ◌+◌, ◌-◌, ◌*◌, List, [], ◌∷◌, ◌++◌, length, map, replicate, slice_range}
+use Rattle.std.specs.List.{range_with_len}
+use Rattle.byteorder.specs.Endian.{big_number, big_bytes}
+
+-- the number in the n bytes from place i
+abbrev pub number_at : ℕ → ℕ → List ℕ → ℕ
+number_at n i bytes = big_number n (slice_range bytes i (i + n))
+
+-- numbers of four bytes, one after the other
+abbrev pub id_bytes : List ℕ → List ℕ
+id_bytes [] = []
+id_bytes (id ∷ ids) = big_bytes 4 id ++ id_bytes ids
+
+-- how many, and then room for this many numbers, with zeros where there are fewer
+abbrev pub ids_bytes : ℕ → List ℕ → List ℕ
+ids_bytes room ids = big_bytes 4 (length ids) ++ id_bytes ids ++ replicate (4 * (room - length ids)) 0
+
+-- as many numbers as the count at place i says, from the four bytes behind it on
+abbrev pub ids_at : ℕ → List ℕ → List ℕ
+ids_at i bytes = map (λ k. number_at 4 (i + 4 + 4 * k) bytes) (range_with_len 0 (number_at 4 i bytes))

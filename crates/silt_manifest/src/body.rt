@@ -1,0 +1,194 @@
+// What a manifest slot says behind its gate.
+ghost use Rattle.std.specs.Prelude.{◌≡◌, ◌+◌, ◌*◌, ◌<◌, ◌≤◌, ◌++◌, ◌⊎◌, true, false, length, replicate, take, IfSome, IfNone};
+ghost use Rattle.silt_manifest.specs.Numbers.{ids_bytes};
+ghost use Rattle.silt_manifest.specs.Body.{BodyLaw, FitsSlot, all_below, body_bytes, body_of, first_body, has_sound_hashes, has_sound_logs, is_distinct, is_well_formed};
+ghost use Rattle.byteorder.specs.Endian.{big_bytes};
+
+use crate::ids::Ids;
+use byteorder::{BigEndian, ByteOrder};
+use silt_device::Geometry;
+
+/// The bytes of a body.
+pub(crate) const BODY_LEN: usize = 120;
+
+/// The bytes of a slot that count: the gate and the body.
+pub(crate) const SLOT_LEN: usize = 121;
+
+// The room for frozen logs: one fewer than the most log regions.
+const FROZEN_ROOM: usize = 7;
+
+// The room for hash stores.
+const HASHED_ROOM: usize = 16;
+
+/// Which regions are the store.
+#[derive(Clone, Copy, Debug, PartialEq, Eq)]
+pub struct Body {
+    /// Of two open slots the body of greater generation rules. A generation stands in the slot of its remainder by 2.
+    pub generation: u64,
+    /// The region of the log that takes writes.
+    pub active: u32,
+    /// The regions of the full logs, the newest first.
+    pub frozen: Ids,
+    /// The hash regions that are in use, the newest first.
+    pub hashed: Ids,
+    /// The sorted region that is in use, 0 or 1.
+    pub sorted: u32,
+    /// How many entries it has.
+    pub sorted_count: u32,
+}
+
+// Whether each of these regions exists, where there are this many.
+fn are_below(ids: &[u32], count: u32) -> bool
+    ensures { result ≡ all_below count ids.now }
+{
+    ids.iter().all(|id| *id < count)
+}
+
+// Whether no number stands twice.
+fn are_distinct(ids: &[u32]) -> bool
+    ensures { result ≡ is_distinct ids.now }
+{
+    match ids {
+        [] => true,
+        [first, rest @ ..] => !rest.contains(first) && are_distinct(rest),
+    }
+}
+
+// Writes a number of four bytes.
+fn put_number(bytes: &mut [u8], at: usize, number: u32)
+    requires { at + 4 ≤ length bytes.old }
+    ensures { take (at + 4) bytes.new ≡ take at bytes.old ++ big_bytes 4 number }
+{
+    BigEndian::write_u32(&mut bytes[at..at + 4], number);
+}
+
+// Writes a number of eight bytes.
+fn put_long(bytes: &mut [u8], at: usize, number: u64)
+    requires { at + 8 ≤ length bytes.old }
+    ensures { take (at + 8) bytes.new ≡ take at bytes.old ++ big_bytes 8 number }
+{
+    BigEndian::write_u64(&mut bytes[at..at + 8], number);
+}
+
+// Writes so many zeros.
+fn put_zeros(bytes: &mut [u8], at: usize, count: usize)
+    requires there { at + count ≤ length bytes.old }
+    requires short { length bytes.old < 4096 }
+    ensures { take (at + count) bytes.new ≡ take at bytes.old ++ replicate count 0 }
+{
+    bytes[at..at + count].fill(0);
+}
+
+// Writes how many ids there are and then the ids, with zeros in the room that is left.
+fn put_ids(bytes: &mut [u8], at: usize, room: usize, ids: &[u32])
+    requires fits { length ids.now ≤ room }
+    requires small { room ≤ 16 }
+    requires there { at + (4 + 4 * room) ≤ length bytes.old }
+    requires short { length bytes.old < 4096 }
+    ensures { take (at + (4 + 4 * room)) bytes.new ≡ take at bytes.old ++ ids_bytes room ids.now }
+{
+    put_number(bytes, at, ids.len() as u32);
+    for k in 0..ids.len() {
+        put_number(bytes, at + 4 + 4 * k, ids[k]);
+    }
+    put_zeros(bytes, at + 4 + 4 * ids.len(), 4 * (room - ids.len()));
+}
+
+impl Body {
+    /// The body of a store that was just formatted: generation 0, and all else 0 or none.
+    pub fn first() -> Self
+        ensures { result ≡ first_body }
+    {
+        Body {
+            generation: 0,
+            active: 0,
+            frozen: Ids::new(),
+            hashed: Ids::new(),
+            sorted: 0,
+            sorted_count: 0,
+        }
+    }
+
+    // Whether the logs exist and differ.
+    fn has_sound_logs(&self, logs: u32) -> bool
+        ensures { result ≡ has_sound_logs logs self.now }
+    {
+        let frozen = self.frozen.as_slice();
+        frozen.len() < logs as usize
+            && self.active < logs
+            && are_below(frozen, logs)
+            && !frozen.contains(&self.active)
+            && are_distinct(frozen)
+    }
+
+    // Whether the hash stores exist and differ.
+    fn has_sound_hashes(&self, hashes: u32) -> bool
+        ensures { result ≡ has_sound_hashes hashes self.now }
+    {
+        let hashed = self.hashed.as_slice();
+        hashed.len() <= hashes as usize && are_below(hashed, hashes) && are_distinct(hashed)
+    }
+
+    /// Whether the body may stand in this slot: the generation is at most 2^63 - 1 and its remainder by 2 is the slot's number; the
+    /// active log and the frozen ones exist and differ from each other, and so do the hash stores; the sorted region is 0 or 1, and
+    /// its count is within its capacity.
+    pub fn is_well_formed(&self, geometry: &Geometry, slot: u32) -> bool
+        ensures { result ≡ is_well_formed geometry.now slot self.now }
+    {
+        self.generation < 1 << 63
+            && self.generation % 2 == u64::from(slot)
+            && self.has_sound_logs(geometry.logs())
+            && self.has_sound_hashes(geometry.hashes())
+            && self.sorted < 2
+            && self.sorted_count <= geometry.sorted_capacity()
+    }
+
+    // What follows the gate.
+    pub(crate) fn to_bytes(&self) -> [u8; BODY_LEN]
+        requires { FitsSlot self.now }
+        ensures { result ≡ body_bytes self.now }
+    {
+        let mut bytes = [0; BODY_LEN];
+        put_long(&mut bytes, 0, self.generation);
+        put_number(&mut bytes, 8, self.active);
+        put_ids(&mut bytes, 12, FROZEN_ROOM, self.frozen.as_slice());
+        put_ids(&mut bytes, 44, HASHED_ROOM, self.hashed.as_slice());
+        put_number(&mut bytes, 112, self.sorted);
+        put_number(&mut bytes, 116, self.sorted_count);
+        bytes
+    }
+
+    // The body of a slot, gate and all. None: it counts more ids than a store of this geometry has.
+    fn decode(slot: &[u8; SLOT_LEN], geometry: &Geometry) -> Option<Self>
+        ensures read { IfSome result (λ body. body ≡ body_of slot.now) }
+        ensures too_many { IfNone result ((geometry.now.logs ≤ length (body_of slot.now).frozen) ⊎ (geometry.now.hashes < length (body_of slot.now).hashed)) }
+    {
+        Some(Body {
+            generation: BigEndian::read_u64(&slot[1..9]),
+            active: BigEndian::read_u32(&slot[9..13]),
+            frozen: Ids::read(slot, 13, geometry.logs() as usize - 1)?,
+            hashed: Ids::read(slot, 45, geometry.hashes() as usize)?,
+            sorted: BigEndian::read_u32(&slot[113..117]),
+            sorted_count: BigEndian::read_u32(&slot[117..121]),
+        })
+    }
+
+    // The body of a slot, gate and all, where it is well formed.
+    #[tactic(auto, using(crate::proofs::SoundBodies::too_many_ids))]
+    pub(crate) fn from_slot(bytes: &[u8; SLOT_LEN], geometry: &Geometry, slot: u32) -> Option<Self>
+        ensures sound { IfSome result (λ body. (body ≡ body_of bytes.now) × (is_well_formed geometry.now slot body ≡ true)) }
+        ensures unsound { IfNone result (is_well_formed geometry.now slot (body_of bytes.now) ≡ false) }
+    {
+        let body = Self::decode(bytes, geometry)?;
+        if body.is_well_formed(geometry, slot) {
+            Some(body)
+        } else {
+            None
+        }
+    }
+}
+
+/// The law of the body's bytes: behind whatever gate, they read back.
+pub fn body_reads_back()
+    ensures { BodyLaw }
+{}

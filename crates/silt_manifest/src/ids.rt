@@ -1,0 +1,115 @@
+// A short list of region numbers that takes no memory.
+ghost use Rattle.std.specs.Prelude.{◌≡◌, ◌==◌, ◌+◌, ◌*◌, ◌<◌, ◌≤◌, [], ◌∷◌, length, take, IfSome, IfNone};
+ghost use Rattle.silt_manifest.specs.Numbers.{ids_at, number_at};
+
+use byteorder::{BigEndian, ByteOrder};
+use std::marker::Model;
+
+// As many hash regions as a device can have.
+const ROOM: usize = 16;
+
+/// The numbers of up to 16 regions, the newest first.
+#[derive(Clone, Copy, Debug, PartialEq, Eq)]
+pub struct Ids {
+    numbers: [u32; ROOM],
+    count: usize,
+}
+
+impl Model for Ids {
+    ghost use Rattle.std.specs.Prelude.{ℕ, ◌-◌, ◌++◌, List, length, take, replicate};
+
+    ghost Value = { List ℕ };
+
+    ghost use Rattle.silt_manifest.specs.IdList.{IsFilled, numbers_back, count_back};
+
+    ghost view = { λ ids. take ids.count ids.numbers };
+
+    ghost inverse = { λ numbers. record {
+      numbers = numbers ++ replicate (16 - length numbers) 0;
+      count = length numbers;
+    } };
+
+    ghost invariant = { λ ids. IsFilled ids.numbers ids.count };
+
+    ghost inverse_ok = { λ ids filled i. record {
+      numbers = numbers_back ids.numbers ids.count filled i;
+      count = count_back ids.numbers ids.count filled i;
+    } };
+}
+
+impl Ids {
+    /// No region.
+    pub fn new() -> Self
+        ensures { result ≡ [] }
+    {
+        Ids {
+            numbers: [0; ROOM],
+            count: 0,
+        }
+    }
+
+    /// How many there are.
+    pub fn len(&self) -> usize
+        ensures value { result ≡ length self.now }
+        ensures most { length self.now ≤ 16 }
+    {
+        self.count
+    }
+
+    /// Whether there is none.
+    pub fn is_empty(&self) -> bool
+        ensures { result ≡ (length self.now == 0) }
+    {
+        self.count == 0
+    }
+
+    /// The numbers, the newest first.
+    pub fn as_slice(&self) -> &[u32]
+        ensures value { result.now ≡ self.now }
+        ensures most { length self.now ≤ 16 }
+    {
+        &self.numbers[..self.count]
+    }
+
+    /// Puts a number in front, as the newest.
+    pub fn push_front(&mut self, id: u32)
+        requires { length self.old < 16 }
+        ensures { self.new ≡ id ∷ self.old }
+    {
+        let mut numbers = [0; ROOM];
+        numbers[0] = id;
+        numbers[1..self.count + 1].copy_from_slice(&self.numbers[..self.count]);
+        self.numbers = numbers;
+        self.count += 1;
+    }
+
+    /// Keeps this many, the newest, and drops the older ones. With fewer there all stay.
+    pub fn truncate(&mut self, len: usize)
+        ensures { self.new ≡ take len self.old }
+    {
+        if len < self.count {
+            self.numbers[len..].fill(0);
+            self.count = len;
+        }
+    }
+
+    // As many numbers as the four bytes at this place say, from the bytes behind them. None: these would be more than `most`.
+    pub(crate) fn read(slot: &[u8], at: usize, most: usize) -> Option<Self>
+        requires room { most ≤ 16 }
+        requires there { at + (4 + 4 * most) ≤ length slot.now }
+        requires small { length slot.now < 4096 }
+        ensures read { IfSome result (λ ids. ids ≡ ids_at at slot.now) }
+        ensures too_many { IfNone result (most < number_at 4 at slot.now) }
+    {
+        let count = BigEndian::read_u32(&slot[at..at + 4]) as usize;
+        if count > most {
+            return None;
+        }
+        let mut numbers = [0; ROOM];
+        for k in 0..count {
+            let from = at + 4 + 4 * k;
+            numbers[k] = BigEndian::read_u32(&slot[from..from + 4]);
+        }
+        Some(Ids { numbers, count })
+    }
+}

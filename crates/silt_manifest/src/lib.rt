@@ -1,0 +1,34 @@
+//! The manifest: which regions of a device are the store.
+//!
+//! A device has two manifest slots. Each has a gate and, behind it, a body of 120 bytes that names regions. A gate is open exactly
+//! where it is 0xA7. Of the open slots the body of greater generation rules. An open slot whose body is not well formed is damage:
+//! it is not passed over.
+//!
+//! **A manifest write** changes only the slot that does not rule, the *spare* slot, so that the old body rules until the gate
+//! before the new one is written:
+//!
+//! 1. `prepare_next` closes the spare slot and syncs, then writes the new body and syncs. At each of its exits each image that a stop
+//!    may leave has the old body as its ruling one.
+//! 2. `commit_next` opens the gate and syncs. At each of its exits each image has the old body or the new one, and after Ok the new.
+//!
+//! **The first write of `prepare_next`** is the zero that closes the gate. Where the gate is closed already, the zero goes to
+//! offset 4,095 of the slot, which nothing looks at: a write on the closed gate would make it pending before a body that nobody
+//! vouches for, and a stop could leave it open. `Manifest` knows which case it is, from `read_current` and its own writes.
+//!
+//! No call takes memory.
+#![tactic(auto)]
+
+mod body;
+mod ids;
+mod manifest;
+mod slot;
+
+pub use body::{Body, body_reads_back};
+pub use ids::Ids;
+pub use manifest::{
+    Manifest, closed_slots_do_not_count, other_regions_do_not_count, read_current, write_first,
+};
+pub use slot::{Damage, ReadFault};
+
+#[cfg(test)]
+mod tests;

@@ -1,0 +1,233 @@
+// The manifest in memory, and the calls that read and write it.
+ghost use Rattle.std.specs.Prelude.{◌≡◌, ◌+◌, ◌<◌, ◌≤◌, ◌↔◌, IsTrue, Some, None, true, false, IfOk, IfErr, OnOk, OnErr, MatchResult};
+ghost use Rattle.silt_device.specs.Disk.{ChangesWithin, GaveAny, LeavesOnly, Rests, Shows, size};
+ghost use Rattle.silt_device.specs.Layout.{slot_at};
+ghost use Rattle.silt_manifest.specs.Body.{is_well_formed};
+ghost use Rattle.silt_manifest.specs.Ruling.{ClosedSlotLaw, OtherRegionsLaw, is_slot_open, is_sound_slot, ruling_manifest};
+ghost use Rattle.silt_manifest.specs.Faults.{CountsFault, IsNotRead};
+ghost use Rattle.silt_manifest.specs.Standing.{CanCommit, IsFirst, IsNext, IsRuled, Rules, RulesOldOrNew, closing_place, manifest_of, ruled_by, ruling_slot, spare_slot};
+
+use crate::body::Body;
+use crate::slot::{CLOSED, Damage, OPEN, ReadFault, read_slot, slot_start, write_body, write_gate};
+use silt_device::{Disk, Geometry, write_synced};
+use std::marker::Model;
+
+// The last place of a slot, which nothing looks at.
+const UNUSED_PLACE: u64 = 4095;
+
+/// The body that rules a device, and what is known of its slots.
+#[derive(Drop)]
+pub struct Manifest {
+    geometry: Geometry,
+    ruling: Body,
+    // Whether the gate of the slot that does not rule is closed.
+    spare_closed: bool,
+    // The next body, once it is written behind that gate.
+    prepared: Option<Body>,
+}
+
+impl Model for Manifest {
+    ghost use Rattle.silt_manifest.specs.Standing.{ManifestState, IsSound};
+
+    ghost Value = { ManifestState };
+
+    ghost view = { λ m. record { shape = m.geometry; ruling = m.ruling; spare_closed = m.spare_closed; prepared = m.prepared } };
+
+    ghost invariant = { λ m. IsSound (record { shape = m.geometry; ruling = m.ruling; spare_closed = m.spare_closed; prepared = m.prepared }) };
+}
+
+/// Reads the slots of a device. A closed slot is passed over; an open one whose body is not well formed is damage, and so is it if
+/// no slot is open. Of two open slots the greater generation rules.
+///
+/// # Errors
+///
+/// The first damage, of slot 0, then slot 1, then for want of an open slot; or the fault of a read.
+pub fn read_current<D: Disk>(disk: &D, geometry: Geometry) -> Result<Manifest, ReadFault<D::Fault>>
+    requires { slot_at 1 + 4096 ≤ size (D.content disk.now) }
+    ensures shape { IfOk result (λ m. (m.shape ≡ geometry) × (m.prepared ≡ None)) }
+    ensures ruled { IfOk result (λ m. Shows (D.content disk.now) (IsRuled m)) }
+    ensures rules { IfOk result (λ m. Rests (D.content disk.now) → Rules m (D.content disk.now)) }
+    ensures refused { IfErr result (IsNotRead (D.content disk.now) geometry (GaveAny D.gave disk.now)) }
+{
+    let first = read_slot(disk, &geometry, 0)?;
+    let second = read_slot(disk, &geometry, 1)?;
+    Manifest::of_slots(geometry, first, second).ok_or(ReadFault::Damaged(Damage::NoSlot))
+}
+
+impl Manifest {
+    /// The six numbers of the store.
+    pub fn geometry(&self) -> Geometry
+        ensures value { result ≡ self.now.shape }
+    {
+        self.geometry
+    }
+
+    /// The body that rules.
+    pub fn ruling(&self) -> Body
+        ensures value { result ≡ self.now.ruling }
+        ensures sound { is_well_formed self.now.shape (ruling_slot self.now) self.now.ruling ≡ true }
+    {
+        let _ = &self.geometry;
+        self.ruling
+    }
+
+    /// Whether the gate of the slot that does not rule is closed. That of the slot that rules is open.
+    pub fn is_spare_closed(&self) -> bool
+        ensures { result ≡ self.now.spare_closed }
+    {
+        self.spare_closed
+    }
+
+    // The manifest of a body that rules.
+    #[tactic(auto, using(crate::proofs::SoundBodies::own_slot))]
+    fn ruled_by(geometry: Geometry, ruling: Body, spare_closed: bool, slot: u32) -> Self
+        requires { is_well_formed geometry slot ruling ≡ true }
+        ensures { result ≡ ruled_by geometry ruling spare_closed }
+    {
+        Manifest {
+            geometry,
+            ruling,
+            spare_closed,
+            prepared: None,
+        }
+    }
+
+    // The manifest that two slots make, of which each may hold a body that is well formed.
+    fn of_slots(geometry: Geometry, first: Option<Body>, second: Option<Body>) -> Option<Self>
+        requires first { is_sound_slot geometry 0 first ≡ true }
+        requires second { is_sound_slot geometry 1 second ≡ true }
+        ensures { result ≡ manifest_of geometry first second }
+    {
+        match (first, second) {
+            (None, None) => None,
+            (None, Some(second)) => Some(Self::ruled_by(geometry, second, true, 1)),
+            (Some(first), None) => Some(Self::ruled_by(geometry, first, true, 0)),
+            (Some(first), Some(second)) => {
+                if first.generation < second.generation {
+                    Some(Self::ruled_by(geometry, second, false, 1))
+                } else {
+                    Some(Self::ruled_by(geometry, first, false, 0))
+                }
+            }
+        }
+    }
+
+    // The slot that does not rule.
+    fn spare_slot(&self) -> u32
+        ensures value { result ≡ spare_slot self.now }
+        ensures below { result < 2 }
+    {
+        ((self.ruling.generation + 1) % 2) as u32
+    }
+
+    /// Whether a body may be the next one: it has the next generation, and is well formed in the slot that does not rule.
+    pub fn is_next(&self, next: &Body) -> bool
+        ensures { IsTrue result ↔ IsNext self.now next.now }
+    {
+        next.generation == self.ruling.generation + 1
+            && next.is_well_formed(&self.geometry, self.spare_slot())
+    }
+
+    // Where the zero goes with which a write of the next body begins.
+    fn closing_place(&self) -> u64
+        ensures value { result ≡ closing_place self.now }
+        ensures least { slot_at (spare_slot self.now) ≤ result }
+        ensures most { result < slot_at (spare_slot self.now) + 4096 }
+    {
+        let start = slot_start(self.spare_slot());
+        if self.spare_closed {
+            start + UNUSED_PLACE
+        } else {
+            start
+        }
+    }
+
+    /// Writes the next body into the slot that does not rule, behind a closed gate: closes the gate and syncs, then writes the body
+    /// and syncs. At each exit the old body rules in whatever a stop may leave. After Ok, `commit_next` is the next call on the disk.
+    ///
+    /// # Errors
+    ///
+    /// The fault of a write or of a sync.
+    pub fn prepare_next<D: Disk>(&mut self, disk: &mut D, next: Body) -> Result<(), D::Fault>
+        requires size { slot_at 1 + 4096 ≤ size (D.content disk.old) }
+        requires rules { Rules self.old (D.content disk.old) }
+        requires next { IsNext self.old next }
+        ensures size { size (D.content disk.new) ≡ size (D.content disk.old) }
+        ensures changes { ChangesWithin (slot_at (spare_slot self.old)) 4096 (D.content disk.old) (D.content disk.new) }
+        ensures each { LeavesOnly (D.content disk.new) (λ image. ruling_manifest self.old.shape image ≡ Some self.old.ruling) }
+        ensures ready { OnOk result (CanCommit self.new (D.content disk.new)) }
+        ensures rests { OnOk result (Rests (D.content disk.new)) }
+        ensures state { OnOk result (self.new ≡ record self.old { spare_closed = true; prepared = Some next }) }
+        ensures unchanged { OnErr result (self.new ≡ self.old) }
+        ensures failures { MatchResult result (λ _. D.failures disk.new ≡ D.failures disk.old) (CountsFault D.failures D.gave disk.old disk.new) }
+    {
+        let _limits = self.geometry.logs();
+        let slot = self.spare_slot();
+        write_synced(disk, self.closing_place(), &[CLOSED])?;
+        write_body(disk, slot, &next.to_bytes())?;
+        self.spare_closed = true;
+        self.prepared = Some(next);
+        Ok(())
+    }
+
+    /// Opens the gate of the body that `prepare_next` wrote, and syncs. At each exit the old body rules or the new one, in whatever
+    /// a stop may leave; after Ok the new one does.
+    ///
+    /// # Errors
+    ///
+    /// The fault of the write or of the sync.
+    pub fn commit_next<D: Disk>(&mut self, disk: &mut D) -> Result<(), D::Fault>
+        requires size { slot_at 1 + 4096 ≤ size (D.content disk.old) }
+        requires prepared { CanCommit self.old (D.content disk.old) }
+        ensures size { size (D.content disk.new) ≡ size (D.content disk.old) }
+        ensures changes { ChangesWithin (slot_at (spare_slot self.old)) 1 (D.content disk.old) (D.content disk.new) }
+        ensures each { LeavesOnly (D.content disk.new) (RulesOldOrNew self.old) }
+        ensures rules { OnOk result (Rules self.new (D.content disk.new)) }
+        ensures rests { OnOk result (Rests (D.content disk.new)) }
+        ensures new { OnOk result (Some self.new.ruling ≡ self.old.prepared) }
+        ensures state { OnOk result ((self.new.shape ≡ self.old.shape) × (self.new.spare_closed ≡ false) × (self.new.prepared ≡ None)) }
+        ensures unchanged { OnErr result (self.new ≡ self.old) }
+        ensures failures { MatchResult result (λ _. D.failures disk.new ≡ D.failures disk.old) (CountsFault D.failures D.gave disk.old disk.new) }
+    {
+        let Some(next) = self.prepared else {
+            unreachable!()
+        };
+        write_gate(disk, self.spare_slot(), OPEN)?;
+        self.ruling = next;
+        self.spare_closed = false;
+        self.prepared = None;
+        Ok(())
+    }
+}
+
+/// Writes the body of generation 0 into slot 0, with its gate: closes the gate, writes the body, opens the gate, each with a sync.
+/// After Ok it rules in whatever a stop may leave, since the gate of slot 1 is closed. The zero always goes to the gate: on a
+/// device that is being formatted the header's gate is closed, and no slot counts.
+///
+/// # Errors
+///
+/// The fault of a write or of a sync.
+pub fn write_first<D: Disk>(disk: &mut D) -> Result<(), D::Fault>
+    requires size { slot_at 1 + 4096 ≤ size (D.content disk.old) }
+    requires closed { LeavesOnly (D.content disk.old) (λ image. is_slot_open image 1 ≡ false) }
+    ensures size { size (D.content disk.new) ≡ size (D.content disk.old) }
+    ensures changes { ChangesWithin (slot_at 0) 4096 (D.content disk.old) (D.content disk.new) }
+    ensures rules { OnOk result (LeavesOnly (D.content disk.new) IsFirst) }
+    ensures rests { OnOk result (Rests (D.content disk.new)) }
+    ensures failures { MatchResult result (λ _. D.failures disk.new ≡ D.failures disk.old) (CountsFault D.failures D.gave disk.old disk.new) }
+{
+    write_gate(disk, 0, CLOSED)?;
+    write_body(disk, 0, &Body::first().to_bytes())?;
+    write_gate(disk, 0, OPEN)?;
+    Ok(())
+}
+
+/// The law of closed slots: a change in a slot that is closed before and after does not count.
+pub fn closed_slots_do_not_count()
+    ensures { ClosedSlotLaw }
+{}
+
+/// The law of the other regions: a change outside the two slots does not count.
+pub fn other_regions_do_not_count()
+    ensures { OtherRegionsLaw }
+{}
