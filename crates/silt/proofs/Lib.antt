@@ -1,0 +1,4 @@
+pub mod Cuts
+pub mod NumberExits
+pub mod Stores
+pub mod Streams

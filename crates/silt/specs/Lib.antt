@@ -1,0 +1,5 @@
+pub mod Lines
+pub mod Numbers
+pub mod Pending
+pub mod Replies
+pub mod Sessions

@@ -1,0 +1,315 @@
+// What no contract says: printed text and statuses, letter for letter, through the program over memory.
+
+use crate::program::program;
+use crate::reply::print_reply;
+use silt_store_set::{Place, Progress, Refusal, Reply};
+use std::io::{self, Cursor, ErrorKind, Read, Write};
+use std::process::Abort;
+use std::test::Fail;
+
+// Values of two bytes, two buckets, four rows a log.
+const SMALL: &str = "silt script 2 2 4 2 2 8";
+
+// A reader that gives a text a few bytes at a time, and then is at its end or fails.
+#[derive(Drop)]
+struct Pieces<'a> {
+    text: &'a [u8],
+    most: usize,
+    fails: bool,
+}
+
+impl Read for Pieces<'_> {
+    fn read(&mut self, buf: &mut [u8]) -> io::Result<usize> {
+        let count = self.most.min(buf.len()).min(self.text.len());
+        if count == 0 && self.fails {
+            return Err(io::Error::from(ErrorKind::ConnectionReset));
+        }
+        buf[..count].copy_from_slice(&self.text[..count]);
+        self.text = &self.text[count..];
+        Ok(count)
+    }
+}
+
+// A writer that takes so many bytes and then fails.
+#[derive(Drop)]
+struct Short {
+    taken: Vec<u8>,
+    room: usize,
+}
+
+impl Write for Short {
+    fn write(&mut self, buf: &[u8]) -> io::Result<usize> {
+        let count = self.room.min(buf.len());
+        if count == 0 {
+            return Err(io::Error::from(ErrorKind::BrokenPipe));
+        }
+        self.taken.extend_from_slice(&buf[..count])?;
+        self.room -= count;
+        Ok(count)
+    }
+
+    fn flush(&mut self) -> io::Result<()> {
+        Ok(())
+    }
+}
+
+fn words<S: AllocGlobal>(rt: &S, text: &str) -> Result<Vec<String>, Fail> {
+    let mut words = Vec::new(rt.alloc());
+    for word in text.split(' ') {
+        words.push(String::from_str(rt.alloc(), word)?)?;
+    }
+    Ok(words)
+}
+
+// Runs the program on a text, and compares its status and what it writes.
+fn answers<S: AllocGlobal + Abort>(
+    rt: &S,
+    call: &str,
+    text: &[u8],
+    status: u8,
+    output: &[u8],
+) -> Result<(), Fail> {
+    let words = words(rt, call)?;
+    let mut reader = Cursor::new(text);
+    let mut out = Vec::new(rt.alloc());
+    let code = program(rt, words.as_slice(), &mut reader, &mut out);
+    assert_eq!(rt; out.as_slice(), output);
+    assert_eq!(rt; code, status);
+    Ok(())
+}
+
+#[test]
+fn puts_flushes_and_gets(rt: HostRuntime) -> Result<(), Fail> {
+    let text = b"put =abc 0102\nflush\nget =abc\n";
+    let output = b"opened\naccepted 1\nacknowledged 1\nvalue 0102\n";
+    answers(&rt, SMALL, text, 0, output)
+}
+
+#[test]
+fn answers_where_nothing_was_put(rt: HostRuntime) -> Result<(), Fail> {
+    let text = b"get 0100000000000000000000000000000000000000\nflush\nconvert\nmerge\n";
+    let output = b"opened\nabsent\nacknowledged 0\nidle\nidle\n";
+    answers(&rt, SMALL, text, 0, output)
+}
+
+// Digits are read in either case and written in lower case, and a named key is the digest of its name.
+#[test]
+fn reads_digits_in_either_case(rt: HostRuntime) -> Result<(), Fail> {
+    let text =
+        b"put A9993E364706816ABA3E25717850C26C9CD0D89D aBFf\nget =abc\ndelete a9993e364706816aba3e25717850c26c9cd0d89d\nget =abc\n";
+    let output = b"opened\naccepted 1\nvalue abff\naccepted 2\nabsent\n";
+    answers(&rt, SMALL, text, 0, output)
+}
+
+// One carriage return is taken off, empty lines are not answered, and neither is what comes after the last line feed.
+#[test]
+fn divides_lines(rt: HostRuntime) -> Result<(), Fail> {
+    let text = b"put =abc 0102\r\n\r\n\nflush\r\r\nget =abc\r\nget =abc";
+    let output = b"opened\naccepted 1\nrefused 20 BadLine\nvalue 0102\n";
+    answers(&rt, SMALL, text, 0, output)
+}
+
+#[test]
+fn refuses_bad_lines(rt: HostRuntime) -> Result<(), Fail> {
+    for line in [
+        "stop 0 old",
+        "pot 0100000000000000000000000000000000000000",
+        "flush ",
+        " flush",
+        "FLUSH",
+        "get  =abc",
+        "get 000000000000000000000000000000000000001",
+        "get 0g00000000000000000000000000000000000000",
+        "put =abc 010",
+        "put =abc 010203",
+        "put =abc 0102 ",
+        "get =",
+        "get =a\x7F",
+        "get",
+        "put =abc",
+        "get =abc 0102",
+        "\r",
+    ] {
+        let mut text = line.as_bytes().to_vec(rt.alloc())?;
+        text.extend_from_slice(b"\r\nflush\n")?;
+        let output = b"opened\nrefused 20 BadLine\nacknowledged 0\n";
+        answers(&rt, SMALL, &text, 0, output)?;
+    }
+    Ok(())
+}
+
+// A line of 8,300 bytes is read, and one of 8,301 is refused, also where its last byte is a carriage return.
+#[test]
+fn bounds_lines(rt: HostRuntime) -> Result<(), Fail> {
+    let alloc = rt.alloc();
+    let mut text = b"put =".to_vec(alloc)?;
+    text.extend_from_slice(&vec![in alloc; b'x'; 8000]?)?;
+    text.push(b' ')?;
+    text.extend_from_slice(&vec![in alloc; b'0'; 294]?)?;
+    let longest = text.as_slice().to_vec(alloc)?;
+    text.push(b'\n')?;
+    text.extend_from_slice(&longest)?;
+    text.extend_from_slice(b"\r\nget =x")?;
+    text.extend_from_slice(&vec![in alloc; b'x'; 8000]?)?;
+    text.extend_from_slice(b"\nget =abc\n")?;
+    text.extend_from_slice(&vec![in alloc; b'x'; 8301]?)?;
+    text.extend_from_slice(b"\nflush\n")?;
+    let output =
+        b"opened\naccepted 1\nrefused 20 BadLine\nrefused 20 BadLine\nabsent\nrefused 20 BadLine\nacknowledged 1\n";
+    answers(&rt, "silt script 147 2 4 2 2 8", &text, 0, output)
+}
+
+#[test]
+fn answers_any_pieces(rt: HostRuntime) -> Result<(), Fail> {
+    let words = words(&rt, SMALL)?;
+    for most in [1, 2, 7, 64] {
+        let mut reader = Pieces {
+            text: b"put =abc 0102\r\n\nflush\nget =abc\nget =abc",
+            most,
+            fails: false,
+        };
+        let mut out = Vec::new(rt.alloc());
+        assert_eq!(rt; program(&rt, words.as_slice(), &mut reader, &mut out), 0);
+        let output = b"opened\naccepted 1\nacknowledged 1\nvalue 0102\n";
+        assert_eq!(rt; out.as_slice(), output.as_slice());
+    }
+    Ok(())
+}
+
+// All whole lines before the reader's fault are answered.
+#[test]
+fn ends_by_a_reader_that_fails(rt: HostRuntime) -> Result<(), Fail> {
+    let words = words(&rt, SMALL)?;
+    let mut reader = Pieces {
+        text: b"put =abc 0102\nflush\nget",
+        most: 9,
+        fails: true,
+    };
+    let mut out = Vec::new(rt.alloc());
+    assert_eq!(rt; program(&rt, words.as_slice(), &mut reader, &mut out), 1);
+    assert_eq!(rt;
+        out.as_slice(),
+        b"opened\naccepted 1\nacknowledged 1\n".as_slice()
+    );
+    Ok(())
+}
+
+// A writer that fails has the first bytes of the answers.
+#[test]
+fn ends_by_a_writer_that_fails(rt: HostRuntime) -> Result<(), Fail> {
+    let words = words(&rt, SMALL)?;
+    let output = b"opened\naccepted 1\nvalue 0102\n";
+    for room in [0, 6, 7, 8, 17, 18, 28] {
+        let mut reader = Cursor::new(b"put =abc 0102\nget =abc\n".as_slice());
+        let mut writer = Short {
+            taken: Vec::new(rt.alloc()),
+            room,
+        };
+        assert_eq!(rt; program(&rt, words.as_slice(), &mut reader, &mut writer), 1);
+        assert_eq!(rt; writer.taken.as_slice(), &output[..room]);
+    }
+    Ok(())
+}
+
+#[test]
+fn refuses_bad_words(rt: HostRuntime) -> Result<(), Fail> {
+    for call in [
+        "silt",
+        "silt help",
+        "silt --help",
+        "silt script",
+        "silt script 2 2 4 2 2",
+        "silt script 2 2 4 2 2 8 8",
+        "silt script +2 2 4 2 2 8",
+        "silt script 2 2 4 2 2 4294967296",
+        "silt script 2 2 4 2 2 00000000008",
+        "silt script 2 2 4 2 2 ",
+        "silt scripts 2 2 4 2 2 8",
+    ] {
+        answers(&rt, call, b"flush\n", 2, b"usage\n")?;
+    }
+    Ok(())
+}
+
+// A number out of its limits is refused before anything else is done.
+#[test]
+fn refuses_a_bad_geometry(rt: HostRuntime) -> Result<(), Fail> {
+    for call in [
+        "silt script 0 2 4 2 2 8",
+        "silt script 4097 2 4 2 2 8",
+        "silt script 2 3 4 2 2 8",
+        "silt script 2 2 9 2 2 8",
+        "silt script 2 2 4 9 2 8",
+        "silt script 2 2 4 2 17 8",
+        "silt script 2 2 4 2 2 4294967295",
+    ] {
+        answers(&rt, call, b"flush\n", 1, b"refused 2 BadGeometry\n")?;
+    }
+    Ok(())
+}
+
+// Each number stands where no other could stand.
+#[test]
+fn reads_the_numbers_in_order(rt: HostRuntime) -> Result<(), Fail> {
+    for call in [
+        "silt script 3 2 1 2 1 1",
+        "silt script 2 2 8 8 16 100",
+        "silt script 0000000002 2 4 2 2 8",
+    ] {
+        answers(&rt, call, b"flush\n", 0, b"opened\nacknowledged 0\n")?;
+    }
+    Ok(())
+}
+
+#[test]
+fn prints_replies(rt: HostRuntime) -> Result<(), Fail> {
+    for (refusal, text) in [
+        (Refusal::NotFormatted, "refused 1 NotFormatted"),
+        (Refusal::Damaged(Place::Header), "refused 3 Damaged header"),
+        (Refusal::Damaged(Place::Length), "refused 3 Damaged length"),
+        (Refusal::Damaged(Place::Slot(1)), "refused 3 Damaged slot 1"),
+        (Refusal::Damaged(Place::NoSlot), "refused 3 Damaged no slot"),
+        (
+            Refusal::Damaged(Place::Log { region: 0, row: 10 }),
+            "refused 3 Damaged log 0 row 10",
+        ),
+        (
+            Refusal::Damaged(Place::Hash { region: 1, slot: 7 }),
+            "refused 3 Damaged hash 1 slot 7",
+        ),
+        (
+            Refusal::Damaged(Place::Sorted(1)),
+            "refused 3 Damaged sorted 1",
+        ),
+        (Refusal::Damaged(Place::Charge), "refused 3 Damaged charge"),
+        (Refusal::Crowded, "refused 4 Crowded"),
+        (Refusal::Device(()), "refused 5 Device"),
+        (Refusal::NoMemory, "refused 6 NoMemory"),
+        (Refusal::StoreFull, "refused 7 StoreFull"),
+        (Refusal::NoRoom, "refused 8 NoRoom"),
+        (Refusal::Failed, "refused 9 Failed"),
+        (Refusal::Spent, "refused 10 Spent"),
+        (Refusal::HistoryFull, "refused 11 HistoryFull"),
+        (Refusal::BadKey, "refused 21 BadKey"),
+        (Refusal::BadValue, "refused 22 BadValue"),
+        (Refusal::LineTooLong, "refused 23 LineTooLong"),
+    ] {
+        let reply = Reply::Refused(refusal);
+        assert_eq!(rt; print_reply(rt.alloc(), &reply)?.as_str(), text);
+    }
+    Ok(())
+}
+
+#[test]
+fn prints_progress(rt: HostRuntime) -> Result<(), Fail> {
+    for (progress, text) in [
+        (Progress::Idle, "idle"),
+        (Progress::Waiting, "waiting"),
+        (Progress::Moved, "moved"),
+        (Progress::Finished, "finished"),
+    ] {
+        let reply: Reply<()> = Reply::Progress(progress);
+        assert_eq!(rt; print_reply(rt.alloc(), &reply)?.as_str(), text);
+    }
+    Ok(())
+}
