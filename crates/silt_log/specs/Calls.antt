@@ -1,13 +1,8 @@
 -- What the calls of a log do to it and to the disk.
-use Rattle.std.specs.Prelude.{◌≡◌, ℕ, ◌+◌, ◌%◌, ◌^◌, ◌≤◌, ◌⊎◌, false, IsTrue, List, [], ◌∷◌, ◌++◌, length, take}
-use Rattle.silt_device.specs.Disk.{Content, Torn, Left, LeavesOnly, GaveAny}
-use Rattle.silt_device.specs.declared.disk.Call.{Call}
+use Rattle.std.specs.Prelude.{◌≡◌, ℕ, ◌+◌, ◌≤◌, ◌⊎◌, false, IsTrue, List, [], ◌∷◌, ◌++◌, length, take}
+use Rattle.silt_device.specs.Disk.{Content, Torn, Left, LeavesOnly}
 use Rattle.silt_log.specs.Rows.{StoredRow, log_rows}
 use Rattle.silt_log.specs.State.{LogState, IsLog, settled_rows, waiting_rows, all_rows, full_image}
-
--- one more write or sync has failed, and the disk gave this fault for it
-abbrev pub CountsFault : {D F : Type 0} → (D → ℕ) → (D → F → Call → ℕ → ℕ → Type 0) → D → D → F → Type 0
-CountsFault failures gave old new fault = (failures new ≡ (failures old + 1) % 2 ^ 64) × GaveAny gave new fault
 
 -- A sync and then a write to this range, as far as they came: what a stop may leave is what it might have left before, or
 -- what was shown, torn in the range.

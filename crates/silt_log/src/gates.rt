@@ -1,9 +1,9 @@
 // Writes of gates and of rows, at offsets.
 ghost use Rattle.std.specs.Prelude.{◌≡◌, ◌==◌, ◌+◌, ◌<◌, ◌≤◌, ◌++◌, length, drop, replicate, IsTrue, IfOk, IfErr, OnOk, MatchResult};
 ghost use Rattle.std.specs.List.{list_any, prefix_len};
-ghost use Rattle.silt_device.specs.Disk.{ChangesWithin, GaveAny, Rests, Writes, size};
+ghost use Rattle.silt_device.specs.Disk.{ChangesWithin, CountsFault, GaveAny, Rests, Writes, size};
 ghost use Rattle.silt_log.specs.Rows.{gate_bytes, is_open};
-ghost use Rattle.silt_log.specs.Calls.{CountsFault, SyncsAndTears};
+ghost use Rattle.silt_log.specs.Calls.{SyncsAndTears};
 
 use silt_device::{Disk, write_synced};
 

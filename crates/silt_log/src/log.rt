@@ -1,11 +1,10 @@
 // A log region as the store holds it in memory, and the calls that change it.
 ghost use Rattle.std.specs.Prelude.{vec_len, ◌≡◌, ◌==◌, ◌+◌, ◌-◌, ◌<◌, ◌≤◌, ◌++◌, length, replicate, nat_lt, false, IsTrue, IfOk, IfErr, OnOk, OnErr, MatchResult};
-ghost use Rattle.silt_device.specs.Disk.{ChangesWithin, GaveAny, LeavesOnly, Rests, Writes, size};
+ghost use Rattle.silt_device.specs.Disk.{ChangesWithin, CountsFault, GaveAny, LeavesOnly, Rests, Writes, size};
 ghost use Rattle.silt_device.specs.Layout.{device_size, gates_at, row_len};
 ghost use Rattle.silt_frame.specs.Frame.{head_bytes};
 ghost use Rattle.silt_log.specs.Rows.{AreRows, FirstUnknown, body_at, log_rows, open_count, row_at, stored_row};
 ghost use Rattle.silt_log.specs.Scans.{IsRefused};
-ghost use Rattle.silt_log.specs.Calls.{CountsFault};
 
 use crate::gates::{CLOSED, open_behind_sync, read_gates, write_gates, write_row};
 use crate::scan::{ScanError, read_rows};

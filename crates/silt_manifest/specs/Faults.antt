@@ -1,8 +1,7 @@
 -- Why a slot or a manifest was not read, and what a failed write or sync gave.
-use Rattle.std.specs.Prelude.{◌≡◌, ℕ, ◌+◌, ◌%◌, ◌^◌, false, List, Err}
-use Rattle.silt_device.specs.Disk.{Content, GaveAny, Shows}
+use Rattle.std.specs.Prelude.{◌≡◌, ℕ, false, List, Err}
+use Rattle.silt_device.specs.Disk.{Content, Shows}
 use Rattle.silt_device.specs.Layout.{Shape}
-use Rattle.silt_device.specs.declared.disk.Call.{Call}
 use Rattle.silt_manifest.specs.Ruling.{open_body, is_sound_slot, manifest_found}
 use Rattle.silt_manifest.specs.declared.slot.Damage.{Damage}
 use Rattle.silt_manifest.specs.declared.slot.Damage.TheVariants.{Slot}
@@ -27,7 +26,3 @@ pub record IsDamaged (s : Shape) (damage : Damage) (image : List ℕ) : Type 0 w
 abbrev pub IsNotRead : {F : Type 0} → Content → Shape → (F → Type 0) → ReadFault F → Type 0
 IsNotRead content s WasGiven (Damaged damage) = Shows content (IsDamaged s damage)
 IsNotRead content s WasGiven (Device fault) = WasGiven fault
-
--- one more write or sync has failed, and the disk gave this fault for it
-abbrev pub CountsFault : {D F : Type 0} → (D → ℕ) → (D → F → Call → ℕ → ℕ → Type 0) → D → D → F → Type 0
-CountsFault failures gave old new fault = (failures new ≡ (failures old + 1) % 2 ^ 64) × GaveAny gave new fault

@@ -1,10 +1,10 @@
 // The manifest in memory, and the calls that read and write it.
 ghost use Rattle.std.specs.Prelude.{◌≡◌, ◌+◌, ◌<◌, ◌≤◌, ◌↔◌, IsTrue, Some, None, true, false, IfOk, IfErr, OnOk, OnErr, MatchResult};
-ghost use Rattle.silt_device.specs.Disk.{ChangesWithin, GaveAny, LeavesOnly, Rests, Shows, size};
+ghost use Rattle.silt_device.specs.Disk.{ChangesWithin, CountsFault, GaveAny, LeavesOnly, Rests, Shows, size};
 ghost use Rattle.silt_device.specs.Layout.{slot_at};
 ghost use Rattle.silt_manifest.specs.Body.{is_well_formed};
 ghost use Rattle.silt_manifest.specs.Ruling.{ClosedSlotLaw, OtherRegionsLaw, is_slot_open, is_sound_slot, ruling_manifest};
-ghost use Rattle.silt_manifest.specs.Faults.{CountsFault, IsNotRead};
+ghost use Rattle.silt_manifest.specs.Faults.{IsNotRead};
 ghost use Rattle.silt_manifest.specs.Standing.{CanCommit, IsFirst, IsNext, IsRuled, Rules, RulesOldOrNew, closing_place, manifest_of, ruled_by, ruling_slot, spare_slot};
 
 use crate::body::Body;

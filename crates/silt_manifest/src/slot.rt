@@ -1,9 +1,9 @@
 // The two slots of a manifest.
 ghost use Rattle.std.specs.Prelude.{◌≡◌, ◌+◌, ◌*◌, ◌<◌, ◌≤◌, true, false, [], ◌∷◌, IfOk, IfErr, OnOk, MatchResult};
-ghost use Rattle.silt_device.specs.Disk.{ChangesWithin, GaveAny, Rests, Shows, Writes, size};
+ghost use Rattle.silt_device.specs.Disk.{ChangesWithin, CountsFault, GaveAny, Rests, Shows, Writes, size};
 ghost use Rattle.silt_device.specs.Layout.{slot_at};
 ghost use Rattle.silt_manifest.specs.Ruling.{HasSlot, body_behind, is_sound_slot};
-ghost use Rattle.silt_manifest.specs.Faults.{CountsFault, IsRefused};
+ghost use Rattle.silt_manifest.specs.Faults.{IsRefused};
 ghost use Rattle.silt_manifest.specs.declared.slot.Damage.TheVariants.{Slot};
 
 use crate::body::{BODY_LEN, Body, SLOT_LEN};
