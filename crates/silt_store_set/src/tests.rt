@@ -1,38 +1,84 @@
 // What no contract says: that each call that takes memory succeeds where there is enough, and the bytes on the device.
 
+mod damage;
+mod faults;
+mod restarts;
+mod script;
+mod stops;
+
 use crate::{Core, Event, Progress, Refusal, Reply, format};
-use silt_device::{Geometry, MemDisk};
+use silt_device::{Fill, Geometry, MemDisk, Stop};
 use silt_frame::{Key, Value};
-use std::alloc::Global;
+use std::alloc::{AllocError, Global};
+use std::collections::BTreeMap;
 use std::test::Fail;
 
 // The geometry of the small rows: values of two bytes, two buckets, four rows a log.
-fn small() -> Result<Geometry, Fail> {
+pub(crate) fn small() -> Result<Geometry, Fail> {
     Ok(Geometry::new(2, 2, 4, 2, 2, 8).ok().ok_or("in limits")?)
 }
 
-fn formatted(alloc: Global) -> Result<MemDisk, Fail> {
+// A formatted disk of the small rows, but with values of this length.
+pub(crate) fn of_values(alloc: Global, value_len: u32) -> Result<MemDisk, Fail> {
+    let geometry = Geometry::new(value_len, 2, 4, 2, 2, 8)
+        .ok()
+        .ok_or("in limits")?;
+    let disk = MemDisk::new(alloc, geometry.size() as usize)?;
+    Ok(format(alloc, disk, geometry).ok().ok_or("formats")?)
+}
+
+// Stops at these calls with these fills.
+pub(crate) fn stopping(alloc: Global, at: &[(u32, Fill)]) -> Result<Vec<Stop>, AllocError> {
+    let mut stops = Vec::new(alloc);
+    for (k, fill) in at {
+        stops.push(Stop { k: *k, fill: *fill })?;
+    }
+    Ok(stops)
+}
+
+pub(crate) fn formatted(alloc: Global) -> Result<MemDisk, Fail> {
     let disk = MemDisk::new(alloc, 45_056)?;
     Ok(format(alloc, disk, small()?).ok().ok_or("formats")?)
 }
 
-fn opened(alloc: Global) -> Result<Core<MemDisk>, Fail> {
+pub(crate) fn opened(alloc: Global) -> Result<Core<MemDisk>, Fail> {
     Ok(Core::open(alloc, formatted(alloc)?).ok().ok_or("opens")?)
 }
 
 // A key that begins with this byte and goes on with zeros.
-fn key(first: u8) -> Key {
+pub(crate) fn key(first: u8) -> Key {
     let mut bytes = [0; 20];
     bytes[0] = first;
     Key(bytes)
 }
 
-fn value(alloc: Global, bytes: [u8; 2]) -> Result<Value, Fail> {
-    Ok(Value::new(bytes.to_vec(alloc)?))
+// The values of the keys 0 to 7 in these entries, 0 for none: of the two bytes of each the first is 0.
+pub(crate) fn values_of(entries: &BTreeMap<Key, Value>) -> [u8; 8] {
+    let mut values = [0; 8];
+    for first in 0..8usize {
+        if let Some(value) = entries.get(&key(first as u8)) {
+            values[first] = match value.as_slice() {
+                [0, last] => *last,
+                _ => 0xFF,
+            };
+        }
+    }
+    values
+}
+
+// The values of the keys 0 to 7 on this disk, 0 for none, where it has no other keys. No stop is made.
+pub(crate) fn entries_of(alloc: Global, disk: MemDisk) -> Result<(MemDisk, [u8; 8]), Fail> {
+    let core = Core::open(alloc, disk).ok().ok_or("opens")?;
+    let entries = core.entries(alloc).ok().ok_or("has entries")?;
+    let values = values_of(&entries);
+    if entries.len() != values.iter().filter(|value| **value != 0).count() {
+        return Err("other keys".into());
+    }
+    Ok((core.close(), values))
 }
 
 // Whether these bytes stand at this place of the device.
-fn stands_at(disk: &MemDisk, at: usize, bytes: &[u8]) -> bool {
+pub(crate) fn stands_at(disk: &MemDisk, at: usize, bytes: &[u8]) -> bool {
     let shown = disk.shown();
     at <= shown.len() && shown[at..].starts_with(bytes)
 }

@@ -1,0 +1,178 @@
+// Images that an opening refuses, and the first finding in each.
+
+use crate::tests::formatted;
+use crate::tests::script::{Line, live};
+use crate::{Core, OpenFault, Place, Refusal};
+use silt_device::MemDisk;
+use std::alloc::Global;
+use std::process::Abort;
+use std::test::Fail;
+
+// What an opening finds.
+#[derive(Clone, Copy, Debug, PartialEq, Eq)]
+enum Finding {
+    // Nothing: the store opens, and has as many keys.
+    Keys(usize),
+    NotFormatted,
+    Damaged(Place),
+    // Any other refusal, by its number.
+    Other(u32),
+}
+
+// One byte of a device is changed.
+const BYTES: [(usize, u8, Finding); 33] = [
+    // the header's gate, the magic bytes and the version
+    (0, 0x00, Finding::NotFormatted),
+    (0, 0xFF, Finding::NotFormatted),
+    (1, b's', Finding::NotFormatted),
+    (8, b'I', Finding::NotFormatted),
+    (9, 1, Finding::NotFormatted),
+    (12, 9, Finding::NotFormatted),
+    // the six numbers: each past its limits, or within them with another size
+    (16, 0, Finding::Damaged(Place::Header)),
+    (15, 0x11, Finding::Damaged(Place::Header)),
+    (20, 3, Finding::Damaged(Place::Header)),
+    (24, 0, Finding::Damaged(Place::Header)),
+    (24, 9, Finding::Damaged(Place::Header)),
+    (28, 1, Finding::Damaged(Place::Header)),
+    (28, 9, Finding::Damaged(Place::Header)),
+    (32, 0, Finding::Damaged(Place::Header)),
+    (32, 17, Finding::Damaged(Place::Header)),
+    (36, 0, Finding::Damaged(Place::Header)),
+    (33, 2, Finding::Damaged(Place::Header)),
+    (28, 3, Finding::Damaged(Place::Length)),
+    (32, 1, Finding::Damaged(Place::Length)),
+    // the manifest slots: the gate and the body of slot 0, and the gate of slot 1
+    (4096, 0x00, Finding::Damaged(Place::NoSlot)),
+    (4097, 1, Finding::Damaged(Place::NoSlot)),
+    (4216, 1, Finding::Damaged(Place::NoSlot)),
+    (4217, 1, Finding::Keys(2)),
+    (8192, 0xA7, Finding::Damaged(Place::NoSlot)),
+    (8192, 0xFF, Finding::Keys(2)),
+    // the rows: their gates at 12,288, and their kinds at 16,384 and each 23 bytes on
+    (
+        16_384,
+        3,
+        Finding::Damaged(Place::Log { region: 0, row: 0 }),
+    ),
+    (
+        16_407,
+        0,
+        Finding::Damaged(Place::Log { region: 0, row: 1 }),
+    ),
+    (
+        16_407,
+        255,
+        Finding::Damaged(Place::Log { region: 0, row: 1 }),
+    ),
+    (16_430, 3, Finding::Keys(2)),
+    (12_288, 0xFF, Finding::Keys(0)),
+    (12_289, 0x00, Finding::Keys(1)),
+    // more puts than sorted entries
+    (36, 1, Finding::Damaged(Place::Charge)),
+    (36, 2, Finding::Keys(2)),
+];
+
+// The bytes of a small store with two rows that a flush answered.
+fn image(alloc: Global) -> Result<Vec<u8>, Fail> {
+    let lines = [Line::Put(1, 1), Line::Put(2, 2), Line::Flush];
+    let (disk, _told) = live(alloc, formatted(alloc)?, &lines)?;
+    Ok(disk.shown().to_vec(alloc)?)
+}
+
+// What an opening finds on a device of these bytes. Where it is refused nothing was written.
+fn find_damage(rt: &impl Abort, alloc: Global, bytes: &[u8]) -> Result<Finding, Fail> {
+    match Core::open(alloc, MemDisk::with_bytes(alloc, bytes)?) {
+        Ok(core) => match core.entries(alloc) {
+            Ok(entries) => Ok(Finding::Keys(entries.len())),
+            Err(_) => Err("entries".into()),
+        },
+        Err(OpenFault { disk, refusal }) => {
+            assert_eq!(rt; disk.shown(), bytes);
+            match refusal {
+                Refusal::NotFormatted => Ok(Finding::NotFormatted),
+                Refusal::Damaged(place) => Ok(Finding::Damaged(place)),
+                other => Ok(Finding::Other(other.number())),
+            }
+        }
+    }
+}
+
+#[test]
+fn finds_each_damaged_byte(rt: HostRuntime) -> Result<(), Fail> {
+    let alloc = rt.alloc();
+    let whole = image(alloc)?;
+    assert_eq!(rt; find_damage(&rt, alloc, &whole)?, Finding::Keys(2));
+    for (place, byte, expected) in BYTES {
+        let mut bytes = whole.as_slice().to_vec(alloc)?;
+        assert!(rt; place < bytes.len());
+        bytes[place] = byte;
+        assert_eq!(rt;
+            find_damage(&rt, alloc, &bytes)?,
+            expected,
+            "{byte} at {place}"
+        );
+    }
+    Ok(())
+}
+
+// A device of another length than its header says, and one that is shorter than a header. Bad numbers decide before the length.
+#[test]
+fn finds_another_length(rt: HostRuntime) -> Result<(), Fail> {
+    let alloc = rt.alloc();
+    let mut bytes = image(alloc)?;
+    assert_eq!(rt; bytes.len(), 45_056);
+    for len in [0usize, 36] {
+        assert_eq!(rt;
+            find_damage(&rt, alloc, &bytes[..len])?,
+            Finding::NotFormatted,
+            "{len}"
+        );
+    }
+    let expected = Finding::Damaged(Place::Length);
+    for len in [37usize, 12_288, 45_055] {
+        assert_eq!(rt; find_damage(&rt, alloc, &bytes[..len])?, expected, "{len}");
+    }
+    bytes.push(0)?;
+    assert_eq!(rt; find_damage(&rt, alloc, &bytes)?, expected);
+    assert_eq!(rt; bytes.len(), 45_057);
+    bytes[20] = 3;
+    let expected = Finding::Damaged(Place::Header);
+    assert_eq!(rt; find_damage(&rt, alloc, &bytes)?, expected);
+    Ok(())
+}
+
+// Of several findings the first decides.
+#[test]
+fn finds_the_first_damage(rt: HostRuntime) -> Result<(), Fail> {
+    let alloc = rt.alloc();
+    let mut bytes = image(alloc)?;
+    assert_eq!(rt; bytes.len(), 45_056);
+    let places = [
+        (36usize, 1u8, Finding::Damaged(Place::Charge)),
+        (
+            16_407,
+            3,
+            Finding::Damaged(Place::Log { region: 0, row: 1 }),
+        ),
+        (
+            16_384,
+            3,
+            Finding::Damaged(Place::Log { region: 0, row: 0 }),
+        ),
+        (4096, 0, Finding::Damaged(Place::NoSlot)),
+        (28, 3, Finding::Damaged(Place::Length)),
+        (20, 3, Finding::Damaged(Place::Header)),
+        (12, 9, Finding::NotFormatted),
+    ];
+    for (place, byte, expected) in places {
+        assert!(rt; place < bytes.len());
+        bytes[place] = byte;
+        assert_eq!(rt;
+            find_damage(&rt, alloc, &bytes)?,
+            expected,
+            "{byte} at {place}"
+        );
+    }
+    Ok(())
+}

@@ -1,0 +1,159 @@
+// Lives as the tests write them, and what is told of their replies.
+ghost use Rattle.std.specs.Prelude.{All, IfOk};
+ghost use Rattle.silt_store_set.specs.CoreState.{HasValueOf};
+
+use crate::tests::key;
+use crate::{Core, Event, LifeReply, OpenFault, Progress, Reply, lives};
+use silt_device::{MemDisk, MemFault};
+use silt_frame::Value;
+use std::alloc::{AllocError, Global};
+
+/// One event of a life. A key is given by its first byte, and a value by the second of its two.
+#[derive(Clone, Copy, Debug, PartialEq, Eq)]
+pub(crate) enum Line {
+    Put(u8, u8),
+    Delete(u8),
+    Get(u8),
+    Flush,
+}
+
+/// What is told of an opening or a reply. A refusal is told by its number.
+#[derive(Clone, Copy, Debug, PartialEq, Eq)]
+pub(crate) enum Told {
+    Opened,
+    NotOpened(u32),
+    Accepted(u64),
+    Acknowledged(u64),
+    Value(u8, u8),
+    LongValue,
+    Absent,
+    Idle,
+    Busy,
+    Refused(u32),
+}
+
+// The event that a line stands for.
+fn event(alloc: Global, line: Line) -> Result<Event, AllocError>
+    ensures { IfOk result (HasValueOf 2) }
+{
+    match line {
+        Line::Put(first, last) => Ok(Event::Put(key(first), Value::new([0, last].to_vec(alloc)?))),
+        Line::Delete(first) => Ok(Event::Delete(key(first))),
+        Line::Get(first) => Ok(Event::Get(key(first))),
+        Line::Flush => Ok(Event::Flush),
+    }
+}
+
+/// The events of a life.
+pub(crate) fn events(alloc: Global, lines: &[Line]) -> Result<Vec<Event>, AllocError>
+    ensures { IfOk result (λ events. All (HasValueOf 2) events.items) }
+{
+    let mut events = Vec::new(alloc);
+    for line in lines {
+        let event = event(alloc, *line)?;
+        events.push(event)?;
+    }
+    Ok(events)
+}
+
+// The events of each life.
+fn all_events(alloc: Global, all: &[&[Line]]) -> Result<Vec<Vec<Event>>, AllocError>
+    ensures { IfOk result (λ lives. All (λ life. All (HasValueOf 2) life.items) lives.items) }
+{
+    let mut lives = Vec::new(alloc);
+    for lines in all {
+        let events = events(alloc, lines)?;
+        lives.push(events)?;
+    }
+    Ok(lives)
+}
+
+fn told_value(bytes: &[u8]) -> Told {
+    match bytes {
+        [first, last] => Told::Value(*first, *last),
+        _ => Told::LongValue,
+    }
+}
+
+fn tell_reply(reply: &Reply<MemFault>) -> Told {
+    match reply {
+        Reply::Accepted(n) => Told::Accepted(*n),
+        Reply::Acknowledged(n) => Told::Acknowledged(*n),
+        Reply::Found(value) => told_value(value.as_slice()),
+        Reply::Absent => Told::Absent,
+        Reply::Progress(Progress::Idle) => Told::Idle,
+        Reply::Progress(_) => Told::Busy,
+        Reply::Refused(refusal) => Told::Refused(refusal.number()),
+    }
+}
+
+// Tells replies after what was told before.
+fn tell(told_before: &mut Vec<Told>, replies: &[Reply<MemFault>]) -> Result<(), AllocError> {
+    for reply in replies {
+        told_before.push(tell_reply(reply))?;
+    }
+    Ok(())
+}
+
+// Tells a life after what was told before.
+fn tell_life(told: &mut Vec<Told>, life: &LifeReply<MemFault>) -> Result<(), AllocError> {
+    match life {
+        LifeReply::NotOpened(refusal) => told.push(Told::NotOpened(refusal.number()))?,
+        LifeReply::Opened(replies) => {
+            told.push(Told::Opened)?;
+            tell(told, replies)?;
+        }
+    }
+    Ok(())
+}
+
+/// What is told of lives of values of two bytes, on this disk.
+pub(crate) fn told_lives(
+    alloc: Global,
+    disk: MemDisk,
+    all: &[&[Line]],
+) -> Result<Vec<Told>, AllocError> {
+    let all = all_events(alloc, all)?;
+    let replies = lives(alloc, disk, 2, &all)?;
+    let mut told = Vec::new(alloc);
+    for life in &replies {
+        tell_life(&mut told, life)?;
+    }
+    Ok(told)
+}
+
+// The replies to these events, none where the store has values of another length.
+fn answered(
+    alloc: Global,
+    core: &mut Core<MemDisk>,
+    value_len: u32,
+    events: &[Event],
+) -> Result<Vec<Reply<MemFault>>, AllocError>
+    requires { All (HasValueOf value_len) events.now }
+{
+    if core.geometry().value_len() != value_len {
+        return Ok(Vec::new(alloc));
+    }
+    core.run(alloc, events)
+}
+
+/// One life of values of two bytes, on this disk: the disk after it, as yet without a stop, and what is told.
+pub(crate) fn live(
+    alloc: Global,
+    disk: MemDisk,
+    lines: &[Line],
+) -> Result<(MemDisk, Vec<Told>), AllocError> {
+    let mut told = Vec::new(alloc);
+    let mut core = match Core::open(alloc, disk) {
+        Ok(core) => core,
+        Err(OpenFault { disk, refusal }) => {
+            told.push(Told::NotOpened(refusal.number()))?;
+            return Ok((disk, told));
+        }
+    };
+    told.push(Told::Opened)?;
+    let events = events(alloc, lines)?;
+    let replies = answered(alloc, &mut core, 2, &events)?;
+    tell(&mut told, &replies)?;
+    Ok((core.close(), told))
+}
