@@ -1,4 +1,5 @@
-pub mod Cuts
-pub mod NumberExits
-pub mod Stores
-pub mod Streams
+pub mod Fits
+pub mod Lives
+pub mod Outcomes
+pub mod Readings
+pub mod Texts

@@ -1,5 +1,2 @@
-pub mod Lines
 pub mod Numbers
-pub mod Pending
-pub mod Replies
-pub mod Sessions
+pub mod Scripts

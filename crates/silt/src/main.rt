@@ -1,17 +1,14 @@
 //! The program silt.
 //!
-//! `silt script V B CAP NL NH S` makes an empty store of this geometry on a disk in memory, and answers the lines that it reads,
-//! one reply line for each.
+//! `silt script V B CAP NL NH S` makes an empty store of this geometry on a disk in memory, reads lines to the end, and answers
+//! them, one reply line for each. Lines `stop K FILL` divide them into lives: at each such line the store is stopped, at the
+//! K-th write or sync of the life that ends there, and what the stop leaves is opened again.
 #![tactic(auto)]
 
-mod keys;
-mod line;
-mod number;
-mod pending;
+mod printing;
 mod program;
-mod reply;
+mod reading;
 mod script;
-mod session;
 #[cfg(test)]
 mod tests;
 mod words;

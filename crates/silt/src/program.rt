@@ -1,11 +1,9 @@
 // The program's work, over any reader and writer.
 ghost use Rattle.std.specs.Prelude.{◌≡◌, ◌≢◌, codes};
 ghost use Rattle.std.specs.Io.KnownBytes.{Appends};
-ghost use Rattle.silt_device.specs.Disk.{GaveAny};
-ghost use Rattle.silt_device.specs.Memory.{memory_content, memory_gave};
+ghost use Rattle.silt_device.specs.declared.memory.MemFault.{MemFault};
 ghost use Rattle.silt.specs.declared.words.Numbers.{Numbers};
-ghost use Rattle.silt.specs.Numbers.{shape_of};
-ghost use Rattle.silt.specs.Sessions.{EndsScript};
+ghost use Rattle.silt.specs.Scripts.{EndsScript};
 
 use crate::script::script;
 use crate::words::{Job, WordsError, read_words};
@@ -19,7 +17,7 @@ pub fn program<S: AllocGlobal, R: Read, W: Write>(
     reader: &mut R,
     writer: &mut W,
 ) -> u8
-    ensures { result ≡ 0 → (numbers : Numbers) × EndsScript memory_content (λ disk. disk.failures) (GaveAny memory_gave) (shape_of numbers)
+    ensures { result ≡ 0 → (numbers : Numbers) × EndsScript MemFault numbers.value_len
         (R.remaining reader.old) (R.remaining reader.new) (W.contents writer.old) (W.contents writer.new) }
 {
     match read_words(rt.alloc(), words) {

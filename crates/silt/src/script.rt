@@ -1,21 +1,30 @@
-// A script: lines over a new store in memory.
-ghost use Rattle.std.specs.Prelude.{◌≡◌, ◌≢◌, IfOk, MatchResult, codes};
+// A script: lives of a new store in memory.
+ghost use Rattle.std.specs.Prelude.{◌≡◌, ◌⊎◌, All, IfOk, MatchResult, codes};
+ghost use Rattle.std.specs.FinMap.{empty};
 ghost use Rattle.std.specs.Io.KnownBytes.{Appends};
-ghost use Rattle.silt_device.specs.Disk.{GaveAny, size};
-ghost use Rattle.silt_device.specs.Layout.{InLimits, device_size};
-ghost use Rattle.silt_device.specs.Memory.{memory_content, memory_gave};
+ghost use Rattle.silt_device.specs.Disk.{LeavesOnly};
+ghost use Rattle.silt_device.specs.Layout.{InLimits};
+ghost use Rattle.silt_device.specs.Memory.{memory_content};
+ghost use Rattle.silt_device.specs.declared.memory.MemFault.{MemFault as MemFaultOf};
+ghost use Rattle.silt_store_set.specs.declared.event.Reply.TheVariants.{Refused};
+ghost use Rattle.silt_store_set.specs.Commands.{Map};
+ghost use Rattle.silt_store_set.specs.CoreState.{HasValueOf};
+ghost use Rattle.silt_store_set.specs.Events.{LivesHistory};
+ghost use Rattle.silt_store_set.specs.Image.{IsSafe};
 ghost use Rattle.silt.specs.Numbers.{shape_of};
-ghost use Rattle.silt.specs.Sessions.{EndsScript, IsNew};
+ghost use Rattle.silt.specs.Scripts.{EndsScript, TellsRefusal, reply_line};
 
-use crate::session::{answer_lines, write_reply};
+use crate::printing::write_script;
+use crate::reading::read_script;
 use crate::words::Numbers;
-use silt_device::{BadGeometry, Disk, Geometry, MemDisk, MemFault};
-use silt_store_set::{Core, Refusal, Reply, format};
+use silt_device::{BadGeometry, Geometry, MemDisk, MemFault, Stop};
+use silt_store_set::{Event, LifeReply, Refusal, format, lives};
+use silt_wire::write_refusal;
 use std::alloc::Global;
-use std::io::{self, Read, Write};
+use std::io::{self, ErrorKind, Read, Write};
 
-/// Makes a store of these numbers on a disk in memory and answers the lines that are read. Answers the status: 0 at the end of
-/// the lines, 1 where the store is refused.
+/// Reads a script to its end, runs its lives over a new store of these numbers on a disk in memory, and then writes the
+/// replies. Answers the status: 0 at the end of the replies, 1 where the script or the store is refused.
 ///
 /// # Errors
 ///
@@ -27,52 +36,65 @@ pub fn script<R: Read, W: Write>(
     writer: &mut W,
 ) -> io::Result<u8>
     ensures refused { ¬ InLimits (shape_of numbers.now) → IfOk result (λ status. (status ≡ 1) × Appends (W.contents writer.old) (W.contents writer.new) (codes "refused 2 BadGeometry\n")) }
-    ensures answered { result ≡ Ok 0 → EndsScript memory_content (λ disk. disk.failures) (GaveAny memory_gave) (shape_of numbers.now)
-        (R.remaining reader.old) (R.remaining reader.new) (W.contents writer.old) (W.contents writer.new) }
-{
-    let mut core = match new_core(alloc, numbers) {
-        Ok(core) => core,
-        Err(refusal) => {
-            write_reply(alloc, &Reply::Refused(refusal), writer)?;
-            return Ok(1);
-        }
-    };
-    writer.write_all(b"opened\n")?;
-    writer.flush()?;
-    answer_lines(alloc, &mut core, reader, writer)?;
-    Ok(0)
-}
-
-// An empty store on a new disk in memory. A geometry out of its limits is refused before anything else is done.
-fn new_core(alloc: Global, numbers: &Numbers) -> Result<Core<MemDisk>, Refusal<MemFault>>
-    ensures made { IfOk result (IsNew memory_content (shape_of numbers.now)) }
-    ensures out_of_limits { ¬ InLimits (shape_of numbers.now) → result ≡ Err Refusal.BadGeometry }
-    ensures in_limits { InLimits (shape_of numbers.now) → result ≢ Err Refusal.BadGeometry }
+    ensures told { IfOk result (λ status. (status ≡ 0) ⊎ ((status ≡ 1) × TellsRefusal MemFaultOf (W.contents writer.old) (W.contents writer.new))) }
+    ensures answered { result ≡ Ok 0 → EndsScript MemFaultOf (shape_of numbers.now).value_len (R.remaining reader.old) (R.remaining reader.new) (W.contents writer.old) (W.contents writer.new) }
 {
     let Ok(geometry) = geometry_of(numbers) else {
-        return Err(Refusal::BadGeometry);
+        return refuse(alloc, &Refusal::BadGeometry, writer);
     };
+    let script = match read_script(alloc, geometry.value_len() as usize, reader) {
+        Ok(script) => script,
+        Err(error) if error.kind() == ErrorKind::OutOfMemory => {
+            return refuse(alloc, &Refusal::NoMemory, writer);
+        }
+        Err(error) => return Err(error),
+    };
+    match run_lives(alloc, geometry, script.stops, &script.lives) {
+        Ok(replies) => {
+            write_script(alloc, &script.marks, &replies, writer)?;
+            Ok(0)
+        }
+        Err(refusal) => refuse(alloc, &refusal, writer),
+    }
+}
+
+// Writes that the whole is refused, and answers the status.
+fn refuse<W: Write>(alloc: Global, refusal: &Refusal<MemFault>, writer: &mut W) -> io::Result<u8>
+    ensures { IfOk result (λ status. (status ≡ 1) × Appends (W.contents writer.old) (W.contents writer.new) (reply_line (Refused refusal.now))) }
+{
+    match refusal {
+        Refusal::NoMemory => writer.write_all(b"refused 6 NoMemory\n")?,
+        _ => write_refusal(alloc, refusal, writer)?,
+    }
+    Ok(1)
+}
+
+// Runs lives over a new store, each stopped by its stop and the last one at its end.
+fn run_lives(
+    alloc: Global,
+    geometry: Geometry,
+    stops: Vec<Stop>,
+    events: &[Vec<Event>],
+) -> Result<Vec<LifeReply<MemFault>>, Refusal<MemFault>>
+    requires { All (λ life. All (HasValueOf geometry.value_len) life.items) events.now }
+    ensures { IfOk result (λ replies. (to : Map) × LivesHistory empty events.now replies.items to) }
+{
+    let disk = new_store(alloc, geometry)?.arm(stops);
+    match lives(alloc, disk, geometry.value_len(), events) {
+        Ok(replies) => Ok(replies),
+        Err(_) => Err(Refusal::NoMemory),
+    }
+}
+
+// A new disk in memory with an empty store.
+fn new_store(alloc: Global, geometry: Geometry) -> Result<MemDisk, Refusal<MemFault>>
+    ensures { IfOk result (λ disk. LeavesOnly (memory_content disk) (IsSafe geometry.value_len empty)) }
+{
     let Ok(disk) = MemDisk::new(alloc, geometry.size() as usize) else {
         return Err(Refusal::NoMemory);
     };
-    new_store(alloc, disk, geometry)
-}
-
-// An empty store on a disk, opened. It is not refused as a bad geometry where the disk has the geometry's length.
-fn new_store<D: Disk>(
-    alloc: Global,
-    disk: D,
-    geometry: Geometry,
-) -> Result<Core<D>, Refusal<D::Fault>>
-    ensures made { IfOk result (IsNew D.content geometry) }
-    ensures size { size (D.content disk) ≡ device_size geometry → result ≢ Err Refusal.BadGeometry }
-{
-    let disk = match format(alloc, disk, geometry) {
-        Ok(disk) => disk,
-        Err(fault) => return Err(fault.refusal),
-    };
-    match Core::open(alloc, disk) {
-        Ok(core) => Ok(core),
+    match format(alloc, disk, geometry) {
+        Ok(disk) => Ok(disk),
         Err(fault) => Err(fault.refusal),
     }
 }

@@ -1,8 +1,6 @@
 // What no contract says: printed text and statuses, letter for letter, through the program over memory.
 
 use crate::program::program;
-use crate::reply::print_reply;
-use silt_store_set::{Place, Progress, Refusal, Reply};
 use std::io::{self, Cursor, ErrorKind, Read, Write};
 use std::process::Abort;
 use std::test::Fail;
@@ -112,7 +110,17 @@ fn divides_lines(rt: HostRuntime) -> Result<(), Fail> {
 #[test]
 fn refuses_bad_lines(rt: HostRuntime) -> Result<(), Fail> {
     for line in [
-        "stop 0 old",
+        "stop 0 red",
+        "stop +1 old",
+        "stop 4294967296 old",
+        "stop 00000000000 old",
+        "stop 1",
+        "stop 1 old ",
+        "stop  1 old",
+        "stop 1 Old",
+        "STOP 1 old",
+        "stop 1 old old",
+        "stop",
         "pot 0100000000000000000000000000000000000000",
         "flush ",
         " flush",
@@ -176,7 +184,7 @@ fn answers_any_pieces(rt: HostRuntime) -> Result<(), Fail> {
     Ok(())
 }
 
-// All whole lines before the reader's fault are answered.
+// The whole script is read before its first life begins.
 #[test]
 fn ends_by_a_reader_that_fails(rt: HostRuntime) -> Result<(), Fail> {
     let words = words(&rt, SMALL)?;
@@ -187,10 +195,7 @@ fn ends_by_a_reader_that_fails(rt: HostRuntime) -> Result<(), Fail> {
     };
     let mut out = Vec::new(rt.alloc());
     assert_eq!(rt; program(&rt, words.as_slice(), &mut reader, &mut out), 1);
-    assert_eq!(rt;
-        out.as_slice(),
-        b"opened\naccepted 1\nacknowledged 1\n".as_slice()
-    );
+    assert_eq!(rt; out.as_slice(), b"".as_slice());
     Ok(())
 }
 
@@ -261,55 +266,112 @@ fn reads_the_numbers_in_order(rt: HostRuntime) -> Result<(), Fail> {
     Ok(())
 }
 
+const FIRST: &[u8] = b" 0100000000000000000000000000000000000000";
+
+const SECOND: &[u8] = b" 0200000000000000000000000000000000000000";
+
+const THIRD: &[u8] = b" 0300000000000000000000000000000000000000";
+
+const FOURTH: &[u8] = b" 0400000000000000000000000000000000000000";
+
+// Joins the parts of a script, each of which ends a line where it is a line feed.
+fn joined<S: AllocGlobal>(rt: &S, parts: &[&[u8]]) -> Result<Vec<u8>, Fail> {
+    let mut text = Vec::new(rt.alloc());
+    for part in parts {
+        text.extend_from_slice(*part)?;
+    }
+    Ok(text)
+}
+
+// A stop at a life's end leaves what was accepted and not settled, or not.
 #[test]
-fn prints_replies(rt: HostRuntime) -> Result<(), Fail> {
-    for (refusal, text) in [
-        (Refusal::NotFormatted, "refused 1 NotFormatted"),
-        (Refusal::Damaged(Place::Header), "refused 3 Damaged header"),
-        (Refusal::Damaged(Place::Length), "refused 3 Damaged length"),
-        (Refusal::Damaged(Place::Slot(1)), "refused 3 Damaged slot 1"),
-        (Refusal::Damaged(Place::NoSlot), "refused 3 Damaged no slot"),
-        (
-            Refusal::Damaged(Place::Log { region: 0, row: 10 }),
-            "refused 3 Damaged log 0 row 10",
-        ),
-        (
-            Refusal::Damaged(Place::Hash { region: 1, slot: 7 }),
-            "refused 3 Damaged hash 1 slot 7",
-        ),
-        (
-            Refusal::Damaged(Place::Sorted(1)),
-            "refused 3 Damaged sorted 1",
-        ),
-        (Refusal::Damaged(Place::Charge), "refused 3 Damaged charge"),
-        (Refusal::Crowded, "refused 4 Crowded"),
-        (Refusal::Device(()), "refused 5 Device"),
-        (Refusal::NoMemory, "refused 6 NoMemory"),
-        (Refusal::StoreFull, "refused 7 StoreFull"),
-        (Refusal::NoRoom, "refused 8 NoRoom"),
-        (Refusal::Failed, "refused 9 Failed"),
-        (Refusal::Spent, "refused 10 Spent"),
-        (Refusal::HistoryFull, "refused 11 HistoryFull"),
-        (Refusal::BadKey, "refused 21 BadKey"),
-        (Refusal::BadValue, "refused 22 BadValue"),
-        (Refusal::LineTooLong, "refused 23 LineTooLong"),
-    ] {
-        let reply = Reply::Refused(refusal);
-        assert_eq!(rt; print_reply(rt.alloc(), &reply)?.as_str(), text);
+fn stops_at_the_end_of_a_life(rt: HostRuntime) -> Result<(), Fail> {
+    let text = joined(
+        &rt,
+        &[b"put", FIRST, b" 0102\nstop 0 new\nget", FIRST, b"\n"],
+    )?;
+    let output = b"opened\naccepted 1\nstopped\nopened\nabsent\n";
+    answers(&rt, SMALL, &text, 0, output)
+}
+
+// A stop within a flush keeps a beginning of the commands, and the next life goes on from it.
+#[test]
+fn stops_within_a_flush(rt: HostRuntime) -> Result<(), Fail> {
+    let text = joined(
+        &rt,
+        &[
+            b"put",
+            FIRST,
+            b" 0001\nput",
+            SECOND,
+            b" 0002\nput",
+            THIRD,
+            b" 0003\nflush\nstop 9 mix\nget",
+            FIRST,
+            b"\nget",
+            SECOND,
+            b"\nget",
+            THIRD,
+            b"\nput",
+            FOURTH,
+            b" 0004\nflush\nstop 0 old\nget",
+            THIRD,
+            b"\nget",
+            FOURTH,
+            b"\n",
+        ],
+    )?;
+    let output =
+        b"opened\naccepted 1\naccepted 2\naccepted 3\nrefused 5 Device\nstopped\nopened\nvalue 0001\nabsent\nabsent\naccepted 1\nacknowledged 1\nstopped\nopened\nabsent\nvalue 0004\n";
+    answers(&rt, SMALL, &text, 0, output)
+}
+
+// A life whose opening is stopped is refused, and its lines are not answered.
+#[test]
+fn stops_an_opening(rt: HostRuntime) -> Result<(), Fail> {
+    let text = joined(
+        &rt,
+        &[
+            b"put",
+            FIRST,
+            b" 0001\nflush\nstop 0 old\nget",
+            FIRST,
+            b"\nno line\nstop 1 old\nget",
+            FIRST,
+            b"\n",
+        ],
+    )?;
+    let output =
+        b"opened\naccepted 1\nacknowledged 1\nstopped\nrefused 5 Device\nstopped\nopened\nvalue 0001\n";
+    answers(&rt, SMALL, &text, 0, output)
+}
+
+// Lives with no lines are opened and stopped too, and a carriage return is taken off.
+#[test]
+fn divides_lives(rt: HostRuntime) -> Result<(), Fail> {
+    for line in ["stop 0 old", "stop 4294967295 old", "stop 0000000000 mix\r"] {
+        let text = joined(
+            &rt,
+            &[
+                b"flush\nno line\n",
+                line.as_bytes(),
+                b"\n\r\n",
+                line.as_bytes(),
+                b"\nflush\n",
+                line.as_bytes(),
+            ],
+        )?;
+        let output =
+            b"opened\nacknowledged 0\nrefused 20 BadLine\nstopped\nopened\nstopped\nopened\nacknowledged 0\n";
+        answers(&rt, SMALL, &text, 0, output)?;
     }
     Ok(())
 }
 
+// A script that ends with a stop line is followed by a life with no lines.
 #[test]
-fn prints_progress(rt: HostRuntime) -> Result<(), Fail> {
-    for (progress, text) in [
-        (Progress::Idle, "idle"),
-        (Progress::Waiting, "waiting"),
-        (Progress::Moved, "moved"),
-        (Progress::Finished, "finished"),
-    ] {
-        let reply: Reply<()> = Reply::Progress(progress);
-        assert_eq!(rt; print_reply(rt.alloc(), &reply)?.as_str(), text);
-    }
-    Ok(())
+fn opens_after_the_last_stop(rt: HostRuntime) -> Result<(), Fail> {
+    let output = b"opened\nstopped\nopened\n";
+    answers(&rt, SMALL, b"stop 0 old\n", 0, output)?;
+    answers(&rt, SMALL, b"", 0, b"opened\n")
 }

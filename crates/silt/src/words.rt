@@ -1,9 +1,9 @@
 // The words of the command line.
 ghost use Rattle.std.specs.Prelude.{◌≡◌};
 
-use crate::number::number_of;
 use clap::error::ErrorKind;
 use clap::{Arg, ArgAction, ArgMatches, Command};
+use silt_wire::number_of;
 use std::alloc::{AllocError, Global};
 
 /// The six numbers of a geometry, in the order of the command line. They may be out of its limits.
@@ -64,7 +64,7 @@ fn command<'a>(alloc: Global) -> Result<Command<'a>, AllocError> {
 }
 
 fn number_at(matches: &ArgMatches<'_>, name: &str) -> Option<u32> {
-    number_of(matches.get_str(name)?)
+    number_of(matches.get_str(name)?.as_bytes())
 }
 
 fn numbers_of(matches: &ArgMatches<'_>) -> Option<Numbers> {

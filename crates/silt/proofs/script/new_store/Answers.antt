@@ -1,6 +1,6 @@
-use Rattle.silt.proofs.Stores.{IsNew-opened}
+use Rattle.silt_device.specs.Memory.{memory_content}
+use Rattle.silt.proofs.Lives.{new_is_safe}
 use Rattle.silt.proofs.script.new_store.Goals as goal
 
-pub returns-in-Ok-open-clause-made : goal.returns-in-Ok-open-clause-made
-returns-in-Ok-open-clause-made g c =
-    IsNew-opened g.D.Disk.content c.args.geometry (g.D.Disk.content c.in-Ok.disk) c.in-Ok-open.core c.in-Ok.ensures.images c.in-Ok-open.ensures.ok
+pub returns-in-Ok-format : goal.returns-in-Ok-format
+returns-in-Ok-format c = new_is_safe (memory_content c.in-Ok-format.disk) c.args.geometry c.in-Ok-format.ensures.images

@@ -1,31 +1,30 @@
-use Rattle.std.proofs.Common.{◌≡◌, refl, subst, ◌++◌, ◌∷◌, []}
-use Rattle.std.specs.Io.KnownBytes.{Appends}
-use Rattle.silt_device.specs.declared.memory.MemFault.{MemFault}
-use Rattle.silt_store_set.specs.declared.event.Refusal.{Refusal}
-use Rattle.silt_store_set.specs.declared.event.Refusal.TheVariants.{BadGeometry}
-use Rattle.silt_store_set.specs.declared.event.Reply.TheVariants.{Refused}
-use Rattle.silt.specs.Replies.{reply_text}
-use Rattle.silt.proofs.Streams.{Appends-append, Appends-keeps}
+use Rattle.std.proofs.Common.{◌≡◌, ℕ, [], ap, ◌∙◌, subst}
+use Rattle.silt_device.specs.Layout.{Shape}
+use Rattle.silt_wire.specs.Sessions.{lines_after}
+use Rattle.silt.specs.Scripts.{Reads}
+use Rattle.silt_store_set.specs.declared.event.Refusal.TheVariants.{BadGeometry, NoMemory}
+use Rattle.silt.proofs.Outcomes.{told_refused}
 use Rattle.silt.proofs.script.script.Goals as goal
 
-pub returns-clause-answered : goal.returns-clause-answered
-returns-clause-answered g c = λ _.
-    let answered = c.in_ok-answer_lines.ensures in
-    let opened = Appends-keeps _ _ _ _ c.in_ok-write_all.ensures.bytes c.flush.ensures.bytes in (
-      answered.0,
-      answered.1,
-      answered.2,
-      c.in-Ok.core,
-      c.answer_lines.new.core,
-      answered.3.0,
-      c.in-Ok.ensures.made,
-      answered.3.1,
-      Appends-append _ _ _ _ _ opened answered.3.2,
+pub returns-in-Ok-run_lives-clause-answered : goal.returns-in-Ok-run_lives-clause-answered
+returns-in-Ok-run_lives-clause-answered g c = λ _.
+    let script = c.in-Ok-read_script.script in
+    let reads = c.in-Ok-read_script.ensures.reads in
+    let history = c.in-Ok-run_lives.ensures in
+    let len : c.value_len.result ≡ c.args.numbers.now.value_len = c.value_len.ensures.value ∙ ap (λ (s : Shape). s.value_len) c.in-Ok.ensures.0 in (
+      reads.0,
+      reads.1,
+      reads.2,
+      script,
+      subst (λ (n : ℕ). Reads n (lines_after [] reads.0) script) len reads.3,
+      c.in-Ok-run_lives.replies.items,
+      history.0,
+      rw c.deref.ensures.value at history.1,
+      rw (c.deref-in-Ok-run_lives.ensures.value, c.deref-in-Ok-run_lives-2.ensures.value) at c.in_ok-write_script-in-Ok-run_lives.ensures,
     )
 
-pub returns-in-Err-clause-refused : goal.returns-in-Err-clause-refused
-returns-in-Err-clause-refused g c = λ out_of_limits.
-    let limits = c.in-Err.ensures.out_of_limits out_of_limits in
-    let is_bad : c.in-Err.refusal ≡ BadGeometry = cc limits in
-    let text = λ (refusal : Refusal MemFault). reply_text (Refused refusal) ++ 10 ∷ [] in
-    (refl, subst (λ refusal. Appends (g.W.Write.contents c.args.writer.now) (g.W.Write.contents c.write_reply.new.writer) (text refusal)) is_bad c.in_ok-write_reply-in-Err.ensures)
+pub returns-in_default-clause-told : goal.returns-in_default-clause-told
+returns-in_default-clause-told g c = told_refused c.refuse.result _ _ BadGeometry c.refuse.ensures
+
+pub returns-in-Err-clause-told : goal.returns-in-Err-clause-told
+returns-in-Err-clause-told g c = told_refused c.refuse-in-Err.result _ _ NoMemory c.refuse-in-Err.ensures

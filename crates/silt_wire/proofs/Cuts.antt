@@ -1,0 +1,104 @@
+-- The words of a line, and what they ask for.
+use Rattle.std.proofs.Common.{◌≡◌, ◌≢◌, ◌<◌, ◌≤◌, ◌==◌, ◌+◌, ℕ, List, [], ◌∷◌, length, take, drop, Option, Some, None, is_some, false, Result, Err, refl, sym, ap, subst, ◌∙◌, inl, arith}
+use Rattle.std.specs.Prelude.{IfNone}
+use Rattle.std.specs.List.{position, position_or_len, slice_split}
+use Rattle.std.proofs.lemmas.Grind.{common_steps}
+use Rattle.std.proofs.lemmas.List.Sums.{fails_before_first}
+use Rattle.std.proofs.lemmas.List.Splits.{slice_split_first, slice_split_none, length-slice_split}
+use Rattle.silt_store_set.specs.declared.event.Event.{Event}
+use Rattle.silt_wire.specs.declared.line.LineFault.{LineFault}
+use Rattle.silt_wire.specs.declared.line.LineFault.TheVariants.{BadLine}
+use Rattle.silt_wire.specs.Stops.{stop_of_words, told_stop}
+use Rattle.silt_wire.specs.Lines.{Parses, words_of, bare_event, key_event, value_event, event_of}
+
+-- the first word ends at the first space, and the other words stand after it
+pub words_of-cut : (text : List ℕ) (at : ℕ) → position (λ b. b == 32) text ≡ Some at → words_of text ≡ take at text ∷ words_of (drop (at + 1) text)
+words_of-cut text at e =
+    let p = λ (b : ℕ). b == 32 in
+    let is_at : position_or_len p text ≡ at = grind (arith, common_steps) in
+    let inside : at < length text = grind (arith, common_steps) in
+    subst (λ n. slice_split p text ≡ take n text ∷ slice_split p (drop (n + 1) text)) is_at (slice_split_first p text 0 (omega arith))
+
+-- with no space there is one word
+pub words_of-whole : (text : List ℕ) → position (λ b. b == 32) text ≡ None → words_of text ≡ text ∷ []
+words_of-whole text e =
+    let p = λ (b : ℕ). b == 32 in
+    let ends : length text ≤ position_or_len p text = grind (arith, common_steps) in
+    slice_split_none p text (λ k d lt. fails_before_first p text k d (omega arith))
+
+-- what one word asks for
+pub asked-one : (len : ℕ) (text : List ℕ) (result : Result Event LineFault) → words_of text ≡ text ∷ [] → result ≡ bare_event text → Parses (event_of len (words_of text)) result
+unfolding event_of
+asked-one len text result words e = inl (e ∙ sym (ap (event_of len) words))
+
+-- what two words ask for
+pub asked-two : (len : ℕ) (text word rest : List ℕ) (result : Result Event LineFault) → words_of text ≡ word ∷ words_of rest → words_of rest ≡ rest ∷ []
+    → result ≡ key_event word rest → Parses (event_of len (words_of text)) result
+unfolding event_of
+asked-two len text word rest result words last e = inl (e ∙ sym (ap (event_of len) (words ∙ ap (λ more. word ∷ more) last)))
+
+-- what three words ask for
+pub asked-three : (len : ℕ) (text word key rest value : List ℕ) (result : Result Event LineFault) → words_of text ≡ word ∷ words_of rest → words_of rest ≡ key ∷ words_of value
+    → words_of value ≡ value ∷ [] → Parses (value_event len word key value) result → Parses (event_of len (words_of text)) result
+unfolding event_of
+asked-three len text word key rest value result words more last e =
+    subst (λ asked. Parses asked result) (sym (ap (event_of len) (words ∙ ap (λ parts. word ∷ parts) (more ∙ ap (λ parts. key ∷ parts) last)))) e
+
+-- four words and more ask for nothing
+event_of-many : (len : ℕ) (word key value : List ℕ) (more : List (List ℕ)) → more ≢ [] → event_of len (word ∷ key ∷ value ∷ more) ≡ Err BadLine
+unfolding event_of
+event_of-many len word key value [] some = absurd (some refl)
+event_of-many len word key value (next ∷ more) some = refl
+
+-- there is at least one word
+words_of-some : (text : List ℕ) → words_of text ≢ []
+words_of-some text e =
+    let none : length (words_of text) ≡ 0 = ap length e in
+    let count = length-slice_split (λ b. b == 32) text in
+    absurd (omega arith)
+
+pub asked-many : (len : ℕ) (text word key rest value last next : List ℕ) (result : Result Event LineFault) → words_of text ≡ word ∷ words_of rest → words_of rest ≡ key ∷ words_of value
+    → words_of value ≡ last ∷ words_of next → result ≡ Err BadLine → Parses (event_of len (words_of text)) result
+asked-many len text word key rest value last next result words more most e =
+    inl (e ∙ sym (ap (event_of len) (words ∙ ap (λ parts. word ∷ parts) (more ∙ ap (λ parts. key ∷ parts) most)) ∙ event_of-many len word key last (words_of next) (words_of-some next)))
+
+-- no more space was found
+pub last-from_none : {A : Type 0} {P : Type 0} (found : Option A) → is_some found ≡ false → IfNone found P → P
+last-from_none (Some x) e h = absurd (cc)
+last-from_none None e h = h
+
+-- the words of a text, by its first space
+pub ruleset words_of_steps = (words_of-cut, words_of-whole)
+
+-- what a line's words ask for, by their number
+pub ruleset asked_steps = (asked-one, asked-many)
+
+-- ---- stops
+
+-- one word tells no stop
+pub stop-one : (text : List ℕ) → words_of text ≡ text ∷ [] → stop_of_words (words_of text) ≡ None
+unfolding stop_of_words
+stop-one text words = ap stop_of_words words
+
+-- nor do two
+pub stop-two : (text word rest : List ℕ) → words_of text ≡ word ∷ words_of rest → words_of rest ≡ rest ∷ [] → stop_of_words (words_of text) ≡ None
+unfolding stop_of_words
+stop-two text word rest words last = ap stop_of_words (words ∙ ap (λ more. word ∷ more) last)
+
+-- three may
+pub stop-three : (text word rest k fill : List ℕ) → words_of text ≡ word ∷ words_of rest → words_of rest ≡ k ∷ words_of fill → words_of fill ≡ fill ∷ [] → stop_of_words (words_of text) ≡ told_stop word k fill
+unfolding stop_of_words
+stop-three text word rest k fill words more last = ap stop_of_words (words ∙ ap (λ parts. word ∷ parts) (more ∙ ap (λ parts. k ∷ parts) last))
+
+-- four words and more tell none
+stop_of_words-many : (word k fill : List ℕ) (more : List (List ℕ)) → more ≢ [] → stop_of_words (word ∷ k ∷ fill ∷ more) ≡ None
+unfolding stop_of_words
+stop_of_words-many word k fill [] some = absurd (some refl)
+stop_of_words-many word k fill (next ∷ more) some = refl
+
+pub stop-many : (text word rest k fill last next : List ℕ) → words_of text ≡ word ∷ words_of rest → words_of rest ≡ k ∷ words_of fill → words_of fill ≡ last ∷ words_of next → stop_of_words (words_of text) ≡ None
+stop-many text word rest k fill last next words more most =
+    ap stop_of_words (words ∙ ap (λ parts. word ∷ parts) (more ∙ ap (λ parts. k ∷ parts) most)) ∙ stop_of_words-many word k last (words_of next) (words_of-some next)
+
+-- what a line's words tell, by their number
+pub ruleset stop_steps = (stop-one, stop-two, stop-many)

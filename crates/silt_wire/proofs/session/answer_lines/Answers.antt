@@ -1,0 +1,22 @@
+use Rattle.std.proofs.Common.{◌++◌, ℕ, List, [], take, sym, subst}
+use Rattle.silt_device.specs.Disk.{GaveAny}
+use Rattle.silt_wire.specs.Pending.{Holds}
+use Rattle.silt_wire.proofs.Streams.{rest_after-append, Takes-append, Consumes-append, Consumes-keeps}
+use Rattle.silt_wire.proofs.session.answer_lines.Goals as goal
+use Rattle.silt_wire.proofs.session.answer_lines.Goals.{in-Ok+in_ok-take_bytes-in-Ok, in-Err}
+
+pub loop-preserved : goal.loop-preserved
+loop-preserved g c =
+    let i = c.loop.invariant in
+    elim c.match-read.branch [
+      | in-Ok+in_ok-take_bytes-in-Ok w ↦
+          let more = take w.in-Ok.count c.read.new.buf in
+          let P = λ (q : List ℕ). Holds w.take_bytes.new.pending q in
+          rw (w.writer-is, w.core-is, w.pending-is) (
+            i.0 ++ more,
+            Consumes-append _ _ _ _ _ i.1 w.in-Ok.ensures.bytes.0,
+            subst P (sym (rest_after-append [] i.0 more)) (w.in_ok-take_bytes-in-Ok.ensures.holds _ i.2),
+            Takes-append g.D.Disk.content g.D.Disk.failures (GaveAny g.D.Disk.gave) [] _ _ _ i.0 more _ _ _ i.3 (w.in_ok-take_bytes-in-Ok.ensures.takes _ i.2),
+          )
+      | in-Err w ↦ rw (w.writer-is, w.core-is, w.pending-is) (i.0, Consumes-keeps _ _ _ _ i.1 w.in-Err.ensures.bytes, i.2, i.3)
+    ]

@@ -1,0 +1,6 @@
+pub mod Lines
+pub mod Numbers
+pub mod Pending
+pub mod Replies
+pub mod Sessions
+pub mod Stops

@@ -1,0 +1,169 @@
+// Lines to events.
+ghost use Rattle.std.specs.Prelude.{◌≡◌, ◌⊎◌, ◌==◌, ◌∷◌, [], length, position, IfSome, IfNone, IfOk, IfErr};
+ghost use Rattle.std.specs.Str.Lines.{strip_carriage_return};
+ghost use Rattle.silt_store_set.specs.CoreState.{HasValueOf};
+ghost use Rattle.silt_wire.specs.Lines.{Parses, words_of, value_of, bare_event, key_event, value_event, event_of, asked_by, is_blank};
+
+use crate::keys::key_of;
+use silt_frame::Value;
+use silt_store_set::Event;
+use std::alloc::{AllocError, Global};
+
+/// The most bytes that a line may have, its carriage return counted.
+pub const LONGEST_LINE: usize = 8300;
+
+/// Why a line asks for nothing.
+#[derive(Clone, Copy, Debug, PartialEq, Eq)]
+pub enum LineFault {
+    /// The first word is unknown, or there is a wrong number of words.
+    BadLine,
+    /// The key is not in its form.
+    BadKey,
+    /// The value is not in its form.
+    BadValue,
+    /// The line has too many bytes.
+    LineTooLong,
+    /// A growth of memory was refused.
+    NoMemory,
+}
+
+impl From<AllocError> for LineFault {
+    ghost use Rattle.silt_wire.specs.declared.line.LineFault.TheVariants.{NoMemory};
+
+    ghost from_gives = { λ _ fault. fault ≡ NoMemory };
+
+    fn from(_error: AllocError) -> LineFault {
+        LineFault::NoMemory
+    }
+}
+
+/// The line without the carriage return at its end, if there is one.
+pub fn without_carriage_return(line: &[u8]) -> &[u8]
+    ensures { result.now ≡ strip_carriage_return line.now }
+{
+    match line {
+        [text @ .., b'\r'] => text,
+        _ => line,
+    }
+}
+
+// Where the first space is.
+fn space_at(text: &[u8]) -> Option<usize>
+    ensures { result ≡ position (λ b. b == 32) text.now }
+{
+    text.iter().position(|byte| *byte == b' ')
+}
+
+// The first word and what comes after its space, or nothing where there is one word alone.
+#[tactic(auto, using(crate::proofs::Cuts::words_of_steps))]
+pub(crate) fn cut_word(text: &[u8]) -> Option<(&[u8], &[u8])>
+    ensures more { IfSome result (λ parts. words_of text.now ≡ parts.0.now ∷ words_of parts.1.now) }
+    ensures last { IfNone result (words_of text.now ≡ text.now ∷ []) }
+{
+    let at = space_at(text)?;
+    Some((text.split_at(at).0, text.split_at(at + 1).1))
+}
+
+// The value that a word spells: two hexadecimal digits for each of its bytes.
+fn value_of(alloc: Global, value_len: usize, word: &[u8]) -> Result<Value, LineFault>
+    ensures value { IfOk result (λ value. value_of value_len word.now ≡ Some value) }
+    ensures fits { IfOk result (λ value. length value ≡ value_len) }
+    ensures fault { IfErr result (λ fault. (fault ≡ LineFault.NoMemory) ⊎ ((fault ≡ LineFault.BadValue) × (value_of value_len word.now ≡ None))) }
+{
+    let mut bytes = vec![in alloc; 0u8; value_len]?;
+    match hex::decode_to_slice(word, &mut bytes) {
+        Ok(()) => Ok(Value::new(bytes)),
+        Err(_) => Err(LineFault::BadValue),
+    }
+}
+
+// What a word alone asks for.
+fn bare_event(word: &[u8]) -> Result<Event, LineFault>
+    ensures { result ≡ bare_event word.now }
+{
+    if word == b"flush".as_slice() {
+        Ok(Event::Flush)
+    } else if word == b"convert".as_slice() {
+        Ok(Event::Convert)
+    } else if word == b"merge".as_slice() {
+        Ok(Event::Merge)
+    } else {
+        Err(LineFault::BadLine)
+    }
+}
+
+// What a word and a key ask for.
+fn key_event(word: &[u8], key: &[u8]) -> Result<Event, LineFault>
+    ensures { result ≡ key_event word.now key.now }
+{
+    if word == b"delete".as_slice() {
+        Ok(Event::Delete(key_of(key).ok_or(LineFault::BadKey)?))
+    } else if word == b"get".as_slice() {
+        Ok(Event::Get(key_of(key).ok_or(LineFault::BadKey)?))
+    } else {
+        Err(LineFault::BadLine)
+    }
+}
+
+// What a word, a key and a value ask for.
+fn value_event(
+    alloc: Global,
+    value_len: usize,
+    word: &[u8],
+    key: &[u8],
+    value: &[u8],
+) -> Result<Event, LineFault>
+    ensures asked { Parses (value_event value_len word.now key.now value.now) result }
+    ensures fits { IfOk result (HasValueOf value_len) }
+{
+    if word != b"put".as_slice() {
+        return Err(LineFault::BadLine);
+    }
+    let key = key_of(key).ok_or(LineFault::BadKey)?;
+    let value = value_of(alloc, value_len, value)?;
+    Ok(Event::Put(key, value))
+}
+
+// What the words of a text ask for.
+#[tactic(auto, using(crate::proofs::Cuts::asked_steps))]
+fn parse_words(alloc: Global, text: &[u8], value_len: usize) -> Result<Event, LineFault>
+    ensures asked { Parses (event_of value_len (words_of text.now)) result }
+    ensures fits { IfOk result (HasValueOf value_len) }
+{
+    let Some((word, rest)) = cut_word(text) else {
+        return bare_event(text);
+    };
+    let Some((key, rest)) = cut_word(rest) else {
+        return key_event(word, rest);
+    };
+    if cut_word(rest).is_some() {
+        return Err(LineFault::BadLine);
+    }
+    value_event(alloc, value_len, word, key, rest)
+}
+
+/// What a line asks for of a store whose values have `value_len` bytes.
+///
+/// The line comes without its line feed, and one carriage return at its end does not count as a part of a word. Words stand
+/// between single spaces and are in lower case: `put KEY VALUE`, `delete KEY`, `get KEY`, `flush`, `convert` and `merge`.
+///
+/// # Errors
+///
+/// The first of these that is found: `LineTooLong`, for more than 8,300 bytes; `BadLine`, for the first word and the number of
+/// words; `BadKey`; then, for a put alone, `NoMemory` and `BadValue`.
+pub fn parse_line(alloc: Global, line: &[u8], value_len: usize) -> Result<Event, LineFault>
+    ensures asked { Parses (asked_by value_len line.now) result }
+    ensures fits { IfOk result (HasValueOf value_len) }
+{
+    if line.len() > LONGEST_LINE {
+        return Err(LineFault::LineTooLong);
+    }
+    parse_words(alloc, without_carriage_return(line), value_len)
+}
+
+/// Whether a line is empty but for a carriage return at its end.
+pub fn is_blank(line: &[u8]) -> bool
+    ensures { result ≡ is_blank line.now }
+{
+    without_carriage_return(line).is_empty()
+}

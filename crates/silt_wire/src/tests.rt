@@ -1,0 +1,59 @@
+// What no contract says: texts, letter for letter.
+
+use crate::print_reply;
+use silt_store_set::{Place, Progress, Refusal, Reply};
+use std::process::Abort;
+use std::test::Fail;
+
+#[test]
+fn prints_replies(rt: HostRuntime) -> Result<(), Fail> {
+    for (refusal, text) in [
+        (Refusal::NotFormatted, "refused 1 NotFormatted"),
+        (Refusal::Damaged(Place::Header), "refused 3 Damaged header"),
+        (Refusal::Damaged(Place::Length), "refused 3 Damaged length"),
+        (Refusal::Damaged(Place::Slot(1)), "refused 3 Damaged slot 1"),
+        (Refusal::Damaged(Place::NoSlot), "refused 3 Damaged no slot"),
+        (
+            Refusal::Damaged(Place::Log { region: 0, row: 10 }),
+            "refused 3 Damaged log 0 row 10",
+        ),
+        (
+            Refusal::Damaged(Place::Hash { region: 1, slot: 7 }),
+            "refused 3 Damaged hash 1 slot 7",
+        ),
+        (
+            Refusal::Damaged(Place::Sorted(1)),
+            "refused 3 Damaged sorted 1",
+        ),
+        (Refusal::Damaged(Place::Charge), "refused 3 Damaged charge"),
+        (Refusal::Crowded, "refused 4 Crowded"),
+        (Refusal::Device(()), "refused 5 Device"),
+        (Refusal::NoMemory, "refused 6 NoMemory"),
+        (Refusal::StoreFull, "refused 7 StoreFull"),
+        (Refusal::NoRoom, "refused 8 NoRoom"),
+        (Refusal::Failed, "refused 9 Failed"),
+        (Refusal::Spent, "refused 10 Spent"),
+        (Refusal::HistoryFull, "refused 11 HistoryFull"),
+        (Refusal::BadKey, "refused 21 BadKey"),
+        (Refusal::BadValue, "refused 22 BadValue"),
+        (Refusal::LineTooLong, "refused 23 LineTooLong"),
+    ] {
+        let reply = Reply::Refused(refusal);
+        assert_eq!(rt; print_reply(rt.alloc(), &reply)?.as_str(), text);
+    }
+    Ok(())
+}
+
+#[test]
+fn prints_progress(rt: HostRuntime) -> Result<(), Fail> {
+    for (progress, text) in [
+        (Progress::Idle, "idle"),
+        (Progress::Waiting, "waiting"),
+        (Progress::Moved, "moved"),
+        (Progress::Finished, "finished"),
+    ] {
+        let reply: Reply<()> = Reply::Progress(progress);
+        assert_eq!(rt; print_reply(rt.alloc(), &reply)?.as_str(), text);
+    }
+    Ok(())
+}
