@@ -1,5 +1,7 @@
 pub mod Fits
 pub mod Lives
+pub mod NewStores
 pub mod Outcomes
 pub mod Readings
+pub mod Refusals
 pub mod Texts

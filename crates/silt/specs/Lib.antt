@@ -1,2 +1,3 @@
+pub mod NewStores
 pub mod Numbers
 pub mod Scripts

@@ -10,7 +10,7 @@ use Rattle.silt_store_set.specs.declared.event.LifeReply.TheVariants.{NotOpened,
 use Rattle.silt_store_set.specs.declared.event.Refusal.{Refusal}
 use Rattle.silt_store_set.specs.declared.event.Reply.{Reply}
 use Rattle.silt_store_set.specs.declared.event.Reply.TheVariants.{Refused as RefusedReply}
-use Rattle.silt_store_set.specs.Commands.{Map}
+use Rattle.silt_image.specs.Commands.{Map}
 use Rattle.silt_store_set.specs.CoreState.{HasValueOf}
 use Rattle.silt_store_set.specs.Events.{LivesHistory}
 use Rattle.silt_wire.specs.declared.line.LineFault.{LineFault}

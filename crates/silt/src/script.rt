@@ -1,5 +1,5 @@
 // A script: lives of a new store in memory.
-ghost use Rattle.std.specs.Prelude.{◌≡◌, ◌⊎◌, All, IfOk, MatchResult, codes};
+ghost use Rattle.std.specs.Prelude.{◌≡◌, ◌⊎◌, All, IfOk, IfErr, MatchResult, codes};
 ghost use Rattle.std.specs.FinMap.{empty};
 ghost use Rattle.std.specs.Io.KnownBytes.{Appends};
 ghost use Rattle.silt_device.specs.Disk.{LeavesOnly};
@@ -7,10 +7,11 @@ ghost use Rattle.silt_device.specs.Layout.{InLimits};
 ghost use Rattle.silt_device.specs.Memory.{memory_content};
 ghost use Rattle.silt_device.specs.declared.memory.MemFault.{MemFault as MemFaultOf};
 ghost use Rattle.silt_store_set.specs.declared.event.Reply.TheVariants.{Refused};
-ghost use Rattle.silt_store_set.specs.Commands.{Map};
+ghost use Rattle.silt_image.specs.Commands.{Map};
 ghost use Rattle.silt_store_set.specs.CoreState.{HasValueOf};
 ghost use Rattle.silt_store_set.specs.Events.{LivesHistory};
-ghost use Rattle.silt_store_set.specs.Image.{IsSafe};
+ghost use Rattle.silt_store_set.specs.CoreInvariant.{IsSafe};
+ghost use Rattle.silt.specs.NewStores.{NewStoreCause};
 ghost use Rattle.silt.specs.Numbers.{shape_of};
 ghost use Rattle.silt.specs.Scripts.{EndsScript, TellsRefusal, reply_line};
 
@@ -18,7 +19,8 @@ use crate::printing::write_script;
 use crate::reading::read_script;
 use crate::words::Numbers;
 use silt_device::{BadGeometry, Geometry, MemDisk, MemFault, Stop};
-use silt_store_set::{Event, LifeReply, Refusal, format, lives};
+use silt_recovery::format;
+use silt_store_set::{Event, LifeReply, Refusal, formatting_refusal, lives};
 use silt_wire::write_refusal;
 use std::alloc::Global;
 use std::io::{self, ErrorKind, Read, Write};
@@ -69,7 +71,8 @@ fn refuse<W: Write>(alloc: Global, refusal: &Refusal<MemFault>, writer: &mut W) 
     Ok(1)
 }
 
-// Runs lives over a new store, each stopped by its stop and the last one at its end.
+// Runs lives over a new store, each stopped by its stop and the last one at its end. They are refused as a new store is, or
+// for want of memory.
 fn run_lives(
     alloc: Global,
     geometry: Geometry,
@@ -77,7 +80,8 @@ fn run_lives(
     events: &[Vec<Event>],
 ) -> Result<Vec<LifeReply<MemFault>>, Refusal<MemFault>>
     requires { All (λ life. All (HasValueOf geometry.value_len) life.items) events.now }
-    ensures { IfOk result (λ replies. (to : Map) × LivesHistory empty events.now replies.items to) }
+    ensures history { IfOk result (λ replies. (to : Map) × LivesHistory empty events.now replies.items to) }
+    ensures cause { IfErr result (NewStoreCause geometry) }
 {
     let disk = new_store(alloc, geometry)?.arm(stops);
     match lives(alloc, disk, geometry.value_len(), events) {
@@ -86,16 +90,17 @@ fn run_lives(
     }
 }
 
-// A new disk in memory with an empty store.
+// A new disk in memory with an empty store. It is refused for want of memory, or with the fault of a disk of its length.
 fn new_store(alloc: Global, geometry: Geometry) -> Result<MemDisk, Refusal<MemFault>>
-    ensures { IfOk result (λ disk. LeavesOnly (memory_content disk) (IsSafe geometry.value_len empty)) }
+    ensures images { IfOk result (λ disk. LeavesOnly (memory_content disk) (IsSafe geometry.value_len empty)) }
+    ensures cause { IfErr result (NewStoreCause geometry) }
 {
     let Ok(disk) = MemDisk::new(alloc, geometry.size() as usize) else {
         return Err(Refusal::NoMemory);
     };
     match format(alloc, disk, geometry) {
         Ok(disk) => Ok(disk),
-        Err(fault) => Err(fault.refusal),
+        Err(fault) => Err(formatting_refusal(fault.error)),
     }
 }
 

@@ -1,12 +1,14 @@
 // What no contract says: printed text and statuses, letter for letter, through the program over memory.
 
+mod freezing;
+
 use crate::program::program;
 use std::io::{self, Cursor, ErrorKind, Read, Write};
 use std::process::Abort;
 use std::test::Fail;
 
 // Values of two bytes, two buckets, four rows a log.
-const SMALL: &str = "silt script 2 2 4 2 2 8";
+pub(crate) const SMALL: &str = "silt script 2 2 4 2 2 8";
 
 // A reader that gives a text a few bytes at a time, and then is at its end or fails.
 #[derive(Drop)]
@@ -60,7 +62,7 @@ fn words<S: AllocGlobal>(rt: &S, text: &str) -> Result<Vec<String>, Fail> {
 }
 
 // Runs the program on a text, and compares its status and what it writes.
-fn answers<S: AllocGlobal + Abort>(
+pub(crate) fn answers<S: AllocGlobal + Abort>(
     rt: &S,
     call: &str,
     text: &[u8],

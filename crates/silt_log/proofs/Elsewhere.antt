@@ -62,7 +62,7 @@ module _ (gates count bodies len : ℕ) (lies : gates + count ≤ bodies) (at lo
     closed = λ place past below. ap is_open (gate_elsewhere place below) ∙ are.closed place past below;
   }
 
-  rows_elsewhere : (n : ℕ) → n ≤ count → bodies + count * len ≤ length old → map (body_row bodies len new) (range_with_len 0 n) ≡ map (body_row bodies len old) (range_with_len 0 n)
+  pub rows_elsewhere : (n : ℕ) → n ≤ count → bodies + count * len ≤ length old → map (body_row bodies len new) (range_with_len 0 n) ≡ map (body_row bodies len old) (range_with_len 0 n)
   rows_elsewhere n most fits = elim outside [
     | inl before ↦ rows_behind bodies len old new at long count 0 n (omega arith) (omega arith) fits torn
     | inr behind ↦ map_range_same (body_row bodies len new) (body_row bodies len old) 0 n

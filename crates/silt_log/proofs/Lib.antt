@@ -4,6 +4,7 @@ pub mod Counts
 pub mod Elsewhere
 pub mod Exits
 pub mod GateExits
+pub mod Heads
 pub mod Named
 pub mod Parts
 pub mod ScanExits

@@ -1,7 +1,7 @@
 -- What the bytes of a log region say: its gates, and the rows in its bodies.
-use Rattle.std.specs.Prelude.{◌≡◌, ℕ, ◌+◌, ◌*◌, ◌≤◌, ◌<◌, ◌==◌, Bool, true, false, List, length, map, drop, slice_index, slice_range}
+use Rattle.std.specs.Prelude.{◌≡◌, ℕ, ◌+◌, ◌*◌, ◌≤◌, ◌<◌, ◌==◌, Bool, true, false, Option, List, length, map, drop, slice_index, slice_range}
 use Rattle.std.specs.List.{prefix_len, range_with_len, list_any}
-use Rattle.std.specs.Option.{is_some}
+use Rattle.std.specs.Option.{is_some, option_map}
 use Rattle.silt_device.specs.Layout.{Shape, row_len, gates_at, bodies_at}
 use Rattle.silt_frame.specs.Frame.{kind_byte, kind_of}
 use Rattle.silt_frame.specs.declared.key.Key.{Key}
@@ -29,6 +29,10 @@ stored_row kind key value = record { kind = kind_byte kind; key = key.0; value =
 -- the kind byte stands for a put or a delete
 abbrev pub has_known_kind : StoredRow → Bool
 has_known_kind row = is_some (kind_of row.kind)
+
+-- the kind and the key of a row, none where its kind is unknown
+unfoldable pub row_head : StoredRow → Option (Kind × Key)
+row_head row = option_map (λ kind. (kind, record { 0 = row.key })) (kind_of row.kind)
 
 -- ---- by offsets: where the gates begin and how many there are, where the bodies begin and how long each is
 

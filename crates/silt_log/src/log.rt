@@ -3,13 +3,13 @@ ghost use Rattle.std.specs.Prelude.{vec_len, ◌≡◌, ◌==◌, ◌+◌, ◌-�
 ghost use Rattle.silt_device.specs.Disk.{ChangesWithin, CountsFault, GaveAny, LeavesOnly, Rests, Writes, size};
 ghost use Rattle.silt_device.specs.Layout.{device_size, gates_at, row_len};
 ghost use Rattle.silt_frame.specs.Frame.{head_bytes};
-ghost use Rattle.silt_log.specs.Rows.{AreRows, FirstUnknown, body_at, log_rows, open_count, row_at, stored_row};
+ghost use Rattle.silt_log.specs.Rows.{AreRows, FirstUnknown, body_at, log_rows, open_count, row_at, row_head, row_of, stored_row};
 ghost use Rattle.silt_log.specs.Scans.{IsRefused};
 
 use crate::gates::{CLOSED, open_behind_sync, read_gates, write_gates, write_row};
 use crate::scan::{ScanError, read_rows};
 use silt_device::{Disk, Geometry};
-use silt_frame::{HEAD_LEN, KEY_LEN, Key, Kind, Row, head_bytes};
+use silt_frame::{HEAD_LEN, KEY_LEN, Key, Kind, Row, head_bytes, head_of};
 use std::alloc::{AllocError, Global};
 use std::marker::Model;
 
@@ -270,6 +270,28 @@ impl Log {
         Ok(rows)
     }
 
+    /// Reads which gates are open, and no row: how many rows there are before the first closed gate, and whether a gate past
+    /// it is open.
+    ///
+    /// # Errors
+    ///
+    /// The fault of the read. The log is then as it was.
+    pub fn scan_gates<D: Disk>(&mut self, disk: &D) -> Result<(), D::Fault>
+        requires size { device_size self.old.shape ≤ size (D.content disk.now) }
+        ensures region { (self.new.shape ≡ self.old.shape) × (self.new.region ≡ self.old.region) }
+        ensures settled { OnOk result (self.new.settled ≡ self.new.used) }
+        ensures ok { IsTrue (D.content disk.now).honest → OnOk result (IsScanned (D.content disk.now) self.new) }
+        ensures err { OnErr result (self.new ≡ self.old) }
+        ensures fault { IfErr result (GaveAny D.gave disk.now) }
+    {
+        let at = self.geometry.gates_at(self.region);
+        let (count, has_loose) = read_gates(disk, at, &mut self.gates)?;
+        self.settled = count as u32;
+        self.used = count as u32;
+        self.loose = has_loose;
+        Ok(())
+    }
+
     // Where the body of this number begins.
     pub(crate) fn body_at(&self, place: u32) -> u64
         requires { place < self.now.shape.log_capacity }
@@ -309,6 +331,38 @@ impl Log {
         ensures fault { IfErr result (GaveAny D.gave disk.now) }
     {
         disk.read(self.body_at(place) + HEAD_LEN as u64, out)?;
+        Ok(())
+    }
+
+    /// Reads the kind and the key in the body of this number, behind whatever gate: `None` for a kind byte other than 1 and 2.
+    ///
+    /// # Errors
+    ///
+    /// The fault of the read.
+    pub fn read_head<D: Disk>(&self, disk: &D, place: u32) -> Result<Option<(Kind, Key)>, D::Fault>
+        requires place { place < self.now.shape.log_capacity }
+        requires size { device_size self.now.shape ≤ size (D.content disk.now) }
+        ensures head { IsTrue (D.content disk.now).honest → IfOk result (λ head. head ≡ row_head (row_at self.now.shape self.now.region (D.content disk.now).shown place)) }
+        ensures fault { IfErr result (GaveAny D.gave disk.now) }
+    {
+        let mut head = [0; HEAD_LEN];
+        disk.read(self.body_at(place), &mut head)?;
+        Ok(head_of(&head))
+    }
+
+    /// Reads the bytes of the body of this number, behind whatever gate: the kind, the key and the value.
+    ///
+    /// # Errors
+    ///
+    /// The fault of the read. The bytes of `out` are then open.
+    pub fn read_row<D: Disk>(&self, disk: &D, place: u32, out: &mut [u8]) -> Result<(), D::Fault>
+        requires place { place < self.now.shape.log_capacity }
+        requires out { length out.old ≡ row_len self.now.shape }
+        requires size { device_size self.now.shape ≤ size (D.content disk.now) }
+        ensures row { IsTrue (D.content disk.now).honest → OnOk result (row_of out.new ≡ row_at self.now.shape self.now.region (D.content disk.now).shown place) }
+        ensures fault { IfErr result (GaveAny D.gave disk.now) }
+    {
+        disk.read(self.body_at(place), out)?;
         Ok(())
     }
 }

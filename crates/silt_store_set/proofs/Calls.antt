@@ -1,35 +1,49 @@
--- What the calls of a store do, from what its log's calls do.
-use Rattle.std.proofs.Common.{◌≡◌, ◌≤◌, ◌<◌, ℕ, ◌+◌, ◌&&◌, Bool, true, false, IsTrue, List, [], ◌∷◌, ◌++◌, map, refl, ap, sym, ◌∙◌, subst, arith, append_assoc}
-use Rattle.std.specs.List.{list_all}
-use Rattle.std.specs.BTreeMap.{BTreeMap}
-use Rattle.std.proofs.lemmas.List.{map-append}
-use Rattle.std.proofs.lemmas.List.Folds.{list_all-append}
-use Rattle.silt_device.specs.Disk.{Content, LeavesOnly, ChangesWithin, size}
-use Rattle.silt_device.specs.Layout.{device_size, row_len}
-use Rattle.silt_frame.specs.declared.key.Key.{Key}
-use Rattle.silt_log.specs.Rows.{StoredRow, has_known_kind, body_at}
-use Rattle.silt_log.specs.State.{LogState, IsLog, settled_rows, waiting_rows, all_rows, full_image}
-use Rattle.silt_log.specs.Calls.{Appends, Keeps}
+-- What the calls of a store do, from what the calls of its stores in memory do.
+use Rattle.std.proofs.Common.{◌≡◌, ℕ, Bool, true, false, IsTrue, List, [], ◌++◌, refl, ap, sym, ◌∙◌, subst}
+use Rattle.silt_device.specs.Disk.{Content, LeavesOnly}
+use Rattle.silt_image.specs.Commands.{Command, Map, map_after}
+use Rattle.silt_image.specs.Meaning.{image_map}
+use Rattle.silt_stores.specs.Calls.{Advances, Breaks, HasBegun, SameDisk, StandsOnLogs}
+use Rattle.silt_stores.specs.Standing.{Stands, base_map, full_image, waiting_commands}
+use Rattle.silt_stores.specs.State.{StoresState}
+use Rattle.silt_stores.proofs.Facts.{meaning}
 use Rattle.silt_store_set.specs.declared.event.Event.{Event}
 use Rattle.silt_store_set.specs.declared.event.Event.TheVariants.{Put, Delete, Flush, Get, Convert, Merge}
 use Rattle.silt_store_set.specs.declared.event.Refusal.{Refusal}
 use Rattle.silt_store_set.specs.declared.event.Refusal.TheVariants.{Device, Failed}
 use Rattle.silt_store_set.specs.declared.event.Reply.{Reply}
-use Rattle.silt_store_set.specs.declared.event.Reply.TheVariants.{Accepted, Refused}
-use Rattle.silt_store_set.specs.Commands.{Map, changed}
+use Rattle.silt_store_set.specs.declared.event.Reply.TheVariants.{Refused}
 use Rattle.silt_store_set.specs.Events.{Step, Counts, accepted_command, is_failed}
-use Rattle.silt_store_set.specs.CoreState.{CoreState, map_of, Cause, Settles, Does}
-use Rattle.silt_store_set.specs.CoreInvariant.{Fits, Indexes}
-use Rattle.silt_store_set.specs.Image.{IsStore, AreSound, StandsFor, image_map, command_of, map_of_rows, charge_of_rows}
-use Rattle.silt_store_set.proofs.Maps.{append_nil, map_of_rows-append, charge_of_rows-append}
-use Rattle.silt_store_set.proofs.Index.{IsBelow}
-use Rattle.silt_store_set.proofs.Frame.{store_changes}
-use Rattle.silt_store_set.proofs.Standing.{seen, Standing, rows_join, stands_seen, full_map, base_map, base_safe}
+use Rattle.silt_store_set.specs.CoreState.{CoreState, map_of, Cause, Settles, Does, is_refused}
+use Rattle.silt_store_set.proofs.Maps.{append_nil, map_after-append}
 
--- what stands before both of two lists can be left out
-after_same : {A : Type 0} (xs ys zs : List A) → xs ++ ys ≡ xs ++ zs → ys ≡ zs
-after_same [] ys zs e = e
-after_same (x ∷ xs) ys zs e = after_same xs ys zs (cc)
+-- what contracts see of a store with these fields
+abbrev pub seen : {D : Type 0} → (D → Content) → D → StoresState → ℕ → Bool → CoreState D
+seen content disk stores count failed = record {
+  disk = disk;
+  shape = stores.manifest.shape;
+  body = stores.manifest.ruling;
+  full = full_image (content disk) stores;
+  base = image_map (content disk).shown;
+  waiting = waiting_commands (content disk) stores;
+  charge = stores.charge;
+  count = count;
+  failed = failed;
+}
+
+-- the map is the base after the waiting commands, and each image stands for the base
+pub record Standing {D : Type 0} (content : D → Content) (core : CoreState D) : Type 0 where
+  pub joins : IsTrue (content core.disk).honest → map_of core ≡ map_after core.base core.waiting
+  pub safe : LeavesOnly (content core.disk) (StandsOnLogs core.shape core.base)
+
+-- a store that is not failed stands
+pub stands_seen : {D : Type 0} (content : D → Content) (disk : D) (stores : StoresState) (count : ℕ) (failed : Bool) → Stands (content disk) stores → Standing content (seen content disk stores count failed)
+stands_seen content disk stores count failed stands = record {
+  joins = λ h. (meaning (content disk) stores stands).full h ∙ ap (λ m. map_after m (waiting_commands (content disk) stores)) (sym ((meaning (content disk) stores stands).shown h));
+  safe = record {
+    each = λ h image left. subst (λ m. StandsOnLogs stores.manifest.shape m image) (sym ((meaning (content disk) stores stands).shown h)) ((meaning (content disk) stores stands).safe.each h image left);
+  };
+}
 
 -- ---- calls that change nothing
 
@@ -51,7 +65,7 @@ none_refused Merge refusal = refl
 
 module _ {D F : Type 0} (content : D → Content) (failures : D → ℕ) (gave : D → F → Type 0) where
   -- a call that leaves the store as it was
-  pub unchanged : (core : CoreState D) (event : Event) (reply : Reply F) → Counts core.count reply core.count → Cause failures gave core core event reply
+  pub unchanged : (core : CoreState D) (event : Event) (reply : Reply F) → Counts core.count reply core.count → Cause content failures gave core core event reply
       → (core.failed ≡ true → reply ≡ Refused Failed) → (IsTrue (is_failed reply) → core.failed ≡ true)
       → (core.failed ≡ false → IsTrue (content core.disk).honest → Step (map_of core) event reply (map_of core))
       → accepted_command event reply ≡ [] → (IsTrue (content core.disk).honest → Settles core reply)
@@ -65,6 +79,7 @@ module _ {D F : Type 0} (content : D → Content) (failures : D → ℕ) (gave :
     failed = λ e. (refl, failed e);
     told = told;
     faulted = λ a b. absurd (let no : false ≡ true = sym a ∙ b in cc);
+    names = λ _ _. refl;
     step = step;
     joins = λ f h. (stands f).joins h;
     moves = λ f h. record { moved = []; rest = sym (append_nil core.waiting) ∙ ap (λ cs. core.waiting ++ cs) (sym none); base = refl };
@@ -74,156 +89,107 @@ module _ {D F : Type 0} (content : D → Content) (failures : D → ℕ) (gave :
   }
 
   -- a failed store refuses
-  pub refused_failed : (core : CoreState D) (event : Event) → core.failed ≡ true → Cause failures gave core core event (Refused Failed) → Does content failures gave core core event (Refused Failed)
+  pub refused_failed : (core : CoreState D) (event : Event) → core.failed ≡ true → Cause content failures gave core core event (Refused Failed) → Does content failures gave core core event (Refused Failed)
   refused_failed core event failed cause =
       unchanged core event (Refused Failed) refl cause (λ _. refl) (λ _. failed) (λ f. absurd (let no : false ≡ true = sym f ∙ failed in cc)) (none_refused {F = F} event Failed) (λ _. tt)
       (λ f. absurd (let no : false ≡ true = sym f ∙ failed in cc))
 
-  -- a store that is not failed refuses, for another cause than a failure
-  pub refused : (core : CoreState D) (event : Event) (refusal : Refusal F) → core.failed ≡ false → is_failed (Refused refusal) ≡ false → Standing content core → Cause failures gave core core event (Refused refusal)
-      → Does content failures gave core core event (Refused refusal)
-  refused core event refusal working other stands cause =
-      unchanged core event (Refused refusal) refl cause (λ f. absurd (let no : false ≡ true = sym working ∙ f in cc)) (λ t. absurd (let no : false ≡ true = sym other ∙ t in cc)) (λ _ _. step_refused (map_of core) event refusal)
-      (none_refused event refusal) (λ _. tt) (λ _. stands)
+  -- a store that is not failed refuses, for another cause than a failure, and is as it was
+  pub refused : (disk : D) (stores : StoresState) (count : ℕ) (failed : Bool) (event : Event) (refusal : Refusal F) → failed ≡ false → Stands (content disk) stores → is_failed (Refused refusal) ≡ false
+      → Cause content failures gave (seen content disk stores count failed) (seen content disk stores count failed) event (Refused refusal)
+      → Does content failures gave (seen content disk stores count failed) (seen content disk stores count failed) event (Refused refusal)
+  refused disk stores count failed event refusal working stands other cause =
+      unchanged (seen content disk stores count failed) event (Refused refusal) refl cause (λ f. absurd (let no : false ≡ true = sym working ∙ f in cc)) (λ t. absurd (let no : false ≡ true = sym other ∙ t in cc))
+      (λ _ _. step_refused (image_map (full_image (content disk) stores)) event refusal) (none_refused event refusal) (λ _. tt) (λ _. stands_seen content disk stores count failed stands)
 
   -- a store that is not failed answers without a change
-  pub answered : (disk : D) (log : LogState) (index : BTreeMap Key ℕ) (charge count : ℕ) (failed : Bool) (event : Event) (reply : Reply F)
-      → failed ≡ false → Fits (content disk) log index charge → log.region ≡ 0 → size (content disk) ≡ device_size log.shape
-      → Counts count reply count → is_failed reply ≡ false → accepted_command event reply ≡ []
-      → Cause failures gave (seen content disk log charge count failed) (seen content disk log charge count failed) event reply
-      → (IsTrue (content disk).honest → Step (image_map (full_image (content disk) log)) event reply (image_map (full_image (content disk) log)))
-      → (IsTrue (content disk).honest → Settles (seen content disk log charge count failed) reply)
-      → Does content failures gave (seen content disk log charge count failed) (seen content disk log charge count failed) event reply
-  answered disk log index charge count failed event reply working fits first sized counts other none cause step settles =
-      unchanged (seen content disk log charge count failed) event reply counts cause (λ f. absurd (let no : false ≡ true = sym working ∙ f in cc)) (λ t. absurd (let no : false ≡ true = sym other ∙ t in cc))
-      (λ _ h. step h) none settles (λ _. stands_seen content disk log index charge count failed fits first sized)
+  pub answered : (disk : D) (stores : StoresState) (count : ℕ) (failed : Bool) (event : Event) (reply : Reply F)
+      → failed ≡ false → Stands (content disk) stores → Counts count reply count → is_failed reply ≡ false → accepted_command event reply ≡ []
+      → Cause content failures gave (seen content disk stores count failed) (seen content disk stores count failed) event reply
+      → (IsTrue (content disk).honest → Step (image_map (full_image (content disk) stores)) event reply (image_map (full_image (content disk) stores)))
+      → (IsTrue (content disk).honest → Settles (seen content disk stores count failed) reply)
+      → Does content failures gave (seen content disk stores count failed) (seen content disk stores count failed) event reply
+  answered disk stores count failed event reply working stands counts other none cause step settles =
+      unchanged (seen content disk stores count failed) event reply counts cause (λ f. absurd (let no : false ≡ true = sym working ∙ f in cc)) (λ t. absurd (let no : false ≡ true = sym other ∙ t in cc))
+      (λ _ h. step h) none settles (λ _. stands_seen content disk stores count failed stands)
 
-  -- ---- one more row
+  -- ---- calls that write
 
-  module _ (disk new : D) (log after : LogState) (index later : BTreeMap Key ℕ) (charge more count : ℕ) (row : StoredRow)
-      (fits : Fits (content disk) log index charge) (first : log.region ≡ 0) (sized : size (content disk) ≡ device_size log.shape)
-      (app : Appends row (content disk) (content new) log after) (sizes : size (content new) ≡ size (content disk))
-      (changes : ChangesWithin (body_at log.shape log.region log.used) (row_len log.shape) (content disk) (content new))
-      (known : has_known_kind row ≡ true) (counted : more ≡ charge + charge_of_rows (row ∷ [])) (most : more ≤ log.shape.sorted_capacity)
-      (indexed : IsTrue (content disk).honest → Indexes later (all_rows (content disk) log ++ row ∷ [])) (below : IsBelow later (log.used + 1)) where
-    same_shape : after.shape ≡ log.shape
-    same_shape = ap (λ (l : LogState). l.shape) app.log
+  module _ (disk new : D) (stores after : StoresState) (same : SameDisk (content disk) (content new)) (stands : Stands (content disk) stores) where
+    there : IsTrue (content disk).honest → IsTrue (content new).honest
+    there h = same.honest ∙ h
 
-    same_region : after.region ≡ 0
-    same_region = ap (λ (l : LogState). l.region) app.log ∙ first
+    back : IsTrue (content new).honest → IsTrue (content disk).honest
+    back h = sym same.honest ∙ h
 
-    was_honest : IsTrue (content new).honest → IsTrue (content disk).honest
-    was_honest h = subst IsTrue changes.honest h
+    -- the map after a call that was answered
+    pub advanced_map : (adds : List Command) → Advances adds (content disk) (content new) stores after → IsTrue (content disk).honest
+        → image_map (full_image (content new) after) ≡ map_after (image_map (full_image (content disk) stores)) adds
+    advanced_map adds goes h =
+        let moves = goes.moves h in
+        (meaning (content new) after goes.stands).full (there h)
+        ∙ ap (λ m. map_after m (waiting_commands (content new) after)) moves.base
+        ∙ sym (map_after-append (base_map (content disk) stores) moves.moved (waiting_commands (content new) after))
+        ∙ ap (map_after (base_map (content disk) stores)) moves.rest
+        ∙ map_after-append (base_map (content disk) stores) (waiting_commands (content disk) stores) adds
+        ∙ ap (λ m. map_after m adds) (sym ((meaning (content disk) stores stands).full h))
 
-    new_sized : size (content new) ≡ device_size after.shape
-    new_sized = sizes ∙ sized ∙ ap device_size (sym same_shape)
-
-    -- the store fits with one more row
-    pub fits_appended : Fits (content new) after later more
-    fits_appended = record {
-      stands = app.stands;
-      places = λ key place found. subst (λ (n : ℕ). place < n) (sym (ap (λ (l : LogState). l.used) app.log)) (below key place found);
-      store = subst (λ s. LeavesOnly (content new) (IsStore s)) (sym same_shape) (store_changes log.shape (body_at log.shape log.region log.used) (row_len log.shape) (content disk) (content new) (omega arith) changes fits.store);
-      sound = λ h.
-          let rows = all_rows (content disk) log in
-          let old = fits.sound (was_honest h) in
-          subst (λ s. AreSound s (all_rows (content new) after)) (sym same_shape) (subst (AreSound log.shape) (sym (app.all (was_honest h))) (record {
-            known = list_all-append has_known_kind rows (row ∷ []) ∙ ap (λ b. b && list_all has_known_kind (row ∷ [])) old.known ∙ ap (λ b. true && (b && true)) known;
-            charge = omega (arith, charge_of_rows-append rows (row ∷ []), fits.counted (was_honest h), counted, most);
-          }));
-      counted = λ h. counted ∙ ap (λ n. n + charge_of_rows (row ∷ [])) (fits.counted (was_honest h)) ∙ sym (charge_of_rows-append (all_rows (content disk) log) (row ∷ [])) ∙ ap charge_of_rows (sym (app.all (was_honest h)));
-      indexed = λ h. subst (Indexes later) (sym (app.all (was_honest h))) (indexed (was_honest h));
-    }
-
-    -- the row waits behind the others
-    waits : IsTrue (content disk).honest → waiting_rows (content new) after ≡ waiting_rows (content disk) log ++ row ∷ []
-    waits h = after_same (settled_rows (content disk) log) _ _ (
-        ap (λ rows. rows ++ waiting_rows (content new) after) (sym (app.settled h))
-        ∙ sym (rows_join (content new) after app.stands.bounds.order) ∙ app.all h
-        ∙ ap (λ rows. rows ++ row ∷ []) (rows_join (content disk) log fits.stands.bounds.order)
-        ∙ append_assoc (settled_rows (content disk) log) (waiting_rows (content disk) log) (row ∷ [])
-        )
-
-    -- the command is accepted
-    pub appended : (event : Event) → accepted_command {F = F} event (Accepted (count + 1)) ≡ command_of row ∷ []
-        → ((m to : Map) → to ≡ changed m (command_of row) → Step {F = F} m event (Accepted (count + 1)) to)
-        → Cause failures gave (seen content disk log charge count false) (seen content new after more (count + 1) false) event (Accepted (count + 1))
-        → Does content failures gave (seen content disk log charge count false) (seen content new after more (count + 1) false) event (Accepted (count + 1))
-    appended event own step cause =
-        let there : IsTrue (content disk).honest → IsTrue (content new).honest = λ h. subst IsTrue (sym changes.honest) h in
-        let stands = stands_seen content new after later more (count + 1) false fits_appended same_region new_sized in
+    -- a call is answered, and these commands are accepted
+    pub advanced : (adds : List Command) (count next : ℕ) (event : Event) (reply : Reply F) → Advances adds (content disk) (content new) stores after
+        → Counts count reply next → accepted_command event reply ≡ adds → is_refused reply ≡ false → is_failed reply ≡ false
+        → Cause content failures gave (seen content disk stores count false) (seen content new after next false) event reply
+        → ((m to : Map) → to ≡ map_after m adds → Step m event reply to)
+        → (adds ≡ [] → after.manifest.ruling ≡ stores.manifest.ruling)
+        → (IsTrue (content disk).honest → Settles (seen content new after next false) reply)
+        → Does content failures gave (seen content disk stores count false) (seen content new after next false) event reply
+    advanced adds count next event reply goes counts own answers tells cause step named settles =
+        let standing = stands_seen content new after next false goes.stands in
         record {
-          disk = record { size = sizes; honest = changes.honest };
-          shape = same_shape;
-          counts = (refl, refl);
+          disk = same;
+          shape = goes.shape;
+          counts = counts;
           cause = cause;
-          stays = λ r. absurd (cc);
+          stays = λ r. absurd (let no : false ≡ true = sym answers ∙ r in cc);
           failed = λ f. absurd (cc);
-          told = λ t. absurd (cc);
+          told = λ t. absurd (let no : false ≡ true = sym tells ∙ t in cc);
           faulted = λ _ f. absurd (cc);
-          step = λ _ h. step _ _ (
-              full_map (content new) after later more fits_appended same_region new_sized (there h) ∙ ap map_of_rows (app.all h)
-              ∙ map_of_rows-append (all_rows (content disk) log) (row ∷ [])
-              ∙ ap (λ m. changed m (command_of row)) (sym (full_map (content disk) log index charge fits first sized h))
-              );
-          joins = λ _ h. stands.joins (there h);
-          moves = λ _ h. record {
-            moved = [];
-            rest = ap (map command_of) (waits h) ∙ map-append command_of (waiting_rows (content disk) log) (row ∷ []) ∙ ap (λ cs. map command_of (waiting_rows (content disk) log) ++ cs) (sym own);
-            base = base_map (content new) after later more fits_appended same_region new_sized (there h) ∙ ap map_of_rows (app.settled h) ∙ sym (base_map (content disk) log index charge fits first sized h);
-          };
-          settles = λ _. tt;
-          safe = λ _. stands.safe;
+          names = λ _ none. named (sym own ∙ none);
+          step = λ _ h. step _ _ (advanced_map adds goes h);
+          joins = λ _ h. standing.joins (there h);
+          moves = λ _ h.
+              let moves = goes.moves h in
+              record {
+                moved = moves.moved;
+                rest = moves.rest ∙ ap (λ cs. waiting_commands (content disk) stores ++ cs) (sym own);
+                base = (meaning (content new) after goes.stands).shown (there h) ∙ moves.base ∙ ap (λ m. map_after m moves.moved) (sym ((meaning (content disk) stores stands).shown h));
+              };
+          settles = settles;
+          safe = λ _. standing.safe;
           crash = λ _ f. absurd (cc);
         }
 
-  -- ---- a row that was not written
-
-  pub append_failed : (disk new : D) (log after : LogState) (index : BTreeMap Key ℕ) (charge count : ℕ) (event : Event) (fault : F)
-      → Fits (content disk) log index charge → log.region ≡ 0 → size (content disk) ≡ device_size log.shape
-      → Keeps (content disk) (content new) log after → size (content new) ≡ size (content disk)
-      → ChangesWithin (body_at log.shape log.region log.used) (row_len log.shape) (content disk) (content new)
-      → Cause failures gave (seen content disk log charge count false) (seen content new log charge count true) event (Refused (Device fault))
-      → Does content failures gave (seen content disk log charge count false) (seen content new after charge count true) event (Refused (Device fault))
-  append_failed disk new log after index charge count event fault fits first sized keeps sizes changes cause =
-      let was : IsTrue (content new).honest → IsTrue (content disk).honest = λ h. subst IsTrue changes.honest h in
-      let there : IsTrue (content disk).honest → IsTrue (content new).honest = λ h. subst IsTrue (sym changes.honest) h in
-      let stays : IsLog (content new) log = subst (IsLog (content new)) keeps.log keeps.stands in
-      let rows : IsTrue (content disk).honest → all_rows (content new) log ≡ all_rows (content disk) log = λ h. ap (all_rows (content new)) (sym keeps.log) ∙ keeps.all h in
-      let settled : IsTrue (content disk).honest → settled_rows (content new) log ≡ settled_rows (content disk) log = λ h. ap (settled_rows (content new)) (sym keeps.log) ∙ keeps.settled h in
-      let now : Fits (content new) log index charge = record {
-        stands = stays;
-        places = fits.places;
-        store = store_changes log.shape (body_at log.shape log.region log.used) (row_len log.shape) (content disk) (content new) (omega arith) changes fits.store;
-        sound = λ h. subst (AreSound log.shape) (sym (rows (was h))) (fits.sound (was h));
-        counted = λ h. fits.counted (was h) ∙ ap charge_of_rows (sym (rows (was h)));
-        indexed = λ h. subst (Indexes index) (sym (rows (was h))) (fits.indexed (was h));
-      } in
-      let here : size (content new) ≡ device_size log.shape = sizes ∙ sized in
-      let same_map : IsTrue (content disk).honest → image_map (full_image (content new) log) ≡ image_map (full_image (content disk) log) =
-      λ h. full_map (content new) log index charge now first here (there h) ∙ ap map_of_rows (rows h) ∙ sym (full_map (content disk) log index charge fits first sized h) in
-      let same_base : IsTrue (content disk).honest → image_map (content new).shown ≡ image_map (content disk).shown =
-      λ h. base_map (content new) log index charge now first here (there h) ∙ ap map_of_rows (settled h) ∙ sym (base_map (content disk) log index charge fits first sized h) in
-      let safe = base_safe (content new) log index charge now first here in
-      subst (λ (l : LogState). Does content failures gave (seen content disk log charge count false) (seen content new l charge count true) event (Refused (Device fault))) (sym keeps.log) (record {
-        disk = record { size = sizes; honest = changes.honest };
-        shape = refl;
-        counts = refl;
-        cause = cause;
-        stays = λ _ f. absurd (cc);
-        failed = λ f. absurd (cc);
-        told = λ t. absurd (cc);
-        faulted = λ _ _. refl;
-        step = λ _ h. subst (Step (image_map (full_image (content disk) log)) event (Refused (Device fault))) (sym (same_map h)) (step_refused (image_map (full_image (content disk) log)) event (Device fault));
-        joins = λ f. absurd (cc);
-        moves = λ f. absurd (cc);
-        settles = λ _. tt;
-        safe = λ f. absurd (cc);
-        crash = λ _ _. record {
-          each = λ h image left. record {
-            kept = [];
-            begins = record { rest = map command_of (waiting_rows (content disk) log); is = refl };
-            stands = subst (λ m. StandsFor log.shape m image) (same_base (was h)) (safe.each h image left);
-          };
-        };
-      })
+    -- a write or sync failed
+    pub broke : (count : ℕ) (event : Event) (fault : F) → Breaks (content disk) (content new) stores → after.manifest.shape ≡ stores.manifest.shape
+        → (IsTrue (content disk).honest → image_map (full_image (content new) after) ≡ image_map (full_image (content disk) stores))
+        → Cause content failures gave (seen content disk stores count false) (seen content new after count true) event (Refused (Device fault))
+        → Does content failures gave (seen content disk stores count false) (seen content new after count true) event (Refused (Device fault))
+    broke count event fault breaks shape maps cause = record {
+      disk = same;
+      shape = shape;
+      counts = refl;
+      cause = cause;
+      stays = λ _ f. absurd (cc);
+      failed = λ f. absurd (cc);
+      told = λ t. absurd (cc);
+      faulted = λ _ _. refl;
+      names = λ f. absurd (cc);
+      step = λ _ h. subst (Step (image_map (full_image (content disk) stores)) event (Refused (Device fault))) (sym (maps h)) (step_refused (image_map (full_image (content disk) stores)) event (Device fault));
+      joins = λ f. absurd (cc);
+      moves = λ f. absurd (cc);
+      settles = λ _. tt;
+      safe = λ f. absurd (cc);
+      crash = λ _ _. record {
+        each = λ h image left.
+            subst (λ m. HasBegun stores.manifest.shape m (waiting_commands (content disk) stores) image) (sym ((meaning (content disk) stores stands).shown (back h))) (breaks.each h image left);
+      };
+    }

@@ -1,57 +1,26 @@
 -- Lives, from their openings, runs and stops.
-use Rattle.std.proofs.Common.{◌≡◌, ℕ, ◌+◌, inl, inr, true, false, IsTrue, List, [], ◌∷◌, ◌++◌, length, map, get_or, Vec, refl, ap, sym, ◌∙◌, subst, arith}
-use Rattle.std.specs.List.{list_all, range_with_len}
+use Rattle.std.proofs.Common.{◌≡◌, ℕ, ◌+◌, inl, inr, false, IsTrue, List, [], ◌∷◌, ◌++◌, length, Vec, refl, ap, sym, ◌∙◌, subst, arith}
 use Rattle.std.specs.declared.alloc.Global.{Global}
-use Rattle.std.proofs.lemmas.List.Folds.{list_all_at}
-use Rattle.std.proofs.lemmas.List.FromFn.{get_or-map-range_with_len, length-map-range_with_len}
 use Rattle.silt_device.specs.Disk.{Content, Left, LeavesOnly, Restarts}
 use Rattle.silt_device.specs.Layout.{Shape}
 use Rattle.silt_device.proofs.Images.{shown_left, left_at_rest}
-use Rattle.silt_log.specs.Rows.{StoredRow, has_known_kind, row_at, rows_from, open_count, log_rows, FirstUnknown}
 use Rattle.silt_store_set.specs.declared.event.Event.{Event}
 use Rattle.silt_store_set.specs.declared.event.LifeReply.{LifeReply}
 use Rattle.silt_store_set.specs.declared.event.LifeReply.TheVariants.{NotOpened, Opened}
-use Rattle.silt_store_set.specs.declared.event.Place.{Place}
-use Rattle.silt_store_set.specs.declared.event.Place.TheVariants.{Header, Length, NoSlot, Log, Charge}
 use Rattle.silt_store_set.specs.declared.event.Refusal.{Refusal}
-use Rattle.silt_store_set.specs.declared.event.Refusal.TheVariants.{NotFormatted, Damaged, Device, NoMemory}
+use Rattle.silt_store_set.specs.declared.event.Refusal.TheVariants.{NoMemory}
 use Rattle.silt_store_set.specs.declared.event.Reply.{Reply}
-use Rattle.silt_store_set.specs.Commands.{Command, Map, map_after}
-use Rattle.silt_store_set.specs.Events.{Legal, accepted_commands, IsOpeningRefusal, LifeHistory, LivesHistory}
-use Rattle.silt_store_set.specs.CoreState.{CoreState, SameDisk, map_of, Runs, Opens}
-use Rattle.silt_store_set.specs.Image.{shape_of, image_rows, IsGood, IsDamaged, StandsFor, IsSafe}
-use Rattle.silt_store_set.specs.Opening.{OpeningCause, LeavesNoOther}
-use Rattle.silt_store_set.proofs.Index.{blank}
+use Rattle.silt_image.specs.Commands.{Command, Map, map_after}
+use Rattle.silt_store_set.specs.Events.{Legal, accepted_commands, LifeHistory, LivesHistory}
+use Rattle.silt_store_set.specs.CoreState.{CoreState, map_of, Runs, Opens}
+use Rattle.silt_store_set.specs.CoreInvariant.{IsSafe}
+use Rattle.silt_image.specs.Header.{shape_of}
+use Rattle.silt_stores.specs.Calls.{SameDisk, StandsOnLogs}
+use Rattle.silt_recovery.specs.Opening.{LeavesNoOther}
+use Rattle.silt_store_set.specs.Opening.{OpeningCause}
 use Rattle.silt_store_set.proofs.Keeps.{keeps_runs, nines}
+use Rattle.silt_store_set.proofs.Openings.{opening_refused}
 use Rattle.silt_store_set.proofs.Runs.{legal_runs}
-
--- ---- a good image is not refused
-
--- its rows are of known kinds
-known_row : (image : List ℕ) (place : ℕ) → IsGood image → FirstUnknown (row_at (shape_of image) 0 image) (open_count (shape_of image) 0 image) place → ⊥
-unfolding image_rows log_rows rows_from
-known_row image place good unknown =
-    let f : ℕ → StoredRow = row_at (shape_of image) 0 image in
-    let n : ℕ = open_count (shape_of image) 0 image in
-    let there : get_or (map f (range_with_len 0 n)) place blank ≡ f place = get_or-map-range_with_len f 0 n place place blank unknown.counts (omega arith) in
-    let bad : list_all has_known_kind (map f (range_with_len 0 n)) ≡ false =
-    list_all_at has_known_kind (map f (range_with_len 0 n)) place blank (omega (arith, unknown.counts, length-map-range_with_len f 0 n)) (ap has_known_kind there ∙ unknown.unknown) in
-    absurd (let no : true ≡ false = sym good.rows.known ∙ bad in cc)
-
-good_undamaged : (image : List ℕ) (place : Place) → IsGood image → IsDamaged image place → ⊥
-good_undamaged image Header good damaged = damaged.1 good.store.limits
-good_undamaged image Length good damaged = damaged.2 good.store.size
-good_undamaged image NoSlot good damaged = damaged.3 good.store.manifest
-good_undamaged image (Log region row) good damaged = known_row image row good damaged.2
-good_undamaged image Charge good damaged = absurd (omega (arith, damaged.2, good.rows.charge))
-good_undamaged image place good damaged = absurd damaged
-
-opening_refusal : {D F : Type 0} (content : D → Content) (gave : D → F → Type 0) (old : Content) (disk : D) (refusal : Refusal F) → IsTrue old.honest → IsGood old.shown → OpeningCause content gave old disk refusal → IsOpeningRefusal refusal
-opening_refusal content gave old disk NotFormatted h good cause = absurd ((cause h).0 good.store.header)
-opening_refusal content gave old disk (Damaged place) h good cause = absurd (good_undamaged old.shown place good (cause h).0)
-opening_refusal content gave old disk (Device fault) h good cause = tt
-opening_refusal content gave old disk NoMemory h good cause = tt
-opening_refusal content gave old disk refusal h good cause = absurd cause
 
 -- ---- after a stop
 
@@ -64,11 +33,12 @@ restarted value_len m old new restarts safe = record {
 }
 
 -- an image that stands for the map of a store of this shape is safe
-stands_safe : (value_len : ℕ) (shape : Shape) (m : Map) (image : List ℕ) → shape.value_len ≡ value_len → StandsFor shape m image → IsSafe value_len m image
+stands_safe : (value_len : ℕ) (shape : Shape) (m : Map) (image : List ℕ) → shape.value_len ≡ value_len → StandsOnLogs shape m image → IsSafe value_len m image
 stands_safe value_len shape m image same stands = record {
-  good = stands.good;
-  has_len = ap (λ (s : Shape). s.value_len) stands.has_shape ∙ same;
-  has_map = stands.has_map;
+  good = stands.stands.good;
+  has_len = ap (λ (s : Shape). s.value_len) stands.stands.has_shape ∙ same;
+  has_map = stands.stands.has_map;
+  logs_alone = stands.logs_alone;
 }
 
 module _ {D F : Type 0} (content : D → Content) (failures : D → ℕ) (gave : D → F → Type 0) (old : Content) (value_len : ℕ) (m : Map) (h : IsTrue old.honest) (safe : LeavesOnly old (IsSafe value_len m)) (events : List Event) where
@@ -80,10 +50,10 @@ module _ {D F : Type 0} (content : D → Content) (failures : D → ℕ) (gave :
       → (to : Map) × LifeHistory {F = F} m events (NotOpened refusal) to × LeavesOnly new (IsSafe value_len to)
   life_unopened disk refusal new leaves cause restarts = (
     m,
-    (opening_refusal content gave old disk refusal h shown_safe.good cause, refl),
+    (opening_refused content gave old disk refusal h shown_safe.good shown_safe.logs_alone cause, refl),
     restarted value_len m (content disk) new restarts (λ honest image left. elim (leaves.each honest image left) [
       | inl was ↦ safe.each h image was
-      | inr stands ↦ stands_safe value_len (shape_of old.shown) m image shown_safe.has_len (subst (λ (n : Map). StandsFor (shape_of old.shown) n image) shown_safe.has_map stands)
+      | inr stands ↦ stands_safe value_len (shape_of old.shown) m image shown_safe.has_len (subst (λ (n : Map). StandsOnLogs (shape_of old.shown) n image) shown_safe.has_map stands)
     ]),
   )
 
@@ -98,7 +68,7 @@ module _ {D F : Type 0} (content : D → Content) (failures : D → ℕ) (gave :
     m,
     (tt, refl),
     restarted value_len m (content core.disk) new restarts (λ honest image left.
-        stands_safe value_len core.shape m image (opened_len core opens) (subst (λ (n : Map). StandsFor core.shape n image) (opens.base h ∙ shown_safe.has_map) (opens.safe.each honest image left))),
+        stands_safe value_len core.shape m image (opened_len core opens) (subst (λ (n : Map). StandsOnLogs core.shape n image) (opens.base h ∙ shown_safe.has_map) (opens.safe.each honest image left))),
   )
 
   -- a store that was opened and did its events
@@ -128,7 +98,7 @@ module _ {D F : Type 0} (content : D → Content) (failures : D → ℕ) (gave :
         record {
           each = λ honest image left.
               subst (IsSafe value_len (map_after m kept.0)) (sym (left_at_rest restarts.rests honest image left))
-              (stands_safe value_len core.shape (map_after m kept.0) new.shown (opened_len core opens) (subst (λ (n : Map). StandsFor core.shape (map_after n kept.0) new.shown) base kept.2));
+              (stands_safe value_len core.shape (map_after m kept.0) new.shown (opened_len core opens) (subst (λ (n : Map). StandsOnLogs core.shape (map_after n kept.0) new.shown) base kept.2));
         },
       )
 

@@ -7,10 +7,10 @@ use Rattle.silt_store_set.specs.declared.event.Event.TheVariants.{Put, Delete, F
 use Rattle.silt_store_set.specs.declared.event.Refusal.TheVariants.{Failed}
 use Rattle.silt_store_set.specs.declared.event.Reply.{Reply}
 use Rattle.silt_store_set.specs.declared.event.Reply.TheVariants.{Accepted, Acknowledged, Found, Absent, Progress, Refused}
-use Rattle.silt_store_set.specs.Commands.{Command, Map, map_after}
+use Rattle.silt_image.specs.Commands.{Command, Map, map_after}
 use Rattle.silt_store_set.specs.Events.{Counts, accepted_command, accepted_commands, acknowledged_by, acknowledged_after, is_fault, is_failed, FailsAfterFault}
 use Rattle.silt_store_set.specs.CoreState.{CoreState, Cause, Does, Runs, Settles, StandsKept}
-use Rattle.silt_store_set.specs.Image.{StandsFor}
+use Rattle.silt_stores.specs.Calls.{StandsOnLogs}
 use Rattle.silt_store_set.proofs.Maps.{map_after-append, append_nil}
 use Rattle.silt_store_set.proofs.Calls.{none_refused}
 
@@ -21,38 +21,38 @@ or_true true = refl
 or_true false = refl
 
 -- as many commands are counted as an event adds
-own_counts : {D F : Type 0} (failures : D → ℕ) (gave : D → F → Type 0) (old new : CoreState D) (event : Event) (reply : Reply F) (c d : ℕ) → Cause failures gave old new event reply → Counts c reply d → d ≡ c + length (accepted_command event reply)
-own_counts failures gave old new (Put key value) (Accepted n) c d cause counts = counts.1
-own_counts failures gave old new (Delete key) (Accepted n) c d cause counts = counts.1
-own_counts failures gave old new Flush (Accepted n) c d cause counts = absurd cause
-own_counts failures gave old new (Get key) (Accepted n) c d cause counts = absurd cause
-own_counts failures gave old new Convert (Accepted n) c d cause counts = absurd cause
-own_counts failures gave old new Merge (Accepted n) c d cause counts = absurd cause
-own_counts failures gave old new (Put key value) (Acknowledged n) c d cause counts = absurd cause
-own_counts failures gave old new (Delete key) (Acknowledged n) c d cause counts = absurd cause
-own_counts failures gave old new Flush (Acknowledged n) c d cause counts = omega (arith, counts.1)
-own_counts failures gave old new (Get key) (Acknowledged n) c d cause counts = absurd cause
-own_counts failures gave old new Convert (Acknowledged n) c d cause counts = absurd cause
-own_counts failures gave old new Merge (Acknowledged n) c d cause counts = absurd cause
-own_counts failures gave old new (Put key value) (Found v) c d cause counts = absurd cause
-own_counts failures gave old new (Delete key) (Found v) c d cause counts = absurd cause
-own_counts failures gave old new Flush (Found v) c d cause counts = absurd cause
-own_counts failures gave old new (Get key) (Found v) c d cause counts = omega (arith, counts)
-own_counts failures gave old new Convert (Found v) c d cause counts = absurd cause
-own_counts failures gave old new Merge (Found v) c d cause counts = absurd cause
-own_counts failures gave old new (Put key value) Absent c d cause counts = absurd cause
-own_counts failures gave old new (Delete key) Absent c d cause counts = absurd cause
-own_counts failures gave old new Flush Absent c d cause counts = absurd cause
-own_counts failures gave old new (Get key) Absent c d cause counts = omega (arith, counts)
-own_counts failures gave old new Convert Absent c d cause counts = absurd cause
-own_counts failures gave old new Merge Absent c d cause counts = absurd cause
-own_counts failures gave old new (Put key value) (Progress p) c d cause counts = absurd cause
-own_counts failures gave old new (Delete key) (Progress p) c d cause counts = absurd cause
-own_counts failures gave old new Flush (Progress p) c d cause counts = absurd cause
-own_counts failures gave old new (Get key) (Progress p) c d cause counts = absurd cause
-own_counts failures gave old new Convert (Progress p) c d cause counts = omega (arith, counts)
-own_counts failures gave old new Merge (Progress p) c d cause counts = omega (arith, counts)
-own_counts failures gave old new event (Refused refusal) c d cause counts = omega (arith, counts, ap length (none_refused event refusal))
+own_counts : {D F : Type 0} (content : D → Content) (failures : D → ℕ) (gave : D → F → Type 0) (old new : CoreState D) (event : Event) (reply : Reply F) (c d : ℕ) → Cause content failures gave old new event reply → Counts c reply d → d ≡ c + length (accepted_command event reply)
+own_counts content failures gave old new (Put key value) (Accepted n) c d cause counts = counts.1
+own_counts content failures gave old new (Delete key) (Accepted n) c d cause counts = counts.1
+own_counts content failures gave old new Flush (Accepted n) c d cause counts = absurd cause
+own_counts content failures gave old new (Get key) (Accepted n) c d cause counts = absurd cause
+own_counts content failures gave old new Convert (Accepted n) c d cause counts = absurd cause
+own_counts content failures gave old new Merge (Accepted n) c d cause counts = absurd cause
+own_counts content failures gave old new (Put key value) (Acknowledged n) c d cause counts = absurd cause
+own_counts content failures gave old new (Delete key) (Acknowledged n) c d cause counts = absurd cause
+own_counts content failures gave old new Flush (Acknowledged n) c d cause counts = omega (arith, counts.1)
+own_counts content failures gave old new (Get key) (Acknowledged n) c d cause counts = absurd cause
+own_counts content failures gave old new Convert (Acknowledged n) c d cause counts = absurd cause
+own_counts content failures gave old new Merge (Acknowledged n) c d cause counts = absurd cause
+own_counts content failures gave old new (Put key value) (Found v) c d cause counts = absurd cause
+own_counts content failures gave old new (Delete key) (Found v) c d cause counts = absurd cause
+own_counts content failures gave old new Flush (Found v) c d cause counts = absurd cause
+own_counts content failures gave old new (Get key) (Found v) c d cause counts = omega (arith, counts)
+own_counts content failures gave old new Convert (Found v) c d cause counts = absurd cause
+own_counts content failures gave old new Merge (Found v) c d cause counts = absurd cause
+own_counts content failures gave old new (Put key value) Absent c d cause counts = absurd cause
+own_counts content failures gave old new (Delete key) Absent c d cause counts = absurd cause
+own_counts content failures gave old new Flush Absent c d cause counts = absurd cause
+own_counts content failures gave old new (Get key) Absent c d cause counts = omega (arith, counts)
+own_counts content failures gave old new Convert Absent c d cause counts = absurd cause
+own_counts content failures gave old new Merge Absent c d cause counts = absurd cause
+own_counts content failures gave old new (Put key value) (Progress p) c d cause counts = absurd cause
+own_counts content failures gave old new (Delete key) (Progress p) c d cause counts = absurd cause
+own_counts content failures gave old new Flush (Progress p) c d cause counts = absurd cause
+own_counts content failures gave old new (Get key) (Progress p) c d cause counts = absurd cause
+own_counts content failures gave old new Convert (Progress p) c d cause counts = omega (arith, counts)
+own_counts content failures gave old new Merge (Progress p) c d cause counts = omega (arith, counts)
+own_counts content failures gave old new event (Refused refusal) c d cause counts = omega (arith, counts, ap length (none_refused event refusal))
 
 -- more that was acknowledged before is more after
 acknowledged_more : {F : Type 0} (a b : ℕ) (replies : List (Reply F)) → a ≤ b → acknowledged_after a replies ≤ acknowledged_after b replies
@@ -131,7 +131,7 @@ module _ {D F : Type 0} (content : D → Content) (failures : D → ℕ) (gave :
       let moves = does.moves goes h in
       let own : List Command = accepted_command event reply in
       let more : List Command = accepted_commands events replies in
-      let counts : next.count ≡ old.count + length own = own_counts failures gave old next event reply old.count next.count does.cause does.counts in
+      let counts : next.count ≡ old.count + length own = own_counts content failures gave old next event reply old.count next.count does.cause does.counts in
       let waits : length moves.moved + length next.waiting ≡ length old.waiting + length own = sym (length-append moves.moved next.waiting) ∙ ap length moves.rest ∙ length-append old.waiting own in (
         moves.moved ++ kept.0,
         record {
@@ -145,8 +145,8 @@ module _ {D F : Type 0} (content : D → Content) (failures : D → ℕ) (gave :
               let one = acknowledged_one old next reply settled (length moves.moved) does.counts (does.settles h) now in
               omega (arith, acknowledged_more (acknowledged_by settled reply) (settled + length moves.moved) replies one, kept.1.acknowledged (settled + length moves.moved) now, length-append moves.moved kept.0);
         },
-        subst (λ (m : Map). StandsFor old.shape m image) (sym (map_after-append old.base moves.moved kept.0))
-            (subst (λ (m : Map). StandsFor old.shape (map_after m kept.0) image) moves.base (subst (λ (s : Shape). StandsFor s (map_after next.base kept.0) image) does.shape kept.2)),
+        subst (λ (m : Map). StandsOnLogs old.shape m image) (sym (map_after-append old.base moves.moved kept.0))
+            (subst (λ (m : Map). StandsOnLogs old.shape (map_after m kept.0) image) moves.base (subst (λ (s : Shape). StandsOnLogs s (map_after next.base kept.0) image) does.shape kept.2)),
       )
 
   -- the first call failed, and so did all after it
@@ -166,7 +166,7 @@ module _ {D F : Type 0} (content : D → Content) (failures : D → ℕ) (gave :
       )
 
   -- after a run each image stands for the base after what a stop may keep
-  pub keeps_runs : (old new : CoreState D) (events : List Event) (replies : List (Reply F)) → old.failed ≡ false → LeavesOnly (content old.disk) (StandsFor old.shape old.base)
+  pub keeps_runs : (old new : CoreState D) (events : List Event) (replies : List (Reply F)) → old.failed ≡ false → LeavesOnly (content old.disk) (StandsOnLogs old.shape old.base)
       → Runs content failures gave old events replies new → IsTrue (content old.disk).honest → (image : List ℕ) → Left (content new.disk) image → StandsKept old events replies image
   keeps_runs old new [] [] working safe runs h image left = (
     [],

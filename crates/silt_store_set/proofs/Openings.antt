@@ -1,90 +1,90 @@
--- What an opening holds of the device that it looked at.
-use Rattle.std.proofs.Common.{◌≡◌, ◌≤◌, ◌<◌, ℕ, ◌&&◌, ◌==◌, Bool, true, false, IsTrue, List, [], ◌∷◌, length, map, Some, refl, ap, sym, ◌∙◌, subst}
-use Rattle.std.specs.Prelude.{count_by}
-use Rattle.std.specs.List.{list_all}
-use Rattle.std.specs.Option.{is_some}
-use Rattle.std.specs.BTreeMap.{BTreeMap}
-use Rattle.std.specs.BTreeMap as tree
-use Rattle.silt_device.specs.Disk.{Content, size}
-use Rattle.silt_device.specs.Layout.{Shape, device_size}
-use Rattle.silt_frame.specs.declared.key.Key.{Key}
-use Rattle.silt_frame.specs.declared.key.Kind.{Kind}
-use Rattle.silt_frame.specs.declared.key.Kind.TheVariants.{Put, Delete}
-use Rattle.silt_frame.specs.declared.key.Row.{Row}
-use Rattle.silt_frame.specs.Frame.{kind_byte, kind_of}
-use Rattle.silt_log.specs.Rows.{StoredRow, AreRows, has_known_kind, log_rows}
-use Rattle.silt_log.specs.State.{LogState, InBounds, IsScanned}
-use Rattle.silt_store_set.specs.declared.event.Place.TheVariants.{Charge}
-use Rattle.silt_store_set.specs.CoreInvariant.{key_cmp, Indexes}
-use Rattle.silt_store_set.specs.Image.{shape_of, IsStore, IsDamaged, image_rows, charge_of_rows}
-use Rattle.silt_store_set.specs.Opening.{Found}
-use Rattle.silt_store_set.proofs.Index.{charge_counted}
+-- What an opening answers, from what recovery finds.
+use Rattle.std.proofs.Common.{◌≡◌, ◌-◌, ℕ, inl, inr, false, IsTrue, List, [], map, Option, Some, None, refl, ap, sym, ◌∙◌, arith}
+use Rattle.silt_device.specs.Disk.{Content}
+use Rattle.silt_image.specs.Commands.{map_after}
+use Rattle.silt_image.specs.Meaning.{IsGood, command_of}
+use Rattle.silt_image.specs.Stores.{image_stores}
+use Rattle.silt_image.specs.declared.finding.Finding.TheVariants as finding
+use Rattle.silt_image.specs.declared.finding.Place.{Place}
+use Rattle.silt_image.specs.declared.finding.Place.TheVariants.{Header, Length, Slot, NoSlot, Log, Hash, Sorted, Charge}
+use Rattle.silt_log.specs.Rows.{rows_from}
+use Rattle.silt_log.specs.State.{LogState, waiting_rows}
+use Rattle.silt_recovery.specs.Opening.{IsUnwrittenUnlessFailed, TakesUp}
+use Rattle.silt_recovery.specs.Refusals.{IsFound, IsRefusedLook}
+use Rattle.silt_recovery.specs.declared.fault.OpenError.{OpenError}
+use Rattle.silt_recovery.specs.declared.fault.OpenError.TheVariants.{NotFormatted, Damaged, Crowded, Device, NoMemory}
+use Rattle.silt_stores.specs.Calls.{AreLogsAlone}
+use Rattle.silt_stores.specs.Standing.{waiting_commands}
+use Rattle.silt_stores.specs.State.{StoresState}
+use Rattle.silt_stores.proofs.Facts.{meaning}
+use Rattle.silt_store_set.specs.CoreState.{Opens}
+use Rattle.silt_store_set.specs.Events.{IsOpeningRefusal}
+use Rattle.silt_store_set.specs.Opening.{OpeningCause}
+use Rattle.silt_store_set.specs.Replies.{refusal_of_opening}
+use Rattle.silt_store_set.specs.declared.event.Refusal.{Refusal}
+use Rattle.silt_store_set.specs.declared.event.Refusal.TheVariants as refusal
+use Rattle.silt_store_set.proofs.Calls.{seen, stands_seen}
 
--- a test of each mapped element
-list_all-map : {X : Type 0} (f : X → ℕ) (p : ℕ → Bool) (xs : List X) → list_all (λ x. p (f x)) xs ≡ list_all p (map f xs)
-list_all-map f p [] = refl
-list_all-map f p (x ∷ xs) = ap (λ b. p (f x) && b) (list_all-map f p xs)
+-- ---- why an opening is refused
 
-known_byte : (kind : Kind) → is_some (kind_of (kind_byte kind)) ≡ true
-known_byte Put = refl
-known_byte Delete = refl
+-- as the device is refused, so is the opening
+pub opening_cause : {D F : Type 0} (content : D → Content) (gave : D → F → Type 0) (old : Content) (disk : D) (error : OpenError F)
+    → IsRefusedLook (λ found. IsTrue old.honest → IsFound old.shown found) (gave disk) error → IsUnwrittenUnlessFailed old (content disk) error
+    → OpeningCause content gave old disk (refusal_of_opening error)
+opening_cause content gave old disk NotFormatted found unwritten = (found, unwritten)
+opening_cause content gave old disk (Damaged place) found unwritten = (found, unwritten)
+opening_cause content gave old disk Crowded found unwritten = (found, unwritten)
+opening_cause content gave old disk (Device fault) given unwritten = given
+opening_cause content gave old disk NoMemory none unwritten = unwritten
 
-known_bytes : (rows : List Row) → list_all (λ n. is_some (kind_of n)) (map (λ (row : Row). kind_byte row.kind) rows) ≡ true
-known_bytes [] = refl
-known_bytes (row ∷ rows) = ap (λ b. b && list_all (λ n. is_some (kind_of n)) (map (λ (r : Row). kind_byte r.kind) rows)) (known_byte row.kind) ∙ known_bytes rows
+never : {A : Type 0} (found : Option A) (x : A) → found ≡ None → found ≡ Some x → ⊥
+never found x none some = absurd (let no : None ≡ Some x = sym none ∙ some in cc)
 
--- rows that were read are of known kinds
-pub known_rows : (rows : List Row) (stored : List StoredRow) → AreRows rows stored → list_all has_known_kind stored ≡ true
-known_rows rows stored are = list_all-map (λ (row : StoredRow). row.kind) (λ n. is_some (kind_of n)) stored ∙ ap (list_all (λ n. is_some (kind_of n))) (sym are.kinds) ∙ known_bytes rows
+-- nothing is found in a good image of logs alone
+none_found : (image : List ℕ) (place : Place) → IsGood image → AreLogsAlone (image_stores image) → IsFound image (finding.Damaged place) → ⊥
+none_found image NoSlot good alone (inl verdict) = never _ _ good (verdict)
+none_found image NoSlot good alone (inr other) = other.others alone
+none_found image Header good alone verdict = never _ _ good (verdict)
+none_found image Length good alone verdict = never _ _ good (verdict)
+none_found image (Slot slot) good alone verdict = never _ _ good (verdict)
+none_found image (Log region row) good alone verdict = never _ _ good (verdict)
+none_found image (Hash region slot) good alone verdict = never _ _ good (verdict)
+none_found image (Sorted entry) good alone verdict = never _ _ good (verdict)
+none_found image Charge good alone verdict = never _ _ good (verdict)
 
-module _ (content : Content) (shape : Shape) (old new : LogState) (rows : List Row) (charge : ℕ)
-    (fresh : old ≡ record { shape = shape; region = 0; settled = 0; used = 0; loose = false }) (sized : size content ≡ device_size shape)
-    (store : IsTrue content.honest → IsStore shape content.shown) (same : (new.shape ≡ old.shape) × (new.region ≡ old.region))
-    (scanned : IsTrue content.honest → IsScanned content new × AreRows rows (log_rows old.shape old.region content.shown))
-    (counted : charge ≡ count_by (λ (row : Row). kind_byte row.kind == 1) rows) where
-  same_shape : new.shape ≡ shape
-  same_shape = same.0 ∙ ap (λ (l : LogState). l.shape) fresh
+-- an opening of such an image is refused by its device or for want of memory alone
+pub opening_refused : {D F : Type 0} (content : D → Content) (gave : D → F → Type 0) (old : Content) (disk : D) (r : Refusal F)
+    → IsTrue old.honest → IsGood old.shown → AreLogsAlone (image_stores old.shown) → OpeningCause content gave old disk r → IsOpeningRefusal r
+opening_refused content gave old disk refusal.NotFormatted h good alone cause = absurd (never _ _ good (cause.0 h))
+opening_refused content gave old disk (refusal.Damaged place) h good alone cause = absurd (none_found old.shown place good alone (cause.0 h))
+opening_refused content gave old disk refusal.Crowded h good alone cause = absurd (never _ _ good (cause.0 h))
+opening_refused content gave old disk (refusal.Device fault) h good alone cause = tt
+opening_refused content gave old disk refusal.NoMemory h good alone cause = tt
+opening_refused content gave old disk r h good alone cause = absurd cause
 
-  -- the rows are those of the image
-  image_are : IsTrue content.honest → log_rows old.shape old.region content.shown ≡ image_rows content.shown
-  unfolding image_rows
-  image_are h =
-      ap (λ (l : LogState). log_rows l.shape l.region content.shown) fresh ∙ ap (λ (s : Shape). log_rows s 0 content.shown) (sym (store h).has_shape)
+-- ---- what an opening takes up
 
-  are : IsTrue content.honest → AreRows rows (image_rows content.shown)
-  are h = subst (AreRows rows) (image_are h) (scanned h).1
+-- where all rows are settled none waits
+pub none_wait : (content : Content) (log : LogState) → log.settled ≡ log.used → waiting_rows content log ≡ []
+unfolding rows_from
+none_wait content log settled =
+    let none : log.used - log.settled ≡ 0 = omega (arith, settled) in
+    rw none refl
 
-  here : IsTrue content.honest → IsStore (shape_of content.shown) content.shown
-  here h = subst (λ (s : Shape). IsStore s content.shown) (sym (store h).has_shape) (store h)
-
-  -- too many puts
-  pub charge_damaged : shape.sorted_capacity < charge → IsTrue content.honest → IsDamaged content.shown Charge
-  charge_damaged above h = (
-    here h,
-    known_rows rows (image_rows content.shown) (are h),
-    let most : shape.sorted_capacity < charge_of_rows (image_rows content.shown) = subst (λ n. shape.sorted_capacity < n) (counted ∙ charge_counted rows (image_rows content.shown) (are h)) above in
-        subst (λ (s : Shape). s.sorted_capacity < charge_of_rows (image_rows content.shown)) (sym (store h).has_shape) most,
-  )
-
-  pub log_found : (index : BTreeMap Key ℕ) → new.settled ≡ new.used → length rows ≡ new.used → InBounds new → charge ≤ shape.sorted_capacity
-      → ((key : Key) (place : ℕ) → tree.get key_cmp index key ≡ Some place → place < length rows)
-      → ((stored : List StoredRow) → AreRows rows stored → Indexes index stored) → Found content new index charge
-  log_found index settled long bounds most places indexes = record {
-    has_size = sized ∙ ap device_size (sym same_shape);
-    first = same.1 ∙ ap (λ (l : LogState). l.region) fresh;
-    bounds = bounds;
-    settled = settled;
-    charge_most = subst (λ (s : Shape). charge ≤ s.sorted_capacity) (sym same_shape) most;
-    places = λ key place found. subst (λ n. place < n) long (places key place found);
-    good = λ h. record {
-      store = here h;
-      rows = record {
-        known = known_rows rows (image_rows content.shown) (are h);
-        charge = subst (λ n. n ≤ (shape_of content.shown).sorted_capacity) (counted ∙ charge_counted rows (image_rows content.shown) (are h)) (subst (λ (s : Shape). charge ≤ s.sorted_capacity) (sym (store h).has_shape) most);
-      };
-    };
-    has_shape = λ h. (store h).has_shape ∙ sym same_shape;
-    scanned = λ h. (scanned h).0;
-    counted = λ h. counted ∙ charge_counted rows (image_rows content.shown) (are h);
-    indexed = λ h. indexes (image_rows content.shown) (are h);
-  }
+-- a store that was taken up
+pub opened : {D : Type 0} (content : D → Content) (old : Content) (disk : D) (stores : StoresState) → TakesUp old (content disk) stores → Opens content old (seen content disk stores 0 false)
+opened content old disk stores takes =
+    let means = meaning (content disk) stores takes.stands in
+    let there : IsTrue old.honest → IsTrue (content disk).honest = λ h. takes.disk.honest ∙ h in
+    let waits : waiting_commands (content disk) stores ≡ [] = takes.quiet.none_wait in
+    record {
+      disk = takes.disk;
+      count = refl;
+      working = refl;
+      good = takes.good;
+      has_shape = takes.has_shape;
+      waiting = λ h. waits;
+      base = λ h. means.shown (there h) ∙ takes.has_map h;
+      has_map = λ h. means.full (there h) ∙ ap (map_after _) waits ∙ takes.has_map h;
+      safe = (stands_seen content disk stores 0 false takes.stands).safe;
+    }

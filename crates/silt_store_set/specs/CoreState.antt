@@ -1,7 +1,16 @@
 -- What contracts see of a store, and what its calls do.
-use Rattle.std.specs.Prelude.{◌≡◌, ◌≤◌, ◌<◌, ◌-◌, ◌^◌, ◌%◌, ℕ, ◌+◌, Bool, true, false, IsTrue, List, [], ◌∷◌, ◌++◌, length}
-use Rattle.silt_device.specs.Disk.{Content, LeavesOnly, size}
+use Rattle.std.specs.Prelude.{◌≡◌, ◌≢◌, ◌≤◌, ◌<◌, ◌-◌, ◌^◌, ◌%◌, ◌⊎◌, ℕ, ◌+◌, Bool, true, false, IsTrue, List, [], ◌∷◌, ◌++◌, length}
+use Rattle.silt_device.specs.Disk.{Content, LeavesOnly}
 use Rattle.silt_device.specs.Layout.{Shape}
+use Rattle.silt_frame.specs.declared.key.Key.{Key}
+use Rattle.silt_frame.specs.declared.key.Kind.{Kind}
+use Rattle.silt_frame.specs.declared.key.Kind.TheVariants as kind
+use Rattle.silt_image.specs.Commands.{Begins, Command, Map, map_after}
+use Rattle.silt_image.specs.Header.{shape_of}
+use Rattle.silt_image.specs.Meaning.{image_map, IsGood}
+use Rattle.silt_log.specs.Rows.{StoredRow, log_rows}
+use Rattle.silt_manifest.specs.declared.body.Body.{Body}
+use Rattle.silt_stores.specs.Calls.{CannotTake, HasBegun, SameDisk, StandsOnLogs}
 use Rattle.silt_store_set.specs.declared.event.Event.{Event}
 use Rattle.silt_store_set.specs.declared.event.Event.TheVariants.{Put, Delete, Flush, Get, Convert, Merge}
 use Rattle.silt_store_set.specs.declared.event.Progress.TheVariants.{Idle}
@@ -9,13 +18,13 @@ use Rattle.silt_store_set.specs.declared.event.Refusal.{Refusal}
 use Rattle.silt_store_set.specs.declared.event.Refusal.TheVariants.{Device, NoMemory, StoreFull, NoRoom, Failed, Spent}
 use Rattle.silt_store_set.specs.declared.event.Reply.{Reply}
 use Rattle.silt_store_set.specs.declared.event.Reply.TheVariants.{Accepted, Acknowledged, Found, Absent, Progress, Refused}
-use Rattle.silt_store_set.specs.Commands.{Command, Map, map_after, Begins}
 use Rattle.silt_store_set.specs.Events.{Step, Counts, accepted_command, accepted_commands, acknowledged_after, is_fault, is_failed}
-use Rattle.silt_store_set.specs.Image.{shape_of, image_map, IsGood, StandsFor}
 
 pub record CoreState (D : Type 0) : Type 0 where
   pub disk : D
   pub shape : Shape
+  -- which regions are the store
+  pub body : Body
   -- what is shown, with the gates of the waiting rows open
   pub full : List ℕ
   -- the map of what is shown, for which each image stands as long as the store is not failed
@@ -24,8 +33,6 @@ pub record CoreState (D : Type 0) : Type 0 where
   pub waiting : List Command
   -- how many put rows there are
   pub charge : ℕ
-  -- how many rows the active log has
-  pub rows : ℕ
   -- how many commands this life has accepted
   pub count : ℕ
   pub failed : Bool
@@ -37,6 +44,14 @@ map_of core = image_map core.full
 -- the greatest number of commands that one life may accept
 abbrev pub most_commands : ℕ
 most_commands = 2 ^ 63 - 1
+
+-- the last generation of a manifest
+abbrev pub last_generation : ℕ
+last_generation = 2 ^ 63 - 1
+
+-- the rows of the active log, those that wait included
+abbrev pub active_rows : {D : Type 0} → CoreState D → List StoredRow
+active_rows core = log_rows core.shape core.body.active core.full
 
 -- ---- why a reply is due
 
@@ -50,32 +65,81 @@ pub record MayPut {D : Type 0} (core : CoreState D) : Type 0 where
   pub may_count : MayCount core
   pub charge : core.charge < core.shape.sorted_capacity
 
+-- what a row of this kind needs: a put also room under the greatest charge
+abbrev pub MayWrite : {D : Type 0} → Kind → CoreState D → Type 0
+MayWrite kind.Put core = MayPut core
+MayWrite kind.Delete core = MayCount core
+
+-- the event whose row is of this kind
+abbrev pub row_event : Kind → Key → List ℕ → Event
+row_event kind.Put key value = Put key value
+row_event kind.Delete key value = Delete key
+
+-- every log region is in use
+abbrev pub AreAllInUse : {D : Type 0} → CoreState D → Type 0
+AreAllInUse core = length core.body.frozen + 1 ≡ core.shape.logs
+
+-- a log region is free
+abbrev pub HasFreeLog : {D : Type 0} → CoreState D → Type 0
+HasFreeLog core = ¬ AreAllInUse core
+
 -- The write or sync that failed gave this fault in this very call, and the store is failed from now on.
 pub record FailsBy {D F : Type 0} (failures : D → ℕ) (gave : D → F → Type 0) (old new : CoreState D) (fault : F) : Type 0 where
   pub given : gave new.disk fault
   pub counted : failures new.disk ≡ (failures old.disk + 1) % 2 ^ 64
   pub failed : new.failed ≡ true
 
-module _ {D F : Type 0} (failures : D → ℕ) (gave : D → F → Type 0) (old new : CoreState D) where
-  -- a put: counted, under the greatest charge, and with a free row in the log
-  abbrev pub PutCause : Reply F → Type 0
-  PutCause (Accepted n) = MayPut old × (old.rows < old.shape.log_capacity) × (failures new.disk ≡ failures old.disk)
-  PutCause (Refused Failed) = old.failed ≡ true
-  PutCause (Refused Spent) = (old.failed ≡ false) × (old.count ≡ most_commands)
-  PutCause (Refused StoreFull) = MayCount old × (old.charge ≡ old.shape.sorted_capacity)
-  PutCause (Refused NoRoom) = MayPut old × (old.rows ≡ old.shape.log_capacity)
-  PutCause (Refused NoMemory) = MayPut old × (old.rows < old.shape.log_capacity)
-  PutCause (Refused (Device fault)) = FailsBy failures gave old new fault
-  PutCause reply = ⊥
+-- the read that failed gave this fault in this very call, and nothing is changed
+pub record FailsRead {D F : Type 0} (gave : D → F → Type 0) (old new : CoreState D) (fault : F) : Type 0 where
+  pub given : gave new.disk fault
+  pub working : old.failed ≡ false
+  pub same : new ≡ old
 
-  -- a delete: as a put, whatever the charge, and with no need of memory
-  abbrev pub DeleteCause : Reply F → Type 0
-  DeleteCause (Accepted n) = MayCount old × (old.rows < old.shape.log_capacity) × (failures new.disk ≡ failures old.disk)
-  DeleteCause (Refused Failed) = old.failed ≡ true
-  DeleteCause (Refused Spent) = (old.failed ≡ false) × (old.count ≡ most_commands)
-  DeleteCause (Refused NoRoom) = MayCount old × (old.rows ≡ old.shape.log_capacity)
-  DeleteCause (Refused (Device fault)) = FailsBy failures gave old new fault
-  DeleteCause reply = ⊥
+-- the body after the active log was frozen: it stands in front of the other frozen logs, and another region takes writes
+pub record Freezes (old new : Body) : Type 0 where
+  pub generation : new.generation ≡ old.generation + 1
+  pub frozen : new.frozen ≡ old.active ∷ old.frozen
+  pub hashed : new.hashed ≡ old.hashed
+  pub sorted : new.sorted ≡ old.sorted
+  pub sorted_count : new.sorted_count ≡ old.sorted_count
+
+module _ {D F : Type 0} (content : D → Content) (failures : D → ℕ) (gave : D → F → Type 0) (old new : CoreState D) where
+  -- the active log cannot take a row of this key: it is full, or the placing rule gives up
+  abbrev pub IsStopped : List ℕ → Type 0
+  IsStopped key = IsTrue (content old.disk).honest → CannotTake old.shape (active_rows old) key
+
+  -- the active log takes the row, or it is frozen, where it cannot, and another one takes it
+  abbrev pub Takes : List ℕ → Type 0
+  Takes key = ((new.body ≡ old.body) × (IsTrue (content old.disk).honest → ¬ CannotTake old.shape (active_rows old) key)) ⊎ (Freezes old.body new.body × IsStopped key)
+
+  -- a row of this key was written, and no call failed
+  abbrev pub WritesRow : List ℕ → Type 0
+  WritesRow key = Takes key × (failures new.disk ≡ failures old.disk)
+
+  -- why a row of this key is not written: a fault, no free log, no further generation, or no memory for a new log
+  abbrev pub NoRowCause : List ℕ → Refusal F → Type 0
+  NoRowCause key NoRoom = IsStopped key × AreAllInUse old
+  NoRowCause key Spent = IsStopped key × HasFreeLog old × (old.body.generation ≡ last_generation)
+  NoRowCause key NoMemory = IsStopped key × HasFreeLog old × (old.body.generation ≢ last_generation)
+  NoRowCause key (Device fault) = FailsRead gave old new fault ⊎ FailsBy failures gave old new fault
+  NoRowCause key refusal = ⊥
+
+  -- a put: counted, and under the greatest charge
+  abbrev pub PutCause : List ℕ → Reply F → Type 0
+  PutCause key (Accepted n) = MayPut old × WritesRow key
+  PutCause key (Refused Failed) = old.failed ≡ true
+  PutCause key (Refused StoreFull) = MayCount old × (old.charge ≡ old.shape.sorted_capacity)
+  PutCause key (Refused Spent) = (old.failed ≡ false) × ((old.count ≡ most_commands) ⊎ (MayPut old × NoRowCause key Spent))
+  PutCause key (Refused refusal) = MayPut old × NoRowCause key refusal
+  PutCause key reply = ⊥
+
+  -- a delete: as a put, whatever the charge
+  abbrev pub DeleteCause : List ℕ → Reply F → Type 0
+  DeleteCause key (Accepted n) = MayCount old × WritesRow key
+  DeleteCause key (Refused Failed) = old.failed ≡ true
+  DeleteCause key (Refused Spent) = (old.failed ≡ false) × ((old.count ≡ most_commands) ⊎ (MayCount old × NoRowCause key Spent))
+  DeleteCause key (Refused refusal) = MayCount old × NoRowCause key refusal
+  DeleteCause key reply = ⊥
 
   abbrev pub FlushCause : Reply F → Type 0
   FlushCause (Acknowledged n) = (old.failed ≡ false) × (failures new.disk ≡ failures old.disk)
@@ -88,11 +152,11 @@ module _ {D F : Type 0} (failures : D → ℕ) (gave : D → F → Type 0) (old 
   GetCause (Found value) = old.failed ≡ false
   GetCause Absent = old.failed ≡ false
   GetCause (Refused Failed) = old.failed ≡ true
-  GetCause (Refused (Device fault)) = (old.failed ≡ false) × gave new.disk fault
+  GetCause (Refused (Device fault)) = FailsRead gave old new fault
   GetCause (Refused NoMemory) = old.failed ≡ false
   GetCause reply = ⊥
 
-  -- there is no frozen log and no hash store in this stage
+  -- nothing is converted or merged in this stage
   abbrev pub BackgroundCause : Reply F → Type 0
   BackgroundCause (Progress progress) = (old.failed ≡ false) × (progress ≡ Idle)
   BackgroundCause (Refused Failed) = old.failed ≡ true
@@ -100,8 +164,8 @@ module _ {D F : Type 0} (failures : D → ℕ) (gave : D → F → Type 0) (old 
 
   -- what stands where an event is given this reply
   abbrev pub Cause : Event → Reply F → Type 0
-  Cause (Put key value) = PutCause
-  Cause (Delete key) = DeleteCause
+  Cause (Put key value) = PutCause key.0
+  Cause (Delete key) = DeleteCause key.0
   Cause Flush = FlushCause
   Cause (Get key) = GetCause
   Cause Convert = BackgroundCause
@@ -109,22 +173,11 @@ module _ {D F : Type 0} (failures : D → ℕ) (gave : D → F → Type 0) (old 
 
 -- ---- what a call leaves
 
--- the disk is as long and as honest as before
-pub record SameDisk (old new : Content) : Type 0 where
-  pub size : size new ≡ size old
-  pub honest : new.honest ≡ old.honest
-
 -- A beginning of what waited, and the event's own command, went into the base.
 pub record Moves {D : Type 0} (old new : CoreState D) (adds : List Command) : Type 0 where
   pub moved : List Command
   pub rest : moved ++ new.waiting ≡ old.waiting ++ adds
   pub base : new.base ≡ map_after old.base moved
-
--- an image stands for the base after a beginning of these commands
-pub record Torn (shape : Shape) (base : Map) (waiting : List Command) (image : List ℕ) : Type 0 where
-  pub kept : List Command
-  pub begins : Begins kept waiting
-  pub stands : StandsFor shape (map_after base kept) image
 
 -- an acknowledging reply leaves nothing waiting
 abbrev pub Settles : {D F : Type 0} → CoreState D → Reply F → Type 0
@@ -141,21 +194,23 @@ pub record Does {D F : Type 0} (content : D → Content) (failures : D → ℕ) 
   pub disk : SameDisk (content old.disk) (content new.disk)
   pub shape : new.shape ≡ old.shape
   pub counts : Counts old.count reply new.count
-  pub cause : Cause failures gave old new event reply
+  pub cause : Cause content failures gave old new event reply
   -- a refusal by which the store does not fail changes nothing
   pub stays : IsTrue (is_refused reply) → new.failed ≡ old.failed → new ≡ old
   -- a failed store answers so and changes nothing
   pub failed : old.failed ≡ true → (new ≡ old) × (reply ≡ Refused Failed)
   pub told : IsTrue (is_failed reply) → old.failed ≡ true
   pub faulted : old.failed ≡ false → new.failed ≡ true → IsTrue (is_fault reply)
+  -- a call that accepts nothing leaves the named regions as they are
+  pub names : new.failed ≡ false → accepted_command event reply ≡ [] → new.body ≡ old.body
   -- the reply is that of a map
   pub step : old.failed ≡ false → IsTrue (content old.disk).honest → Step (map_of old) event reply (map_of new)
   pub joins : new.failed ≡ false → IsTrue (content old.disk).honest → map_of new ≡ map_after new.base new.waiting
   pub moves : new.failed ≡ false → IsTrue (content old.disk).honest → Moves old new (accepted_command event reply)
   pub settles : IsTrue (content old.disk).honest → Settles new reply
   -- each image stands for the base, or, where the call failed, for the base as it was after a beginning of what waited
-  pub safe : new.failed ≡ false → LeavesOnly (content new.disk) (StandsFor new.shape new.base)
-  pub crash : old.failed ≡ false → new.failed ≡ true → LeavesOnly (content new.disk) (Torn old.shape old.base old.waiting)
+  pub safe : new.failed ≡ false → LeavesOnly (content new.disk) (StandsOnLogs new.shape new.base)
+  pub crash : old.failed ≡ false → new.failed ≡ true → LeavesOnly (content new.disk) (HasBegun old.shape old.base old.waiting)
 
 -- a put's value is as long as the store's values
 abbrev pub HasValueOf : ℕ → Event → Type 0
@@ -186,7 +241,7 @@ pub record KeepsFrom {D F : Type 0} (old : CoreState D) (events : List Event) (r
 
 -- an image stands for the base after what a stop may keep of the run
 abbrev pub StandsKept : {D F : Type 0} → CoreState D → List Event → List (Reply F) → List ℕ → Type 0
-StandsKept old events replies image = (kept : List Command) × KeepsFrom old events replies kept × StandsFor old.shape (map_after old.base kept) image
+StandsKept old events replies image = (kept : List Command) × KeepsFrom old events replies kept × StandsOnLogs old.shape (map_after old.base kept) image
 
 -- ---- opening
 
@@ -200,4 +255,4 @@ pub record Opens {D : Type 0} (content : D → Content) (old : Content) (core : 
   pub waiting : IsTrue old.honest → core.waiting ≡ []
   pub base : IsTrue old.honest → core.base ≡ image_map old.shown
   pub has_map : IsTrue old.honest → map_of core ≡ image_map old.shown
-  pub safe : LeavesOnly (content core.disk) (StandsFor core.shape core.base)
+  pub safe : LeavesOnly (content core.disk) (StandsOnLogs core.shape core.base)

@@ -1,5 +1,5 @@
 -- What a store may answer to events, and what a stop may take away.
-use Rattle.std.specs.Prelude.{Vec, ◌≡◌, ◌≤◌, ℕ, ◌+◌, Bool, true, false, ◌||◌, IsTrue, Some, None, List, [], ◌∷◌, ◌++◌, length}
+use Rattle.std.specs.Prelude.{Vec, ◌≡◌, ◌≤◌, ℕ, ◌+◌, Bool, true, false, ◌||◌, IsTrue, Some, None, List, [], ◌∷◌, ◌++◌, length, codes}
 use Rattle.std.specs.FinMap.{get}
 use Rattle.std.specs.declared.alloc.Global.{Global}
 use Rattle.silt_store_set.specs.declared.event.LifeReply.{LifeReply}
@@ -10,7 +10,7 @@ use Rattle.silt_store_set.specs.declared.event.Refusal.{Refusal}
 use Rattle.silt_store_set.specs.declared.event.Refusal.TheVariants.{NotFormatted, BadGeometry, Damaged, Crowded, Device, NoMemory, StoreFull, NoRoom, Failed, Spent, HistoryFull, BadLine, BadKey, BadValue, LineTooLong}
 use Rattle.silt_store_set.specs.declared.event.Reply.{Reply}
 use Rattle.silt_store_set.specs.declared.event.Reply.TheVariants.{Accepted, Acknowledged, Found, Absent, Progress, Refused}
-use Rattle.silt_store_set.specs.Commands.{Command, put, delete, Map, changed, map_after, Begins}
+use Rattle.silt_image.specs.Commands.{Command, put, delete, Map, changed, map_after, Begins}
 
 -- ---- refusals
 
@@ -31,6 +31,24 @@ refusal_number BadLine = 20
 refusal_number BadKey = 21
 refusal_number BadValue = 22
 refusal_number LineTooLong = 23
+
+-- the name of a refusal in texts
+abbrev pub refusal_name : {F : Type 0} → Refusal F → List ℕ
+refusal_name NotFormatted = codes "NotFormatted"
+refusal_name BadGeometry = codes "BadGeometry"
+refusal_name (Damaged place) = codes "Damaged"
+refusal_name Crowded = codes "Crowded"
+refusal_name (Device fault) = codes "Device"
+refusal_name NoMemory = codes "NoMemory"
+refusal_name StoreFull = codes "StoreFull"
+refusal_name NoRoom = codes "NoRoom"
+refusal_name Failed = codes "Failed"
+refusal_name Spent = codes "Spent"
+refusal_name HistoryFull = codes "HistoryFull"
+refusal_name BadLine = codes "BadLine"
+refusal_name BadKey = codes "BadKey"
+refusal_name BadValue = codes "BadValue"
+refusal_name LineTooLong = codes "LineTooLong"
 
 -- a refusal without its fault
 abbrev pub plain_refusal : {F : Type 0} → Refusal F → Refusal (Unit {0})

@@ -1,6 +1,7 @@
 // What callers ask of a store, and what it answers.
 
 use silt_frame::{Key, Value};
+use silt_image::Place;
 
 /// What a caller asks of a store.
 #[derive(Debug, Drop)]
@@ -30,27 +31,6 @@ pub enum Progress {
     Moved,
     /// The work was finished.
     Finished,
-}
-
-/// Which part of a device is damaged.
-#[derive(Clone, Copy, Debug, PartialEq, Eq)]
-pub enum Place {
-    /// A number of the header is out of its limits.
-    Header,
-    /// The device is not as long as its header says.
-    Length,
-    /// An open manifest slot is not well formed.
-    Slot(u32),
-    /// No manifest slot rules.
-    NoSlot,
-    /// A row of a log is of an unknown kind.
-    Log { region: u32, row: u32 },
-    /// A slot of a hash region holds what cannot stand there.
-    Hash { region: u32, slot: u32 },
-    /// A sorted entry is not above the one before it.
-    Sorted(u32),
-    /// There are more put rows than the store may hold.
-    Charge,
 }
 
 /// Why a call is refused. `Device` holds the fault that the device gave.
@@ -116,7 +96,7 @@ pub enum LifeReply<F> {
 
 impl<F: Drop> Refusal<F> {
     ghost use Rattle.std.specs.Prelude.{◌≡◌};
-    ghost use Rattle.silt_store_set.specs.Events.{refusal_number, plain_refusal};
+    ghost use Rattle.silt_store_set.specs.Events.{refusal_number, refusal_name, plain_refusal};
 
     /// The number by which a refusal is known in texts.
     pub fn number(&self) -> u32
@@ -142,7 +122,9 @@ impl<F: Drop> Refusal<F> {
     }
 
     /// The name by which a refusal is known in texts.
-    pub fn name(&self) -> &'static str {
+    pub fn name(&self) -> &'static str
+        ensures { result.now ≡ refusal_name self.now }
+    {
         match self {
             Refusal::NotFormatted => "NotFormatted",
             Refusal::BadGeometry => "BadGeometry",

@@ -9,19 +9,19 @@
 //! leave of the device, also where the call is refused. [`Core::run`] does events in order, and [`lives`] does lives in order, each
 //! ended by a stop before or within any device call.
 //!
-//! In this stage all rows stand in one log: log region 0 of the device, under the manifest that formatting wrote.
+//! A row goes to the active log. Where that cannot take it, being full or by the placing rule of its table, it is frozen and
+//! another one is started. In this stage nothing is converted or merged: all rows stand in logs.
 #![tactic(auto)]
 
 mod event;
-mod formatting;
 mod life;
-mod opening;
 mod replies;
 mod store;
 #[cfg(test)]
 mod tests;
 
 pub use crate::store::{Core, OpenFault};
-pub use event::{Event, LifeReply, Place, Progress, Refusal, Reply};
-pub use formatting::{FormatFault, format};
+pub use event::{Event, LifeReply, Progress, Refusal, Reply};
 pub use life::lives;
+pub use replies::{formatting_refusal, opening_refusal};
+pub use silt_image::Place;

@@ -1,10 +1,10 @@
 // Lives of a store, each ended by a stop.
 ghost use Rattle.std.specs.Prelude.{◌≡◌, All, IsTrue, IfOk};
 ghost use Rattle.silt_device.specs.Disk.{LeavesOnly};
-ghost use Rattle.silt_store_set.specs.Commands.{Map};
+ghost use Rattle.silt_image.specs.Commands.{Map};
 ghost use Rattle.silt_store_set.specs.CoreState.{HasValueOf};
 ghost use Rattle.silt_store_set.specs.Events.{LifeHistory, LivesHistory};
-ghost use Rattle.silt_store_set.specs.Image.{IsSafe};
+ghost use Rattle.silt_store_set.specs.CoreInvariant.{IsSafe};
 
 use crate::{Core, Event, LifeReply, OpenFault, Refusal};
 use silt_device::Stoppable;

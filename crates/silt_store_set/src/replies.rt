@@ -2,13 +2,14 @@
 ghost use Rattle.std.specs.Prelude.{◌≡◌, ◌<◌, ◌≤◌, ℕ, length, slice_index, IsTrue, IfOk, IfErr};
 ghost use Rattle.silt_device.specs.Disk.{GaveAny, size};
 ghost use Rattle.silt_device.specs.Layout.{device_size};
-ghost use Rattle.silt_log.specs.Rows.{row_at};
-ghost use Rattle.silt_store_set.specs.Replies.{ReadCause, change_reply, progress_reply};
+ghost use Rattle.silt_stores.specs.Lookup.{IsLocation, value_at};
+ghost use Rattle.silt_store_set.specs.Replies.{ReadCause, change_reply, progress_reply, refusal_of_formatting, refusal_of_opening};
 
 use crate::{Progress, Refusal, Reply};
 use silt_device::Disk;
 use silt_frame::Value;
-use silt_log::Log;
+use silt_recovery::{FormatError, OpenError};
+use silt_stores::{Location, Stores};
 use std::alloc::Global;
 
 static ZEROS: [u8; 4096] = [0; 4096];
@@ -22,25 +23,49 @@ pub fn zeros(len: u32) -> &'static [u8]
     &ZEROS[..len as usize]
 }
 
-// The value of the row at a place, copied.
-pub fn read_value<D: Disk>(
+// The value of the row at a location, copied.
+pub fn copied<D: Disk>(
     alloc: Global,
-    log: &Log,
+    stores: &Stores,
     disk: &D,
-    place: u32,
+    location: Location,
 ) -> Result<Value, Refusal<D::Fault>>
-    requires place { place < log.now.shape.log_capacity }
-    requires size { device_size log.now.shape ≤ size (D.content disk.now) }
-    ensures value { IsTrue (D.content disk.now).honest → IfOk result (λ value. value ≡ (row_at log.now.shape log.now.region (D.content disk.now).shown place).value) }
+    requires location { IsLocation stores.now location }
+    requires size { device_size stores.now.manifest.shape ≤ size (D.content disk.now) }
+    ensures value { IsTrue (D.content disk.now).honest → IfOk result (λ value. value ≡ value_at (D.content disk.now) stores.now location) }
     ensures cause { IfErr result (ReadCause (GaveAny D.gave disk.now)) }
 {
-    let len = log.geometry().value_len() as usize;
+    let len = stores.geometry().value_len() as usize;
     let Ok(mut bytes) = vec![in alloc; 0u8; len] else {
         return Err(Refusal::NoMemory);
     };
-    match log.read_value(disk, place, &mut bytes) {
+    match stores.read_value(disk, location, &mut bytes) {
         Ok(()) => Ok(Value::new(bytes)),
         Err(fault) => Err(Refusal::Device(fault)),
+    }
+}
+
+/// The refusal by which a formatting is told.
+pub fn formatting_refusal<F: Drop>(error: FormatError<F>) -> Refusal<F>
+    ensures { result ≡ refusal_of_formatting error }
+{
+    match error {
+        FormatError::BadGeometry => Refusal::BadGeometry,
+        FormatError::Device(fault) => Refusal::Device(fault),
+        FormatError::NoMemory => Refusal::NoMemory,
+    }
+}
+
+/// The refusal by which an opening or a check is told.
+pub fn opening_refusal<F: Drop>(error: OpenError<F>) -> Refusal<F>
+    ensures { result ≡ refusal_of_opening error }
+{
+    match error {
+        OpenError::NotFormatted => Refusal::NotFormatted,
+        OpenError::Damaged(place) => Refusal::Damaged(place),
+        OpenError::Crowded => Refusal::Crowded,
+        OpenError::Device(fault) => Refusal::Device(fault),
+        OpenError::NoMemory => Refusal::NoMemory,
     }
 }
 

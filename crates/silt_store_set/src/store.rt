@@ -1,14 +1,13 @@
 // The store over one device: what it holds in memory, and its calls.
-ghost use Rattle.std.specs.Prelude.{◌≡◌, ◌≢◌, ◌<◌, ◌≤◌, ◌*◌, length, false, Ok, All, IsTrue, IfOk, IfErr, OnErr, MatchResult};
+ghost use Rattle.std.specs.Prelude.{◌≡◌, ◌<◌, ◌≤◌, length, false, Ok, All, IsTrue, IfOk, IfErr, OnErr, MatchResult};
 ghost use Rattle.silt_store_set.specs.Events.{Legal};
 ghost use Rattle.silt_device.specs.Disk.{GaveAny};
 
-use crate::opening::take_up;
-use crate::replies::{accepted, progressed, read_value, zeros};
+use crate::replies::{accepted, copied, opening_refusal, progressed, zeros};
 use crate::{Event, Progress, Refusal, Reply};
 use silt_device::{Disk, Geometry};
 use silt_frame::{Key, Kind, Value};
-use silt_log::Log;
+use silt_stores::{EntriesError, Stores, TakeError};
 use std::alloc::{AllocError, Global};
 use std::collections::BTreeMap;
 use std::marker::Model;
@@ -27,32 +26,27 @@ pub struct OpenFault<D: Disk> {
 #[derive(Drop)]
 pub struct Core<D: Disk> {
     disk: D,
-    log: Log,
-    // The place of the row that has a key's value.
-    index: BTreeMap<Key, u32>,
-    // How many put rows there are.
-    charge: u32,
+    stores: Stores,
     // How many commands this life has accepted.
     count: u64,
     failed: bool,
 }
 
 impl<D: Disk> Model for Core<D> {
-    ghost use Rattle.std.specs.Prelude.{map};
     ghost use Rattle.std.specs.Coded.{codes};
-    ghost use Rattle.silt_log.specs.State.{full_image, waiting_rows};
-    ghost use Rattle.silt_store_set.specs.Commands.{map_code};
+    ghost use Rattle.silt_image.specs.Commands.{map_code};
+    ghost use Rattle.silt_image.specs.Meaning.{image_map};
+    ghost use Rattle.silt_stores.specs.Standing.{full_image, waiting_commands};
     ghost use Rattle.silt_store_set.specs.CoreState.{CoreState};
     ghost use Rattle.silt_store_set.specs.CoreInvariant.{IsCore};
-    ghost use Rattle.silt_store_set.specs.Image.{image_map, command_of};
 
     ghost Value = { CoreState D };
 
     ghost coded = { Prim.hlevel (codes, map_code) };
 
-    ghost view = { λ a. record { disk = a.disk; shape = a.log.shape; full = full_image (D.content a.disk) a.log; base = image_map (D.content a.disk).shown; waiting = map command_of (waiting_rows (D.content a.disk) a.log); charge = a.charge; rows = a.log.used; count = a.count; failed = a.failed } };
+    ghost view = { λ a. record { disk = a.disk; shape = a.stores.manifest.shape; body = a.stores.manifest.ruling; full = full_image (D.content a.disk) a.stores; base = image_map (D.content a.disk).shown; waiting = waiting_commands (D.content a.disk) a.stores; charge = a.stores.charge; count = a.count; failed = a.failed } };
 
-    ghost invariant = { λ a. IsCore (D.content a.disk) a.log a.index a.charge a.count a.failed };
+    ghost invariant = { λ a. IsCore (D.content a.disk) a.stores a.count a.failed };
 }
 
 impl<D: Disk> Core<D> {
@@ -60,9 +54,11 @@ impl<D: Disk> Core<D> {
     ghost use Rattle.std.specs.BTreeMap as tree;
     ghost use Rattle.std.specs.FinMap.{get};
     ghost use Rattle.silt_frame.specs.declared.key.Key.{Key as KeyOf};
+    ghost use Rattle.silt_recovery.specs.Opening.{LeavesNoOther};
+    ghost use Rattle.silt_stores.specs.Calls.{SameDisk};
     ghost use Rattle.silt_store_set.specs.CoreInvariant.{key_cmp};
-    ghost use Rattle.silt_store_set.specs.CoreState.{CoreState, Does, Runs, Opens, SameDisk, EntriesCause, map_of, HasValueOf};
-    ghost use Rattle.silt_store_set.specs.Opening.{OpeningCause, LeavesNoOther};
+    ghost use Rattle.silt_store_set.specs.CoreState.{CoreState, Does, Runs, Opens, EntriesCause, map_of, HasValueOf, MayWrite, row_event};
+    ghost use Rattle.silt_store_set.specs.Opening.{OpeningCause};
     ghost use Rattle.silt_store_set.specs.Replies.{change_reply, flush_reply, get_reply, read_reply, progress_reply};
     ghost use Rattle.silt_store_set.specs.declared.event.Event.TheVariants.{Put, Delete, Get, Flush, Convert, Merge};
 
@@ -70,24 +66,25 @@ impl<D: Disk> Core<D> {
     ///
     /// # Errors
     ///
-    /// The first thing that is found (`NotFormatted`, `Damaged`), and then nothing is written; `Device` with the fault of a
-    /// device call; `NoMemory`.
-    pub fn open(alloc: Global, mut disk: D) -> Result<Core<D>, OpenFault<D>>
+    /// The first thing that is found (`NotFormatted`, `Damaged`, `Crowded`), and then nothing is written; `Device` with the
+    /// fault of a device call; `NoMemory`.
+    pub fn open(alloc: Global, disk: D) -> Result<Core<D>, OpenFault<D>>
         ensures ok { IfOk result (Opens D.content (D.content disk)) }
         ensures same { IfErr result (λ fault. SameDisk (D.content disk) (D.content fault.disk)) }
         ensures cause { IfErr result (λ fault. OpeningCause D.content (GaveAny D.gave) (D.content disk) fault.disk fault.refusal) }
         ensures images { MatchResult result (λ core. LeavesNoOther (D.content disk) (D.content core.disk)) (λ fault. LeavesNoOther (D.content disk) (D.content fault.disk)) }
     {
-        match take_up(alloc, &mut disk) {
-            Ok(stores) => Ok(Core {
-                disk,
-                log: stores.log,
-                index: stores.index,
-                charge: stores.charge,
+        match silt_recovery::open(alloc, disk) {
+            Ok(opened) => Ok(Core {
+                disk: opened.disk,
+                stores: opened.stores,
                 count: 0,
                 failed: false,
             }),
-            Err(refusal) => Err(OpenFault { disk, refusal }),
+            Err(fault) => Err(OpenFault {
+                disk: fault.disk,
+                refusal: opening_refusal(fault.error),
+            }),
         }
     }
 
@@ -95,13 +92,15 @@ impl<D: Disk> Core<D> {
     pub fn geometry(&self) -> Geometry
         ensures { result ≡ self.now.shape }
     {
-        self.log.geometry()
+        self.stores.geometry()
     }
 
     /// Sets the value of a key, and answers how many commands this life has accepted, this one included.
     ///
-    /// It is decided in this order: `Failed`, `Spent`, `StoreFull`, `NoRoom`, `NoMemory`, the writes (`Device`).
-    pub fn put(&mut self, key: &Key, value: &[u8]) -> Result<u64, Refusal<D::Fault>>
+    /// It is decided in this order: `Failed`, `Spent` (the count), `StoreFull`, the reads of its lookup (`Device`), `NoRoom`,
+    /// `Spent` (the generation), `NoMemory`, its writes (`Device`). Memory is taken only where the active log cannot take the
+    /// row and another one is started.
+    pub fn put(&mut self, alloc: Global, key: &Key, value: &[u8]) -> Result<u64, Refusal<D::Fault>>
         requires { length value.now ≡ self.old.shape.value_len }
         ensures { Does D.content D.failures (GaveAny D.gave) self.old self.new (Put key.now value.now) (change_reply result) }
     {
@@ -111,32 +110,16 @@ impl<D: Disk> Core<D> {
         if self.count == MOST_COMMANDS {
             return Err(Refusal::Spent);
         }
-        if self.charge == self.log.geometry().sorted_capacity() {
+        if self.stores.charge() == self.stores.geometry().sorted_capacity() {
             return Err(Refusal::StoreFull);
         }
-        if self.log.is_full() {
-            return Err(Refusal::NoRoom);
-        }
-        let Ok(_) = self.index.insert(*key, self.log.len()) else {
-            return Err(Refusal::NoMemory);
-        };
-        match self.log.append(&mut self.disk, Kind::Put, key, value) {
-            Ok(()) => {
-                self.charge += 1;
-                self.count += 1;
-                Ok(self.count)
-            }
-            Err(fault) => {
-                self.failed = true; // the put's row may stand in part
-                Err(Refusal::Device(fault))
-            }
-        }
+        self.write_row(alloc, Kind::Put, key, value)
     }
 
     /// Takes a key's value away, and answers how many commands this life has accepted, this one included.
     ///
-    /// It is decided in this order: `Failed`, `Spent`, `NoRoom`, the writes (`Device`).
-    pub fn delete(&mut self, key: &Key) -> Result<u64, Refusal<D::Fault>>
+    /// It is decided as a put is, without `StoreFull`.
+    pub fn delete(&mut self, alloc: Global, key: &Key) -> Result<u64, Refusal<D::Fault>>
         ensures { Does D.content D.failures (GaveAny D.gave) self.old self.new (Delete key.now) (change_reply result) }
     {
         if self.failed {
@@ -145,20 +128,35 @@ impl<D: Disk> Core<D> {
         if self.count == MOST_COMMANDS {
             return Err(Refusal::Spent);
         }
-        if self.log.is_full() {
-            return Err(Refusal::NoRoom);
-        }
-        let zeros = zeros(self.log.geometry().value_len());
-        match self.log.append(&mut self.disk, Kind::Delete, key, zeros) {
+        let zeros = zeros(self.stores.geometry().value_len());
+        self.write_row(alloc, Kind::Delete, key, zeros)
+    }
+
+    // Writes a row behind the others, in a new log where the active one cannot take it.
+    fn write_row(
+        &mut self,
+        alloc: Global,
+        kind: Kind,
+        key: &Key,
+        value: &[u8],
+    ) -> Result<u64, Refusal<D::Fault>>
+        requires may { MayWrite kind self.old }
+        requires value { length value.now ≡ self.old.shape.value_len }
+        ensures { Does D.content D.failures (GaveAny D.gave) self.old self.new (row_event kind key.now value.now) (change_reply result) }
+    {
+        match self.stores.take(alloc, &mut self.disk, kind, key, value) {
             Ok(()) => {
-                self.index.remove(key);
                 self.count += 1;
                 Ok(self.count)
             }
-            Err(fault) => {
-                self.failed = true; // the delete's row may stand in part
+            Err(TakeError::Write(fault)) => {
+                self.failed = true; // the row or the manifest may stand in part
                 Err(Refusal::Device(fault))
             }
+            Err(TakeError::Read(fault)) => Err(Refusal::Device(fault)),
+            Err(TakeError::NoRoom) => Err(Refusal::NoRoom),
+            Err(TakeError::Spent) => Err(Refusal::Spent),
+            Err(TakeError::NoMemory) => Err(Refusal::NoMemory),
         }
     }
 
@@ -169,10 +167,10 @@ impl<D: Disk> Core<D> {
         if self.failed {
             return Err(Refusal::Failed);
         }
-        if !self.log.has_waiting() {
+        if !self.stores.has_waiting() {
             return Ok(self.count);
         }
-        match self.log.open_gates(&mut self.disk) {
+        match self.stores.flush(&mut self.disk) {
             Ok(()) => Ok(self.count),
             Err(fault) => {
                 self.failed = true; // some of the gates may be open
@@ -191,12 +189,9 @@ impl<D: Disk> Core<D> {
         if self.failed {
             return Err(Refusal::Failed);
         }
-        match self.index.get(key) {
-            None => Ok(false),
-            Some(place) => match self.log.read_value(&self.disk, *place, out) {
-                Ok(()) => Ok(true),
-                Err(fault) => Err(Refusal::Device(fault)),
-            },
+        match self.stores.get(&self.disk, key, out) {
+            Ok(found) => Ok(found),
+            Err(fault) => Err(Refusal::Device(fault)),
         }
     }
 
@@ -207,16 +202,17 @@ impl<D: Disk> Core<D> {
         if self.failed {
             return Err(Refusal::Failed);
         }
-        match self.index.get(key) {
-            None => Ok(None),
-            Some(place) => match read_value(alloc, &self.log, &self.disk, *place) {
+        match self.stores.find(&self.disk, key) {
+            Ok(None) => Ok(None),
+            Ok(Some(location)) => match copied(alloc, &self.stores, &self.disk, location) {
                 Ok(value) => Ok(Some(value)),
                 Err(refusal) => Err(refusal),
             },
+            Err(fault) => Err(Refusal::Device(fault)),
         }
     }
 
-    /// One step of conversion. No log is ever frozen in this stage.
+    /// One step of conversion. Nothing is converted in this stage.
     pub fn convert(&mut self) -> Result<Progress, Refusal<D::Fault>>
         ensures { Does D.content D.failures (GaveAny D.gave) self.old self.new Convert (progress_reply result) }
     {
@@ -242,8 +238,8 @@ impl<D: Disk> Core<D> {
         ensures { Does D.content D.failures (GaveAny D.gave) self.old self.new event.now result }
     {
         match event {
-            Event::Put(key, value) => accepted(self.put(key, value.as_slice())),
-            Event::Delete(key) => accepted(self.delete(key)),
+            Event::Put(key, value) => accepted(self.put(alloc, key, value.as_slice())),
+            Event::Delete(key) => accepted(self.delete(alloc, key)),
             Event::Flush => match self.flush() {
                 Ok(count) => Reply::Acknowledged(count),
                 Err(refusal) => Reply::Refused(refusal),
@@ -296,18 +292,11 @@ impl<D: Disk> Core<D> {
         if self.failed {
             return Err(Refusal::Failed);
         }
-        let mut entries = BTreeMap::new(alloc);
-        let _ordered = self.index.len();
-        for (key, place) in self.index.iter() {
-            let value = match read_value(alloc, &self.log, &self.disk, *place) {
-                Ok(value) => value,
-                Err(refusal) => return Err(refusal),
-            };
-            let Ok(_) = entries.insert(*key, value) else {
-                return Err(Refusal::NoMemory);
-            };
+        match self.stores.entries(alloc, &self.disk) {
+            Ok(entries) => Ok(entries),
+            Err(EntriesError::Device(fault)) => Err(Refusal::Device(fault)),
+            Err(EntriesError::NoMemory) => Err(Refusal::NoMemory),
         }
-        Ok(entries)
     }
 
     /// Gives the device back.
@@ -316,9 +305,7 @@ impl<D: Disk> Core<D> {
     {
         let Core {
             disk,
-            log: _,
-            index: _,
-            charge: _,
+            stores: _,
             count: _,
             failed: _,
         } = self;

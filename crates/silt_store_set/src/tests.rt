@@ -2,13 +2,15 @@
 
 mod damage;
 mod faults;
+mod reports;
 mod restarts;
 mod script;
 mod stops;
 
-use crate::{Core, Event, Progress, Refusal, Reply, format};
+use crate::{Core, Event, Progress, Reply};
 use silt_device::{Fill, Geometry, MemDisk, Stop};
 use silt_frame::{Key, Value};
+use silt_recovery::format;
 use std::alloc::{AllocError, Global};
 use std::collections::BTreeMap;
 use std::test::Fail;
@@ -91,7 +93,7 @@ fn puts_flushes_and_gets(rt: HostRuntime) -> Result<(), Fail> {
     let key = Key(
         *b"\xa9\x99\x3e\x36\x47\x06\x81\x6a\xba\x3e\x25\x71\x78\x50\xc2\x6c\x9c\xd0\xd8\x9d",
     );
-    assert_eq!(rt; core.put(&key, &[1, 2]).ok(), Some(1));
+    assert_eq!(rt; core.put(alloc, &key, &[1, 2]).ok(), Some(1));
     assert_eq!(rt; core.flush().ok(), Some(1));
     let mut out = [0; 2];
     assert_eq!(rt; core.get(&key, &mut out).ok(), Some(true));

@@ -2,14 +2,15 @@
 use Rattle.std.specs.Prelude.{ℕ, List, ◌++◌, codes}
 use Rattle.std.specs.Fmt.{decimal}
 use Rattle.hex.specs.Hex.{encode_lower}
-use Rattle.silt_store_set.specs.declared.event.Place.{Place}
-use Rattle.silt_store_set.specs.declared.event.Place.TheVariants.{Header, Length, Slot, NoSlot, Log, Hash, Sorted, Charge}
+use Rattle.silt_image.specs.declared.finding.Place.{Place}
+use Rattle.silt_image.specs.declared.finding.Place.TheVariants.{Header, Length, Slot, NoSlot, Log, Hash, Sorted, Charge}
 use Rattle.silt_store_set.specs.declared.event.Progress.{Progress as ProgressOf}
 use Rattle.silt_store_set.specs.declared.event.Progress.TheVariants.{Idle, Waiting, Moved, Finished}
 use Rattle.silt_store_set.specs.declared.event.Refusal.{Refusal}
-use Rattle.silt_store_set.specs.declared.event.Refusal.TheVariants.{NotFormatted, BadGeometry, Damaged, Crowded, Device, NoMemory, StoreFull, NoRoom, Failed, Spent, HistoryFull, BadLine, BadKey, BadValue, LineTooLong}
+use Rattle.silt_store_set.specs.declared.event.Refusal.TheVariants.{Damaged, NoMemory, BadLine}
 use Rattle.silt_store_set.specs.declared.event.Reply.{Reply}
 use Rattle.silt_store_set.specs.declared.event.Reply.TheVariants.{Accepted, Acknowledged, Found, Absent, Progress, Refused}
+use Rattle.silt_store_set.specs.Events.{refusal_number, refusal_name}
 use Rattle.silt_wire.specs.declared.line.LineFault.{LineFault}
 use Rattle.silt_wire.specs.declared.line.LineFault.TheVariants as Fault
 
@@ -24,23 +25,14 @@ place_text (Hash i j) = codes "hash " ++ (decimal i ++ (codes " slot " ++ decima
 place_text (Sorted j) = codes "sorted " ++ decimal j
 place_text Charge = codes "charge"
 
+-- the number and the name of a refusal
+abbrev pub numbered_name : {F : Type 0} → Refusal F → List ℕ
+numbered_name refusal = decimal (refusal_number refusal) ++ (codes " " ++ refusal_name refusal)
+
 -- the number and the name of a refusal, and for a damaged device the place
 abbrev pub refusal_text : {F : Type 0} → Refusal F → List ℕ
-refusal_text NotFormatted = codes "1 NotFormatted"
-refusal_text BadGeometry = codes "2 BadGeometry"
-refusal_text (Damaged place) = codes "3 Damaged " ++ place_text place
-refusal_text Crowded = codes "4 Crowded"
-refusal_text (Device fault) = codes "5 Device"
-refusal_text NoMemory = codes "6 NoMemory"
-refusal_text StoreFull = codes "7 StoreFull"
-refusal_text NoRoom = codes "8 NoRoom"
-refusal_text Failed = codes "9 Failed"
-refusal_text Spent = codes "10 Spent"
-refusal_text HistoryFull = codes "11 HistoryFull"
-refusal_text BadLine = codes "20 BadLine"
-refusal_text BadKey = codes "21 BadKey"
-refusal_text BadValue = codes "22 BadValue"
-refusal_text LineTooLong = codes "23 LineTooLong"
+refusal_text {F} (Damaged place) = numbered_name {F = F} (Damaged place) ++ (codes " " ++ place_text place)
+refusal_text refusal = numbered_name refusal
 
 abbrev pub progress_text : ProgressOf → List ℕ
 progress_text Idle = codes "idle"

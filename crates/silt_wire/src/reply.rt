@@ -1,7 +1,7 @@
 // Replies to text.
 ghost use Rattle.std.specs.Prelude.{◌≡◌, IfOk, string_bytes};
 ghost use Rattle.silt_store_set.specs.declared.event.Reply.TheVariants.{Refused};
-ghost use Rattle.silt_wire.specs.Replies.{place_text, refusal_text, progress_text, reply_text};
+ghost use Rattle.silt_wire.specs.Replies.{place_text, numbered_name, refusal_text, progress_text, reply_text};
 
 use silt_store_set::{Place, Progress, Refusal, Reply};
 use std::alloc::{AllocError, Global};
@@ -22,29 +22,26 @@ fn place_text(alloc: Global, place: &Place) -> Result<String, AllocError>
     }
 }
 
+// The number and the name of a refusal.
+fn numbered_name<F: Drop>(alloc: Global, refusal: &Refusal<F>) -> Result<String, AllocError>
+    ensures { IfOk result (λ text. string_bytes text ≡ numbered_name refusal.now) }
+{
+    let number = refusal.number();
+    let name = refusal.name();
+    format!(in alloc; "{number} {name}")
+}
+
 // The number and the name of a refusal, and for a damaged device the place.
 fn refusal_text<F: Drop>(alloc: Global, refusal: &Refusal<F>) -> Result<String, AllocError>
     ensures { IfOk result (λ text. string_bytes text ≡ refusal_text refusal.now) }
 {
+    let text = numbered_name(alloc, refusal)?;
     match refusal {
-        Refusal::NotFormatted => String::from_str(alloc, "1 NotFormatted"),
-        Refusal::BadGeometry => String::from_str(alloc, "2 BadGeometry"),
         Refusal::Damaged(place) => {
             let place = place_text(alloc, place)?;
-            format!(in alloc; "3 Damaged {place}")
+            format!(in alloc; "{text} {place}")
         }
-        Refusal::Crowded => String::from_str(alloc, "4 Crowded"),
-        Refusal::Device(_) => String::from_str(alloc, "5 Device"),
-        Refusal::NoMemory => String::from_str(alloc, "6 NoMemory"),
-        Refusal::StoreFull => String::from_str(alloc, "7 StoreFull"),
-        Refusal::NoRoom => String::from_str(alloc, "8 NoRoom"),
-        Refusal::Failed => String::from_str(alloc, "9 Failed"),
-        Refusal::Spent => String::from_str(alloc, "10 Spent"),
-        Refusal::HistoryFull => String::from_str(alloc, "11 HistoryFull"),
-        Refusal::BadLine => String::from_str(alloc, "20 BadLine"),
-        Refusal::BadKey => String::from_str(alloc, "21 BadKey"),
-        Refusal::BadValue => String::from_str(alloc, "22 BadValue"),
-        Refusal::LineTooLong => String::from_str(alloc, "23 LineTooLong"),
+        _ => Ok(text),
     }
 }
 

@@ -20,7 +20,7 @@ enum Finding {
 }
 
 // One byte of a device is changed.
-const BYTES: [(usize, u8, Finding); 33] = [
+const BYTES: [(usize, u8, Finding); 44] = [
     // the header's gate, the magic bytes and the version
     (0, 0x00, Finding::NotFormatted),
     (0, 0xFF, Finding::NotFormatted),
@@ -42,12 +42,24 @@ const BYTES: [(usize, u8, Finding); 33] = [
     (33, 2, Finding::Damaged(Place::Header)),
     (28, 3, Finding::Damaged(Place::Length)),
     (32, 1, Finding::Damaged(Place::Length)),
-    // the manifest slots: the gate and the body of slot 0, and the gate of slot 1
+    // manifest slot 0: its gate, generation, active log, count of frozen logs, count of hash stores, sorted region and count
     (4096, 0x00, Finding::Damaged(Place::NoSlot)),
-    (4097, 1, Finding::Damaged(Place::NoSlot)),
+    (4097, 0x80, Finding::Damaged(Place::Slot(0))),
+    (4097, 1, Finding::Keys(2)),
+    (4104, 1, Finding::Damaged(Place::Slot(0))),
+    (4104, 2, Finding::Keys(2)),
+    (4108, 1, Finding::Keys(0)),
+    (4108, 2, Finding::Damaged(Place::Slot(0))),
+    (4112, 1, Finding::Damaged(Place::Slot(0))),
+    (4144, 1, Finding::Damaged(Place::NoSlot)),
+    (4144, 3, Finding::Damaged(Place::Slot(0))),
+    (4212, 1, Finding::Keys(2)),
+    (4212, 2, Finding::Damaged(Place::Slot(0))),
     (4216, 1, Finding::Damaged(Place::NoSlot)),
+    (4216, 9, Finding::Damaged(Place::Slot(0))),
     (4217, 1, Finding::Keys(2)),
-    (8192, 0xA7, Finding::Damaged(Place::NoSlot)),
+    // slot 1: of generation 0, which is not its own
+    (8192, 0xA7, Finding::Damaged(Place::Slot(1))),
     (8192, 0xFF, Finding::Keys(2)),
     // the rows: their gates at 12,288, and their kinds at 16,384 and each 23 bytes on
     (

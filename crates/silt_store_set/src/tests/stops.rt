@@ -1,9 +1,10 @@
 // A stop at each device call, with each fill: what the next opening finds.
 
+use crate::Core;
 use crate::tests::script::{Line, Told, live};
 use crate::tests::{entries_of, formatted, small, stopping};
-use crate::{Core, FormatFault, Refusal, format};
 use silt_device::{Fill, MemDisk, Stoppable};
+use silt_recovery::{FormatError, FormatFault, format};
 use std::alloc::Global;
 use std::process::Abort;
 use std::test::Fail;
@@ -28,6 +29,17 @@ const TWO_UNFLUSHED: [Line; 5] = [
     Line::Put(1, 2),
     Line::Get(1),
     Line::Put(2, 3),
+];
+
+// Five puts, of which the last freezes the full log, and a flush: twenty-five calls. The freezing put makes the three of a flush,
+// two for the gates of the next log, six for the manifest, and two for its row.
+const FIVE_PUTS: [Line; 6] = [
+    Line::Put(1, 1),
+    Line::Put(2, 2),
+    Line::Put(3, 3),
+    Line::Put(4, 4),
+    Line::Put(5, 5),
+    Line::Flush,
 ];
 
 // The values of the keys 0 to 7 after a beginning of the commands, 0 for none.
@@ -143,6 +155,11 @@ fn two_unflushed_puts_stopped_anywhere(rt: HostRuntime) -> Result<(), Fail> {
     sweep(&rt, rt.alloc(), &TWO_UNFLUSHED, 10)
 }
 
+#[test]
+fn five_puts_stopped_anywhere(rt: HostRuntime) -> Result<(), Fail> {
+    sweep(&rt, rt.alloc(), &FIVE_PUTS, 25)
+}
+
 // A disk of zeros that was being formatted when it was stopped so, and whether the formatting was answered.
 fn formatted_until(alloc: Global, k: u32, fill: Fill) -> Result<(MemDisk, bool), Fail> {
     let disk = MemDisk::new(alloc, 45_056)?.arm(stopping(alloc, &[(k, fill)])?);
@@ -151,7 +168,7 @@ fn formatted_until(alloc: Global, k: u32, fill: Fill) -> Result<(MemDisk, bool),
         Err(
             FormatFault {
                 disk,
-                refusal: Refusal::Device(_),
+                error: FormatError::Device(_),
             },
         ) => Ok((disk.restart(), false)),
         Err(_) => Err("no device fault".into()),

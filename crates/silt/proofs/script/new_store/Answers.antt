@@ -1,6 +1,13 @@
+use Rattle.std.proofs.Common.{◌∙◌}
 use Rattle.silt_device.specs.Memory.{memory_content}
 use Rattle.silt.proofs.Lives.{new_is_safe}
+use Rattle.silt.proofs.NewStores.{fresh_size, format_cause}
 use Rattle.silt.proofs.script.new_store.Goals as goal
 
-pub returns-in-Ok-format : goal.returns-in-Ok-format
-returns-in-Ok-format c = new_is_safe (memory_content c.in-Ok-format.disk) c.args.geometry c.in-Ok-format.ensures.images
+pub returns-in-Ok-format-clause-images : goal.returns-in-Ok-format-clause-images
+returns-in-Ok-format-clause-images c = new_is_safe (memory_content c.in-Ok-format.disk) c.args.geometry c.in-Ok-format.ensures.images
+
+pub returns-in-Err-clause-cause : goal.returns-in-Err-clause-cause
+returns-in-Err-clause-cause c =
+    let fits = fresh_size c.size.result c.in-Ok.disk c.in-Ok.ensures ∙ c.size.ensures.value in
+    rw c.formatting_refusal.ensures (format_cause c.args.geometry c.in-Ok.disk c.in-Err.fault.disk c.in-Err.fault.error fits c.in-Err.ensures.same c.in-Err.ensures.cause)

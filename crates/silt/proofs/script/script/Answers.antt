@@ -1,16 +1,18 @@
 use Rattle.std.proofs.Common.{◌≡◌, ℕ, [], ap, ◌∙◌, subst}
 use Rattle.silt_device.specs.Layout.{Shape}
+use Rattle.silt_device.specs.declared.memory.MemFault.{MemFault}
 use Rattle.silt_wire.specs.Sessions.{lines_after}
 use Rattle.silt.specs.Scripts.{Reads}
 use Rattle.silt_store_set.specs.declared.event.Refusal.TheVariants.{BadGeometry, NoMemory}
 use Rattle.silt.proofs.Outcomes.{told_refused}
+use Rattle.silt.proofs.Refusals.{tells_bad_geometry}
 use Rattle.silt.proofs.script.script.Goals as goal
 
 pub returns-in-Ok-run_lives-clause-answered : goal.returns-in-Ok-run_lives-clause-answered
 returns-in-Ok-run_lives-clause-answered g c = λ _.
     let script = c.in-Ok-read_script.script in
     let reads = c.in-Ok-read_script.ensures.reads in
-    let history = c.in-Ok-run_lives.ensures in
+    let history = c.in-Ok-run_lives.ensures.history in
     let len : c.value_len.result ≡ c.args.numbers.now.value_len = c.value_len.ensures.value ∙ ap (λ (s : Shape). s.value_len) c.in-Ok.ensures.0 in (
       reads.0,
       reads.1,
@@ -28,3 +30,6 @@ returns-in_default-clause-told g c = told_refused c.refuse.result _ _ BadGeometr
 
 pub returns-in-Err-clause-told : goal.returns-in-Err-clause-told
 returns-in-Err-clause-told g c = told_refused c.refuse-in-Err.result _ _ NoMemory c.refuse-in-Err.ensures
+
+pub returns-in_default-clause-refused : goal.returns-in_default-clause-refused
+returns-in_default-clause-refused g c = λ _. tells_bad_geometry MemFault c.refuse.result _ _ c.refuse.ensures

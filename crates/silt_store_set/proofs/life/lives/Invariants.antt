@@ -1,8 +1,8 @@
 use Rattle.std.proofs.Common.{◌≡◌, IsTrue, take}
 use Rattle.silt_device.specs.Disk.{LeavesOnly}
-use Rattle.silt_store_set.specs.Commands.{Map}
+use Rattle.silt_image.specs.Commands.{Map}
 use Rattle.silt_store_set.specs.Events.{LivesHistory}
-use Rattle.silt_store_set.specs.Image.{IsSafe}
+use Rattle.silt_store_set.specs.CoreInvariant.{IsSafe}
 use Rattle.silt_store_set.proofs.life.lives.Given as goal
 
 -- the lives so far are a history, and the device stands for its last map

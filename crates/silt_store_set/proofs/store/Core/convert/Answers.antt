@@ -7,5 +7,5 @@ use Rattle.silt_store_set.proofs.Calls.{answered}
 use Rattle.silt_store_set.proofs.store.Core.convert.Goals as goal
 
 pub returns : goal.returns
-returns g c = rw (← c.self.view_is) (answered g.D.Disk.content g.D.Disk.failures (GaveAny g.D.Disk.gave) c.self.inside.disk c.self.inside.log c.self.inside.index c.self.inside.charge c.self.inside.count c.self.inside.failed
-    Convert (Progress Idle) c.if-self.false (c.self.invariant.fits c.if-self.false) c.self.invariant.first c.self.invariant.has_size refl refl refl (c.if-self.false, refl) (λ _. refl) (λ _. tt))
+returns g c = rw (← c.self.view_is) (answered g.D.Disk.content g.D.Disk.failures (GaveAny g.D.Disk.gave) c.self.inside.disk c.self.inside.stores c.self.inside.count c.self.inside.failed
+    Convert (Progress Idle) c.if-self.false (c.self.invariant.stands c.if-self.false) refl refl refl (c.if-self.false, refl) (λ _. refl) (λ _. tt))

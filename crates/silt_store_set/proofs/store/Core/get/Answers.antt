@@ -1,24 +1,14 @@
-use Rattle.std.proofs.Common.{sym, arith}
+use Rattle.std.proofs.Common.{Ok, ap}
 use Rattle.silt_device.specs.Disk.{GaveAny}
-use Rattle.silt_store_set.specs.declared.event.Refusal.TheVariants.{Device}
-use Rattle.silt_store_set.proofs.Gets.{get_absent, get_found, get_refused}
+use Rattle.silt_store_set.proofs.Gets.{get_answered, get_faulted}
 use Rattle.silt_store_set.proofs.store.Core.get.Goals as goal
 
-pub read_value-requires-clause-place : goal.read_value-requires-clause-place
-read_value-requires-clause-place g c =
-    let inside = (c.self.invariant.fits c.if-self.false).places c.args.key.now c.in-Some.place.now (sym c.in-Some.ensures.value) in
-    let room = (c.self.invariant.fits c.if-self.false).stands.bounds.room in
-    λ _ _. omega (arith, inside, room)
-
-pub returns-in-None-clause-reply : goal.returns-in-None-clause-reply
-returns-in-None-clause-reply g c = rw (← c.self.view_is) (get_absent g.D.Disk.content g.D.Disk.failures (GaveAny g.D.Disk.gave) c.self.inside.disk c.self.inside.log c.self.inside.index c.self.inside.charge c.self.inside.count c.self.inside.failed c.args.key.now
-    c.if-self.false (c.self.invariant.fits c.if-self.false) c.self.invariant.first c.self.invariant.has_size (sym c.in-None.ensures.value))
-
 pub returns-in-Ok-clause-reply : goal.returns-in-Ok-clause-reply
-returns-in-Ok-clause-reply g c = rw (← c.self.view_is) (get_found g.D.Disk.content g.D.Disk.failures (GaveAny g.D.Disk.gave) c.self.inside.disk c.self.inside.log c.self.inside.index c.self.inside.charge c.self.inside.count c.self.inside.failed c.args.key.now
-    c.if-self.false (c.self.invariant.fits c.if-self.false) c.self.invariant.first c.self.invariant.has_size c.in-Some.place.now c.read_value.new.out (sym c.in-Some.ensures.value)
-    ((c.self.invariant.fits c.if-self.false).places c.args.key.now c.in-Some.place.now (sym c.in-Some.ensures.value)) c.in-Ok.ensures.value)
+returns-in-Ok-clause-reply g c =
+    let stands = c.self.invariant.stands c.if-self.false in
+    rw (← c.self.view_is) (get_answered g.D.Disk.content g.D.Disk.failures (GaveAny g.D.Disk.gave) c.self.inside.disk c.self.inside.stores c.self.inside.count c.self.inside.failed c.args.key.now c.if-self.false stands c.in-Ok.found c.get.new.out
+    (λ e. c.in-Ok.ensures.found stands (ap Ok e)) (λ e. c.in-Ok.ensures.none stands (ap Ok e)))
 
 pub returns-in-Err-clause-reply : goal.returns-in-Err-clause-reply
-returns-in-Err-clause-reply g c = rw (← c.self.view_is) (get_refused g.D.Disk.content g.D.Disk.failures (GaveAny g.D.Disk.gave) c.self.inside.disk c.self.inside.log c.self.inside.index c.self.inside.charge c.self.inside.count c.self.inside.failed c.args.key.now
-    c.if-self.false (c.self.invariant.fits c.if-self.false) c.self.invariant.first c.self.invariant.has_size (Device c.in-Err.fault) c.in-Err.ensures.fault)
+returns-in-Err-clause-reply g c = rw (← c.self.view_is) (get_faulted g.D.Disk.content g.D.Disk.failures (GaveAny g.D.Disk.gave) c.self.inside.disk c.self.inside.stores c.self.inside.count c.self.inside.failed c.args.key.now
+    c.if-self.false (c.self.invariant.stands c.if-self.false) c.in-Err.fault c.in-Err.ensures.fault)

@@ -1,7 +1,8 @@
 use Rattle.std.proofs.Common.{◌≡◌, ◌≤◌, length, take, vec_len}
 use Rattle.std.specs.Prelude.{vec_capacity}
 use Rattle.silt_device.specs.Disk.{GaveAny}
-use Rattle.silt_store_set.specs.CoreState.{Runs, SameDisk}
+use Rattle.silt_stores.specs.Calls.{SameDisk}
+use Rattle.silt_store_set.specs.CoreState.{Runs}
 use Rattle.silt_store_set.proofs.store.Core.run.Given as goal
 
 -- the events so far were done, and each has its reply

@@ -1,0 +1,438 @@
+-- Which bytes of an image count, and what a change leaves of its stores.
+use Rattle.std.proofs.Common.{◌≡◌, ◌≢◌, ℕ, zero, suc, ◌+◌, ◌*◌, ◌%◌, ◌≤◌, ◌<◌, ◌⊎◌, ◌==◌, inl, inr, true, false, nat_lt, List, [], ◌∷◌, length, map, slice_range, slice_get, Contains, Some, Result, Ok, Err, refl, sym, ap, ◌∙◌, arith}
+use Rattle.std.specs.List.{list_any, prefix_len, range_with_len}
+use Rattle.std.proofs.lemmas.Bool.{and_parts, or_parts, ltb-true, eq-eqb, eqb-false, ne_eqb, cases_eq, cases_order}
+use Rattle.std.proofs.lemmas.List.{ext_get_or}
+use Rattle.std.proofs.lemmas.List.Edits.{length-between, get_or-between}
+use Rattle.silt_device.specs.Disk.{Torn}
+use Rattle.silt_device.specs.Layout.{Shape, row_len, entry_len, slot_at, log_size, hash_size, sorted_size, gates_at, bodies_at, hash_at, sorted_at, device_size}
+use Rattle.silt_device.proofs.Regions.{next_region, up_least}
+use Rattle.silt_device.proofs.Images.{torn_slice_before}
+use Rattle.silt_log.specs.Rows.{StoredRow, body_row, gate_bytes, is_open, log_rows, open_count, row_at, row_of, rows_from}
+use Rattle.silt_log.proofs.Bodies.{map_range_same, body_before}
+use Rattle.silt_log.proofs.Counts.{count_most}
+use Rattle.silt_manifest.specs.Body.{all_below, is_well_formed}
+use Rattle.silt_manifest.specs.Ruling.{manifest_found, where_found}
+use Rattle.silt_manifest.specs.declared.body.Body.{Body}
+use Rattle.silt_manifest.specs.declared.slot.Damage.{Damage}
+use Rattle.silt_manifest.proofs.Laws.{other_regions, same_found}
+use Rattle.silt_manifest.proofs.SoundBodies.{sound_parts}
+use Rattle.silt_image.specs.Header.{header_of}
+use Rattle.silt_image.specs.Stores.{Part, Stores, entry_row, hash_part, hash_rows, image_stores, log_part, shape_found, sorted_rows, stores_named, stores_ruled, stores_shaped}
+use Rattle.silt_image.specs.Meaning.{image_charge, image_fits, image_map, image_rows, image_stands, image_verdict, findings_of, map_where_sound, all_logs_fit, rows_found, map_of_rows, charge_of_rows, with_log_rows, with_new_log, with_part_rows}
+use Rattle.silt_image.specs.Laws.{Agree, FrameLaw, FreeHashLaw, FreeLogLaw, FreeSortedLaw, FreezeLaw, Freezes, HasStores, LogRegionLaw, ManifestLaw, MeaningLaw, NextBodyLaw, RulingLaw, SameBodyLaw, SameRegions, SameWithin}
+use Rattle.silt_image.specs.declared.finding.Finding.{Finding}
+use Rattle.silt_image.proofs.Named.{stores_law, whole_law, ruling_sound, shape_parts, apart_of}
+use Rattle.silt_image.proofs.Rows.{keeps_rows, takes_rows}
+
+-- ---- ranges
+
+-- a part of a range in which both images have the same bytes
+same_part : (at count from to : ℕ) (before after : List ℕ) → length after ≡ length before → to ≤ length before → at ≤ from → to ≤ at + count → SameWithin at count before after → slice_range after from to ≡ slice_range before from to
+same_part at count from to before after size fits low high same =
+    let in_after : to ≤ length after = omega (arith, size) in
+    ext_get_or 0 (slice_range after from to) (slice_range before from to) (length-between after from to in_after ∙ sym (length-between before from to fits))
+    (λ place inside.
+    let near : from + place < to = omega (arith, inside, length-between after from to in_after) in
+    get_or-between after from to place 0 near ∙ same.same (from + place) (omega arith) (omega arith) ∙ sym (get_or-between before from to place 0 near))
+
+-- a change outside a range leaves its bytes
+pub torn_same : (at count from len : ℕ) (before after : List ℕ) → Torn at count before after → (from + len ≤ at) ⊎ (at + count ≤ from) → SameWithin from len before after
+torn_same at count from len before after torn apart = record {
+  same = λ place low high. elim apart [
+    | inl ends ↦ torn.before place (omega (arith, ends, high))
+    | inr begins ↦ torn.after place (omega (arith, begins, low))
+  ];
+}
+
+-- ---- the regions
+
+-- the ranges of two regions of one size lie apart
+pub pieces_apart : (base i j size : ℕ) → i ≢ j → (base + i * size + size ≤ base + j * size) ⊎ (base + j * size + size ≤ base + i * size)
+pieces_apart base i j size different = elim (cases_order i j) [
+  | inl same ↦ absurd (different same)
+  | inr (inl below) ↦ let h = next_region i j size below in inl (omega (arith, h))
+  | inr (inr above) ↦ let h = next_region j i size above in inr (omega (arith, h))
+]
+
+-- where the regions end, over plain numbers
+module _ (logs hashes log_len hash_len sorted_len : ℕ) where
+  log_end : (region : ℕ) → region < logs → 12288 + region * log_len + log_len ≤ 12288 + logs * log_len
+  log_end region below = omega (arith, next_region region logs log_len below)
+
+  hash_end : (region : ℕ) → region < hashes → 12288 + logs * log_len + region * hash_len + hash_len ≤ 12288 + logs * log_len + hashes * hash_len
+  hash_end region below = omega (arith, next_region region hashes hash_len below)
+
+  sorted_end : (region : ℕ) → region < 2 → 12288 + logs * log_len + hashes * hash_len + region * sorted_len + sorted_len ≤ 12288 + logs * log_len + hashes * hash_len + 2 * sorted_len
+  sorted_end region below = omega (arith, next_region region 2 sorted_len below)
+
+  log_fits : (region : ℕ) → region < logs → 12288 + region * log_len + log_len ≤ 12288 + logs * log_len + hashes * hash_len + 2 * sorted_len
+  log_fits region below = omega (arith, log_end region below)
+
+  hash_fits : (region : ℕ) → region < hashes → 12288 + logs * log_len + region * hash_len + hash_len ≤ 12288 + logs * log_len + hashes * hash_len + 2 * sorted_len
+  hash_fits region below = omega (arith, hash_end region below)
+
+  log_before_hash : (region other : ℕ) → region < logs → 12288 + region * log_len + log_len ≤ 12288 + logs * log_len + other * hash_len
+  log_before_hash region other below = omega (arith, log_end region below)
+
+  log_before_sorted : (region other : ℕ) → region < logs → 12288 + region * log_len + log_len ≤ 12288 + logs * log_len + hashes * hash_len + other * sorted_len
+  log_before_sorted region other below = omega (arith, log_end region below)
+
+  hash_before_sorted : (region other : ℕ) → region < hashes → 12288 + logs * log_len + region * hash_len + hash_len ≤ 12288 + logs * log_len + hashes * hash_len + other * sorted_len
+  hash_before_sorted region other below = omega (arith, hash_end region below)
+
+-- ---- the rows of a region
+
+-- the bytes of a log region decide its rows
+pub log_rows_same : (s : Shape) (region : ℕ) (before after : List ℕ) → length after ≡ length before → gates_at s region + log_size s ≤ length before → SameWithin (gates_at s region) (log_size s) before after → log_rows s region after ≡ log_rows s region before
+unfolding log_rows rows_from row_at open_count
+log_rows_same s region before after size fits same =
+    let gates_end : gates_at s region + s.log_capacity ≤ gates_at s region + log_size s = omega (arith, up_least s.log_capacity) in
+    let bodies_end : bodies_at s region + s.log_capacity * row_len s ≤ gates_at s region + log_size s = omega (arith, up_least (s.log_capacity * row_len s)) in
+    let gates_fit : gates_at s region + s.log_capacity ≤ length before = omega (arith, gates_end, fits) in
+    let bytes : gate_bytes (gates_at s region) s.log_capacity after ≡ gate_bytes (gates_at s region) s.log_capacity before =
+    same_part (gates_at s region) (log_size s) (gates_at s region) (gates_at s region + s.log_capacity) before after size gates_fit (omega arith) gates_end same in
+    let counted : ℕ = prefix_len is_open (gate_bytes (gates_at s region) s.log_capacity before) in
+    let most : counted ≤ s.log_capacity = count_most (gates_at s region) s.log_capacity before gates_fit in
+    ap (λ (l : List ℕ). map (body_row (bodies_at s region) (row_len s) after) (range_with_len 0 (prefix_len is_open l))) bytes
+    ∙ map_range_same (body_row (bodies_at s region) (row_len s) after) (body_row (bodies_at s region) (row_len s) before) 0 counted
+    (λ place low high.
+    let inside : bodies_at s region + place * row_len s + row_len s ≤ bodies_at s region + s.log_capacity * row_len s = body_before (bodies_at s region) (row_len s) place s.log_capacity (omega (arith, most, high)) in
+    ap row_of (same_part (gates_at s region) (log_size s) (bodies_at s region + place * row_len s) (bodies_at s region + place * row_len s + row_len s) before after size
+    (omega (arith, inside, bodies_end, fits)) (omega arith) (omega (arith, inside, bodies_end)) same))
+
+-- and those of a hash region
+pub hash_rows_same : (s : Shape) (region : ℕ) (before after : List ℕ) → length after ≡ length before → hash_at s region + hash_size s ≤ length before → SameWithin (hash_at s region) (hash_size s) before after → hash_rows s region after ≡ hash_rows s region before
+unfolding hash_rows
+hash_rows_same s region before after size fits same =
+    let slots_end : hash_at s region + 4 * s.buckets * row_len s ≤ hash_at s region + hash_size s = omega (arith, up_least (4 * s.buckets * row_len s)) in
+    map_range_same (body_row (hash_at s region) (row_len s) after) (body_row (hash_at s region) (row_len s) before) 0 (4 * s.buckets)
+    (λ place low high.
+    let inside : hash_at s region + place * row_len s + row_len s ≤ hash_at s region + 4 * s.buckets * row_len s = body_before (hash_at s region) (row_len s) place (4 * s.buckets) (omega (arith, high)) in
+    ap row_of (same_part (hash_at s region) (hash_size s) (hash_at s region + place * row_len s) (hash_at s region + place * row_len s + row_len s) before after size
+    (omega (arith, inside, slots_end, fits)) (omega arith) (omega (arith, inside, slots_end)) same))
+
+-- and the entries of a sorted region
+pub sorted_rows_same : (s : Shape) (region count : ℕ) (before after : List ℕ) → length after ≡ length before → count ≤ s.sorted_capacity → sorted_at s region + sorted_size s ≤ length before → SameWithin (sorted_at s region) (sorted_size s) before after → sorted_rows s region count after ≡ sorted_rows s region count before
+unfolding sorted_rows
+sorted_rows_same s region count before after size room fits same =
+    let at : ℕ = sorted_at s region in
+    let len : ℕ = entry_len s in
+    let entries_end : at + s.sorted_capacity * len ≤ at + sorted_size s = omega (arith, up_least (s.sorted_capacity * entry_len s)) in
+    map_range_same (λ place. entry_row (slice_range after (at + place * len) (at + place * len + len))) (λ place. entry_row (slice_range before (at + place * len) (at + place * len + len))) 0 count
+    (λ place low high.
+    let inside : at + place * len + len ≤ at + s.sorted_capacity * len = body_before at len place s.sorted_capacity (omega (arith, room, high)) in
+    ap entry_row (same_part at (sorted_size s) (at + place * len) (at + place * len + len) before after size
+    (omega (arith, inside, entries_end, fits)) (omega arith) (omega (arith, inside, entries_end)) same))
+
+-- ---- the stores that a body names
+
+-- two functions that agree on each element of a list make one list of it
+pub map_same : {X Y : Type 0} (f g : X → Y) (xs : List X) → ((x : X) → Contains xs x → f x ≡ g x) → map f xs ≡ map g xs
+map_same f g [] same = refl
+map_same f g (x ∷ xs) same =
+    let first : f x ≡ g x = same x (0, omega arith, refl) in
+    let others : map f xs ≡ map g xs = map_same f g xs (λ y (k, below, here). same y (suc k, omega arith, here)) in
+    cc
+
+-- an element of a list of numbers below a bound
+pub below_from : (n : ℕ) (ids : List ℕ) (id : ℕ) → all_below n ids ≡ true → Contains ids id → id < n
+below_from n [] id all (k, inside, here) = absurd (omega arith)
+below_from n (first ∷ ids) id all (zero, inside, here) =
+    let parts = and_parts (nat_lt first n) (all_below n ids) all in
+    let h = ltb-true first n parts.0 in
+    omega (arith, here)
+below_from n (first ∷ ids) id all (suc k, inside, here) =
+    let parts = and_parts (nat_lt first n) (all_below n ids) all in
+    below_from n ids id parts.1 (k, omega arith, here)
+
+-- the regions that a well-formed body names are there
+pub record NamesRegions (s : Shape) (b : Body) : Type 0 where
+  pub logs : (region : ℕ) → Contains (b.active ∷ b.frozen) region → region < s.logs
+  pub hashes : (region : ℕ) → Contains b.hashed region → region < s.hashes
+  pub sorted : b.sorted < 2
+  pub sorted_count : b.sorted_count ≤ s.sorted_capacity
+
+-- an element of a list with a first element
+first_or_later : (first : ℕ) (ids : List ℕ) (id : ℕ) → Contains (first ∷ ids) id → (first ≡ id) ⊎ Contains ids id
+first_or_later first ids id (zero, inside, here) = inl here
+first_or_later first ids id (suc k, inside, here) = inr (k, omega arith, here)
+
+pub names_regions : (s : Shape) (slot : ℕ) (b : Body) → is_well_formed s slot b ≡ true → NamesRegions s b
+names_regions s slot b sound =
+    let parts = sound_parts s slot b sound in
+    record {
+      logs = λ region named. elim (first_or_later b.active b.frozen region named) [
+        | inl is ↦ omega (arith, is, parts.active)
+        | inr frozen ↦ below_from s.logs b.frozen region parts.frozen frozen
+      ];
+      hashes = λ region named. below_from s.hashes b.hashed region parts.hashed named;
+      sorted = parts.sorted;
+      sorted_count = parts.sorted_count;
+    }
+
+-- the same hash stores
+hashes_same : (s : Shape) (ids : List ℕ) (before after : List ℕ) → length after ≡ length before → device_size s ≤ length before → ((region : ℕ) → Contains ids region → region < s.hashes) → ((region : ℕ) → Contains ids region → SameWithin (hash_at s region) (hash_size s) before after)
+    → map (hash_part s after) ids ≡ map (hash_part s before) ids
+hashes_same s ids before after size fits there same =
+    map_same (hash_part s after) (hash_part s before) ids (λ region named.
+    let inside : hash_at s region + hash_size s ≤ device_size s = hash_fits s.logs s.hashes (log_size s) (hash_size s) (sorted_size s) region (there region named) in
+    ap (λ (rows : List StoredRow). record { region = region; rows = rows }) (hash_rows_same s region before after size (omega (arith, inside, fits)) (same region named)))
+
+-- the same entries
+entries_same : (s : Shape) (region count : ℕ) (before after : List ℕ) → length after ≡ length before → device_size s ≤ length before → region < 2 → count ≤ s.sorted_capacity → SameWithin (sorted_at s region) (sorted_size s) before after → sorted_rows s region count after ≡ sorted_rows s region count before
+entries_same s region count before after size fits there room same =
+    let inside : sorted_at s region + sorted_size s ≤ device_size s = sorted_end s.logs s.hashes (log_size s) (hash_size s) (sorted_size s) region there in
+    sorted_rows_same s region count before after size room (omega (arith, inside, fits)) same
+
+-- the same rows of a log
+log_same : (s : Shape) (region : ℕ) (before after : List ℕ) → length after ≡ length before → device_size s ≤ length before → region < s.logs → SameWithin (gates_at s region) (log_size s) before after → log_rows s region after ≡ log_rows s region before
+log_same s region before after size fits there same =
+    let inside : gates_at s region + log_size s ≤ device_size s = log_fits s.logs s.hashes (log_size s) (hash_size s) (sorted_size s) region there in
+    log_rows_same s region before after size (omega (arith, inside, fits)) same
+
+-- stores of one shape and body whose parts are the same
+named_from : (s : Shape) (b : Body) (before after : List ℕ) → map (log_part s after) (b.active ∷ b.frozen) ≡ map (log_part s before) (b.active ∷ b.frozen) → map (hash_part s after) b.hashed ≡ map (hash_part s before) b.hashed
+    → sorted_rows s b.sorted b.sorted_count after ≡ sorted_rows s b.sorted b.sorted_count before → stores_named s b after ≡ stores_named s b before
+unfolding stores_named
+named_from s b before after logs hashes entries =
+    ap (λ (ps : List Part). record { shape = s; body = b; logs = ps; hashes = map (hash_part s after) b.hashed; entries = sorted_rows s b.sorted b.sorted_count after }) logs
+    ∙ ap (λ (ps : List Part). record { shape = s; body = b; logs = map (log_part s before) (b.active ∷ b.frozen); hashes = ps; entries = sorted_rows s b.sorted b.sorted_count after }) hashes
+    ∙ ap (λ (es : List StoredRow). record { shape = s; body = b; logs = map (log_part s before) (b.active ∷ b.frozen); hashes = map (hash_part s before) b.hashed; entries = es }) entries
+
+-- the named regions decide the stores
+pub stores_named_same : (s : Shape) (b : Body) (before after : List ℕ) → NamesRegions s b → length after ≡ length before → device_size s ≤ length before → SameRegions s b before after → stores_named s b after ≡ stores_named s b before
+stores_named_same s b before after there size fits same =
+    named_from s b before after
+    (map_same (log_part s after) (log_part s before) (b.active ∷ b.frozen) (λ region named. ap (λ (rows : List StoredRow). record { region = region; rows = rows }) (log_same s region before after size fits (there.logs region named) (same.logs region named))))
+    (hashes_same s b.hashed before after size fits there.hashes same.hashes)
+    (entries_same s b.sorted b.sorted_count before after size fits there.sorted there.sorted_count same.sorted)
+
+-- ---- the frame
+
+-- what the images agree on, of the stores that were named
+frame_regions : (before after : List ℕ) (shape : Shape) (body : Body) → Agree before after → image_stores before ≡ Ok (stores_named shape body before) → SameRegions shape body before after
+unfolding stores_named
+frame_regions before after shape body agree stores = agree.regions (stores_named shape body before) stores
+
+-- the stores of an image, from its shape and its body
+frame_ruled : (shape : Shape) (before after : List ℕ) → Agree before after → shape_found (length before) (header_of before) ≡ Ok shape → stores_ruled shape after (manifest_found shape before) ≡ stores_ruled shape before (manifest_found shape before)
+unfolding image_stores
+frame_ruled shape before after agree has_shape = go (manifest_found shape before) refl
+  where
+    go : (r : Result Body _) → manifest_found shape before ≡ r → stores_ruled shape after r ≡ stores_ruled shape before r
+    go (Err damaged) has = refl
+    go (Ok body) has =
+        let stores : image_stores before ≡ Ok (stores_named shape body before) = ap (stores_shaped before) has_shape ∙ ap (stores_ruled shape before) has in
+        let shaped = shape_parts (length before) (header_of before) shape has_shape in
+        let same : SameRegions shape body before after = frame_regions before after shape body agree stores in
+        ap Ok (stores_named_same shape body before after (names_regions shape (body.generation % 2) body (ruling_sound shape before body has)) agree.size (omega (arith, shaped.size)) same)
+
+frame_shaped : (before after : List ℕ) → Agree before after → (r : Result Shape Finding) → shape_found (length before) (header_of before) ≡ r → stores_shaped after r ≡ stores_shaped before r
+frame_shaped before after agree (Err finding) has = refl
+frame_shaped before after agree (Ok shape) has =
+    ap (stores_ruled shape after) (same_found shape before after agree.first_slot agree.second_slot) ∙ frame_ruled shape before after agree has
+
+-- images that agree on all that counts have the same stores
+pub frame_law : FrameLaw
+unfolding image_stores
+frame_law before after agree =
+    ap (λ (n : ℕ). stores_shaped after (shape_found n (header_of after))) agree.size
+    ∙ ap (λ (header : List ℕ). stores_shaped after (shape_found (length before) header)) agree.header
+    ∙ frame_shaped before after agree (shape_found (length before) (header_of before)) refl
+
+-- images with the same stores mean the same
+pub meaning_law : MeaningLaw
+unfolding image_verdict image_stands image_fits image_rows image_map image_charge
+meaning_law before after same = record {
+  verdict = ap (λ r. slice_get (findings_of r) 0) same;
+  stands = ap map_where_sound same;
+  fits = ap all_logs_fit same;
+  rows = ap rows_found same;
+  map = ap (λ r. map_of_rows (rows_found r)) same;
+  charge = ap (λ r. charge_of_rows (rows_found r)) same;
+}
+
+-- ---- changes
+
+-- behind the manifest slots: the header and the body that rules stay
+pub stores_after : (at count : ℕ) (before after : List ℕ) (s other : Stores) → HasStores s before → 12288 ≤ at → Torn at count before after → other.shape ≡ s.shape → other.body ≡ s.body → other ≡ stores_named s.shape s.body after → image_stores after ≡ Ok other
+stores_after at count before after s other has low torn shape body named =
+    let shaped = shape_parts (length before) (header_of before) s.shape has.shape in
+    let long : 12288 ≤ length before = omega (arith, shaped.size) in
+    let header : header_of after ≡ header_of before = torn_slice_before at count before after torn 0 37 (omega arith) (omega arith) in
+    (stores_law after other).1 (record {
+      shape = ap (λ (n : ℕ). shape_found n (header_of after)) torn.size ∙ ap (shape_found (length before)) header ∙ has.shape ∙ ap Ok (sym shape);
+      body = ap (λ t. manifest_found t after) shape ∙ other_regions s.shape at count before after (omega arith) (inr low) torn ∙ has.body ∙ ap Ok (sym body);
+      named = named ∙ ap (λ t. stores_named t s.body after) (sym shape) ∙ ap (λ b. stores_named other.shape b after) (sym body);
+    })
+
+-- the regions of an image with stores
+stores_regions : (image : List ℕ) (s : Stores) → HasStores s image → NamesRegions s.shape s.body
+stores_regions image s has = names_regions s.shape (s.body.generation % 2) s.body (ruling_sound s.shape image s.body has.body)
+
+-- one log, with the rows that it has now
+log_after : (s : Shape) (region id : ℕ) (before after : List ℕ) → Torn (gates_at s region) (log_size s) before after → device_size s ≤ length before → id < s.logs → with_part_rows region (log_rows s region after) (log_part s before id) ≡ log_part s after id
+log_after s region id before after torn fits there = elim (cases_eq id region) [
+  | inl is ↦
+      takes_rows region (log_rows s region after) (log_part s before id) (eq-eqb id region is)
+      ∙ ap (λ (n : ℕ). record { region = id; rows = log_rows s n after }) (sym is)
+  | inr other ↦
+      keeps_rows region (log_rows s region after) (log_part s before id) (ne_eqb id region other)
+      ∙ ap (λ (rows : List StoredRow). record { region = id; rows = rows })
+      (sym (log_same s id before after torn.size fits there (torn_same (gates_at s region) (log_size s) (gates_at s id) (log_size s) before after torn (pieces_apart 12288 id region (log_size s) other))))
+]
+
+-- the logs, with the rows that they have now
+logs_after : (s : Shape) (region : ℕ) (ids : List ℕ) (before after : List ℕ) → Torn (gates_at s region) (log_size s) before after → device_size s ≤ length before → ((id : ℕ) → Contains ids id → id < s.logs)
+    → map (with_part_rows region (log_rows s region after)) (map (log_part s before) ids) ≡ map (log_part s after) ids
+logs_after s region [] before after torn fits there = refl
+logs_after s region (id ∷ ids) before after torn fits there =
+    let first : with_part_rows region (log_rows s region after) (log_part s before id) ≡ log_part s after id = log_after s region id before after torn fits (there id (0, omega arith, refl)) in
+    let rest = logs_after s region ids before after torn fits (λ other (k, below, here). there other (suc k, omega arith, here)) in
+    ap (λ (p : Part). p ∷ map (with_part_rows region (log_rows s region after)) (map (log_part s before) ids)) first
+    ∙ ap (λ (ps : List Part). log_part s after id ∷ ps) rest
+
+-- the named stores, with the rows that a log has now
+log_changed : (s : Shape) (b : Body) (region : ℕ) (before after : List ℕ) → NamesRegions s b → Torn (gates_at s region) (log_size s) before after → device_size s ≤ length before → region < s.logs
+    → with_log_rows region (log_rows s region after) (stores_named s b before) ≡ stores_named s b after
+unfolding with_log_rows stores_named
+log_changed s b region before after there torn fits below =
+    let logs = logs_after s region (b.active ∷ b.frozen) before after torn fits there.logs in
+    let hashes : map (hash_part s before) b.hashed ≡ map (hash_part s after) b.hashed =
+    sym (hashes_same s b.hashed before after torn.size fits there.hashes
+    (λ id named. torn_same (gates_at s region) (log_size s) (hash_at s id) (hash_size s) before after torn (inr (log_before_hash s.logs s.hashes (log_size s) (hash_size s) (sorted_size s) region id below)))) in
+    let entries : sorted_rows s b.sorted b.sorted_count before ≡ sorted_rows s b.sorted b.sorted_count after =
+    sym (entries_same s b.sorted b.sorted_count before after torn.size fits there.sorted there.sorted_count
+    (torn_same (gates_at s region) (log_size s) (sorted_at s b.sorted) (sorted_size s) before after torn (inr (log_before_sorted s.logs s.hashes (log_size s) (hash_size s) (sorted_size s) region b.sorted below)))) in
+    ap (λ (ps : List Part). record { shape = s; body = b; logs = ps; hashes = map (hash_part s before) b.hashed; entries = sorted_rows s b.sorted b.sorted_count before }) logs
+    ∙ ap (λ (ps : List Part). record { shape = s; body = b; logs = map (log_part s after) (b.active ∷ b.frozen); hashes = ps; entries = sorted_rows s b.sorted b.sorted_count before }) hashes
+    ∙ ap (λ (es : List StoredRow). record { shape = s; body = b; logs = map (log_part s after) (b.active ∷ b.frozen); hashes = map (hash_part s after) b.hashed; entries = es }) entries
+
+-- other rows leave the shape and the body
+shape_stays : (region : ℕ) (rows : List StoredRow) (s : Stores) → (with_log_rows region rows s).shape ≡ s.shape
+unfolding with_log_rows
+shape_stays region rows s = refl
+
+body_stays : (region : ℕ) (rows : List StoredRow) (s : Stores) → (with_log_rows region rows s).body ≡ s.body
+unfolding with_log_rows
+body_stays region rows s = refl
+
+-- a change in a log region changes the rows of that log alone
+pub log_region_law : LogRegionLaw
+log_region_law before after s region e below torn =
+    let has = (stores_law before s).0 e in
+    let shaped = shape_parts (length before) (header_of before) s.shape has.shape in
+    let rows : List StoredRow = log_rows s.shape region after in
+    let changed : with_log_rows region rows s ≡ stores_named s.shape s.body after =
+    ap (with_log_rows region rows) has.named ∙ log_changed s.shape s.body region before after (stores_regions before s has) torn (omega (arith, shaped.size)) below in
+    stores_after (gates_at s.shape region) (log_size s.shape) before after s (with_log_rows region rows s) has (omega arith) torn (shape_stays region rows s) (body_stays region rows s) changed
+
+-- stores that a change leaves
+unchanged : (at count : ℕ) (before after : List ℕ) (s : Stores) → image_stores before ≡ Ok s → 12288 ≤ at → Torn at count before after → SameRegions s.shape s.body before after → image_stores after ≡ Ok s
+unchanged at count before after s e low torn same =
+    let has = (stores_law before s).0 e in
+    let shaped = shape_parts (length before) (header_of before) s.shape has.shape in
+    stores_after at count before after s s has low torn refl refl
+    (has.named ∙ sym (stores_named_same s.shape s.body before after (stores_regions before s has) torn.size (omega (arith, shaped.size)) same))
+
+-- a number that a list does not have is none of its elements
+other_than : (region : ℕ) (ids : List ℕ) (id : ℕ) → list_any (λ other. other == region) ids ≡ false → Contains ids id → id ≢ region
+other_than region [] id none (k, inside, here) is = absurd (omega arith)
+other_than region (first ∷ ids) id none (zero, inside, here) is =
+    let both = or_parts (first == region) (list_any (λ other. other == region) ids) none in
+    eqb-false first region both.0 (omega (arith, here, is))
+other_than region (first ∷ ids) id none (suc k, inside, here) is =
+    let both = or_parts (first == region) (list_any (λ other. other == region) ids) none in
+    other_than region ids id both.1 (k, omega arith, here) is
+
+-- a change in a hash region that the body does not name changes nothing
+pub free_hash_law : FreeHashLaw
+free_hash_law before after s region e below free torn =
+    let has = (stores_law before s).0 e in
+    let there = stores_regions before s has in
+    let sh = s.shape in
+    unchanged (hash_at sh region) (hash_size sh) before after s e (omega arith) torn (record {
+      logs = λ id named. torn_same (hash_at sh region) (hash_size sh) (gates_at sh id) (log_size sh) before after torn
+          (inl (log_before_hash sh.logs sh.hashes (log_size sh) (hash_size sh) (sorted_size sh) id region (there.logs id named)));
+      hashes = λ id named. torn_same (hash_at sh region) (hash_size sh) (hash_at sh id) (hash_size sh) before after torn
+          (pieces_apart (12288 + sh.logs * log_size sh) id region (hash_size sh) (other_than region s.body.hashed id free named));
+      sorted = torn_same (hash_at sh region) (hash_size sh) (sorted_at sh s.body.sorted) (sorted_size sh) before after torn
+          (inr (hash_before_sorted sh.logs sh.hashes (log_size sh) (hash_size sh) (sorted_size sh) region s.body.sorted below));
+    })
+
+-- nor does one in the sorted region that the body does not name
+pub free_sorted_law : FreeSortedLaw
+free_sorted_law before after s region e below other torn =
+    let has = (stores_law before s).0 e in
+    let there = stores_regions before s has in
+    let sh = s.shape in
+    unchanged (sorted_at sh region) (sorted_size sh) before after s e (omega arith) torn (record {
+      logs = λ id named. torn_same (sorted_at sh region) (sorted_size sh) (gates_at sh id) (log_size sh) before after torn
+          (inl (log_before_sorted sh.logs sh.hashes (log_size sh) (hash_size sh) (sorted_size sh) id region (there.logs id named)));
+      hashes = λ id named. torn_same (sorted_at sh region) (sorted_size sh) (hash_at sh id) (hash_size sh) before after torn
+          (inl (hash_before_sorted sh.logs sh.hashes (log_size sh) (hash_size sh) (sorted_size sh) id region (there.hashes id named)));
+      sorted = torn_same (sorted_at sh region) (sorted_size sh) (sorted_at sh s.body.sorted) (sorted_size sh) before after torn
+          (pieces_apart (12288 + sh.logs * log_size sh + sh.hashes * hash_size sh) s.body.sorted region (sorted_size sh) (λ is. other (sym is)));
+    })
+
+-- after a change in a manifest slot the stores are those that the body then ruling names
+pub manifest_law : ManifestLaw
+unfolding stores_named
+manifest_law before after s slot body e below torn found =
+    let has = (stores_law before s).0 e in
+    let sh = s.shape in
+    let shaped = shape_parts (length before) (header_of before) sh has.shape in
+    let header : header_of after ≡ header_of before = torn_slice_before (slot_at slot) 4096 before after torn 0 37 (omega arith) (omega (arith, shaped.size)) in
+    let there = names_regions sh (body.generation % 2) body (ruling_sound sh after body found) in
+    let same : SameRegions sh body before after = record {
+      logs = λ id named. torn_same (slot_at slot) 4096 (gates_at sh id) (log_size sh) before after torn (inr (omega arith));
+      hashes = λ id named. torn_same (slot_at slot) 4096 (hash_at sh id) (hash_size sh) before after torn (inr (omega arith));
+      sorted = torn_same (slot_at slot) 4096 (sorted_at sh body.sorted) (sorted_size sh) before after torn (inr (omega arith));
+    } in
+    (stores_law after (stores_named sh body before)).1 (record {
+      shape = ap (λ (n : ℕ). shape_found n (header_of after)) torn.size ∙ ap (shape_found (length before)) header ∙ has.shape;
+      body = found;
+      named = sym (stores_named_same sh body before after there torn.size (omega (arith, shaped.size)) same);
+    })
+
+-- the stores of a next body, over those of the body before it
+freeze_named : (sh : Shape) (old next : Body) (image : List ℕ) → Freezes old next → log_rows sh next.active image ≡ [] → stores_named sh next image ≡ with_new_log next (stores_named sh old image)
+unfolding stores_named with_new_log
+freeze_named sh old next image freezes none =
+    ap (λ (ids : List ℕ). record { shape = sh; body = next; logs = log_part sh image next.active ∷ map (log_part sh image) ids; hashes = map (hash_part sh image) next.hashed; entries = sorted_rows sh next.sorted next.sorted_count image }) freezes.frozen
+    ∙ ap (λ (rows : List StoredRow). record { shape = sh; body = next; logs = record { region = next.active; rows = rows } ∷ map (log_part sh image) (old.active ∷ old.frozen); hashes = map (hash_part sh image) next.hashed; entries = sorted_rows sh next.sorted next.sorted_count image }) none
+    ∙ ap (λ (ids : List ℕ). record { shape = sh; body = next; logs = record { region = next.active; rows = [] } ∷ map (log_part sh image) (old.active ∷ old.frozen); hashes = map (hash_part sh image) ids; entries = sorted_rows sh next.sorted next.sorted_count image }) freezes.hashed
+    ∙ ap (λ (n : ℕ). record { shape = sh; body = next; logs = record { region = next.active; rows = [] } ∷ map (log_part sh image) (old.active ∷ old.frozen); hashes = map (hash_part sh image) old.hashed; entries = sorted_rows sh n next.sorted_count image }) freezes.sorted
+    ∙ ap (λ (n : ℕ). record { shape = sh; body = next; logs = record { region = next.active; rows = [] } ∷ map (log_part sh image) (old.active ∷ old.frozen); hashes = map (hash_part sh image) old.hashed; entries = sorted_rows sh old.sorted n image }) freezes.sorted_count
+
+-- a body that freezes the active log names the stores with a new log in front
+pub freeze_law : FreezeLaw
+freeze_law image s next e freezes none =
+    let has = (stores_law image s).0 e in
+    freeze_named s.shape s.body next image freezes none ∙ ap (with_new_log next) (sym has.named)
+
+-- a body that rules was found
+found_of : (r : Result Body Damage) (body : Body) → where_found r ≡ Some body → r ≡ Ok body
+found_of (Ok found) body e = cc
+found_of (Err damaged) body e = absurd (cc)
+
+pub ruling_law : RulingLaw
+ruling_law shape image body rules = found_of (manifest_found shape image) body rules
+
+-- a change in a manifest slot after which the same body rules changes nothing
+pub same_body_law : SameBodyLaw
+same_body_law before after s slot e below torn rules =
+    manifest_law before after s slot s.body e below torn (ruling_law s.shape after s.body rules) ∙ ap Ok (sym ((stores_law before s).0 e).named)
+
+-- a change in a manifest slot after which a body rules that freezes the active log
+pub next_body_law : NextBodyLaw
+next_body_law before after s slot next e below torn rules freezes none =
+    manifest_law before after s slot next e below torn (ruling_law s.shape after next rules) ∙ ap Ok (freeze_law before s next e freezes none)
+
+-- the new log of such a body has a region that no log had
+pub free_log_law : FreeLogLaw
+free_log_law image s slot next e freezes sound =
+    (whole_law image s e).names next.active
+    ∙ ap (list_any (λ id. id == next.active)) (sym freezes.frozen)
+    ∙ apart_of s.shape slot next sound

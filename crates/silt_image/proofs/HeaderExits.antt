@@ -1,0 +1,55 @@
+-- What is found in a header, at each exit of reading it.
+use Rattle.std.proofs.Common.{◌≡◌, ◌≢◌, ℕ, ◌≤◌, ◌<◌, ◌==◌, Bool, true, false, nat_le, ◌&&◌, List, Ok, Err, sym, ap, ◌∙◌}
+use Rattle.std.proofs.lemmas.Bool.{and_from, and_left, and_right, eq-eqb, ne_eqb, false_from_ne_true, lt-leb}
+use Rattle.silt_device.specs.Layout.{Shape, InLimits, device_size}
+use Rattle.silt_image.specs.Header.{header_shape, is_formatted, is_in_limits}
+use Rattle.silt_image.specs.Stores.{shape_found}
+use Rattle.silt_image.specs.declared.finding.Finding.TheVariants.{NotFormatted, Damaged}
+use Rattle.silt_image.specs.declared.finding.Place.TheVariants.{Header, Length}
+use Rattle.silt_image.proofs.Named.{limits_law, test_at_most, tested}
+
+-- the tests up to the one that fails
+first_fails : (a b c : Bool) (shape : Shape) → a ≡ false → tested a b c shape ≡ Err NotFormatted
+first_fails a b c shape p = ap (λ (t : Bool). tested t b c shape) p
+
+second_fails : (a b c : Bool) (shape : Shape) → a ≡ true → b ≡ false → tested a b c shape ≡ Err (Damaged Header)
+second_fails a b c shape p q = ap (λ (t : Bool). tested t b c shape) p ∙ ap (λ (t : Bool). tested true t c shape) q
+
+third : (a b c d : Bool) (shape : Shape) → a ≡ true → b ≡ true → c ≡ d → tested a b c shape ≡ tested true true d shape
+third a b c d shape p q r = ap (λ (t : Bool). tested t b c shape) p ∙ ap (λ (t : Bool). tested true t c shape) q ∙ ap (λ (t : Bool). tested true true t shape) r
+
+-- a device that is shorter than a header
+pub too_short : (len : ℕ) (header : List ℕ) → len < 37 → shape_found len header ≡ Err NotFormatted
+unfolding shape_found
+too_short len header short =
+    first_fails (nat_le 37 len && is_formatted header) (is_in_limits (header_shape header)) (len == device_size (header_shape header)) (header_shape header) (and_left (nat_le 37 len) (is_formatted header) (lt-leb 37 len short))
+
+-- other bytes than those of a header
+pub not_formatted : (len : ℕ) (header : List ℕ) → is_formatted header ≡ false → shape_found len header ≡ Err NotFormatted
+unfolding shape_found
+not_formatted len header other =
+    first_fails (nat_le 37 len && is_formatted header) (is_in_limits (header_shape header)) (len == device_size (header_shape header)) (header_shape header) (and_right (nat_le 37 len) (is_formatted header) other)
+
+-- a number out of its limits
+pub out_of_limits : (len : ℕ) (header : List ℕ) → 37 ≤ len → is_formatted header ≡ true → ¬ InLimits (header_shape header) → shape_found len header ≡ Err (Damaged Header)
+unfolding shape_found
+out_of_limits len header long formatted out =
+    second_fails (nat_le 37 len && is_formatted header) (is_in_limits (header_shape header)) (len == device_size (header_shape header)) (header_shape header)
+    (and_from (nat_le 37 len) (is_formatted header) (test_at_most 37 len long) formatted) (false_from_ne_true (is_in_limits (header_shape header)) (λ is. out ((limits_law (header_shape header)).0 is)))
+
+-- another length than the numbers say
+pub another_length : (len size : ℕ) (header : List ℕ) (shape : Shape) → 37 ≤ len → is_formatted header ≡ true → (shape ≡ header_shape header) × InLimits (header_shape header) → size ≡ device_size shape → len ≢ size → shape_found len header ≡ Err (Damaged Length)
+unfolding shape_found
+another_length len size header shape long formatted (same, limits) is other =
+    third (nat_le 37 len && is_formatted header) (is_in_limits (header_shape header)) (len == device_size (header_shape header)) false (header_shape header)
+    (and_from (nat_le 37 len) (is_formatted header) (test_at_most 37 len long) formatted) ((limits_law (header_shape header)).1 limits)
+    (ne_eqb len (device_size (header_shape header)) (λ e. other (e ∙ ap (λ (s : Shape). device_size s) (sym same) ∙ sym is)))
+
+-- the shape
+pub has_shape : (len size : ℕ) (header : List ℕ) (shape : Shape) → 37 ≤ len → is_formatted header ≡ true → (shape ≡ header_shape header) × InLimits (header_shape header) → size ≡ device_size shape → len ≡ size → shape_found len header ≡ Ok shape
+unfolding shape_found
+has_shape len size header shape long formatted (same, limits) is equal =
+    third (nat_le 37 len && is_formatted header) (is_in_limits (header_shape header)) (len == device_size (header_shape header)) true (header_shape header)
+    (and_from (nat_le 37 len) (is_formatted header) (test_at_most 37 len long) formatted) ((limits_law (header_shape header)).1 limits)
+    (eq-eqb len (device_size (header_shape header)) (equal ∙ is ∙ ap (λ (s : Shape). device_size s) same))
+    ∙ ap Ok (sym same)

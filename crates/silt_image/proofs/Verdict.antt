@@ -1,0 +1,222 @@
+-- When an image is good, and what it then stands for.
+use Rattle.std.proofs.Common.{◌≡◌, ◌↔◌, ℕ, ◌+◌, ◌-◌, Bool, true, false, not, nat_lt, if◌then◌else◌, List, [], ◌∷◌, ◌++◌, length, take, flat_map, get_or, slice_get, Some, None, is_some, IsSome, IsTrue, Result, Ok, Err, refl, sym, ap, ◌∙◌, arith}
+use Rattle.std.specs.List.{list_all, enumerate_from, range_with_len}
+use Rattle.std.proofs.lemmas.Bool.{and_parts, and_from}
+use Rattle.silt_device.specs.Layout.{Shape}
+use Rattle.silt_log.specs.Rows.{StoredRow, has_known_kind, log_rows}
+use Rattle.silt_manifest.specs.Body.{first_body}
+use Rattle.silt_image.specs.Stores.{Part, Stores, image_stores, sorted_rows, stores_named, stores_ruled, stores_shaped}
+use Rattle.silt_image.specs.Meaning.{IsSound, all_logs_fit, charge_findings, charge_of, charge_of_rows, entry_findings, finding_if, findings_of, fits_table, hash_findings, image_fits, image_map, image_rows, image_stands, image_verdict, is_crowding, is_key_below, is_sound_hash_slot, keys_of, log_findings, map_of_rows, map_where_sound, row_findings, rows_found, rows_of, slot_findings, sorted_findings, store_findings}
+use Rattle.silt_image.specs.Laws.{EmptyLaw, GoodLaw, GoodStandsLaw, NoStoresLaw, RowsLaw, SoundLaw, StandsLaw, VerdictLaw}
+use Rattle.silt_image.specs.declared.finding.Finding.{Finding}
+use Rattle.silt_image.specs.declared.finding.Finding.TheVariants.{Damaged, Crowded}
+use Rattle.silt_image.specs.declared.finding.Place.TheVariants.{Log, Hash, Sorted, Charge}
+use Rattle.silt_image.proofs.Named.{whole_law}
+use Rattle.silt_image.proofs.Sound.{fine_of, finds_nothing, fits_none, fits_take, logs_sound_law, nothing_both, nothing_first, nothing_second, of_fine}
+
+-- ---- findings
+
+-- a finding that is no crowding
+is_damage : Finding → Bool
+is_damage f = not (is_crowding f)
+
+-- a test of all elements of two lists
+all_append : {X : Type 0} (p : X → Bool) (xs ys : List X) → list_all p xs ≡ true → list_all p ys ≡ true → list_all p (xs ++ ys) ≡ true
+all_append p [] ys hx hy = hy
+all_append p (x ∷ xs) ys hx hy =
+    let parts = and_parts (p x) (list_all p xs) hx in
+    and_from _ _ parts.0 (all_append p xs ys parts.1 hy)
+
+-- the elements of a list's lists
+all_flat : {X Y : Type 0} (p : Y → Bool) (q : X → Bool) (f : X → List Y) (xs : List X) → list_all q xs ≡ true → ((x : X) → q x ≡ true → list_all p (f x) ≡ true) → list_all p (flat_map f xs) ≡ true
+all_flat p q f [] all each = refl
+all_flat p q f (x ∷ xs) all each =
+    let parts = and_parts (q x) (list_all q xs) all in
+    all_append p (f x) (flat_map f xs) (each x parts.0) (all_flat p q f xs parts.1 each)
+
+any_passes : {X : Type 0} (xs : List X) → list_all (λ x. true) xs ≡ true
+any_passes [] = refl
+any_passes (x ∷ xs) = any_passes xs
+
+-- no finding can be both
+none_left : (fs : List Finding) → list_all is_crowding fs ≡ true → list_all is_damage fs ≡ true → fs ≡ []
+unfolding is_damage
+none_left [] c d = refl
+none_left (f ∷ fs) c d =
+    let one = and_parts (is_crowding f) (list_all is_crowding fs) c in
+    let two = and_parts (not (is_crowding f)) (list_all (λ x. not (is_crowding x)) fs) d in
+    let never : (b : Bool) → b ≡ true → not b ≡ true → ⊥ = elim [ true ↦ λ x y. cc | false ↦ λ x y. cc ] in
+    absurd (never (is_crowding f) one.0 two.0)
+
+damage_if : (test : Bool) (f : Finding) → is_damage f ≡ true → list_all is_damage (finding_if test f) ≡ true
+damage_if true f d = and_from _ _ d refl
+damage_if false f d = refl
+
+crowded_if : (test : Bool) → test ≡ true → list_all is_damage (finding_if (not test) Crowded) ≡ true
+crowded_if true e = refl
+crowded_if false e = absurd (cc)
+
+-- in a log whose keys have places nothing is crowded
+log_damage : (shape : Shape) (part : Part) → fits_table shape part.rows ≡ true → list_all is_damage (log_findings shape part) ≡ true
+unfolding is_damage log_findings
+log_damage shape part fit =
+    all_flat is_damage (λ j. true) (row_findings shape part) (enumerate_from 0 part.rows) (any_passes (enumerate_from 0 part.rows))
+    (λ j _. all_append is_damage (finding_if (not (has_known_kind j.1)) (Damaged (Log part.region j.0))) (finding_if (not (fits_table shape (take (j.0 + 1) part.rows))) Crowded)
+    (damage_if (not (has_known_kind j.1)) (Damaged (Log part.region j.0)) refl)
+    (crowded_if (fits_table shape (take (j.0 + 1) part.rows)) (fits_take shape part.rows (j.0 + 1) fit)))
+
+hash_damage : (shape : Shape) (part : Part) → list_all is_damage (hash_findings shape part) ≡ true
+unfolding is_damage hash_findings
+hash_damage shape part =
+    all_flat is_damage (λ j. true) (slot_findings shape part) (enumerate_from 0 part.rows) (any_passes (enumerate_from 0 part.rows))
+    (λ j _. damage_if (not (is_sound_hash_slot shape part.rows j.0 j.1)) (Damaged (Hash part.region j.0)) refl)
+
+sorted_damage : (rows : List StoredRow) → list_all is_damage (sorted_findings rows) ≡ true
+unfolding is_damage sorted_findings
+sorted_damage rows =
+    all_flat is_damage (λ j. true) (entry_findings rows) (range_with_len 1 (length rows - 1)) (any_passes (range_with_len 1 (length rows - 1)))
+    (λ j _. damage_if (not (is_key_below (get_or (keys_of rows) (j - 1) []) (get_or (keys_of rows) j []))) (Damaged (Sorted j)) refl)
+
+-- where the keys of all logs have places, nothing is crowded
+store_damage : (s : Stores) → list_all (λ (part : Part). fits_table s.shape part.rows) s.logs ≡ true → list_all is_damage (store_findings s) ≡ true
+unfolding is_damage store_findings
+store_damage s fit =
+    all_append is_damage (flat_map (log_findings s.shape) s.logs ++ flat_map (hash_findings s.shape) s.hashes ++ sorted_findings s.entries) (charge_findings s)
+    (all_append is_damage (flat_map (log_findings s.shape) s.logs ++ flat_map (hash_findings s.shape) s.hashes) (sorted_findings s.entries)
+    (all_append is_damage (flat_map (log_findings s.shape) s.logs) (flat_map (hash_findings s.shape) s.hashes)
+    (all_flat is_damage (λ (part : Part). fits_table s.shape part.rows) (log_findings s.shape) s.logs fit (log_damage s.shape))
+    (all_flat is_damage (λ part. true) (hash_findings s.shape) s.hashes (any_passes s.hashes) (λ part _. hash_damage s.shape part)))
+    (sorted_damage s.entries))
+    (damage_if (nat_lt s.shape.sorted_capacity (charge_of s)) (Damaged Charge) refl)
+
+-- where nothing is found in the logs, their keys have places
+all_logs : (shape : Shape) (logs : List Part) → flat_map (log_findings shape) logs ≡ [] → list_all (λ (part : Part). fits_table shape part.rows) logs ≡ true
+all_logs shape [] none = refl
+all_logs shape (part ∷ logs) none =
+    and_from _ _ (fine_of shape part (nothing_first (log_findings shape part) (flat_map (log_findings shape) logs) none)).fits
+    (all_logs shape logs (nothing_second (log_findings shape part) (flat_map (log_findings shape) logs) none))
+
+-- no first finding, no finding
+first_none : (fs : List Finding) → slice_get fs 0 ≡ None → fs ≡ []
+first_none [] e = refl
+first_none (f ∷ fs) e = absurd (cc)
+
+some_if : {A : Type 0} (test : Bool) (x : A) → is_some (if test then Some x else None) ≡ true → test ≡ true
+some_if true x e = refl
+some_if false x e = absurd (cc)
+
+-- ---- the verdict
+
+-- an image is good exactly where it stands for a map and the keys of its logs have places
+pub verdict_law : VerdictLaw
+unfolding image_verdict image_stands image_fits
+verdict_law image = go (image_stores image)
+  where
+    go : (r : Result Stores Finding) → (slice_get (findings_of r) 0 ≡ None) ↔ (IsSome (map_where_sound r) × IsTrue (all_logs_fit r))
+    go (Err f) = (λ none. absurd (cc), λ both. absurd (let e = both.0 in cc))
+    go (Ok s) = (
+      λ none.
+          let nothing = first_none (store_findings s) none in
+          (rw nothing refl, all_logs s.shape s.logs (finds_nothing s nothing).logs),
+      λ both.
+          let nothing = none_left (store_findings s) (some_if (list_all is_crowding (store_findings s)) _ both.0) (store_damage s both.1) in
+          ap (λ fs. slice_get fs 0) nothing,
+    )
+
+-- the verdict of an image with stores is their first finding
+pub verdict_of : (image : List ℕ) (s : Stores) → image_stores image ≡ Ok s → image_verdict image ≡ slice_get (store_findings s) 0
+unfolding image_verdict
+verdict_of image s e = ap (λ r. slice_get (findings_of r) 0) e
+
+-- an image with stores is good exactly where nothing is found in them
+pub sound_law : SoundLaw
+sound_law image s e = (
+  λ good. first_none (store_findings s) (sym (verdict_of image s e) ∙ good),
+  λ sound. verdict_of image s e ∙ ap (λ fs. slice_get fs 0) sound,
+)
+
+-- a good image has stores in which nothing is found
+pub good_law : GoodLaw
+unfolding image_verdict
+good_law image good = go (image_stores image) refl
+  where
+    go : (r : Result Stores Finding) → image_stores image ≡ r → (s : Stores) × (image_stores image ≡ Ok s) × IsSound s
+    go (Err f) e = absurd (let found : slice_get (findings_of (Err f)) 0 ≡ None = sym (ap (λ r. slice_get (findings_of r) 0) e) ∙ good in cc)
+    go (Ok s) e = (s, e, (sound_law image s e).0 good)
+
+-- the rows of an image with stores are theirs
+pub rows_law : RowsLaw
+unfolding image_rows
+rows_law image s e = ap rows_found e
+
+-- an image with sound stores stands for the map of their rows
+pub stands_law : StandsLaw
+unfolding image_map
+stands_law image s e sound = record {
+  good = (sound_law image s e).1 sound;
+  has_shape = (whole_law image s e).has_shape;
+  has_map = ap map_of_rows (rows_law image s e);
+}
+
+-- a good image stands for its own map
+pub good_stands_law : GoodStandsLaw
+unfolding image_stands image_map
+good_stands_law image good =
+    let has = good_law image good in
+    let s = has.0 in
+    let all : list_all is_crowding (store_findings s) ≡ true = ap (list_all is_crowding) has.2 in
+    ap map_where_sound has.1
+    ∙ ap (λ (b : Bool). if b then Some (map_of_rows (rows_of s)) else None) all
+    ∙ ap (λ rows. Some (map_of_rows rows)) (sym (rows_law image s has.1))
+
+-- an image without stores has the finding in their place as its verdict
+pub no_stores_law : NoStoresLaw
+unfolding image_verdict
+no_stores_law image finding e = ap (λ r. slice_get (findings_of r) 0) e
+
+-- ---- a device that was just formatted
+
+-- the stores that the first body names
+first_logs : (shape : Shape) (image : List ℕ) → log_rows shape 0 image ≡ [] → (stores_named shape first_body image).logs ≡ record { region = 0; rows = [] } ∷ []
+unfolding stores_named
+first_logs shape image none = ap (λ (rows : List StoredRow). record { region = 0; rows = rows } ∷ []) none
+
+first_hashes : (shape : Shape) (image : List ℕ) → (stores_named shape first_body image).hashes ≡ []
+unfolding stores_named
+first_hashes shape image = refl
+
+first_entries : (shape : Shape) (image : List ℕ) → (stores_named shape first_body image).entries ≡ []
+unfolding stores_named sorted_rows
+first_entries shape image = refl
+
+first_shape : (shape : Shape) (image : List ℕ) → (stores_named shape first_body image).shape ≡ shape
+unfolding stores_named
+first_shape shape image = refl
+
+-- stores with one empty log and nothing else have no rows
+no_rows : (s : Stores) (region : ℕ) → s.logs ≡ record { region = region; rows = [] } ∷ [] → s.hashes ≡ [] → s.entries ≡ [] → rows_of s ≡ []
+unfolding rows_of
+no_rows s region logs hashes entries = rw (logs, hashes, entries) refl
+
+-- and nothing is found in them
+nothing_found : (s : Stores) (region : ℕ) → s.logs ≡ record { region = region; rows = [] } ∷ [] → s.hashes ≡ [] → s.entries ≡ [] → IsSound s
+nothing_found s region logs hashes entries =
+    let none : flat_map (log_findings s.shape) s.logs ≡ [] = ap (flat_map (log_findings s.shape)) logs ∙ nothing_both (log_findings s.shape (record { region = region; rows = [] })) [] (of_fine s.shape (record { region = region; rows = [] }) (record { known = refl; fits = fits_none s.shape })) refl in
+    let puts : charge_of s ≡ 0 = ap charge_of_rows (no_rows s region logs hashes entries) in
+    (logs_sound_law s none hashes entries).1 (omega (arith, puts))
+
+-- it stands for the empty map
+pub empty_law : EmptyLaw
+unfolding image_stores
+empty_law image shape has_shape has_body none =
+    let s : Stores = stores_named shape first_body image in
+    let e : image_stores image ≡ Ok s = ap (stores_shaped image) has_shape ∙ ap (stores_ruled shape image) has_body in
+    let logs = first_logs shape image none in
+    let hashes = first_hashes shape image in
+    let entries = first_entries shape image in
+    let stands = stands_law image s e (nothing_found s 0 logs hashes entries) in
+    record {
+      good = stands.good;
+      has_shape = stands.has_shape ∙ first_shape shape image;
+      has_map = stands.has_map ∙ ap map_of_rows (no_rows s 0 logs hashes entries);
+    }

@@ -1,0 +1,64 @@
+-- The header of a device: its bytes, and the six numbers that it says.
+use Rattle.std.specs.Prelude.{◌≡◌, ◌<◌, ◌*◌, ◌^◌, ℕ, ◌==◌, nat_le, Bool, ◌&&◌, List, ◌++◌, length, slice_index, slice_range, codes}
+use Rattle.std.specs.Str.{bytes_eq}
+use Rattle.byteorder.specs.Endian.{big_bytes}
+use Rattle.silt_device.specs.Layout.{Shape, is_bucket_count}
+use Rattle.silt_manifest.specs.Numbers.{number_at}
+use Rattle.silt_manifest.specs.Ruling.{is_open}
+
+-- the text SILTFLSH
+abbrev pub magic : List ℕ
+magic = codes "SILTFLSH"
+
+-- what follows the header's gate: the magic bytes, the version 1 and the six numbers
+abbrev pub header_bytes : Shape → List ℕ
+header_bytes s =
+    magic ++ big_bytes 4 1 ++ big_bytes 4 s.value_len ++ big_bytes 4 s.buckets ++ big_bytes 4 s.log_capacity
+    ++ big_bytes 4 s.logs ++ big_bytes 4 s.hashes ++ big_bytes 4 s.sorted_capacity
+
+-- the header's gate, and what follows it
+abbrev pub header_of : List ℕ → List ℕ
+header_of image = slice_range image 0 37
+
+-- the gate is open, and the magic bytes and the version 1 follow
+abbrev pub is_formatted : List ℕ → Bool
+is_formatted header =
+    is_open (slice_index header 0) && bytes_eq (slice_range header 1 9) magic && (number_at 4 9 header == 1)
+
+-- a header is whole, its gate is open, and the magic bytes and the version 1 follow
+pub record IsHeader (header : List ℕ) : Type 0 where
+  pub whole : length header ≡ 37
+  pub gate : slice_index header 0 ≡ 167
+  pub magic : slice_range header 1 9 ≡ magic
+  pub version : number_at 4 9 header ≡ 1
+
+-- the six numbers of a header
+abbrev pub header_shape : List ℕ → Shape
+header_shape header = record {
+  value_len = number_at 4 13 header;
+  buckets = number_at 4 17 header;
+  log_capacity = number_at 4 21 header;
+  logs = number_at 4 25 header;
+  hashes = number_at 4 29 header;
+  sorted_capacity = number_at 4 33 header;
+}
+
+-- the six numbers of an image
+abbrev pub shape_of : List ℕ → Shape
+shape_of image = header_shape (header_of image)
+
+-- each of the six numbers lies within its limits
+abbrev pub is_in_limits : Shape → Bool
+is_in_limits s =
+    nat_le 1 s.value_len && nat_le s.value_len 4096 && is_bucket_count s.buckets && nat_le 1 s.log_capacity
+    && nat_le s.log_capacity (4 * s.buckets) && nat_le 2 s.logs && nat_le s.logs 8 && nat_le 1 s.hashes && nat_le s.hashes 16
+    && nat_le 1 s.sorted_capacity && nat_le s.sorted_capacity 16777216
+
+-- numbers that the fields of a header hold
+pub record FitsHeader (s : Shape) : Type 0 where
+  pub value_len : s.value_len < 256 ^ 4
+  pub buckets : s.buckets < 256 ^ 4
+  pub log_capacity : s.log_capacity < 256 ^ 4
+  pub logs : s.logs < 256 ^ 4
+  pub hashes : s.hashes < 256 ^ 4
+  pub sorted_capacity : s.sorted_capacity < 256 ^ 4

@@ -1,0 +1,368 @@
+-- Laws of images, for the layers above.
+use Rattle.std.specs.Prelude.{◌≡◌, ◌≢◌, ◌≤◌, ◌<◌, ◌↔◌, ℕ, ◌+◌, ◌%◌, ◌==◌, true, false, if◌then◌else◌, IsTrue, IsSome, List, [], ◌∷◌, ◌++◌, length, map, take, reverse, find, flat_map, get_or, slice_get, Contains, Option, Some, None, option_and_then, Ok, Err}
+use Rattle.std.specs.List.{list_any, list_all}
+use Rattle.std.specs.Str.{bytes_eq}
+use Rattle.std.specs.FinMap.{get, empty}
+use Rattle.silt_device.specs.Disk.{Torn}
+use Rattle.silt_device.specs.Layout.{Shape, InLimits, device_size, slot_at, gates_at, hash_at, sorted_at, log_size, hash_size, sorted_size}
+use Rattle.silt_log.specs.Rows.{FirstUnknown, StoredRow, has_known_kind, log_rows, open_count, row_at}
+use Rattle.silt_manifest.specs.Body.{first_body, is_well_formed}
+use Rattle.silt_manifest.specs.Ruling.{manifest_found, open_body, ruling_manifest}
+use Rattle.silt_manifest.specs.declared.body.Body.{Body}
+use Rattle.silt_image.specs.Commands.{map_after}
+use Rattle.silt_image.specs.Header.{FitsHeader, IsHeader, header_bytes, header_of, header_shape, is_in_limits, shape_of}
+use Rattle.silt_image.specs.Stores.{Part, Stores, image_stores, log_part, shape_found, stores_named}
+use Rattle.silt_image.specs.Meaning.{HasActive, IsGood, IsSound, StandsFor, charge_of, charge_of_rows, command_of, fits_table, hash_findings, image_charge, image_fits, image_map, image_rows, image_stands, image_verdict, log_findings, map_of_rows, names_log, row_findings, rows_of, sorted_findings, with_log_rows, with_new_log}
+use Rattle.silt_image.specs.declared.finding.Finding.{Finding}
+use Rattle.silt_image.specs.declared.finding.Finding.TheVariants.{Crowded, Damaged}
+use Rattle.silt_image.specs.declared.finding.Place.TheVariants.{Charge, Log}
+
+-- ---- the header
+
+-- a header reads back, behind whatever gate
+abbrev pub HeaderLaw : Type 0
+HeaderLaw = (shape : Shape) (gate : ℕ) (rest : List ℕ) → FitsHeader shape → header_shape (gate ∷ header_bytes shape ++ rest) ≡ shape
+
+-- the test of the limits decides them
+abbrev pub LimitsLaw : Type 0
+LimitsLaw = (shape : Shape) → IsTrue (is_in_limits shape) ↔ InLimits shape
+
+-- a device of the length that its header's numbers say, behind an open gate, has this shape
+abbrev pub FormattedLaw : Type 0
+FormattedLaw = (shape : Shape) → InLimits shape → shape_found (device_size shape) (167 ∷ header_bytes shape) ≡ Ok shape
+
+-- ---- the stores of an image
+
+-- these are the stores of the image: its shape and its ruling body are theirs, and the body names them
+pub record HasStores (s : Stores) (image : List ℕ) : Type 0 where
+  pub shape : shape_found (length image) (header_of image) ≡ Ok s.shape
+  pub body : manifest_found s.shape image ≡ Ok s.body
+  pub named : s ≡ stores_named s.shape s.body image
+
+-- an image has stores exactly where its shape, its ruling body and what that names are theirs
+abbrev pub StoresLaw : Type 0
+StoresLaw = (image : List ℕ) (s : Stores) → (image_stores image ≡ Ok s) ↔ HasStores s image
+
+-- what every image with these stores has: a header within the limits, its length, a body that is well formed, and an active log apart from the others
+pub record IsWhole (s : Stores) (image : List ℕ) : Type 0 where
+  pub header : IsHeader (header_of image)
+  pub has_shape : shape_of image ≡ s.shape
+  pub limits : InLimits s.shape
+  pub size : length image ≡ device_size s.shape
+  pub sound : is_well_formed s.shape (s.body.generation % 2) s.body ≡ true
+  pub active : HasActive (log_rows s.shape s.body.active image) s
+  pub names : (region : ℕ) → names_log s region ≡ list_any (λ id. id == region) (s.body.active ∷ s.body.frozen)
+
+-- an image with stores is whole
+abbrev pub WholeLaw : Type 0
+WholeLaw = (image : List ℕ) (s : Stores) → image_stores image ≡ Ok s → IsWhole s image
+
+-- ---- which bytes count
+
+-- both images have the same bytes in this range
+pub record SameWithin (at count : ℕ) (before after : List ℕ) : Type 0 where
+  pub same : (place : ℕ) → at ≤ place → place < at + count → get_or after place 0 ≡ get_or before place 0
+
+-- both images have the same bytes in each region that the body names
+pub record SameRegions (shape : Shape) (body : Body) (before after : List ℕ) : Type 0 where
+  pub logs : (region : ℕ) → Contains (body.active ∷ body.frozen) region → SameWithin (gates_at shape region) (log_size shape) before after
+  pub hashes : (region : ℕ) → Contains body.hashed region → SameWithin (hash_at shape region) (hash_size shape) before after
+  pub sorted : SameWithin (sorted_at shape body.sorted) (sorted_size shape) before after
+
+-- two images of one length agree on the header, on the slots where they are open, and on each region that the ruling body names
+pub record Agree (before after : List ℕ) : Type 0 where
+  pub size : length after ≡ length before
+  pub header : header_of after ≡ header_of before
+  pub first_slot : open_body after 0 ≡ open_body before 0
+  pub second_slot : open_body after 1 ≡ open_body before 1
+  pub regions : (s : Stores) → image_stores before ≡ Ok s → SameRegions s.shape s.body before after
+
+-- two images mean the same
+pub record SameMeaning (before after : List ℕ) : Type 0 where
+  pub verdict : image_verdict after ≡ image_verdict before
+  pub stands : image_stands after ≡ image_stands before
+  pub fits : image_fits after ≡ image_fits before
+  pub rows : image_rows after ≡ image_rows before
+  pub map : image_map after ≡ image_map before
+  pub charge : image_charge after ≡ image_charge before
+
+-- images that agree on all that counts have the same stores
+abbrev pub FrameLaw : Type 0
+FrameLaw = (before after : List ℕ) → Agree before after → image_stores after ≡ image_stores before
+
+-- images with the same stores mean the same
+abbrev pub MeaningLaw : Type 0
+MeaningLaw = (before after : List ℕ) → image_stores after ≡ image_stores before → SameMeaning before after
+
+-- a change in a log region changes the rows of that log alone, and nothing where no log has the region
+abbrev pub LogRegionLaw : Type 0
+LogRegionLaw =
+    (before after : List ℕ) (s : Stores) (region : ℕ) → image_stores before ≡ Ok s → region < s.shape.logs
+    → Torn (gates_at s.shape region) (log_size s.shape) before after → image_stores after ≡ Ok (with_log_rows region (log_rows s.shape region after) s)
+
+-- rows of a log that is not named do not count
+abbrev pub UnnamedLaw : Type 0
+UnnamedLaw = (s : Stores) (region : ℕ) (rows : List StoredRow) → names_log s region ≡ false → with_log_rows region rows s ≡ s
+
+-- a change in a hash region that the body does not name changes nothing
+abbrev pub FreeHashLaw : Type 0
+FreeHashLaw =
+    (before after : List ℕ) (s : Stores) (region : ℕ) → image_stores before ≡ Ok s → region < s.shape.hashes
+    → list_any (λ id. id == region) s.body.hashed ≡ false → Torn (hash_at s.shape region) (hash_size s.shape) before after → image_stores after ≡ Ok s
+
+-- nor does one in the sorted region that the body does not name
+abbrev pub FreeSortedLaw : Type 0
+FreeSortedLaw =
+    (before after : List ℕ) (s : Stores) (region : ℕ) → image_stores before ≡ Ok s → region < 2 → region ≢ s.body.sorted
+    → Torn (sorted_at s.shape region) (sorted_size s.shape) before after → image_stores after ≡ Ok s
+
+-- after a change in a manifest slot the stores are those that the body then ruling names
+abbrev pub ManifestLaw : Type 0
+ManifestLaw =
+    (before after : List ℕ) (s : Stores) (slot : ℕ) (body : Body) → image_stores before ≡ Ok s → slot < 2 → Torn (slot_at slot) 4096 before after
+    → manifest_found s.shape after ≡ Ok body → image_stores after ≡ Ok (stores_named s.shape body before)
+
+-- a body that rules was found
+abbrev pub RulingLaw : Type 0
+RulingLaw = (shape : Shape) (image : List ℕ) (body : Body) → ruling_manifest shape image ≡ Some body → manifest_found shape image ≡ Ok body
+
+-- a change in a manifest slot after which the same body rules changes nothing
+abbrev pub SameBodyLaw : Type 0
+SameBodyLaw =
+    (before after : List ℕ) (s : Stores) (slot : ℕ) → image_stores before ≡ Ok s → slot < 2 → Torn (slot_at slot) 4096 before after
+    → ruling_manifest s.shape after ≡ Some s.body → image_stores after ≡ Ok s
+
+-- a body freezes the active log of another: it has a new one, and the old one in front of the frozen ones
+pub record Freezes (old new : Body) : Type 0 where
+  pub frozen : new.frozen ≡ old.active ∷ old.frozen
+  pub hashed : new.hashed ≡ old.hashed
+  pub sorted : new.sorted ≡ old.sorted
+  pub sorted_count : new.sorted_count ≡ old.sorted_count
+
+-- a body that freezes the active log, and has an empty one in its place, names the stores with a new log in front
+abbrev pub FreezeLaw : Type 0
+FreezeLaw =
+    (image : List ℕ) (s : Stores) (next : Body) → image_stores image ≡ Ok s → Freezes s.body next → log_rows s.shape next.active image ≡ []
+    → stores_named s.shape next image ≡ with_new_log next s
+
+-- a change in a manifest slot after which such a body rules: the stores have a new log in front
+abbrev pub NextBodyLaw : Type 0
+NextBodyLaw =
+    (before after : List ℕ) (s : Stores) (slot : ℕ) (next : Body) → image_stores before ≡ Ok s → slot < 2 → Torn (slot_at slot) 4096 before after
+    → ruling_manifest s.shape after ≡ Some next → Freezes s.body next → log_rows s.shape next.active before ≡ [] → image_stores after ≡ Ok (with_new_log next s)
+
+-- the new log of such a body has a region that no log had
+abbrev pub FreeLogLaw : Type 0
+FreeLogLaw =
+    (image : List ℕ) (s : Stores) (slot : ℕ) (next : Body) → image_stores image ≡ Ok s → Freezes s.body next → is_well_formed s.shape slot next ≡ true
+    → names_log s next.active ≡ false
+
+-- ---- when nothing is found
+
+-- nothing is found in the logs, the hash stores and the entries, and the puts are no more than the store may hold
+pub record FindsNothing (s : Stores) : Type 0 where
+  pub logs : flat_map (log_findings s.shape) s.logs ≡ []
+  pub hashes : flat_map (hash_findings s.shape) s.hashes ≡ []
+  pub entries : sorted_findings s.entries ≡ []
+  pub charge : charge_of s ≤ s.shape.sorted_capacity
+
+-- nothing is found exactly where nothing is in each part
+abbrev pub PartsLaw : Type 0
+PartsLaw = (s : Stores) → IsSound s ↔ FindsNothing s
+
+-- where nothing is found, nothing is with fewer of the last rows of a log
+abbrev pub BeginningLaw : Type 0
+BeginningLaw =
+    (s : Stores) (region n : ℕ) (rows more : List StoredRow) → IsSound (with_log_rows region (rows ++ more) s)
+    → IsSound (with_log_rows region (rows ++ take n more) s)
+
+-- where nothing is found, nothing is with one row more of a log, of a known kind, that its table and the capacity take
+abbrev pub TakenLaw : Type 0
+TakenLaw =
+    (s : Stores) (region : ℕ) (rows : List StoredRow) (row : StoredRow) → IsSound (with_log_rows region rows s) → has_known_kind row ≡ true
+    → IsTrue (fits_table s.shape (rows ++ row ∷ [])) → charge_of (with_log_rows region (rows ++ row ∷ []) s) ≤ s.shape.sorted_capacity
+    → IsSound (with_log_rows region (rows ++ row ∷ []) s)
+
+-- where nothing is found, nothing is with a new log
+abbrev pub FrozenLaw : Type 0
+FrozenLaw = (s : Stores) (next : Body) → IsSound s → IsSound (with_new_log next s)
+
+-- where nothing is found, the puts are no more than the store may hold
+abbrev pub ChargeLaw : Type 0
+ChargeLaw = (s : Stores) → IsSound s → charge_of s ≤ s.shape.sorted_capacity
+
+-- ---- the rows
+
+-- rows at the end of the active log are the last of all rows
+abbrev pub AppendLaw : Type 0
+AppendLaw = (s : Stores) (rows more : List StoredRow) → HasActive rows s → rows_of (with_log_rows s.body.active (rows ++ more) s) ≡ rows_of s ++ more
+
+-- their puts are added
+abbrev pub PutsLaw : Type 0
+PutsLaw =
+    (s : Stores) (rows more : List StoredRow) → HasActive rows s
+    → charge_of (with_log_rows s.body.active (rows ++ more) s) ≡ charge_of s + charge_of_rows more
+
+-- a new log has no rows
+abbrev pub NewLogLaw : Type 0
+NewLogLaw = (s : Stores) (next : Body) → rows_of (with_new_log next s) ≡ rows_of s
+
+-- the active log with other rows is still the active one
+abbrev pub ActiveLaw : Type 0
+ActiveLaw = (s : Stores) (rows other : List StoredRow) → HasActive rows s → HasActive other (with_log_rows s.body.active other s)
+
+-- a log with its own rows is as it was
+abbrev pub OwnRowsLaw : Type 0
+OwnRowsLaw = (s : Stores) (rows : List StoredRow) → HasActive rows s → with_log_rows s.body.active rows s ≡ s
+
+-- all but the rows of the logs are the same
+pub record SameButRows (s other : Stores) : Type 0 where
+  pub shape : other.shape ≡ s.shape
+  pub body : other.body ≡ s.body
+  pub hashes : other.hashes ≡ s.hashes
+  pub entries : other.entries ≡ s.entries
+  pub names : (region : ℕ) → names_log other region ≡ names_log s region
+
+-- other rows of a log leave all else
+abbrev pub OtherRowsLaw : Type 0
+OtherRowsLaw = (s : Stores) (region : ℕ) (rows : List StoredRow) → SameButRows s (with_log_rows region rows s)
+
+-- all but the body and its active log are the same
+pub record SameButLog (next : Body) (s other : Stores) : Type 0 where
+  pub shape : other.shape ≡ s.shape
+  pub body : other.body ≡ next
+  pub logs : other.logs ≡ record { region = next.active; rows = [] } ∷ s.logs
+  pub hashes : other.hashes ≡ s.hashes
+  pub entries : other.entries ≡ s.entries
+
+-- a new log leaves all else
+abbrev pub OtherLogsLaw : Type 0
+OtherLogsLaw = (s : Stores) (next : Body) → SameButLog next s (with_new_log next s)
+
+-- of the rows in place of a log's own the last ones count
+abbrev pub AgainLaw : Type 0
+AgainLaw = (s : Stores) (region : ℕ) (rows other : List StoredRow) → with_log_rows region other (with_log_rows region rows s) ≡ with_log_rows region other s
+
+-- a new log in a region that no log has is the active one
+abbrev pub NewActiveLaw : Type 0
+NewActiveLaw = (s : Stores) (next : Body) → names_log s next.active ≡ false → HasActive [] (with_new_log next s)
+
+-- the map of more rows
+abbrev pub MapLaw : Type 0
+MapLaw = (rows more : List StoredRow) → map_of_rows (rows ++ more) ≡ map_after (map_of_rows rows) (map command_of more)
+
+-- the puts among more rows
+abbrev pub CountLaw : Type 0
+CountLaw = (rows more : List StoredRow) → charge_of_rows (rows ++ more) ≡ charge_of_rows rows + charge_of_rows more
+
+-- the last row of a key
+abbrev pub newest_row : List StoredRow → List ℕ → Option StoredRow
+newest_row rows key = find (λ row. bytes_eq row.key key) (reverse rows)
+
+-- the value that a row gives its key, none where it is a delete
+abbrev pub value_of : StoredRow → Option (List ℕ)
+value_of row = if row.kind == 1 then Some row.value else None
+
+-- the last row of a key decides: a put gives its value, and a delete none
+abbrev pub NewestLaw : Type 0
+NewestLaw = (rows : List StoredRow) (key : List ℕ) → get (map_of_rows rows) key ≡ option_and_then value_of (newest_row rows key)
+
+-- ---- the verdict
+
+-- an image is good exactly where it stands for a map and the keys of its logs have places
+abbrev pub VerdictLaw : Type 0
+VerdictLaw = (image : List ℕ) → IsGood image ↔ (IsSome (image_stands image) × IsTrue (image_fits image))
+
+-- an image with stores is good exactly where nothing is found in them
+abbrev pub SoundLaw : Type 0
+SoundLaw = (image : List ℕ) (s : Stores) → image_stores image ≡ Ok s → IsGood image ↔ IsSound s
+
+-- a good image has stores in which nothing is found
+abbrev pub GoodLaw : Type 0
+GoodLaw = (image : List ℕ) → IsGood image → (s : Stores) × (image_stores image ≡ Ok s) × IsSound s
+
+-- an image with sound stores stands for the map of their rows
+abbrev pub StandsLaw : Type 0
+StandsLaw = (image : List ℕ) (s : Stores) → image_stores image ≡ Ok s → IsSound s → StandsFor s.shape (map_of_rows (rows_of s)) image
+
+-- the rows of an image with stores are theirs
+abbrev pub RowsLaw : Type 0
+RowsLaw = (image : List ℕ) (s : Stores) → image_stores image ≡ Ok s → image_rows image ≡ rows_of s
+
+-- a good image stands for its own map
+abbrev pub GoodStandsLaw : Type 0
+GoodStandsLaw = (image : List ℕ) → IsGood image → image_stands image ≡ Some (image_map image)
+
+-- a device that was just formatted stands for the empty map
+abbrev pub EmptyLaw : Type 0
+EmptyLaw =
+    (image : List ℕ) (shape : Shape) → shape_found (length image) (header_of image) ≡ Ok shape → manifest_found shape image ≡ Ok first_body
+    → log_rows shape 0 image ≡ [] → StandsFor shape empty image
+
+-- ---- the search
+
+-- a row of a log is the first with a finding: the rows before it are of known kinds and have places
+pub record FirstFinding (shape : Shape) (part : Part) (place : ℕ) (row : StoredRow) (finding : Finding) : Type 0 where
+  pub there : slice_get part.rows place ≡ Some row
+  pub known : list_all has_known_kind (take place part.rows) ≡ true
+  pub fits : IsTrue (fits_table shape (take place part.rows))
+  pub first : slice_get (row_findings shape part (place, row)) 0 ≡ Some finding
+
+-- the first finding in the first log that has one is the verdict
+abbrev pub FirstFindingLaw : Type 0
+FirstFindingLaw =
+    (image : List ℕ) (s : Stores) (before after : List Part) (part : Part) (place : ℕ) (row : StoredRow) (finding : Finding) → image_stores image ≡ Ok s
+    → s.logs ≡ before ++ part ∷ after → flat_map (log_findings s.shape) before ≡ [] → FirstFinding s.shape part place row finding
+    → image_verdict image ≡ Some finding
+
+-- so is a row of an unknown kind, behind rows of known kinds that have places
+abbrev pub UnknownRowLaw : Type 0
+UnknownRowLaw =
+    (image : List ℕ) (s : Stores) (before after : List Part) (region place : ℕ) → image_stores image ≡ Ok s → s.logs ≡ before ++ log_part s.shape image region ∷ after
+    → flat_map (log_findings s.shape) before ≡ [] → FirstUnknown (row_at s.shape region image) (open_count s.shape region image) place
+    → IsTrue (fits_table s.shape (take place (log_rows s.shape region image))) → image_verdict image ≡ Some (Damaged (Log region place))
+
+-- and a row without a place, behind rows of known kinds that have places
+abbrev pub CrowdedRowLaw : Type 0
+CrowdedRowLaw =
+    (image : List ℕ) (s : Stores) (before after : List Part) (part : Part) (place : ℕ) → image_stores image ≡ Ok s → s.logs ≡ before ++ part ∷ after
+    → flat_map (log_findings s.shape) before ≡ [] → place < length part.rows → list_all has_known_kind (take (place + 1) part.rows) ≡ true
+    → IsTrue (fits_table s.shape (take place part.rows)) → fits_table s.shape (take (place + 1) part.rows) ≡ false → image_verdict image ≡ Some Crowded
+
+-- so is that in the first hash store that has one, where nothing is found in the logs
+abbrev pub FirstSlotLaw : Type 0
+FirstSlotLaw =
+    (image : List ℕ) (s : Stores) (before after : List Part) (part : Part) (finding : Finding) → image_stores image ≡ Ok s
+    → flat_map (log_findings s.shape) s.logs ≡ [] → s.hashes ≡ before ++ part ∷ after → flat_map (hash_findings s.shape) before ≡ []
+    → slice_get (hash_findings s.shape part) 0 ≡ Some finding → image_verdict image ≡ Some finding
+
+-- so is that in the entries, where nothing is found in the logs and the hash stores
+abbrev pub FirstEntryLaw : Type 0
+FirstEntryLaw =
+    (image : List ℕ) (s : Stores) (finding : Finding) → image_stores image ≡ Ok s → flat_map (log_findings s.shape) s.logs ≡ []
+    → flat_map (hash_findings s.shape) s.hashes ≡ [] → slice_get (sorted_findings s.entries) 0 ≡ Some finding → image_verdict image ≡ Some finding
+
+-- nothing is found in a log of known kinds whose keys have places, and in no other
+abbrev pub LogSoundLaw : Type 0
+LogSoundLaw = (shape : Shape) (part : Part) → (log_findings shape part ≡ []) ↔ ((list_all has_known_kind part.rows ≡ true) × IsTrue (fits_table shape part.rows))
+
+-- of stores with logs alone, nothing found in these, nothing is found exactly where the puts are no more than the store may hold
+abbrev pub LogsSoundLaw : Type 0
+LogsSoundLaw =
+    (s : Stores) → flat_map (log_findings s.shape) s.logs ≡ [] → s.hashes ≡ [] → s.entries ≡ [] → IsSound s ↔ (charge_of s ≤ s.shape.sorted_capacity)
+
+-- where nothing else is found, and there are more puts than the store may hold, that is the verdict
+abbrev pub ChargeFoundLaw : Type 0
+ChargeFoundLaw =
+    (image : List ℕ) (s : Stores) → image_stores image ≡ Ok s → flat_map (log_findings s.shape) s.logs ≡ [] → flat_map (hash_findings s.shape) s.hashes ≡ []
+    → sorted_findings s.entries ≡ [] → s.shape.sorted_capacity < charge_of s → image_verdict image ≡ Some (Damaged Charge)
+
+-- of stores with logs alone, with more puts than the store may hold, that is the verdict
+abbrev pub OverchargedLaw : Type 0
+OverchargedLaw =
+    (image : List ℕ) (s : Stores) → image_stores image ≡ Ok s → flat_map (log_findings s.shape) s.logs ≡ [] → s.hashes ≡ [] → s.entries ≡ []
+    → s.shape.sorted_capacity < charge_of s → image_verdict image ≡ Some (Damaged Charge)
+
+-- an image without stores has the finding in their place as its verdict
+abbrev pub NoStoresLaw : Type 0
+NoStoresLaw = (image : List ℕ) (finding : Finding) → image_stores image ≡ Err finding → image_verdict image ≡ Some finding

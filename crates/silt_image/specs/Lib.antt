@@ -1,0 +1,5 @@
+pub mod Commands
+pub mod Header
+pub mod Stores
+pub mod Meaning
+pub mod Laws

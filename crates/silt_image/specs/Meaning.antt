@@ -1,0 +1,230 @@
+-- What the stores of an image stand for, and what is found wrong in them.
+use Rattle.std.specs.Prelude.{◌≡◌, ℕ, ◌+◌, ◌-◌, ◌/◌, ◌==◌, nat_lt, Bool, true, false, ◌&&◌, ◌||◌, not, if◌then◌else◌, List, [], ◌∷◌, ◌++◌, map, filter, take, drop, sum_by, length, flat_map, count_by, get_or, slice_get, is_some, Option, Some, None, Result, Ok, Err}
+use Rattle.std.specs.List.{range_with_len, enumerate_from, list_any, list_all}
+use Rattle.std.specs.FinMap.{empty}
+use Rattle.std.specs.Str.{bytes_eq}
+use Rattle.std.specs.Cmp.Lexicographic.{slice_cmp}
+use Rattle.std.specs.Ordering.{nat_cmp, is_lt}
+use Rattle.silt_device.specs.Layout.{Shape}
+use Rattle.silt_log.specs.Rows.{StoredRow, has_known_kind}
+use Rattle.silt_manifest.specs.declared.body.Body.{Body}
+use Rattle.silt_cuckoo.specs.Keys.{first_bucket, second_bucket}
+use Rattle.silt_cuckoo.specs.Index.{index_of_keys}
+use Rattle.silt_image.specs.Commands.{Command, put, delete, Map, map_after}
+use Rattle.silt_image.specs.Header.{shape_of}
+use Rattle.silt_image.specs.Stores.{Part, Stores, image_stores}
+use Rattle.silt_image.specs.declared.finding.Finding.{Finding}
+use Rattle.silt_image.specs.declared.finding.Finding.TheVariants.{Damaged, Crowded}
+use Rattle.silt_image.specs.declared.finding.Place.TheVariants.{Log, Hash, Sorted, Charge}
+use Rattle.silt_image.specs.declared.finding.Report.{Report}
+
+-- ---- the rows and their map
+
+-- the rows of stores that are listed the newest first, as one list from the oldest row on
+abbrev pub oldest_first : List (List StoredRow) → List StoredRow
+oldest_first [] = []
+oldest_first (newest ∷ older) = oldest_first older ++ newest
+
+-- the rows of a store
+abbrev pub part_rows : Part → List StoredRow
+part_rows part = part.rows
+
+-- the rows of a hash store that are puts and deletes
+abbrev pub known_rows : Part → List StoredRow
+known_rows part = filter has_known_kind part.rows
+
+-- All rows of the stores, the oldest first: the sorted entries, the hash stores, the frozen logs, the active log.
+unfoldable pub rows_of : Stores → List StoredRow
+rows_of s = s.entries ++ oldest_first (map known_rows s.hashes) ++ oldest_first (map part_rows s.logs)
+
+-- what a row does to the map
+abbrev pub command_of : StoredRow → Command
+command_of row = if row.kind == 1 then put row.key row.value else delete row.key
+
+-- the map that rows make, the oldest first
+abbrev pub map_of_rows : List StoredRow → Map
+map_of_rows rows = map_after empty (map command_of rows)
+
+-- how many of the rows are puts
+abbrev pub charge_of_rows : List StoredRow → ℕ
+charge_of_rows rows = count_by (λ row. row.kind == 1) rows
+
+-- how many of all rows of the stores are puts
+abbrev pub charge_of : Stores → ℕ
+charge_of s = charge_of_rows (rows_of s)
+
+-- ---- what is found in the stores, in the order of the search
+
+-- this finding where the test succeeds
+abbrev pub finding_if : Bool → Finding → List Finding
+finding_if test finding = if test then finding ∷ [] else []
+
+-- the keys of rows
+abbrev pub keys_of : List StoredRow → List (List ℕ)
+keys_of rows = map (λ row. row.key) rows
+
+-- the keys of the rows of a log, the oldest first, have places in a table
+unfoldable pub fits_table : Shape → List StoredRow → Bool
+fits_table shape rows = is_some (index_of_keys shape.buckets (keys_of rows))
+
+-- a row of a log, with its place: an unknown kind, and then no place in the table of the rows before it
+abbrev pub row_findings : Shape → Part → ℕ × StoredRow → List Finding
+row_findings shape part (place, row) =
+    finding_if (not (has_known_kind row)) (Damaged (Log part.region place))
+    ++ finding_if (not (fits_table shape (take (place + 1) part.rows))) Crowded
+
+-- a log, row by row
+unfoldable pub log_findings : Shape → Part → List Finding
+log_findings shape part = flat_map (row_findings shape part) (enumerate_from 0 part.rows)
+
+-- a slot of a table lies in one of the two buckets of a key
+abbrev pub is_in_bucket : Shape → ℕ → List ℕ → Bool
+is_in_bucket shape slot key = (slot / 4 == first_bucket shape.buckets key) || (slot / 4 == second_bucket shape.buckets key)
+
+-- a row of a known kind among these has the key
+abbrev pub holds_key : List ℕ → List StoredRow → Bool
+holds_key key rows = list_any (λ row. has_known_kind row && bytes_eq row.key key) rows
+
+-- a slot of a hash region is empty, or has a row of a known kind in one of its key's buckets whose key no earlier slot has
+abbrev pub is_sound_hash_slot : Shape → List StoredRow → ℕ → StoredRow → Bool
+is_sound_hash_slot shape rows slot row =
+    (row.kind == 0) || (has_known_kind row && is_in_bucket shape slot row.key && not (holds_key row.key (take slot rows)))
+
+-- a slot of a hash store, with its number
+abbrev pub slot_findings : Shape → Part → ℕ × StoredRow → List Finding
+slot_findings shape part (slot, row) = finding_if (not (is_sound_hash_slot shape part.rows slot row)) (Damaged (Hash part.region slot))
+
+-- a hash store, slot by slot
+unfoldable pub hash_findings : Shape → Part → List Finding
+hash_findings shape part = flat_map (slot_findings shape part) (enumerate_from 0 part.rows)
+
+-- a key lies below another by its bytes
+abbrev pub is_key_below : List ℕ → List ℕ → Bool
+is_key_below low high = is_lt (slice_cmp nat_cmp low high)
+
+-- an entry of the sorted store that is not above the one before it
+abbrev pub entry_findings : List StoredRow → ℕ → List Finding
+entry_findings rows place =
+    finding_if (not (is_key_below (get_or (keys_of rows) (place - 1) []) (get_or (keys_of rows) place []))) (Damaged (Sorted place))
+
+-- the sorted store, from its second entry on
+unfoldable pub sorted_findings : List StoredRow → List Finding
+sorted_findings rows = flat_map (entry_findings rows) (range_with_len 1 (length rows - 1))
+
+-- more puts than the store may hold
+abbrev pub charge_findings : Stores → List Finding
+charge_findings s = finding_if (nat_lt s.shape.sorted_capacity (charge_of s)) (Damaged Charge)
+
+-- all that is found in the stores: the logs from the active one on, the hash stores from the newest on, the entries, the charge
+unfoldable pub store_findings : Stores → List Finding
+store_findings s =
+    flat_map (log_findings s.shape) s.logs ++ flat_map (hash_findings s.shape) s.hashes ++ sorted_findings s.entries ++ charge_findings s
+
+-- nothing is found in the stores
+abbrev pub IsSound : Stores → Type 0
+IsSound s = store_findings s ≡ []
+
+-- ---- what an image means
+
+-- the rows of the stores, none where there are no stores
+abbrev pub rows_found : Result Stores Finding → List StoredRow
+rows_found (Ok s) = rows_of s
+rows_found (Err finding) = []
+
+-- all that is found, or the one finding in place of stores
+abbrev pub findings_of : Result Stores Finding → List Finding
+findings_of (Ok s) = store_findings s
+findings_of (Err finding) = finding ∷ []
+
+-- whether a finding is that keys find no places
+abbrev pub is_crowding : Finding → Bool
+is_crowding Crowded = true
+is_crowding _ = false
+
+-- the map of the stores, none where something but crowding is found
+abbrev pub map_where_sound : Result Stores Finding → Option Map
+map_where_sound (Ok s) = if list_all is_crowding (store_findings s) then Some (map_of_rows (rows_of s)) else None
+map_where_sound (Err finding) = None
+
+-- the keys of each log have places in a table
+abbrev pub all_logs_fit : Result Stores Finding → Bool
+all_logs_fit (Ok s) = list_all (λ part. fits_table s.shape part.rows) s.logs
+all_logs_fit (Err finding) = false
+
+-- all rows of an image, the oldest first
+unfoldable pub image_rows : List ℕ → List StoredRow
+image_rows image = rows_found (image_stores image)
+
+-- the map of an image: that of its rows
+unfoldable pub image_map : List ℕ → Map
+image_map image = map_of_rows (image_rows image)
+
+-- how many put rows an image has
+unfoldable pub image_charge : List ℕ → ℕ
+image_charge image = charge_of_rows (image_rows image)
+
+-- the first finding in an image, none where it is good
+unfoldable pub image_verdict : List ℕ → Option Finding
+image_verdict image = slice_get (findings_of (image_stores image)) 0
+
+-- the map that an image stands for, none where something but crowding is found
+unfoldable pub image_stands : List ℕ → Option Map
+image_stands image = map_where_sound (image_stores image)
+
+-- the keys of each log of an image have places in a table
+unfoldable pub image_fits : List ℕ → Bool
+image_fits image = all_logs_fit (image_stores image)
+
+-- an image in which nothing is found
+abbrev pub IsGood : List ℕ → Type 0
+IsGood image = image_verdict image ≡ None
+
+-- a good image of this shape stands for this map
+pub record StandsFor (shape : Shape) (map : Map) (image : List ℕ) : Type 0 where
+  pub good : IsGood image
+  pub has_shape : shape_of image ≡ shape
+  pub has_map : image_map image ≡ map
+
+-- ---- what is told of stores
+
+-- how many rows some stores have
+abbrev pub row_count : List Part → ℕ
+row_count parts = sum_by (λ part. length part.rows) parts
+
+-- the numbers of the stores: all rows of logs, and of a hash store those that are puts and deletes
+abbrev pub report_of : Stores → Report
+report_of s = record {
+  generation = s.body.generation;
+  active = s.body.active;
+  active_rows = row_count (take 1 s.logs);
+  frozen = length s.body.frozen;
+  frozen_rows = row_count (drop 1 s.logs);
+  hashes = length s.body.hashed;
+  hash_rows = sum_by (λ part. length (known_rows part)) s.hashes;
+  entries = s.body.sorted_count;
+  charge = charge_of s;
+}
+
+-- ---- stores with other rows
+
+-- a store with these rows, where it has this region
+abbrev pub with_part_rows : ℕ → List StoredRow → Part → Part
+with_part_rows region rows part = if part.region == region then record part { rows = rows } else part
+
+-- the log of this region, where it is named, with these rows in place of its own
+unfoldable pub with_log_rows : ℕ → List StoredRow → Stores → Stores
+with_log_rows region rows s = record s { logs = map (with_part_rows region rows) s.logs }
+
+-- the stores under the next body, whose active log has no rows yet, in front of the others
+unfoldable pub with_new_log : Body → Stores → Stores
+with_new_log body s = record s { body = body; logs = record { region = body.active; rows = [] } ∷ s.logs }
+
+-- one of the stores' logs has this region
+abbrev pub names_log : Stores → ℕ → Bool
+names_log s region = list_any (λ part. part.region == region) s.logs
+
+-- the first log of the stores is the active one, with these rows, and no other has its region
+pub record HasActive (rows : List StoredRow) (s : Stores) : Type 0 where
+  pub frozen : List Part
+  pub logs : s.logs ≡ record { region = s.body.active; rows = rows } ∷ frozen
+  pub apart : list_any (λ part. part.region == s.body.active) frozen ≡ false

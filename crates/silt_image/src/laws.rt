@@ -1,0 +1,258 @@
+// Laws of images, for the layers above.
+
+ghost use Rattle.silt_image.specs.Laws.{ActiveLaw, AgainLaw, AppendLaw, BeginningLaw, ChargeFoundLaw, ChargeLaw, CountLaw, CrowdedRowLaw, EmptyLaw, FirstEntryLaw, FirstFindingLaw, FirstSlotLaw, FormattedLaw, FrameLaw, FreeHashLaw, FreeLogLaw, FreeSortedLaw, FreezeLaw, FrozenLaw, GoodLaw, GoodStandsLaw, HeaderLaw, LimitsLaw, LogRegionLaw, LogSoundLaw, LogsSoundLaw, ManifestLaw, MapLaw, MeaningLaw, NewActiveLaw, NewLogLaw, NewestLaw, NextBodyLaw, NoStoresLaw, OtherLogsLaw, OtherRowsLaw, OverchargedLaw, OwnRowsLaw, PartsLaw, PutsLaw, RowsLaw, RulingLaw, SameBodyLaw, SoundLaw, StandsLaw, StoresLaw, TakenLaw, UnknownRowLaw, UnnamedLaw, VerdictLaw, WholeLaw};
+
+/// A header reads back, behind whatever gate.
+pub fn header_law()
+    ensures { HeaderLaw }
+{}
+
+/// The test of a header's limits decides them.
+pub fn limits_law()
+    ensures { LimitsLaw }
+{}
+
+/// A device of the length that its header says has the header's shape.
+pub fn formatted_law()
+    ensures { FormattedLaw }
+{}
+
+/// An image has stores exactly where its shape, its ruling body and what that names are theirs.
+pub fn stores_law()
+    ensures { StoresLaw }
+{}
+
+/// What every image with stores has.
+pub fn whole_law()
+    ensures { WholeLaw }
+{}
+
+/// Images that agree on all that counts have the same stores.
+pub fn frame_law()
+    ensures { FrameLaw }
+{}
+
+/// Images with the same stores mean the same.
+pub fn meaning_law()
+    ensures { MeaningLaw }
+{}
+
+/// A change in a log region changes the rows of that log alone.
+pub fn log_region_law()
+    ensures { LogRegionLaw }
+{}
+
+/// Rows of a log that is not named do not count.
+pub fn unnamed_law()
+    ensures { UnnamedLaw }
+{}
+
+/// A change in a hash region that the body does not name changes nothing.
+pub fn free_hash_law()
+    ensures { FreeHashLaw }
+{}
+
+/// A change in the sorted region that the body does not name changes nothing.
+pub fn free_sorted_law()
+    ensures { FreeSortedLaw }
+{}
+
+/// After a change in a manifest slot the stores are those that the body then ruling names.
+pub fn manifest_law()
+    ensures { ManifestLaw }
+{}
+
+/// A body that freezes the active log names the stores with a new log in front.
+pub fn freeze_law()
+    ensures { FreezeLaw }
+{}
+
+/// Where nothing is found, nothing is with fewer of the last rows of a log.
+pub fn beginning_law()
+    ensures { BeginningLaw }
+{}
+
+/// Where nothing is found, nothing is with one row more that the table and the capacity take.
+pub fn taken_law()
+    ensures { TakenLaw }
+{}
+
+/// Where nothing is found, nothing is with a new log.
+pub fn frozen_law()
+    ensures { FrozenLaw }
+{}
+
+/// Where nothing is found, the puts are no more than the store may hold.
+pub fn charge_law()
+    ensures { ChargeLaw }
+{}
+
+/// Rows at the end of the active log are the last of all rows.
+pub fn append_law()
+    ensures { AppendLaw }
+{}
+
+/// A new log has no rows.
+pub fn new_log_law()
+    ensures { NewLogLaw }
+{}
+
+/// The active log with other rows is still the active one.
+pub fn active_law()
+    ensures { ActiveLaw }
+{}
+
+/// A log with its own rows is as it was.
+pub fn own_rows_law()
+    ensures { OwnRowsLaw }
+{}
+
+/// Of the rows in place of a log's own the last ones count.
+pub fn again_law()
+    ensures { AgainLaw }
+{}
+
+/// A new log in a region that no log has is the active one.
+pub fn new_active_law()
+    ensures { NewActiveLaw }
+{}
+
+/// The map of more rows.
+pub fn map_law()
+    ensures { MapLaw }
+{}
+
+/// The puts among more rows.
+pub fn count_law()
+    ensures { CountLaw }
+{}
+
+/// The last row of a key decides what the map has for it.
+pub fn newest_law()
+    ensures { NewestLaw }
+{}
+
+/// An image is good exactly where it stands for a map and the keys of its logs have places.
+pub fn verdict_law()
+    ensures { VerdictLaw }
+{}
+
+/// An image with stores is good exactly where nothing is found in them.
+pub fn sound_law()
+    ensures { SoundLaw }
+{}
+
+/// A good image has stores in which nothing is found.
+pub fn good_law()
+    ensures { GoodLaw }
+{}
+
+/// An image with sound stores stands for the map of their rows.
+pub fn stands_law()
+    ensures { StandsLaw }
+{}
+
+/// The rows of an image with stores are theirs.
+pub fn rows_law()
+    ensures { RowsLaw }
+{}
+
+/// A good image stands for its own map.
+pub fn good_stands_law()
+    ensures { GoodStandsLaw }
+{}
+
+/// A device that was just formatted stands for the empty map.
+pub fn empty_law()
+    ensures { EmptyLaw }
+{}
+
+/// The first finding in the first log that has one is the verdict.
+pub fn first_finding_law()
+    ensures { FirstFindingLaw }
+{}
+
+/// Nothing is found in a log of known kinds whose keys have places, and in no other.
+pub fn log_sound_law()
+    ensures { LogSoundLaw }
+{}
+
+/// Of stores with logs alone, nothing is found exactly where the puts are not too many.
+pub fn logs_sound_law()
+    ensures { LogsSoundLaw }
+{}
+
+/// With more puts than the store may hold, that is the verdict.
+pub fn overcharged_law()
+    ensures { OverchargedLaw }
+{}
+
+/// An image without stores has the finding in their place as its verdict.
+pub fn no_stores_law()
+    ensures { NoStoresLaw }
+{}
+
+/// A body that rules was found.
+pub fn ruling_law()
+    ensures { RulingLaw }
+{}
+
+/// A change in a manifest slot after which the same body rules changes nothing.
+pub fn same_body_law()
+    ensures { SameBodyLaw }
+{}
+
+/// After a change in a manifest slot by which the active log is frozen, the stores have a new log in front.
+pub fn next_body_law()
+    ensures { NextBodyLaw }
+{}
+
+/// The new log of a body that freezes the active one has a region that no log had.
+pub fn free_log_law()
+    ensures { FreeLogLaw }
+{}
+
+/// Nothing is found exactly where nothing is in each part.
+pub fn parts_law()
+    ensures { PartsLaw }
+{}
+
+/// Rows at the end of the active log add their puts.
+pub fn puts_law()
+    ensures { PutsLaw }
+{}
+
+/// Other rows of a log leave all else.
+pub fn other_rows_law()
+    ensures { OtherRowsLaw }
+{}
+
+/// A new log leaves all else.
+pub fn other_logs_law()
+    ensures { OtherLogsLaw }
+{}
+
+/// The first finding in the first hash store that has one is the verdict, where the logs have none.
+pub fn first_slot_law()
+    ensures { FirstSlotLaw }
+{}
+
+/// The first finding in the entries is the verdict, where the logs and the hash stores have none.
+pub fn first_entry_law()
+    ensures { FirstEntryLaw }
+{}
+
+/// Where nothing else is found, too many puts are the verdict.
+pub fn charge_found_law()
+    ensures { ChargeFoundLaw }
+{}
+
+/// A row of an unknown kind, behind rows of known kinds that have places, is the verdict.
+pub fn unknown_row_law()
+    ensures { UnknownRowLaw }
+{}
+
+/// A row without a place, behind rows of known kinds that have places, is the verdict.
+pub fn crowded_row_law()
+    ensures { CrowdedRowLaw }
+{}

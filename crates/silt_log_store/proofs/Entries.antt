@@ -1,0 +1,32 @@
+-- The law of the entries of a table.
+use Rattle.std.proofs.Common.{◌≡◌, ℕ, ◌/◌, List, [], get_or, Some, option_map, sym, ap, ◌∙◌}
+use Rattle.silt_cuckoo.specs.Slots.{Slots, Entry, entry_at, place_at}
+use Rattle.silt_cuckoo.specs.Pairs.{pair_of}
+use Rattle.silt_cuckoo.specs.Keys.{key_pair}
+use Rattle.silt_cuckoo.specs.Index.{Indexes}
+use Rattle.silt_cuckoo.proofs.Indexing.{index_law}
+use Rattle.silt_cuckoo.proofs.Placed.{table_pairs-held}
+use Rattle.silt_cuckoo.proofs.Places.{holds_from_pair}
+use Rattle.silt_log_store.specs.Laws.{HasEntries, EntryLaw}
+
+-- an entry's place is held
+held_of : (slots : Slots) (slot tag place : ℕ) → entry_at slots slot ≡ Some (tag, place) → place_at slots slot ≡ Some place
+held_of slots slot tag place is = ap (option_map (λ (e : Entry). e.1)) is
+
+-- the slots of a table that holds the newest places
+entries_of : (slots : Slots) (buckets : ℕ) (keys : List (List ℕ)) → Indexes slots buckets keys → HasEntries slots buckets keys
+entries_of slots buckets keys index = record {
+  newest = λ slot tag place is. index.no_other place (slot, held_of slots slot tag place is);
+  buckets_of = λ slot tag place is.
+      let held : place_at slots slot ≡ Some place = held_of slots slot tag place is in
+      let pair : Some (pair_of (slot / 4) tag) ≡ Some (key_pair buckets (get_or keys place [])) =
+      sym (table_pairs-held slots slot place index.table.places_apart held ∙ ap (option_map (λ (e : Entry). pair_of (slot / 4) e.0)) is)
+      ∙ index.newest place (index.no_other place (slot, held)) in
+      cc;
+  held = λ place newest. holds_from_pair slots place (key_pair buckets (get_or keys place [])) (index.newest place newest);
+  once = λ place slot other held also. index.table.places_apart other slot place also held;
+}
+
+-- the table of some keys has such slots
+pub entry_law : EntryLaw
+entry_law buckets keys slots count is = entries_of slots buckets keys (index_law buckets keys slots count is)

@@ -1,0 +1,204 @@
+-- What stands at the exits of the calls of a log store.
+use Rattle.std.proofs.Common.{◌≡◌, ◌↔◌, ℕ, ◌+◌, ◌-◌, ◌<◌, ◌≤◌, Bool, true, false, if◌then◌else◌, List, [], ◌∷◌, ◌++◌, Option, Some, None, IsTrue, IsSome, IfSome, option_map, refl, sym, subst, ap, ◌∙◌, arith}
+use Rattle.std.specs.List.{list_all}
+use Rattle.std.specs.Option.{is_some}
+use Rattle.silt_device.specs.Disk.{Content, ChangesWithin, size}
+use Rattle.silt_device.specs.Layout.{device_size, gates_at}
+use Rattle.silt_frame.specs.declared.key.Key.{Key}
+use Rattle.silt_frame.specs.declared.key.Kind.{Kind}
+use Rattle.silt_cuckoo.specs.Slots.{Entry, Slots, IsBucketCount, IsTable, PlacesBelow, bucket_count, empty_slots, entry_at, place_at}
+use Rattle.silt_cuckoo.specs.Keys.{first_bucket, second_bucket}
+use Rattle.silt_cuckoo.specs.Lookup.{candidates_of}
+use Rattle.silt_cuckoo.specs.Index.{Indexes, index_of_keys, indexed, placed_or_replaced, slot_of_key}
+use Rattle.silt_cuckoo.proofs.Indexing.{index_law}
+use Rattle.silt_log.specs.Rows.{StoredRow, has_known_kind, stored_row, row_at, rows_from}
+use Rattle.silt_log.specs.State.{LogState, InBounds, all_rows}
+use Rattle.silt_log.specs.Calls.{Empties, Appends, OpensSome}
+use Rattle.silt_log.proofs.Elsewhere.{all_count}
+use Rattle.silt_log.proofs.Exits.{region_lies}
+use Rattle.silt_log.proofs.Standing.{gates_torn_rows}
+use Rattle.silt_log_store.specs.State.{LogStoreState, IsHeldStore, IsIndexed, IsLogStore, keys_of}
+use Rattle.silt_log_store.specs.Calls.{IsPlacingFor, EmptiesStore, TakesRow, OpensSomeOfStore}
+use Rattle.silt_log_store.specs.Finding.{FindsLast}
+use Rattle.silt_log_store.specs.Lookup.{IsFirstMatch}
+use Rattle.silt_log_store.specs.declared.lookup.Match.{Match}
+use Rattle.silt_log_store.specs.declared.placing.Placing.{Placing}
+use Rattle.silt_log_store.proofs.Finds.{standing_is, match_is_last, none_is_none, next_table}
+use Rattle.silt_log_store.proofs.Named.{byte_of_kind}
+use Rattle.silt_log_store.proofs.Rows.{keys_count, keys_push, known_push}
+
+-- the table of no keys
+pub index_none : (buckets : ℕ) → index_of_keys buckets [] ≡ Some (empty_slots buckets)
+unfolding indexed
+index_none buckets = refl
+
+-- the first match among a key's candidates in the table of a store
+abbrev pub IsMatchIn : Content → LogStoreState → List ℕ → Option Match → Type 0
+IsMatchIn content store key found =
+    IsFirstMatch (all_rows content store.log) (candidates_of store.table (first_bucket (bucket_count store.table) key) (second_bucket (bucket_count store.table) key)) key found
+
+module _ (content : Content) (store : LogStoreState) (key : List ℕ) (held : IsHeldStore store) (honest : IsTrue content.honest) (index : IsIndexed content store) where
+  -- the table holds the newest places
+  store_indexes : Indexes store.table store.log.shape.buckets (keys_of (all_rows content store.log))
+  store_indexes = index_law store.log.shape.buckets (keys_of (all_rows content store.log)) store.table (subst IsBucketCount held.count held.table.buckets) (index.indexed honest)
+
+  -- a match by the buckets of the geometry
+  match_by_shape : (found : Option Match) → IsMatchIn content store key found
+      → IsFirstMatch (all_rows content store.log) (candidates_of store.table (first_bucket store.log.shape.buckets key) (second_bucket store.log.shape.buckets key)) key found
+  match_by_shape found first = subst (λ n. IsFirstMatch (all_rows content store.log) (candidates_of store.table (first_bucket n key) (second_bucket n key)) key found) held.count first
+
+  -- a match is the last row
+  pub find_some : (m : Match) → IsMatchIn content store key (Some m) → FindsLast (all_rows content store.log) key (Some m.found)
+  find_some m first = match_is_last (all_rows content store.log) store.table store.log.shape.buckets key store_indexes m (match_by_shape (Some m) first)
+
+  -- no match: no row
+  pub find_none : IsMatchIn content store key None → FindsLast (all_rows content store.log) key None
+  find_none first = none_is_none (all_rows content store.log) store.table store.log.shape.buckets key store_indexes (match_by_shape None first)
+
+  -- the table with the key is what the placing rule makes of it
+  pub table_with_key : (found : Option Match) → IsMatchIn content store key found
+      → index_of_keys store.log.shape.buckets (keys_of (all_rows content store.log) ++ key ∷ [])
+      ≡ placed_or_replaced (bucket_count store.table) store.table key store.log.used (option_map (λ (m : Match). m.slot) found)
+  table_with_key found first =
+      next_table store.log.shape.buckets (keys_of (all_rows content store.log)) store.table key (index.indexed honest)
+      ∙ ap (λ n. placed_or_replaced store.log.shape.buckets store.table key n (slot_of_key (keys_of (all_rows content store.log)) store.table key)) (keys_count (all_rows content store.log) ∙ all_count content store.log)
+      ∙ ap (placed_or_replaced store.log.shape.buckets store.table key store.log.used) (sym (standing_is (all_rows content store.log) store.table store.log.shape.buckets key store_indexes found (match_by_shape found first)))
+      ∙ ap (λ n. placed_or_replaced n store.table key store.log.used (option_map (λ (m : Match). m.slot) found)) (sym held.count)
+
+  -- whether a row of the key can be taken
+  pub takes_exactly : (found : Option Match) (can : Bool) → IsMatchIn content store key found → store.log.used < store.log.shape.log_capacity
+      → ((place : ℕ) → IsTrue can ↔ IsSome (placed_or_replaced (bucket_count store.table) store.table key place (option_map (λ (m : Match). m.slot) found)))
+      → IsTrue can ↔ ((store.log.used < store.log.shape.log_capacity) × IsSome (index_of_keys store.log.shape.buckets (keys_of (all_rows content store.log) ++ key ∷ [])))
+  takes_exactly found can first room exact =
+      let same = ap is_some (table_with_key found first) in (
+        λ yes. (room, same ∙ (exact store.log.used).0 yes),
+        λ takes. (exact store.log.used).1 (sym same ∙ takes.1),
+      )
+
+-- ---- what calls leave of the table
+
+-- the same rows have the same table
+pub index_kept : (old new : Content) (before after : LogStoreState) → new.honest ≡ old.honest → IsIndexed old before → after.table ≡ before.table → after.log.shape ≡ before.log.shape
+    → (IsTrue old.honest → all_rows new after.log ≡ all_rows old before.log) → IsIndexed new after
+index_kept old new before after same index table shape all = record {
+  known = λ honest. let was = sym same ∙ honest in ap (list_all has_known_kind) (all was) ∙ index.known was;
+  indexed = λ honest.
+      let was = sym same ∙ honest in
+      ap (λ s. index_of_keys s.buckets (keys_of (all_rows new after.log))) shape ∙ ap (λ rows. index_of_keys before.log.shape.buckets (keys_of rows)) (all was) ∙ index.indexed was ∙ ap Some (sym table);
+}
+
+-- a store whose log was prepared, and whose table is empty
+pub empties_store : (new : Content) (store : LogStoreState) (log : LogState) → Empties new store.log log → store.table ≡ empty_slots store.log.shape.buckets → EmptiesStore new store (record { log = log; table = store.table })
+unfolding rows_from
+empties_store new store log empties empty =
+    let none : all_rows new log ≡ [] = ap (λ (l : LogState). all_rows new l) empties.log in
+    let shape : log.shape ≡ store.log.shape = ap (λ (l : LogState). l.shape) empties.log in
+    record {
+      log = empties;
+      table = refl;
+      stands = record {
+        log = empties.stands;
+        index = record {
+          known = λ honest. ap (list_all has_known_kind) none;
+          indexed = λ honest. ap (λ rows. index_of_keys log.shape.buckets (keys_of rows)) none ∙ ap (λ s. index_of_keys s.buckets []) shape ∙ index_none store.log.shape.buckets ∙ ap Some (sym empty);
+        };
+      };
+    }
+
+-- what was placed, where there was a place
+placed_is : (result : Bool) (table : Slots) (o : Option Slots) → IsSome o → o ≡ (if result then Some table else None) → o ≡ Some table
+placed_is true table o some is = is
+placed_is false table o some is = absurd (let none : is_some o ≡ false = ap is_some is in cc)
+
+-- a store whose log took a row, with the key in the table
+pub takes_row : (old new : Content) (store : LogStoreState) (log : LogState) (table : Slots) (kind : Kind) (key : Key) (value : List ℕ) (placing : Placing) (result : Bool) → new.honest ≡ old.honest → IsIndexed old store
+    → IsPlacingFor old store key.0 placing
+    → placed_or_replaced (bucket_count store.table) store.table key.0 store.log.used placing.standing ≡ (if result then Some table else None)
+    → Appends (stored_row kind key value) old new store.log log → TakesRow (stored_row kind key value) old new store (record { log = log; table = table })
+takes_row old new store log table kind key value placing result same index at placed appends =
+    let row : StoredRow = stored_row kind key value in
+    let rows : List StoredRow = all_rows old store.log in
+    let shape : log.shape ≡ store.log.shape = ap (λ (l : LogState). l.shape) appends.log in
+    record {
+      log = appends;
+      stands = record {
+        log = appends.stands;
+        index = record {
+          known = λ honest.
+              let was = sym same ∙ honest in
+              ap (list_all has_known_kind) (appends.all was) ∙ known_push rows row (index.known was) (ap is_some (byte_of_kind kind));
+          indexed = λ honest.
+              let was = sym same ∙ honest in
+              ap (λ s. index_of_keys s.buckets (keys_of (all_rows new log))) shape
+              ∙ ap (λ all. index_of_keys store.log.shape.buckets (keys_of all)) (appends.all was)
+              ∙ ap (index_of_keys store.log.shape.buckets) (keys_push rows row)
+              ∙ placed_is result table (index_of_keys store.log.shape.buckets (keys_of rows ++ key.0 ∷ [])) (at.takes was index) (at.table was index ∙ placed);
+        };
+      };
+    }
+
+-- the slot of a match has an entry
+standing_stands : (slots : Slots) (found : Option Match) → IfSome found (λ (m : Match). place_at slots m.slot ≡ Some m.found.place) → IfSome (option_map (λ (m : Match). m.slot) found) (λ slot. IsSome (entry_at slots slot))
+standing_stands slots None there = tt
+standing_stands slots (Some m) there = go (entry_at slots m.slot) there
+  where
+    go : (o : Option Entry) → option_map (λ (e : Entry). e.1) o ≡ Some m.found.place → IsSome o
+    go None is = absurd (cc)
+    go (Some e) is = refl
+
+-- where the placing rule has a place for a key, it is placed so
+pub placing_found : (content : Content) (store : LogStoreState) (key : List ℕ) (found : Option Match) (can : Bool) → IsHeldStore store → store.log.used < store.log.shape.log_capacity
+    → IfSome found (λ (m : Match). place_at store.table m.slot ≡ Some m.found.place) → (IsTrue content.honest → IsIndexed content store → IsMatchIn content store key found)
+    → ((place : ℕ) → IsTrue can ↔ IsSome (placed_or_replaced (bucket_count store.table) store.table key place (option_map (λ (m : Match). m.slot) found)))
+    → IsTrue can → IsPlacingFor content store key (record { standing = option_map (λ (m : Match). m.slot) found })
+placing_found content store key found can held room there first exact passes = record {
+  room = room;
+  standing = standing_stands store.table found there;
+  takes = λ honest index. ((takes_exactly content store key held honest index found can (first honest index) room exact).0 passes).1;
+  table = λ honest index. table_with_key content store key held honest index found (first honest index);
+}
+
+-- where it has none the keys with this one have no table
+pub placing_none : (content : Content) (store : LogStoreState) (key : List ℕ) (found : Option Match) (can : Bool) → IsHeldStore store → IsTrue content.honest → IsIndexed content store → IsMatchIn content store key found → store.log.used < store.log.shape.log_capacity
+    → ((place : ℕ) → IsTrue can ↔ IsSome (placed_or_replaced (bucket_count store.table) store.table key place (option_map (λ (m : Match). m.slot) found)))
+    → can ≡ false → index_of_keys store.log.shape.buckets (keys_of (all_rows content store.log) ++ key ∷ []) ≡ None
+placing_none content store key found can held honest index first room exact fails = go (index_of_keys store.log.shape.buckets (keys_of (all_rows content store.log) ++ key ∷ [])) refl
+  where
+    go : (o : Option Slots) → index_of_keys store.log.shape.buckets (keys_of (all_rows content store.log) ++ key ∷ []) ≡ o → index_of_keys store.log.shape.buckets (keys_of (all_rows content store.log) ++ key ∷ []) ≡ None
+    go None is = is
+    go (Some slots) is =
+        let passes = (takes_exactly content store key held honest index found can first room exact).1 (room, ap is_some is) in
+        absurd (let clash : false ≡ true = sym fails ∙ passes in cc)
+
+-- a change of gates alone leaves the rows that are shown
+pub gates_leave_rows : (old new : Content) (log : LogState) (from count : ℕ) → InBounds log → device_size log.shape ≤ size old → from + count ≤ log.shape.log_capacity → ChangesWithin (gates_at log.shape log.region + from) count old new
+    → IsTrue old.honest → all_rows new log ≡ all_rows old log
+unfolding rows_from row_at
+gates_leave_rows old new log from count bounds fits most changes honest =
+    let place = region_lies log.shape log.region (size old) bounds.region fits in
+    let low : gates_at log.shape log.region ≤ gates_at log.shape log.region + from = omega arith in
+    let high : gates_at log.shape log.region + from + count ≤ gates_at log.shape log.region + log.shape.log_capacity = omega (arith, most) in
+    gates_torn_rows _ _ _ _ _ place (gates_at log.shape log.region + from) count 0 log.used old.shown new.shown refl low high (omega (arith, bounds.room)) (changes.shown honest)
+
+-- a store some of whose gates may be open
+pub opens_some : (old new : Content) (store : LogStoreState) (log : LogState) → device_size store.log.shape ≤ size old → IsLogStore old store
+    → ChangesWithin (gates_at store.log.shape store.log.region + store.log.settled) (store.log.used - store.log.settled) old new
+    → OpensSome old new store.log log → OpensSomeOfStore old new store (record { log = log; table = store.table })
+opens_some old new store log fits is changes opens =
+    let bounds : InBounds store.log = is.log.bounds in
+    record {
+      store = ap (λ (l : LogState). let made : LogStoreState = record { log = l; table = store.table } in made) opens.log;
+      log = opens;
+      index = index_kept old new store (record { log = log; table = store.table }) changes.honest is.index refl (ap (λ (l : LogState). l.shape) opens.log)
+          (λ honest. ap (all_rows new) opens.log ∙ gates_leave_rows old new store.log store.log.settled (store.log.used - store.log.settled) bounds fits (omega (arith, bounds.order, bounds.room)) changes honest);
+    }
+
+-- what holds of every store still holds of one that took a row
+pub held_after : (store : LogStoreState) (log : LogState) (table : Slots) (place : ℕ) → IsHeldStore store → InBounds log → log ≡ record store.log { used = store.log.used + 1 } → IsTable table → bucket_count table ≡ bucket_count store.table
+    → place ≡ store.log.used → PlacesBelow table (place + 1) → IsHeldStore (record { log = log; table = table })
+held_after store log table place held bounds taken is_table count at below = record {
+  bounds = bounds;
+  table = is_table;
+  count = count ∙ held.count ∙ ap (λ (l : LogState). l.shape.buckets) (sym taken);
+  below = subst (PlacesBelow table) (ap (λ n. n + 1) at ∙ ap (λ (l : LogState). l.used) (sym taken)) below;
+}

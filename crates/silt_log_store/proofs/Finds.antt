@@ -1,0 +1,112 @@
+-- What the first match says of the last row of a key.
+use Rattle.std.proofs.Common.{◌≡◌, ◌≢◌, ◌⊎◌, ℕ, zero, suc, ◌<◌, List, [], ◌∷◌, ◌++◌, length, get_or, Option, Some, None, option_map, inl, inr, refl, sym, subst, ap, ◌∙◌, arith}
+use Rattle.std.specs.Option.{option_and_then}
+use Rattle.std.specs.Str.{bytes_eq}
+use Rattle.std.proofs.lemmas.Bool.{cases_Bool, cases_eq}
+use Rattle.std.proofs.lemmas.Slice.Eq.{bytes_eq-Decides}
+use Rattle.silt_cuckoo.specs.declared.lookup.Candidate.{Candidate}
+use Rattle.silt_cuckoo.specs.Slots.{Slots, HoldsPlace}
+use Rattle.silt_cuckoo.specs.Keys.{first_bucket, second_bucket, key_pair}
+use Rattle.silt_cuckoo.specs.Lookup.{candidates_of}
+use Rattle.silt_cuckoo.specs.Index.{IsNewest, Indexes, has_key, slot_of_key, index_of_keys, placed_or_replaced}
+use Rattle.silt_cuckoo.proofs.Finding.{find_law}
+use Rattle.silt_cuckoo.proofs.KeyIndex.{push_law}
+use Rattle.silt_cuckoo.proofs.Indexing.{is_has_key}
+use Rattle.silt_cuckoo.proofs.Matching.{Stands, candidates_standing}
+use Rattle.silt_cuckoo.proofs.Paths.{entry_inside}
+use Rattle.silt_cuckoo.proofs.Placed.{has_entry}
+use Rattle.silt_cuckoo.proofs.Places.{holds_from_pair}
+use Rattle.silt_cuckoo.proofs.Search.{none_in_range}
+use Rattle.silt_log.specs.Rows.{StoredRow}
+use Rattle.silt_log_store.specs.State.{keys_of}
+use Rattle.silt_log_store.specs.Finding.{FindsLast}
+use Rattle.silt_log_store.specs.Lookup.{IsFirstMatch, candidate_of}
+use Rattle.silt_log_store.specs.declared.lookup.Match.{Match}
+use Rattle.silt_log_store.proofs.Rows.{key_of_row, keys_count}
+use Rattle.silt_log_store.proofs.Searching.{found_passes, all_contained}
+
+-- the last of the first n keys that is this one, or none of them is
+abbrev LastBelow : List (List ℕ) → List ℕ → ℕ → ℕ → Type 0
+LastBelow keys key n p = (p < n) × (get_or keys p [] ≡ key) × ((later : ℕ) → p < later → later < n → get_or keys later [] ≢ key)
+
+last_below : (keys : List (List ℕ)) (key : List ℕ) (n : ℕ) → ((p : ℕ) × LastBelow keys key n p) ⊎ ((p : ℕ) → p < n → get_or keys p [] ≢ key)
+last_below keys key zero = inr (λ p low. absurd (omega arith))
+last_below keys key (suc n) = elim (cases_Bool (bytes_eq (get_or keys n []) key)) [
+  | inl passes ↦ inl (n, (omega arith, (bytes_eq-Decides (get_or keys n []) key).0 passes, λ later above below. absurd (omega arith)))
+  | inr fails ↦
+      let other : get_or keys n [] ≢ key = λ same. let passes = (bytes_eq-Decides (get_or keys n []) key).1 same in cc in
+      elim (last_below keys key n) [
+        | inl (p, (low, is, last)) ↦ inl (
+          p,
+          (
+            omega arith,
+            is,
+            λ later above below. elim (cases_eq later n) [
+              | inl same ↦ λ at. other (ap (λ k. get_or keys k []) (sym same) ∙ at)
+              | inr before ↦ last later above (omega arith)
+            ],
+          ),
+        )
+        | inr none ↦ inr (λ p below. elim (cases_eq p n) [
+          | inl same ↦ λ at. other (ap (λ k. get_or keys k []) (sym same) ∙ at)
+          | inr before ↦ none p (omega arith)
+        ])
+      ]
+]
+
+-- where no slot has the key, no place that is held is that of the key
+no_key : (keys : List (List ℕ)) (slots : Slots) (key : List ℕ) (place : ℕ) → slot_of_key keys slots key ≡ None → HoldsPlace slots place → get_or keys place [] ≢ key
+no_key keys slots key place none (slot, held) same =
+    let entry = has_entry slots slot place held in
+    let there = entry_inside slots slot entry.0 entry.1 in
+    let fails = none_in_range (has_key keys slots key) 0 (length slots) none slot (omega arith) (omega arith) in
+    let passes = is_has_key keys slots key slot entry.0 entry.1 (ap (λ n. get_or keys n []) entry.2 ∙ same) in
+    absurd (cc)
+
+-- a key whose slot is not there stands nowhere
+none_of_key : (keys : List (List ℕ)) (slots : Slots) (buckets : ℕ) (key : List ℕ) → Indexes slots buckets keys → slot_of_key keys slots key ≡ None → (place : ℕ) → place < length keys → get_or keys place [] ≢ key
+none_of_key keys slots buckets key index none place below = elim (last_below keys key (length keys)) [
+  | inl (p, (low, is, last)) ↦
+      let newest : IsNewest keys p = (low, λ later above under same. last later above under (same ∙ is)) in
+      absurd (no_key keys slots key p none (holds_from_pair slots p (key_pair buckets (get_or keys p [])) (index.newest p newest)) is)
+  | inr none_below ↦ none_below place below
+]
+
+module _ (rows : List StoredRow) (slots : Slots) (buckets : ℕ) (key : List ℕ) (index : Indexes slots buckets (keys_of rows)) where
+  candidates : List Candidate
+  candidates = candidates_of slots (first_bucket buckets key) (second_bucket buckets key)
+
+  -- the slot of a match is that of the key
+  pub standing_is : (found : Option Match) → IsFirstMatch rows (candidates_of slots (first_bucket buckets key) (second_bucket buckets key)) key found → option_map (λ (m : Match). m.slot) found ≡ slot_of_key (keys_of rows) slots key
+  standing_is found first = slots_of found ∙ ap (option_map (λ (c : Candidate). c.slot)) first.first ∙ sym (find_law buckets (keys_of rows) slots key index)
+    where
+      slots_of : (o : Option Match) → option_map (λ (m : Match). m.slot) o ≡ option_map (λ (c : Candidate). c.slot) (option_map candidate_of o)
+      slots_of None = refl
+      slots_of (Some m) = refl
+
+  -- a match is the key's last row
+  pub match_is_last : (m : Match) → IsFirstMatch rows (candidates_of slots (first_bucket buckets key) (second_bucket buckets key)) key (Some m) → FindsLast rows key (Some m.found)
+  match_is_last m first =
+      let it = found_passes (λ (c : Candidate). bytes_eq (get_or (keys_of rows) c.place []) key) (candidates_of slots (first_bucket buckets key) (second_bucket buckets key)) (candidate_of m) (sym first.first) in
+      let stands : Stands slots (candidate_of m) = all_contained (Stands slots) _ (candidate_of m) (candidates_standing slots (first_bucket buckets key) (second_bucket buckets key)) it.1 in
+      let newest = index.no_other m.found.place (m.slot, stands) in
+      let same : get_or (keys_of rows) m.found.place [] ≡ key = (bytes_eq-Decides (get_or (keys_of rows) m.found.place []) key).0 it.0 in
+      let row : StoredRow = first.kind.0 in (
+        row,
+        record {
+          there = first.kind.1;
+          has_key = sym (key_of_row rows m.found.place row first.kind.1) ∙ same;
+          last = λ later above below at. newest.1 later above (subst (λ n. later < n) (sym (keys_count rows)) below) (at ∙ sym same);
+        },
+        first.kind.2,
+      )
+
+  -- where there is no match no row has the key
+  pub none_is_none : IsFirstMatch rows (candidates_of slots (first_bucket buckets key) (second_bucket buckets key)) key None → FindsLast rows key None
+  none_is_none first = λ place below. none_of_key (keys_of rows) slots buckets key index (sym (standing_is None first)) place (subst (λ n. place < n) (sym (keys_count rows)) below)
+
+-- the table with a further key
+pub next_table : (buckets : ℕ) (keys : List (List ℕ)) (slots : Slots) (key : List ℕ) → index_of_keys buckets keys ≡ Some slots
+    → index_of_keys buckets (keys ++ key ∷ []) ≡ placed_or_replaced buckets slots key (length keys) (slot_of_key keys slots key)
+next_table buckets keys slots key is =
+    push_law buckets keys key ∙ ap (option_and_then (λ (s : Slots). placed_or_replaced buckets s key (length keys) (slot_of_key keys s key))) is

@@ -1,0 +1,12 @@
+pub mod Buckets
+pub mod Elsewhere
+pub mod Emptied
+pub mod Entries
+pub mod Exits
+pub mod Finds
+pub mod Growth
+pub mod Matches
+pub mod Named
+pub mod Replacing
+pub mod Rows
+pub mod Searching

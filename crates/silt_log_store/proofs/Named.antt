@@ -1,0 +1,29 @@
+-- Kinds and their bytes.
+use Rattle.std.proofs.Common.{◌≡◌, ℕ, eqb, Some, None, inl, inr, refl, sym, ap, ◌∙◌}
+use Rattle.std.proofs.lemmas.Bool.{cases_Bool, cond-true, cond-false, eqb-true}
+use Rattle.silt_frame.specs.Frame.{kind_byte, kind_of}
+use Rattle.silt_frame.specs.declared.key.Kind.{Kind}
+use Rattle.silt_frame.specs.declared.key.Kind.TheVariants.{Put, Delete}
+
+-- the kind that a byte stands for has this byte
+pub kind_of_byte : (byte : ℕ) (kind : Kind) → kind_of byte ≡ Some kind → kind_byte kind ≡ byte
+kind_of_byte byte kind is = elim (cases_Bool (eqb byte 1)) [
+  | inl one ↦
+      let known : kind_of byte ≡ Some Put = cond-true _ _ _ one in
+      let same : Put ≡ kind = cc in
+      ap kind_byte (sym same) ∙ sym (eqb-true byte 1 one)
+  | inr other ↦ elim (cases_Bool (eqb byte 2)) [
+    | inl two ↦
+        let known : kind_of byte ≡ Some Delete = cond-false _ _ _ other ∙ cond-true _ _ _ two in
+        let same : Delete ≡ kind = cc in
+        ap kind_byte (sym same) ∙ sym (eqb-true byte 2 two)
+    | inr neither ↦
+        let unknown : kind_of byte ≡ None = cond-false _ _ _ other ∙ cond-false _ _ _ neither in
+        absurd (cc)
+  ]
+]
+
+-- the byte of a kind stands for it
+pub byte_of_kind : (kind : Kind) → kind_of (kind_byte kind) ≡ Some kind
+byte_of_kind Put = refl
+byte_of_kind Delete = refl

@@ -1,0 +1,12 @@
+use Rattle.std.proofs.Common.{◌≡◌, true, false, IsTrue}
+use Rattle.std.specs.List.{list_all, AllWithin}
+use Rattle.silt_cuckoo.specs.declared.lookup.Candidate.{Candidate}
+use Rattle.silt_log.specs.Rows.{has_known_kind}
+use Rattle.silt_log.specs.State.{all_rows}
+use Rattle.silt_log_store.proofs.Matches.{has_key_at}
+use Rattle.silt_log_store.proofs.lookup.first_match.Given as goal
+
+abbrev pub invariant-loop-candidate : goal.invariant-loop-candidate
+invariant-loop-candidate g l =
+    IsTrue (g.D.Disk.content l.disk).honest → list_all has_known_kind (all_rows (g.D.Disk.content l.disk) l.log) ≡ true
+    → AllWithin (λ (c : Candidate). has_key_at (all_rows (g.D.Disk.content l.disk) l.log) l.key.0 c ≡ false) l.candidates 0 l.candidate-index

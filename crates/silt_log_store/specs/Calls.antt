@@ -1,0 +1,55 @@
+-- What the calls of a log store do to it and to the disk.
+use Rattle.std.specs.Prelude.{◌≡◌, ◌<◌, ℕ, IsTrue, IsSome, IfSome, List, [], ◌∷◌, ◌++◌}
+use Rattle.silt_cuckoo.specs.Slots.{bucket_count, entry_at}
+use Rattle.silt_cuckoo.specs.Index.{index_of_keys, placed_or_replaced}
+use Rattle.silt_device.specs.Disk.{Content}
+use Rattle.silt_log.specs.Rows.{StoredRow}
+use Rattle.silt_log.specs.State.{all_rows}
+use Rattle.silt_log.specs.Calls.{Empties, Appends, Keeps, Opens, OpensSome, Seals}
+use Rattle.silt_log_store.specs.State.{LogStoreState, IsIndexed, IsLogStore, keys_of}
+use Rattle.silt_log_store.specs.declared.placing.Placing.{Placing}
+
+-- the store has no rows, and whatever a stop leaves has none
+pub record EmptiesStore (new : Content) (before after : LogStoreState) : Type 0 where
+  pub log : Empties new before.log after.log
+  pub table : after.table ≡ before.table
+  pub stands : IsLogStore new after
+
+-- one more row waits, and its key is in the table
+pub record TakesRow (row : StoredRow) (old new : Content) (before after : LogStoreState) : Type 0 where
+  pub log : Appends row old new before.log after.log
+  pub stands : IsLogStore new after
+
+-- the store stands as before, with the same rows
+pub record KeepsStore (old new : Content) (before after : LogStoreState) : Type 0 where
+  pub store : after ≡ before
+  pub log : Keeps old new before.log after.log
+  pub stands : IsLogStore new after
+
+-- the rows that waited are settled
+pub record OpensStore (old new : Content) (before after : LogStoreState) : Type 0 where
+  pub log : Opens old new before.log after.log
+  pub table : after.table ≡ before.table
+  pub stands : IsLogStore new after
+
+-- some of the gates of the waiting rows may be open; what is found is the same
+pub record OpensSomeOfStore (old new : Content) (before after : LogStoreState) : Type 0 where
+  pub store : after ≡ before
+  pub log : OpensSome old new before.log after.log
+  pub index : IsIndexed new after
+
+-- all gates past the first closed one are closed, and the rows are the same
+pub record SealsStore (old new : Content) (before after : LogStoreState) : Type 0 where
+  pub log : Seals old new before.log after.log
+  pub table : after.table ≡ before.table
+  pub all : IsTrue old.honest → all_rows new after.log ≡ all_rows old before.log
+  pub stands : IsIndexed old before → IsLogStore new after
+
+-- A row of this key can be taken at this placing: the log has room, and the table of the keys with this one is that in which the key
+-- takes the slot of its older row, or finds a place.
+pub record IsPlacingFor (content : Content) (store : LogStoreState) (key : List ℕ) (placing : Placing) : Type 0 where
+  pub room : store.log.used < store.log.shape.log_capacity
+  pub standing : IfSome placing.standing (λ slot. IsSome (entry_at store.table slot))
+  pub takes : IsTrue content.honest → IsIndexed content store → IsSome (index_of_keys store.log.shape.buckets (keys_of (all_rows content store.log) ++ key ∷ []))
+  pub table : IsTrue content.honest → IsIndexed content store → index_of_keys store.log.shape.buckets (keys_of (all_rows content store.log) ++ key ∷ [])
+      ≡ placed_or_replaced (bucket_count store.table) store.table key store.log.used placing.standing

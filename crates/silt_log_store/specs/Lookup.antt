@@ -1,0 +1,35 @@
+-- What a look-up among candidates finds.
+use Rattle.std.specs.Prelude.{◌≡◌, ℕ, List, [], if◌then◌else◌, find, get_or, slice_get, Option, Some, None, IfSome, option_map, option_and_then}
+use Rattle.std.specs.Str.{bytes_eq}
+use Rattle.silt_frame.specs.Frame.{kind_byte, kind_of}
+use Rattle.silt_frame.specs.declared.key.Key.{Key}
+use Rattle.silt_frame.specs.declared.key.Kind.{Kind}
+use Rattle.silt_cuckoo.specs.declared.lookup.Candidate.{Candidate}
+use Rattle.silt_log.specs.Rows.{StoredRow}
+use Rattle.silt_log_store.specs.declared.lookup.Match.{Match}
+use Rattle.silt_log_store.specs.State.{keys_of}
+
+-- the kind of a head, where it has the key
+abbrev pub kind_with_key : Option (Kind × Key) → List ℕ → Option Kind
+kind_with_key head key = option_and_then (λ (h : Kind × Key). if bytes_eq h.1.0 key then Some h.0 else None) head
+
+-- the kind of a row, where it is known and the row has the key
+abbrev pub kind_for : StoredRow → List ℕ → Option Kind
+kind_for row key = option_and_then (λ (kind : Kind). if bytes_eq row.key key then Some kind else None) (kind_of row.kind)
+
+-- the first of these candidates whose row has the key
+abbrev pub first_with_key : List StoredRow → List Candidate → List ℕ → Option Candidate
+first_with_key rows candidates key = find (λ (c : Candidate). bytes_eq (get_or (keys_of rows) c.place []) key) candidates
+
+-- a match as a candidate
+abbrev pub candidate_of : Match → Candidate
+candidate_of match = record { slot = match.slot; place = match.found.place }
+
+-- the row at the place of a match is of its kind
+abbrev pub HasItsKind : List StoredRow → Match → Type 0
+HasItsKind rows match = (row : StoredRow) × (slice_get rows match.found.place ≡ Some row) × (kind_byte match.found.kind ≡ row.kind)
+
+-- the first of these candidates whose row has the key was found, with the kind of that row
+pub record IsFirstMatch (rows : List StoredRow) (candidates : List Candidate) (key : List ℕ) (found : Option Match) : Type 0 where
+  pub first : option_map candidate_of found ≡ first_with_key rows candidates key
+  pub kind : IfSome found (HasItsKind rows)

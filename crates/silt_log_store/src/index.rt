@@ -1,0 +1,102 @@
+// The table of a log's keys as it grows in a rebuild, with the keys themselves, so that no key is read twice.
+ghost use Rattle.std.specs.Prelude.{◌≡◌, ◌+◌, ◌<◌, ◌≤◌, ◌^◌, [], IfOk, IfSome, IsSome, All, length, get_or, find, option_map};
+ghost use Rattle.std.specs.Str.{bytes_eq};
+ghost use Rattle.silt_cuckoo.specs.declared.lookup.Candidate.{Candidate};
+ghost use Rattle.silt_cuckoo.specs.Index.{slot_of_key};
+ghost use Rattle.silt_log_store.specs.Growing.{puts_of};
+ghost use Rattle.silt_cuckoo.specs.Slots.{IsBucketCount, PlacesBelow, bucket_count, entry_at};
+
+use crate::placing::place_key;
+use silt_cuckoo::{Candidate, Table, key_buckets};
+use silt_frame::{KEY_LEN, Key, Kind};
+use std::alloc::{AllocError, Global};
+
+/// The keys of some rows, the oldest first, their table, and how many of the rows are puts.
+#[derive(Drop)]
+pub struct KeyIndex {
+    pub table: Table,
+    pub keys: Vec<[u8; KEY_LEN]>,
+    pub puts: u32,
+}
+
+impl KeyIndex {
+    ghost use Rattle.silt_log_store.specs.Growing.{AddsOrGivesUp, IsKeyIndex, IsOfRows};
+
+    /// No keys, and a table of so many buckets. So many keys can be added with no more memory.
+    ///
+    /// # Errors
+    ///
+    /// Where the table or the list of keys finds no memory.
+    pub fn new(alloc: Global, buckets: u32, capacity: u32) -> Result<Self, AllocError>
+        requires { IsBucketCount buckets }
+        ensures index { IfOk result IsKeyIndex }
+        ensures buckets { IfOk result (λ index. bucket_count index.table ≡ buckets) }
+        ensures empty { IfOk result (IsOfRows []) }
+    {
+        Ok(KeyIndex {
+            table: Table::new(alloc, buckets)?,
+            keys: Vec::with_capacity(alloc, capacity as usize)?,
+            puts: 0,
+        })
+    }
+
+    /// The slot of a key's older row, none where there is none.
+    fn slot_of(&self, key: &Key) -> Option<usize>
+        requires { IsKeyIndex self.now }
+        ensures slot { result ≡ slot_of_key self.now.keys.items self.now.table key.now.0 }
+        ensures standing { IfSome result (λ slot. IsSome (entry_at self.now.table slot)) }
+        ensures below { PlacesBelow self.now.table (length self.now.keys.items) }
+    {
+        let (first, second) = key_buckets(&key.0, self.table.bucket_count());
+        let candidates = self.table.candidates(first, second);
+        first_slot(self.keys.as_slice(), candidates.as_slice(), &key.0)
+    }
+
+    /// Adds the key of a further row: whether it found a place.
+    ///
+    /// # Errors
+    ///
+    /// Where the list of keys finds no memory.
+    pub fn add(&mut self, kind: Kind, key: &Key) -> Result<bool, AllocError>
+        requires index { IsKeyIndex self.old }
+        requires room { length self.old.keys.items + 1 < 2 ^ 32 }
+        ensures { IfOk result (AddsOrGivesUp kind key.now.0 self.old self.new) }
+    {
+        let standing = self.slot_of(key);
+        let place = self.keys.len() as u32;
+        if !place_key(&mut self.table, key, standing, place) {
+            return Ok(false);
+        }
+        self.keys.push(key.0)?;
+        self.puts += puts_of(kind);
+        Ok(true)
+    }
+}
+
+// How many puts a row of this kind counts for.
+fn puts_of(kind: Kind) -> u32
+    ensures value { result ≡ puts_of kind }
+    ensures most { result ≤ 1 }
+{
+    match kind {
+        Kind::Put => 1,
+        Kind::Delete => 0,
+    }
+}
+
+// The slot of the first of some candidates whose place is that of the key.
+fn first_slot(
+    keys: &[[u8; KEY_LEN]],
+    candidates: &[Candidate],
+    key: &[u8; KEY_LEN],
+) -> Option<usize>
+    requires { All (λ c. c.place < length keys.now) candidates.now }
+    ensures { result ≡ option_map (λ (c : Candidate). c.slot) (find (λ (c : Candidate). bytes_eq (get_or keys.now c.place []) key.now) candidates.now) }
+{
+    for candidate in candidates {
+        if keys[candidate.place as usize] == *key {
+            return Some(candidate.slot);
+        }
+    }
+    None
+}

@@ -1,0 +1,102 @@
+// Look-ups of a key among the candidates of its two buckets.
+ghost use Rattle.std.specs.Prelude.{◌≡◌, ◌<◌, ◌≤◌, true, IsTrue, IfOk, IfErr, IfSome, All, Contains, option_map};
+ghost use Rattle.std.specs.List.{list_all};
+ghost use Rattle.silt_cuckoo.specs.Index.{candidate_of_key};
+ghost use Rattle.silt_cuckoo.specs.Lookup.{candidates_of};
+ghost use Rattle.silt_cuckoo.specs.Keys.{first_bucket, second_bucket};
+ghost use Rattle.silt_cuckoo.specs.Slots.{PlacesBelow, bucket_count, place_at};
+ghost use Rattle.silt_device.specs.Disk.{GaveAny, size};
+ghost use Rattle.silt_device.specs.Layout.{device_size};
+ghost use Rattle.silt_log.specs.Rows.{has_known_kind, row_at};
+ghost use Rattle.silt_log.specs.State.{all_rows};
+ghost use Rattle.silt_log_store.specs.declared.lookup.Match.{Match};
+ghost use Rattle.silt_log_store.specs.Lookup.{IsFirstMatch, candidate_of, kind_for, kind_with_key};
+
+use crate::store::Found;
+use silt_cuckoo::{Candidate, Table, key_buckets};
+use silt_device::Disk;
+use silt_frame::{Key, Kind};
+use silt_log::Log;
+
+/// A candidate whose row has the key: its slot, and the kind and the place of the row.
+#[derive(Clone, Copy)]
+pub struct Match {
+    pub slot: usize,
+    pub found: Found,
+}
+
+/// The slot of a match.
+pub fn slot_of(found: Option<Match>) -> Option<usize>
+    ensures { result ≡ option_map (λ (m : Match). m.slot) found }
+{
+    let found = found?;
+    Some(found.slot)
+}
+
+// The kind of a head, where it has the key.
+fn kind_with_key(head: Option<(Kind, Key)>, key: &Key) -> Option<Kind>
+    ensures { result ≡ kind_with_key head key.now.0 }
+{
+    let (kind, its_key) = head?;
+    if its_key == *key { Some(kind) } else { None }
+}
+
+// Reads the head of the row at a place: its kind, where that is known and the row has the key.
+fn kind_at<D: Disk>(log: &Log, disk: &D, place: u32, key: &Key) -> Result<Option<Kind>, D::Fault>
+    requires place { place < log.now.shape.log_capacity }
+    requires size { device_size log.now.shape ≤ size (D.content disk.now) }
+    ensures kind { IsTrue (D.content disk.now).honest → IfOk result (λ kind. kind ≡ kind_for (row_at log.now.shape log.now.region (D.content disk.now).shown place) key.now.0) }
+    ensures fault { IfErr result (GaveAny D.gave disk.now) }
+{
+    let head = log.read_head(disk, place)?;
+    Ok(kind_with_key(head, key))
+}
+
+// The first of some candidates whose row is of a known kind and has the key: one head is read for each up to it.
+fn first_match<D: Disk>(
+    log: &Log,
+    disk: &D,
+    candidates: &[Candidate],
+    key: &Key,
+) -> Result<Option<Match>, D::Fault>
+    requires size { device_size log.now.shape ≤ size (D.content disk.now) }
+    requires places { All (λ c. c.place < log.now.used) candidates.now }
+    requires room { log.now.used ≤ log.now.shape.log_capacity }
+    ensures among { IfOk result (λ found. IfSome found (λ m. Contains candidates.now (candidate_of m))) }
+    ensures first { IsTrue (D.content disk.now).honest → list_all has_known_kind (all_rows (D.content disk.now) log.now) ≡ true
+        → IfOk result (IsFirstMatch (all_rows (D.content disk.now) log.now) candidates.now key.now.0) }
+    ensures fault { IfErr result (GaveAny D.gave disk.now) }
+{
+    for candidate in candidates {
+        if let Some(kind) = kind_at(log, disk, candidate.place, key)? {
+            return Ok(Some(Match {
+                slot: candidate.slot,
+                found: Found {
+                    kind,
+                    place: candidate.place,
+                },
+            }));
+        }
+    }
+    Ok(None)
+}
+
+// The row of a key in a log with this table of its keys: at most one head is read for each candidate of the key's buckets.
+pub fn look_up<D: Disk>(
+    log: &Log,
+    table: &Table,
+    disk: &D,
+    key: &Key,
+) -> Result<Option<Match>, D::Fault>
+    requires size { device_size log.now.shape ≤ size (D.content disk.now) }
+    requires below { PlacesBelow table.now log.now.used }
+    requires room { log.now.used ≤ log.now.shape.log_capacity }
+    ensures standing { IfOk result (λ found. IfSome found (λ m. place_at table.now m.slot ≡ Some m.found.place)) }
+    ensures first { IsTrue (D.content disk.now).honest → list_all has_known_kind (all_rows (D.content disk.now) log.now) ≡ true
+        → IfOk result (IsFirstMatch (all_rows (D.content disk.now) log.now) (candidates_of table.now (first_bucket (bucket_count table.now) key.now.0) (second_bucket (bucket_count table.now) key.now.0)) key.now.0) }
+    ensures fault { IfErr result (GaveAny D.gave disk.now) }
+{
+    let (first, second) = key_buckets(&key.0, table.bucket_count());
+    let candidates = table.candidates(first, second);
+    first_match(log, disk, candidates.as_slice(), key)
+}

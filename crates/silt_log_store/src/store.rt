@@ -1,0 +1,389 @@
+// A log region with the table of its keys, and the calls that change it.
+ghost use Rattle.std.specs.Prelude.{◌≡◌, ◌==◌, ◌↔◌, ◌+◌, ◌-◌, ◌<◌, ◌≤◌, ◌++◌, ◌⊎◌, ℕ, [], ◌∷◌, length, replicate, nat_lt, false, true, IsTrue, IsSome, IfSome, None, IfOk, IfErr, OnOk, OnErr, MatchResult};
+ghost use Rattle.std.specs.List.{list_all};
+ghost use Rattle.silt_cuckoo.specs.Slots.{empty_slots, entry_at};
+ghost use Rattle.silt_cuckoo.specs.Index.{index_of_keys};
+ghost use Rattle.silt_device.specs.Disk.{Content, ChangesWithin, CountsFault, GaveAny, LeavesOnly, Rests, Writes, size};
+ghost use Rattle.silt_device.specs.Layout.{device_size, gates_at, row_len};
+ghost use Rattle.silt_frame.specs.Frame.{head_bytes};
+ghost use Rattle.silt_log.specs.Calls.{HasBeginning};
+ghost use Rattle.silt_log.specs.Rows.{body_at, has_known_kind, log_rows, row_at, row_of, stored_row};
+ghost use Rattle.silt_log.specs.State.{IsScanned, all_rows, settled_rows};
+
+use crate::index::KeyIndex;
+use crate::lookup::{look_up, slot_of};
+use crate::placing::{Placing, has_place, place_key};
+use crate::rebuilding::{RebuildError, Rebuilt, index_rows};
+use silt_cuckoo::Table;
+use silt_device::{Disk, Geometry};
+use silt_frame::{Key, Kind};
+use silt_log::Log;
+use std::alloc::{AllocError, Global};
+use std::marker::Model;
+
+/// A key that was found: the kind of its last row, and the row's place.
+#[derive(Clone, Copy, Debug, PartialEq, Eq)]
+pub struct Found {
+    pub kind: Kind,
+    pub place: u32,
+}
+
+/// A log region with the table of its keys.
+///
+/// On a disk that is not honest its calls are safe and end, but say nothing of rows: a look-up passes over a row of an unknown
+/// kind. Only `new` and `rebuild` take memory.
+#[derive(Drop)]
+pub struct LogStore {
+    log: Log,
+    table: Table,
+}
+
+impl Model for LogStore {
+    ghost use Rattle.silt_log_store.specs.State.{LogStoreState, IsHeldStore};
+
+    ghost Value = { LogStoreState };
+
+    ghost view = { λ a. record { log = a.log; table = a.table } };
+
+    ghost invariant = { λ a. IsHeldStore (record { log = a.log; table = a.table }) };
+}
+
+impl LogStore {
+    ghost use Rattle.silt_log.specs.State.{InBounds};
+    ghost use Rattle.silt_log_store.specs.State.{LogStoreState, IsHeldStore, IsIndexed, IsLogStore, IsFrozenStore, keys_of};
+    ghost use Rattle.silt_log_store.specs.Finding.{FindsLast};
+    ghost use Rattle.silt_log_store.specs.Calls.{IsPlacingFor, EmptiesStore, TakesRow, KeepsStore, OpensStore, OpensSomeOfStore, SealsStore};
+    ghost use Rattle.silt_log_store.specs.Rebuild.{IsRebuilt, IsFirstDamaged, IsFirstCrowded, IsRefusedRebuild};
+
+    /// A store of this region with no rows and an empty table. It is `prepare`d before it is used.
+    ///
+    /// # Errors
+    ///
+    /// Where the bytes for the gates or the table find no memory.
+    pub fn new(alloc: Global, geometry: Geometry, region: u32) -> Result<Self, AllocError>
+        requires { region < geometry.logs }
+        ensures { IfOk result (λ store. store ≡ record { log = record { shape = geometry; region = region; settled = 0; used = 0; loose = false }; table = empty_slots geometry.buckets }) }
+    {
+        let log = Log::new(alloc, geometry, region)?;
+        let table = Table::new(alloc, geometry.buckets())?;
+        Ok(LogStore { log, table })
+    }
+
+    /// How many rows there are, those that wait included.
+    pub fn len(&self) -> u32
+        ensures value { result ≡ self.now.log.used }
+        ensures held { IsHeldStore self.now }
+    {
+        self.log.len()
+    }
+
+    /// Whether there is no row, not even one that waits.
+    pub fn is_empty(&self) -> bool
+        ensures { result ≡ (self.now.log.used == 0) }
+    {
+        self.log.is_empty()
+    }
+
+    /// How many rows are settled behind open gates.
+    pub fn settled(&self) -> u32
+        ensures value { result ≡ self.now.log.settled }
+        ensures bounds { InBounds self.now.log }
+    {
+        self.log.settled()
+    }
+
+    /// Whether a row waits for its gate to be opened.
+    pub fn has_waiting(&self) -> bool
+        ensures value { result ≡ nat_lt self.now.log.settled self.now.log.used }
+        ensures bounds { InBounds self.now.log }
+    {
+        self.log.has_waiting()
+    }
+
+    /// Whether there is no room for a further row.
+    pub fn is_full(&self) -> bool
+        ensures value { result ≡ (self.now.log.used == self.now.log.shape.log_capacity) }
+        ensures bounds { InBounds self.now.log }
+    {
+        self.log.is_full()
+    }
+
+    /// How many rows the region has room for.
+    pub fn capacity(&self) -> u32
+        ensures value { result ≡ self.now.log.shape.log_capacity }
+        ensures bounds { InBounds self.now.log }
+    {
+        self.log.capacity()
+    }
+
+    /// Whether a gate past the first closed one is open, so that the log is to be sealed.
+    pub fn is_loose(&self) -> bool
+        ensures { result ≡ self.now.log.loose }
+    {
+        self.log.is_loose()
+    }
+
+    /// The number of the region.
+    pub fn region(&self) -> u32
+        ensures value { result ≡ self.now.log.region }
+        ensures bounds { InBounds self.now.log }
+    {
+        self.log.region()
+    }
+
+    /// The geometry of the store.
+    pub fn geometry(&self) -> Geometry
+        ensures { result ≡ self.now.log.shape }
+    {
+        self.log.geometry()
+    }
+
+    /// The tag and the place in a slot of the table, none where the slot is free or past the last.
+    pub fn slot(&self, slot: u32) -> Option<(u32, u32)>
+        ensures value { result ≡ entry_at self.now.table slot }
+        ensures held { IsHeldStore self.now }
+    {
+        self.table.slot(slot as usize)
+    }
+
+    /// Closes all gates of the region, and syncs. The table is to be empty, as it is in a new store. Then the store has no rows.
+    ///
+    /// # Errors
+    ///
+    /// The fault of the write or of the sync. The store is then as it was.
+    pub fn prepare<D: Disk>(&mut self, disk: &mut D) -> Result<(), D::Fault>
+        requires empty { self.old.table ≡ empty_slots self.old.log.shape.buckets }
+        requires size { device_size self.old.log.shape ≤ size (D.content disk.old) }
+        ensures size { size (D.content disk.new) ≡ size (D.content disk.old) }
+        ensures changes { ChangesWithin (gates_at self.old.log.shape self.old.log.region) self.old.log.shape.log_capacity (D.content disk.old) (D.content disk.new) }
+        ensures written { OnOk result (Writes (gates_at self.old.log.shape self.old.log.region) (replicate self.old.log.shape.log_capacity 0) (D.content disk.old) (D.content disk.new)) }
+        ensures rests { OnOk result (Rests (D.content disk.new)) }
+        ensures ok { OnOk result (EmptiesStore (D.content disk.new) self.old self.new) }
+        ensures err { OnErr result (self.new ≡ self.old) }
+        ensures failures { MatchResult result (λ _. D.failures disk.new ≡ D.failures disk.old) (CountsFault D.failures D.gave disk.old disk.new) }
+    {
+        self.log.prepare(disk)?;
+        Ok(())
+    }
+
+    /// Opens the gates of the rows that wait: a sync, one write over these gates, a sync.
+    ///
+    /// # Errors
+    ///
+    /// The fault of a sync or of the write. A stop then leaves the settled rows and a beginning of those that wait.
+    pub fn open_gates<D: Disk>(&mut self, disk: &mut D) -> Result<(), D::Fault>
+        requires waiting { self.old.log.settled < self.old.log.used }
+        requires size { device_size self.old.log.shape ≤ size (D.content disk.old) }
+        requires store { IsLogStore (D.content disk.old) self.old }
+        ensures size { size (D.content disk.new) ≡ size (D.content disk.old) }
+        ensures changes { ChangesWithin (gates_at self.old.log.shape self.old.log.region + self.old.log.settled) (self.old.log.used - self.old.log.settled) (D.content disk.old) (D.content disk.new) }
+        ensures written { OnOk result (Writes (gates_at self.old.log.shape self.old.log.region + self.old.log.settled) (replicate (self.old.log.used - self.old.log.settled) 167) (D.content disk.old) (D.content disk.new)) }
+        ensures rests { OnOk result (Rests (D.content disk.new)) }
+        ensures ok { OnOk result (OpensStore (D.content disk.old) (D.content disk.new) self.old self.new) }
+        ensures err { OnErr result (OpensSomeOfStore (D.content disk.old) (D.content disk.new) self.old self.new) }
+        ensures failures { MatchResult result (λ _. D.failures disk.new ≡ D.failures disk.old) (CountsFault D.failures D.gave disk.old disk.new) }
+    {
+        self.log.open_gates(disk)?;
+        Ok(())
+    }
+
+    /// Closes all gates past the first closed one, which is not touched, and syncs. Where they are closed already it makes
+    /// no device call.
+    ///
+    /// # Errors
+    ///
+    /// The fault of the write or of the sync. The log has the same rows as before.
+    pub fn seal<D: Disk>(&mut self, disk: &mut D) -> Result<(), D::Fault>
+        requires size { device_size self.old.log.shape ≤ size (D.content disk.old) }
+        requires rests { Rests (D.content disk.old) }
+        requires scanned { IsTrue (D.content disk.old).honest → IsScanned (D.content disk.old) self.old.log }
+        ensures size { size (D.content disk.new) ≡ size (D.content disk.old) }
+        ensures changes { ChangesWithin (gates_at self.old.log.shape self.old.log.region + self.old.log.used + 1) (self.old.log.shape.log_capacity - (self.old.log.used + 1)) (D.content disk.old) (D.content disk.new) }
+        ensures images { LeavesOnly (D.content disk.new) (λ image. log_rows self.old.log.shape self.old.log.region image ≡ log_rows self.old.log.shape self.old.log.region (D.content disk.old).shown) }
+        ensures quiet { self.old.log.loose ≡ false → disk.new ≡ disk.old }
+        ensures written { IsTrue self.old.log.loose → OnOk result (Writes (gates_at self.old.log.shape self.old.log.region + self.old.log.used + 1) (replicate (self.old.log.shape.log_capacity - (self.old.log.used + 1)) 0) (D.content disk.old) (D.content disk.new)) }
+        ensures rests { OnOk result (Rests (D.content disk.new)) }
+        ensures ok { OnOk result (SealsStore (D.content disk.old) (D.content disk.new) self.old self.new) }
+        ensures err { OnErr result ((self.new ≡ self.old) × IsTrue self.old.log.loose) }
+        ensures failures { MatchResult result (λ _. D.failures disk.new ≡ D.failures disk.old) (CountsFault D.failures D.gave disk.old disk.new) }
+    {
+        self.log.seal(disk)?;
+        Ok(())
+    }
+
+    /// The last row of a key among the rows of the log, those that wait included: its kind and its place. The head of each
+    /// candidate is read, at most one read of 21 bytes for each.
+    ///
+    /// # Errors
+    ///
+    /// The fault of a read.
+    pub fn find<D: Disk>(&self, disk: &D, key: &Key) -> Result<Option<Found>, D::Fault>
+        requires size { device_size self.now.log.shape ≤ size (D.content disk.now) }
+        ensures last { IsTrue (D.content disk.now).honest → IsIndexed (D.content disk.now) self.now → IfOk result (FindsLast (all_rows (D.content disk.now) self.now.log) key.now.0) }
+        ensures place { IfOk result (λ found. IfSome found (λ row. row.place < self.now.log.used)) }
+        ensures bounds { InBounds self.now.log }
+        ensures fault { IfErr result (GaveAny D.gave disk.now) }
+    {
+        match look_up(&self.log, &self.table, disk, key)? {
+            Some(row) => Ok(Some(row.found)),
+            None => Ok(None),
+        }
+    }
+
+    /// Whether a row of this key can be taken: the log has room, and the placing rule has a place for the key. The head of each
+    /// candidate is read.
+    ///
+    /// # Errors
+    ///
+    /// The fault of a read.
+    pub fn can_take<D: Disk>(&self, disk: &D, key: &Key) -> Result<bool, D::Fault>
+        requires size { device_size self.now.log.shape ≤ size (D.content disk.now) }
+        ensures exactly { IsTrue (D.content disk.now).honest → IsIndexed (D.content disk.now) self.now
+            → IfOk result (λ can. IsTrue can ↔ ((self.now.log.used < self.now.log.shape.log_capacity)
+            × IsSome (index_of_keys self.now.log.shape.buckets (keys_of (all_rows (D.content disk.now) self.now.log) ++ key.now.0 ∷ [])))) }
+        ensures room { IfOk result (λ can. IsTrue can → self.now.log.used < self.now.log.shape.log_capacity) }
+        ensures fault { IfErr result (GaveAny D.gave disk.now) }
+    {
+        if self.log.is_full() {
+            return Ok(false);
+        }
+        let standing = slot_of(look_up(&self.log, &self.table, disk, key)?);
+        Ok(has_place(&self.table, key, standing))
+    }
+
+    /// Where the entry of a key goes that the store can take: none exactly where the log has no room, or the placing rule gives up.
+    /// The head of each candidate is read. It takes no memory.
+    ///
+    /// # Errors
+    ///
+    /// The fault of a read.
+    pub fn placing<D: Disk>(&self, disk: &D, key: &Key) -> Result<Option<Placing>, D::Fault>
+        requires size { device_size self.now.log.shape ≤ size (D.content disk.now) }
+        ensures none { IsTrue (D.content disk.now).honest → IsIndexed (D.content disk.now) self.now
+            → IfOk result (λ placing. (placing ≡ None) ↔ ((self.now.log.used ≡ self.now.log.shape.log_capacity)
+            ⊎ (index_of_keys self.now.log.shape.buckets (keys_of (all_rows (D.content disk.now) self.now.log) ++ key.now.0 ∷ []) ≡ None))) }
+        ensures some { IfOk result (λ placing. IfSome placing (IsPlacingFor (D.content disk.now) self.now key.now.0)) }
+        ensures fault { IfErr result (GaveAny D.gave disk.now) }
+    {
+        if self.log.is_full() {
+            return Ok(None);
+        }
+        let standing = slot_of(look_up(&self.log, &self.table, disk, key)?);
+        if !has_place(&self.table, key, standing) {
+            return Ok(None);
+        }
+        Ok(Some(Placing { standing }))
+    }
+
+    /// Where the entry of a key goes in a store with no rows.
+    pub fn placing_in_empty(&self, _key: &Key) -> Placing
+        requires used { self.now.log.used ≡ 0 }
+        requires table { self.now.table ≡ empty_slots self.now.log.shape.buckets }
+        ensures { (content : Content) → IsPlacingFor content self.now _key.now.0 result }
+    {
+        let _limits = self.log.geometry().log_capacity();
+        Placing { standing: None }
+    }
+
+    /// Takes a row behind the others, at a placing that was made for its key and this store as it stands: writes the row with its
+    /// gate closed, and puts the key into the table. It reads nothing and takes no memory.
+    ///
+    /// # Errors
+    ///
+    /// The fault of a write. The store has the same rows and the same table as before.
+    pub fn take<D: Disk>(
+        &mut self,
+        disk: &mut D,
+        kind: Kind,
+        key: &Key,
+        value: &[u8],
+        placing: Placing,
+    ) -> Result<(), D::Fault>
+        requires placing { IsPlacingFor (D.content disk.old) self.old key.now.0 placing }
+        requires value { length value.now ≡ self.old.log.shape.value_len }
+        requires size { device_size self.old.log.shape ≤ size (D.content disk.old) }
+        requires store { IsLogStore (D.content disk.old) self.old }
+        ensures size { size (D.content disk.new) ≡ size (D.content disk.old) }
+        ensures changes { ChangesWithin (body_at self.old.log.shape self.old.log.region self.old.log.used) (row_len self.old.log.shape) (D.content disk.old) (D.content disk.new) }
+        ensures written { OnOk result (Writes (body_at self.old.log.shape self.old.log.region self.old.log.used) (head_bytes kind key.now ++ value.now) (D.content disk.old) (D.content disk.new)) }
+        ensures images { LeavesOnly (D.content disk.new) (λ image. log_rows self.old.log.shape self.old.log.region image ≡ settled_rows (D.content disk.old) self.old.log) }
+        ensures ok { OnOk result (TakesRow (stored_row kind key.now value.now) (D.content disk.old) (D.content disk.new) self.old self.new) }
+        ensures err { OnErr result (KeepsStore (D.content disk.old) (D.content disk.new) self.old self.new) }
+        ensures failures { MatchResult result (λ _. D.failures disk.new ≡ D.failures disk.old) (CountsFault D.failures D.gave disk.old disk.new) }
+    {
+        let place = self.log.len();
+        self.log.append(disk, kind, key, value)?;
+        let _placed = place_key(&mut self.table, key, placing.standing, place);
+        Ok(())
+    }
+
+    /// Reads the value of the row at a place, behind whatever gate.
+    ///
+    /// # Errors
+    ///
+    /// The fault of the read. The bytes of `out` are then open.
+    pub fn read_value<D: Disk>(&self, disk: &D, place: u32, out: &mut [u8]) -> Result<(), D::Fault>
+        requires place { place < self.now.log.shape.log_capacity }
+        requires out { length out.old ≡ self.now.log.shape.value_len }
+        requires size { device_size self.now.log.shape ≤ size (D.content disk.now) }
+        ensures value { IsTrue (D.content disk.now).honest → OnOk result (out.new ≡ (row_at self.now.log.shape self.now.log.region (D.content disk.now).shown place).value) }
+        ensures fault { IfErr result (GaveAny D.gave disk.now) }
+    {
+        self.log.read_value(disk, place, out)
+    }
+
+    /// Reads the bytes of the row at a place, behind whatever gate: the kind, the key and the value.
+    ///
+    /// # Errors
+    ///
+    /// The fault of the read. The bytes of `out` are then open.
+    pub fn read_row<D: Disk>(&self, disk: &D, place: u32, out: &mut [u8]) -> Result<(), D::Fault>
+        requires place { place < self.now.log.shape.log_capacity }
+        requires out { length out.old ≡ row_len self.now.log.shape }
+        requires size { device_size self.now.log.shape ≤ size (D.content disk.now) }
+        ensures row { IsTrue (D.content disk.now).honest → OnOk result (row_of out.new ≡ row_at self.now.log.shape self.now.log.region (D.content disk.now).shown place) }
+        ensures fault { IfErr result (GaveAny D.gave disk.now) }
+    {
+        self.log.read_row(disk, place, out)
+    }
+
+    /// A store of what is on the device: the gates are read, then the heads of the rows before the first closed gate, one after
+    /// the other, and each key is placed once. Beside the store it takes 20 bytes a row for as long as it runs.
+    ///
+    /// # Errors
+    ///
+    /// `Damaged` with the number of a row of an unknown kind, or `Crowded` where the placing rule gives up at a row: the first
+    /// row with either decides. `Device` with the fault of a read, and `NoMemory`.
+    pub fn rebuild<D: Disk>(
+        alloc: Global,
+        disk: &D,
+        geometry: Geometry,
+        region: u32,
+    ) -> Result<Rebuilt, RebuildError<D::Fault>>
+        requires region { region < geometry.logs }
+        requires size { device_size geometry ≤ size (D.content disk.now) }
+        ensures region { IfOk result (λ rebuilt. (rebuilt.store.log.shape ≡ geometry) × (rebuilt.store.log.region ≡ region) × (rebuilt.store.log.settled ≡ rebuilt.store.log.used)) }
+        ensures rebuilt { IsTrue (D.content disk.now).honest → IfOk result (λ rebuilt. IsRebuilt (D.content disk.now) rebuilt.store rebuilt.puts) }
+        ensures index { IfOk result (λ rebuilt. IsIndexed (D.content disk.now) rebuilt.store) }
+        ensures frozen { Rests (D.content disk.now) → IfOk result (λ rebuilt. IsFrozenStore (D.content disk.now) rebuilt.store) }
+        ensures err { IfErr result (IsRefusedRebuild
+            (λ place. IsTrue (D.content disk.now).honest → IsFirstDamaged geometry.buckets (log_rows geometry region (D.content disk.now).shown) place)
+            (IsTrue (D.content disk.now).honest → (place : ℕ) × IsFirstCrowded geometry.buckets (log_rows geometry region (D.content disk.now).shown) place)
+            (GaveAny D.gave disk.now)) }
+    {
+        let mut log = match Log::new(alloc, geometry, region) {
+            Ok(log) => log,
+            Err(_) => return Err(RebuildError::NoMemory),
+        };
+        if let Err(fault) = log.scan_gates(disk) {
+            return Err(RebuildError::Device(fault));
+        }
+        let KeyIndex {
+            table,
+            keys: _,
+            puts,
+        } = index_rows(alloc, disk, &log)?;
+        let store = LogStore { log, table };
+        Ok(Rebuilt { store, puts })
+    }
+}

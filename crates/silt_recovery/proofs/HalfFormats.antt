@@ -1,0 +1,137 @@
+-- What a stopped formatting leaves.
+use Rattle.std.proofs.Common.{◌≡◌, ◌≢◌, ◌≤◌, ◌<◌, ℕ, ◌+◌, ◌==◌, Bool, false, ◌&&◌, IsTrue, List, [], ◌∷◌, ◌++◌, length, get_or, slice_range, slice_index, Result, Ok, Err, Some, inl, inr, refl, ap, sym, ◌∙◌, subst, arith}
+use Rattle.std.specs.Result.{OnErr}
+use Rattle.std.proofs.lemmas.Bool.{cases_Bool, cases_eq}
+use Rattle.std.proofs.lemmas.Bool.Decides.{nat_tests}
+use Rattle.std.proofs.lemmas.List.{get_or-take}
+use Rattle.silt_device.specs.Disk.{Content, Torn, Tears, Writes, ChangesWithin, LeavesOnly, Rests, size}
+use Rattle.silt_device.specs.Layout.{Shape, InLimits, device_size, slot_at}
+use Rattle.silt_device.proofs.Images.{left_at_rest, rests_leaves, sized_leaves, splice_byte, splice_slice, torn_refl, torn_slice_after, within_leaves, write_within}
+use Rattle.std.specs.Str.{bytes_eq}
+use Rattle.silt_image.specs.Header.{header_bytes, header_of, is_formatted, magic}
+use Rattle.silt_manifest.specs.Numbers.{number_at}
+use Rattle.silt_image.specs.Meaning.{image_verdict}
+use Rattle.silt_image.specs.Stores.{image_stores, stores_shaped}
+use Rattle.silt_image.specs.declared.finding.Finding.TheVariants.{NotFormatted}
+use Rattle.silt_image.proofs.Verdict.{no_stores_law}
+use Rattle.silt_log.specs.Rows.{log_rows}
+use Rattle.silt_log.proofs.Elsewhere.{log_rows_elsewhere}
+use Rattle.silt_manifest.specs.Ruling.{is_open}
+use Rattle.silt_manifest.specs.Standing.{IsFirst}
+use Rattle.silt_manifest.proofs.Laws.{first_elsewhere}
+use Rattle.silt_recovery.specs.Format.{HasHeaderOrNone, IsGateClosed, IsHalfFormatted}
+use Rattle.silt_recovery.proofs.Formats.{fresh_store, slice_join}
+use Rattle.silt_recovery.proofs.Headers.{not_formatted}
+
+-- the first byte
+take_first : (image : List ℕ) → 1 ≤ length image → slice_range image 0 1 ≡ get_or image 0 0 ∷ []
+take_first [] least = absurd (omega arith)
+take_first (byte ∷ image) least = refl
+
+-- ---- the header's gate
+
+-- it stays closed under a change behind it
+gate_stays : (at count : ℕ) → 1 ≤ at → (before after : List ℕ) → IsGateClosed before → Torn at count before after → IsGateClosed after
+gate_stays at count behind before after closed torn = λ e. closed (sym (torn.before 0 (omega arith)) ∙ e)
+
+pub gate_kept : (at count : ℕ) (old new : Content) → 1 ≤ at → ChangesWithin at count old new → LeavesOnly old IsGateClosed → LeavesOnly new IsGateClosed
+gate_kept at count old new behind changes closed = within_leaves changes closed (gate_stays at count behind)
+
+pub gate_kept_by_write : (at count : ℕ) (old new : Content) → 1 ≤ at → Tears at count old new → LeavesOnly old IsGateClosed → LeavesOnly new IsGateClosed
+gate_kept_by_write at count old new behind tears closed = gate_kept at count old new behind (write_within tears) closed
+
+-- it is closed once that is settled
+pub gate_closed : (old new : Content) → 1 ≤ size old → Writes 0 (0 ∷ []) old new → Rests new → LeavesOnly new IsGateClosed
+gate_closed old new least writes rests = rests_leaves rests (record {
+  holds = λ honest opened.
+      let h : IsTrue old.honest = sym writes.honest ∙ honest in
+      let byte : get_or new.shown 0 0 ≡ 0 = ap (λ (image : List ℕ). get_or image 0 0) (writes.shown h) ∙ splice_byte 0 (0 ∷ []) old.shown 0 (omega (arith, least)) (omega arith) in
+      let no : 0 ≡ 167 = sym byte ∙ opened in
+      omega arith;
+})
+
+-- no store is behind a closed gate
+pub closed_verdict : (image : List ℕ) → IsGateClosed image → image_verdict image ≡ Some NotFormatted
+unfolding image_stores
+closed_verdict image closed =
+    let gate : slice_index (header_of image) 0 ≡ get_or image 0 0 = get_or-take 37 image 0 0 (omega arith) in
+    let shut : is_open (slice_index (header_of image) 0) ≡ false = (let other : get_or image 0 0 ≢ 167 = closed in elim (cases_Bool (is_open (slice_index (header_of image) 0))) [
+      | inl opened ↦ absurd (other (sym gate ∙ (let same : slice_index (header_of image) 0 ≡ 167 = grind (arith, nat_tests) in same)))
+      | inr none ↦ none
+    ]) in
+    let none : is_formatted (header_of image) ≡ false = ap (λ (b : Bool). b && (bytes_eq (slice_range (header_of image) 1 9) magic) && (number_at 4 9 (header_of image) == 1)) shut in
+    no_stores_law image NotFormatted (ap (stores_shaped image) (not_formatted (length image) (header_of image) none))
+
+-- ---- the exits of writing the header
+
+-- behind the closed gate
+pub header_behind : (shape : Shape) (at count : ℕ) (old new : Content) → 1 ≤ at → ChangesWithin at count old new → LeavesOnly old IsGateClosed → LeavesOnly new (HasHeaderOrNone shape)
+header_behind shape at count old new behind changes closed = record { each = λ honest image left. inl ((gate_kept at count old new behind changes closed).each honest image left) }
+
+-- the header with any gate
+pub header_gated : (shape : Shape) (old between new : Content) → 37 ≤ size old → Writes 1 (header_bytes shape) old between → Rests between → size between ≡ size old → ChangesWithin 0 1 between new → LeavesOnly new (HasHeaderOrNone shape)
+header_gated shape old between new least writes rests same changes = record {
+  each = λ honest image left.
+      let h1 : IsTrue between.honest = sym changes.honest ∙ honest in
+      let h0 : IsTrue old.honest = sym writes.honest ∙ h1 in
+      let from = changes.left h1 image left in
+      let is : from.0 ≡ between.shown = left_at_rest rests h1 from.0 from.1 in
+      let torn : Torn 0 1 between.shown image = subst (λ (before : List ℕ). Torn 0 1 before image) is from.2 in
+      let long : length between.shown ≡ length old.shown = same in
+      let body : slice_range image 1 37 ≡ header_bytes shape =
+      torn_slice_after 0 1 between.shown image torn 1 37 (omega arith) (omega (arith, long, least)) ∙ ap (λ (x : List ℕ). slice_range x 1 37) (writes.shown h0) ∙ splice_slice 1 (header_bytes shape) old.shown (omega (arith, least)) in
+      elim (cases_eq (get_or image 0 0) 167) [
+        | inl opened ↦
+            let room : length image ≡ length between.shown = torn.size in
+            let first : slice_range image 0 1 ≡ 167 ∷ [] = take_first image (omega (arith, room, long, least)) ∙ ap (λ (n : ℕ). n ∷ []) opened in
+            inr (slice_join image 0 1 37 (omega arith) (omega arith) ∙ ap (λ (xs : List ℕ). xs ++ slice_range image 1 37) first ∙ ap (λ (xs : List ℕ). 167 ∷ xs) body)
+        | inr other ↦ inl other
+      ];
+}
+
+-- ---- the exits of formatting
+
+-- at the first gate
+pub left_but_for_gate : (shape : Shape) (old new : Content) → ChangesWithin 0 1 old new → LeavesOnly new (IsHalfFormatted old shape)
+left_but_for_gate shape old new changes = record {
+  each = λ honest image left.
+      let from = changes.left (sym changes.honest ∙ honest) image left in
+      inl (record { before = from.0; left = from.1; torn = from.2 });
+}
+
+-- where nothing was written
+pub left_so : (shape : Shape) (content : Content) → LeavesOnly content (IsHalfFormatted content shape)
+left_so shape content = record { each = λ honest image left. inl (record { before = image; left = left; torn = torn_refl 0 1 image }) }
+
+-- behind the closed gate
+pub left_closed : (shape : Shape) (old new : Content) → LeavesOnly new IsGateClosed → LeavesOnly new (IsHalfFormatted old shape)
+left_closed shape old new closed = record { each = λ honest image left. inr (inl (closed_verdict image (closed.each honest image left))) }
+
+-- the rows of log 0 stay none under a change before the logs
+rows_stay : (shape : Shape) (at count : ℕ) (old new : Content) → 0 < shape.logs → size old ≡ device_size shape → at + count ≤ 12288 → ChangesWithin at count old new → LeavesOnly old (λ image. log_rows shape 0 image ≡ []) → LeavesOnly new (λ image. log_rows shape 0 image ≡ [])
+rows_stay shape at count old new least sized low changes none =
+    within_leaves changes (sized_leaves none) (λ before after (had : (length before ≡ size old) × (log_rows shape 0 before ≡ [])) torn.
+    log_rows_elsewhere shape 0 at count before after least (omega (arith, had.0, sized)) (inl (omega (arith, low))) torn ∙ had.1)
+
+-- with any of the header's gate
+pub left_at_last : (shape : Shape) (old c3 c4 c5 : Content) → InLimits shape → size c3 ≡ device_size shape → size c4 ≡ device_size shape → size c5 ≡ device_size shape
+    → LeavesOnly c3 (λ image. log_rows shape 0 image ≡ []) → ChangesWithin (slot_at 0) 4096 c3 c4 → LeavesOnly c4 IsFirst → ChangesWithin 0 37 c4 c5 → LeavesOnly c5 (HasHeaderOrNone shape) → LeavesOnly c5 (IsHalfFormatted old shape)
+left_at_last shape old c3 c4 c5 limits size3 size4 size5 empties manifest first header has_header =
+    let least : 0 < shape.logs = omega (arith, limits.logs_least) in
+    let first5 : LeavesOnly c5 IsFirst = first_elsewhere 0 37 c4 c5 (omega (arith, size4)) (inl (omega arith)) header first in
+    let rows4 = rows_stay shape (slot_at 0) 4096 c3 c4 least size3 (omega arith) manifest empties in
+    let rows5 = rows_stay shape 0 37 c4 c5 least size4 (omega arith) header rows4 in
+    record {
+      each = λ honest image left.
+          elim (has_header.each honest image left) [
+            | inl closed ↦ inr (inl (closed_verdict image closed))
+            | inr is ↦
+                let long : length image ≡ device_size shape = left.size ∙ sym c5.sizes ∙ size5 in
+                inr (inr (fresh_store shape image limits long is (first5.each honest image left) (rows5.each honest image left)))
+          ];
+    }
+
+-- a fact at an exit with a fault
+pub on_err : {T E : Type 0} {P : Type 0} (result : Result T E) → P → OnErr result P
+on_err (Ok x) fact = tt
+on_err (Err e) fact = fact

@@ -1,0 +1,10 @@
+pub mod Headers
+pub mod Refusals
+pub mod Manifests
+pub mod Formats
+pub mod HalfFormats
+pub mod Searches
+pub mod Frozen
+pub mod Examinations
+pub mod Takings
+pub mod Reports

@@ -1,0 +1,138 @@
+-- The numbers of what is held of a device.
+use Rattle.std.proofs.Common.{◌≡◌, ◌≤◌, ℕ, ◌+◌, IsTrue, List, [], ◌∷◌, All, length, map, refl, ap, sym, ◌∙◌, subst, arith, sum_by, true}
+use Rattle.std.proofs.lemmas.List.{length-map}
+use Rattle.std.proofs.lemmas.List.Elements.{All-head, All-tail, All-weaker}
+use Rattle.std.proofs.lemmas.List.Sums.{sum_by-cons}
+use Rattle.silt_device.specs.Disk.{Content}
+use Rattle.silt_device.specs.Layout.{Shape, InLimits}
+use Rattle.silt_device.proofs.Regions.{bucket_count_most}
+use Rattle.silt_image.specs.Meaning.{known_rows}
+use Rattle.silt_image.specs.Stores.{Part, Stores, hash_part, log_part, stores_named}
+use Rattle.silt_image.specs.declared.finding.Report.{Report}
+use Rattle.silt_image.proofs.Verdict.{sound_law}
+use Rattle.silt_log.specs.Rows.{log_rows}
+use Rattle.silt_log_store.specs.State.{LogStoreState}
+use Rattle.silt_manifest.specs.Body.{is_well_formed}
+use Rattle.silt_manifest.specs.declared.body.Body.{Body}
+use Rattle.silt_stores.specs.Calls.{AreLogsAlone}
+use Rattle.silt_stores.specs.Standing.{shown_stores}
+use Rattle.silt_stores.specs.State.{StoresState, region_of}
+use Rattle.silt_recovery.specs.Logs.{IsReadLog}
+use Rattle.silt_recovery.specs.Opening.{Holds, IsReported}
+use Rattle.silt_recovery.proofs.Examinations.{HasLogs, named_logs}
+use Rattle.silt_recovery.proofs.Takings.{row_count}
+
+-- how many rows a log has, in memory and on the device
+abbrev pub used_rows : LogStoreState → ℕ
+used_rows store = store.log.used
+
+abbrev pub part_count : Part → ℕ
+part_count part = length part.rows
+
+-- a log that was read has as many rows as are shown
+count_read : (content : Content) (shape : Shape) (store : LogStoreState) → IsTrue content.honest → IsReadLog content shape store → store.log.used ≡ length (log_rows shape store.log.region content.shown)
+count_read content shape store h read =
+    (read.scanned h).used ∙ sym (row_count store.log.shape store.log.region content.shown) ∙ ap (λ (s : Shape). length (log_rows s store.log.region content.shown)) read.has_shape
+
+-- and so have several together
+counts_read : (content : Content) (shape : Shape) (stores : List LogStoreState) → IsTrue content.honest → All (IsReadLog content shape) stores → sum_by used_rows stores ≡ sum_by part_count (map (log_part shape content.shown) (map region_of stores))
+counts_read content shape [] h read = refl
+counts_read content shape (store ∷ stores) h read =
+    let first = count_read content shape store h (All-head (IsReadLog content shape) store stores read) in
+    let rest = counts_read content shape stores h (All-tail (IsReadLog content shape) store stores read) in
+    sum_by-cons used_rows store stores ∙ ap (λ (n : ℕ). n + sum_by used_rows stores) first
+    ∙ ap (λ (n : ℕ). length (log_rows shape store.log.region content.shown) + n) rest
+    ∙ sym (sum_by-cons part_count (log_part shape content.shown store.log.region) (map (log_part shape content.shown) (map region_of stores)))
+
+-- the numbers of the stores that are held
+pub reported : (content : Content) (s : StoresState) (body : Body) → Holds content s → body ≡ s.manifest.ruling → IsTrue content.honest → IsReported content.shown (record {
+  generation = body.generation;
+  active = body.active;
+  active_rows = s.active.log.used;
+  frozen = length body.frozen;
+  frozen_rows = sum_by used_rows s.frozen;
+  hashes = length body.hashed;
+  hash_rows = 0;
+  entries = body.sorted_count;
+  charge = s.charge;
+})
+unfolding stores_named
+reported content s body holds same h =
+    let named : Stores = shown_stores content s in
+    let own = count_read content s.manifest.shape s.active h holds.active in
+    let first : Part = log_part s.manifest.shape content.shown s.manifest.ruling.active in
+    let active_rows : s.active.log.used ≡ sum_by part_count (first ∷ []) =
+    own ∙ ap (λ (n : ℕ). length (log_rows s.manifest.shape n content.shown)) holds.whole.active_region
+    ∙ (let plus : length (log_rows s.manifest.shape s.manifest.ruling.active content.shown) ≡ length (log_rows s.manifest.shape s.manifest.ruling.active content.shown) + 0 = omega arith in plus)
+    ∙ sym (sum_by-cons part_count first []) in
+    let frozen_rows : sum_by used_rows s.frozen ≡ sum_by part_count (map (log_part s.manifest.shape content.shown) s.manifest.ruling.frozen) =
+    counts_read content s.manifest.shape s.frozen h holds.frozen ∙ ap (λ (ids : List ℕ). sum_by part_count (map (log_part s.manifest.shape content.shown) ids)) holds.whole.frozen_regions in
+    let hash_rows : 0 ≡ sum_by (λ (part : Part). length (known_rows part)) (map (hash_part s.manifest.shape content.shown) s.manifest.ruling.hashed) =
+    sym (ap (λ (ids : List ℕ). sum_by (λ (part : Part). length (known_rows part)) (map (hash_part s.manifest.shape content.shown) ids)) holds.logs_alone.0) in
+    let told : Body → ℕ → ℕ → ℕ → ℕ → Report = λ b n older hashed charge. record {
+      generation = b.generation;
+      active = b.active;
+      active_rows = n;
+      frozen = length b.frozen;
+      frozen_rows = older;
+      hashes = length b.hashed;
+      hash_rows = hashed;
+      entries = b.sorted_count;
+      charge = charge;
+    } in
+    record {
+      stores = shown_stores content s;
+      are = holds.named h;
+      good = (sound_law content.shown (shown_stores content s) (holds.named h)).1 (holds.sound h);
+      logs_alone = subst AreLogsAlone (sym (holds.named h)) holds.logs_alone;
+      numbers =
+          ap (λ (b : Body). told b s.active.log.used (sum_by used_rows s.frozen) 0 s.charge) same
+          ∙ ap (λ (n : ℕ). told s.manifest.ruling n (sum_by used_rows s.frozen) 0 s.charge) active_rows
+          ∙ ap (λ (n : ℕ). told s.manifest.ruling (sum_by part_count (first ∷ [])) n 0 s.charge) frozen_rows
+          ∙ ap (λ (n : ℕ). told s.manifest.ruling (sum_by part_count (first ∷ [])) (sum_by part_count (map (log_part s.manifest.shape content.shown) s.manifest.ruling.frozen)) n s.charge) hash_rows
+          ∙ ap (λ (n : ℕ). told s.manifest.ruling (sum_by part_count (first ∷ [])) (sum_by part_count (map (log_part s.manifest.shape content.shown) s.manifest.ruling.frozen))
+          (sum_by (λ (part : Part). length (known_rows part)) (map (hash_part s.manifest.shape content.shown) s.manifest.ruling.hashed)) n) (holds.counted h);
+    }
+
+-- no log has more rows than a table has room for
+pub few_rows : (content : Content) (shape : Shape) (stores : List LogStoreState) → InLimits shape → All (IsReadLog content shape) stores → All (λ (store : LogStoreState). store.log.used ≤ 131072) stores
+few_rows content shape stores limits read =
+    All-weaker (IsReadLog content shape) (λ (store : LogStoreState). store.log.used ≤ 131072) (λ store is.
+    let room : store.log.used ≤ shape.log_capacity = subst (λ (s : Shape). store.log.used ≤ s.log_capacity) is.has_shape is.bounds.room in
+    omega (arith, room, limits.log_capacity_most, bucket_count_most shape.buckets limits.buckets)) stores read
+
+-- the same of numbers that are named in another way
+pub reported_so : (content : Content) (s : StoresState) (body : Body) (rows frozen older hashes : ℕ) → Holds content s → body ≡ s.manifest.ruling → rows ≡ s.active.log.used → frozen ≡ length body.frozen → older ≡ sum_by used_rows s.frozen → hashes ≡ length body.hashed
+    → IsTrue content.honest → IsReported content.shown (record {
+      generation = body.generation;
+      active = body.active;
+      active_rows = rows;
+      frozen = frozen;
+      frozen_rows = older;
+      hashes = hashes;
+      hash_rows = 0;
+      entries = body.sorted_count;
+      charge = s.charge;
+    })
+reported_so content s body rows frozen older hashes holds same are_rows are_frozen are_older are_hashes h =
+    let told : ℕ → ℕ → ℕ → ℕ → Report = λ a b c d. record {
+      generation = body.generation;
+      active = body.active;
+      active_rows = a;
+      frozen = b;
+      frozen_rows = c;
+      hashes = d;
+      hash_rows = 0;
+      entries = body.sorted_count;
+      charge = s.charge;
+    } in
+    subst (λ (n : ℕ). IsReported content.shown (told n frozen older hashes)) (sym are_rows)
+    (subst (λ (n : ℕ). IsReported content.shown (told s.active.log.used n older hashes)) (sym are_frozen)
+    (subst (λ (n : ℕ). IsReported content.shown (told s.active.log.used (length body.frozen) n hashes)) (sym are_older)
+    (subst (λ (n : ℕ). IsReported content.shown (told s.active.log.used (length body.frozen) (sum_by used_rows s.frozen) n)) (sym are_hashes) (reported content s body holds same h))))
+
+-- no more logs are frozen than a device can have
+pub few_frozen : (content : Content) (s : StoresState) (slot : ℕ) → Holds content s → is_well_formed s.manifest.shape slot s.manifest.ruling ≡ true → length s.frozen ≤ 7
+few_frozen content s slot holds sound =
+    let logs : HasLogs s.manifest.shape s.manifest.ruling = named_logs s.manifest.shape slot s.manifest.ruling holds.limits sound in
+    omega (arith, logs.few, ap length holds.whole.frozen_regions, length-map s.frozen region_of)

@@ -1,0 +1,136 @@
+-- Findings in logs that are read one after the other.
+use Rattle.std.proofs.Common.{◌≡◌, ◌<◌, ℕ, ◌+◌, Bool, true, false, not, List, [], ◌∷◌, ◌++◌, length, map, take, flat_map, get_or, slice_get, Some, Ok, refl, ap, sym, ◌∙◌, subst, arith, append_assoc}
+use Rattle.std.specs.Option.{is_some}
+use Rattle.std.specs.List.{list_all}
+use Rattle.std.proofs.lemmas.List.{append-nil, get_or-map, map-append}
+use Rattle.std.proofs.lemmas.List.Sums.{sum_by-cons}
+use Rattle.std.proofs.lemmas.Grind.{flat_map-append}
+use Rattle.std.proofs.lemmas.Option.{slice_get-get_or}
+use Rattle.silt_device.specs.Disk.{Content}
+use Rattle.silt_device.specs.Layout.{Shape}
+use Rattle.silt_cuckoo.specs.Index.{index_of_keys}
+use Rattle.silt_image.specs.Laws.{FirstFinding}
+use Rattle.silt_image.specs.Meaning.{charge_of, charge_of_rows, finding_if, fits_table, image_verdict, keys_of, known_rows, log_findings, oldest_first, part_rows, rows_of}
+use Rattle.silt_image.specs.Stores.{hash_part, image_stores, log_part, sorted_rows, stores_named}
+use Rattle.silt_image.specs.declared.finding.Finding.{Finding}
+use Rattle.silt_image.specs.declared.finding.Finding.TheVariants.{Damaged, Crowded}
+use Rattle.silt_image.specs.declared.finding.Place.TheVariants.{Log}
+use Rattle.silt_image.proofs.Rows.{count_law}
+use Rattle.silt_image.proofs.Search.{first_finding_law}
+use Rattle.silt_image.proofs.Sound.{log_sound_law}
+use Rattle.silt_log.specs.Rows.{StoredRow, has_known_kind, log_rows}
+use Rattle.silt_log_store.specs.Rebuild.{IsFirstCrowded, IsFirstDamaged, IsRebuilt, has_known_kind_at}
+use Rattle.silt_log_store.specs.State.{LogStoreState}
+use Rattle.silt_cuckoo.specs.Slots.{Slots}
+use Rattle.silt_manifest.specs.declared.body.Body.{Body}
+use Rattle.silt_recovery.specs.Logs.{AreSoundLogs, HasFirstFinding, put_rows}
+
+-- no row, of an unknown kind
+blank : StoredRow
+blank = record { kind = 0; key = []; value = [] }
+
+-- the kind of a row that is there
+kind_there : (rows : List StoredRow) (place : ℕ) → place < length rows → has_known_kind (get_or rows place blank) ≡ has_known_kind_at rows place
+kind_there rows place there = sym (get_or-map has_known_kind rows place blank false there)
+
+-- ---- in one log
+
+module _ (shape : Shape) (image : List ℕ) (region : ℕ) where
+  rows : List StoredRow
+  rows = log_rows shape region image
+
+  alone : (place : ℕ) (row : StoredRow) (finding : Finding) → FirstFinding shape (log_part shape image region) place row finding → HasFirstFinding shape image (region ∷ []) finding
+  alone place row finding first = record { before = []; region = region; after = []; all = refl; sound = refl; place = place; row = row; first = first }
+
+  -- a row of an unknown kind
+  pub damaged_row : (place : ℕ) → IsFirstDamaged shape.buckets (log_rows shape region image) place → HasFirstFinding shape image (region ∷ []) (Damaged (Log region place))
+  unfolding fits_table rows
+  damaged_row place first =
+      let row : StoredRow = get_or (log_rows shape region image) place blank in
+      let unknown : has_known_kind row ≡ false = kind_there (log_rows shape region image) place first.there ∙ first.unknown in
+      alone place row (Damaged (Log region place)) (record {
+        there = slice_get-get_or (log_rows shape region image) place blank first.there;
+        known = first.before.known;
+        fits = first.before.placed;
+        first = ap (λ (b : Bool). slice_get (finding_if (not b) (Damaged (Log region place)) ++ finding_if (not (fits_table shape (take (place + 1) (log_rows shape region image)))) Crowded) 0) unknown;
+      })
+
+  -- a key that finds no place
+  pub crowded_row : (place : ℕ) → IsFirstCrowded shape.buckets (log_rows shape region image) place → HasFirstFinding shape image (region ∷ []) Crowded
+  unfolding fits_table rows
+  crowded_row place first =
+      let row : StoredRow = get_or (log_rows shape region image) place blank in
+      let known : has_known_kind row ≡ true = kind_there (log_rows shape region image) place first.there ∙ first.known in
+      let none : fits_table shape (take (place + 1) (log_rows shape region image)) ≡ false = ap is_some first.crowded in
+      alone place row Crowded (record {
+        there = slice_get-get_or (log_rows shape region image) place blank first.there;
+        known = first.before.known;
+        fits = first.before.placed;
+        first = ap (λ (b : Bool). slice_get (finding_if (not b) (Damaged (Log region place)) ++ finding_if (not (fits_table shape (take (place + 1) (log_rows shape region image)))) Crowded) 0) known
+            ∙ ap (λ (b : Bool). slice_get (finding_if (not b) Crowded) 0) none;
+      })
+
+  -- all kinds known and all keys placed
+  pub sound_log : (table : Slots) → list_all has_known_kind (log_rows shape region image) ≡ true → index_of_keys shape.buckets (keys_of (log_rows shape region image)) ≡ Some table → AreSoundLogs shape image (region ∷ [])
+  unfolding fits_table
+  sound_log table known indexed =
+      append-nil (log_findings shape (log_part shape image region)) ∙ (log_sound_law shape (log_part shape image region)).1 (known, ap is_some indexed)
+
+-- a log that was rebuilt
+pub rebuilt_sound : (content : Content) (shape : Shape) (region : ℕ) (store : LogStoreState) (puts : ℕ) → store.log.shape ≡ shape → store.log.region ≡ region → IsRebuilt content store puts → AreSoundLogs shape content.shown (region ∷ [])
+rebuilt_sound content shape region store puts has_shape has_region rebuilt =
+    let own : AreSoundLogs store.log.shape content.shown (store.log.region ∷ []) = sound_log store.log.shape content.shown store.log.region store.table rebuilt.known rebuilt.indexed in
+    subst (λ (s : Shape). AreSoundLogs s content.shown (region ∷ [])) has_shape (subst (λ (r : ℕ). AreSoundLogs store.log.shape content.shown (r ∷ [])) has_region own)
+
+-- ---- in several
+
+-- some logs and those behind them
+pub sound_both : (shape : Shape) (image some more : List ℕ) → AreSoundLogs shape image some → AreSoundLogs shape image more → AreSoundLogs shape image (some ++ more)
+sound_both shape image some more first second =
+    ap (flat_map (log_findings shape)) (map-append (log_part shape image) some more)
+    ∙ flat_map-append (log_findings shape) (map (log_part shape image) some) (map (log_part shape image) more)
+    ∙ ap (λ (l : List Finding). l ++ flat_map (log_findings shape) (map (log_part shape image) more)) first ∙ second
+
+-- the first finding among some of the logs, behind others in which nothing is found
+pub found_within : (shape : Shape) (image before regions after : List ℕ) (finding : Finding) → AreSoundLogs shape image before → HasFirstFinding shape image regions finding → HasFirstFinding shape image (before ++ regions ++ after) finding
+found_within shape image before regions after finding sound found = record {
+  before = before ++ found.before;
+  region = found.region;
+  after = found.after ++ after;
+  all = ap (λ (l : List ℕ). before ++ l ++ after) found.all
+      ∙ ap (λ (l : List ℕ). l ++ after) (sym (append_assoc before found.before (found.region ∷ found.after)))
+      ∙ append_assoc (before ++ found.before) (found.region ∷ found.after) after;
+  sound = sound_both shape image before found.before sound found.sound;
+  place = found.place;
+  row = found.row;
+  first = found.first;
+}
+
+-- the first finding in the logs that the ruling body names is the verdict
+pub log_verdict : (shape : Shape) (body : Body) (image : List ℕ) (finding : Finding) → image_stores image ≡ Ok (stores_named shape body image) → HasFirstFinding shape image (body.active ∷ body.frozen) finding → image_verdict image ≡ Some finding
+unfolding stores_named
+log_verdict shape body image finding stores found =
+    first_finding_law image (stores_named shape body image) (map (log_part shape image) found.before) (map (log_part shape image) found.after) (log_part shape image found.region) found.place found.row finding stores
+    (ap (map (log_part shape image)) found.all ∙ map-append (log_part shape image) found.before (found.region ∷ found.after)) found.sound found.first
+
+-- ---- the puts
+
+-- the puts in the rows of some logs
+charge_of_logs : (shape : Shape) (image regions : List ℕ) → charge_of_rows (oldest_first (map part_rows (map (log_part shape image) regions))) ≡ put_rows shape image regions
+charge_of_logs shape image [] = refl
+charge_of_logs shape image (region ∷ regions) =
+    let own : ℕ = charge_of_rows (log_rows shape region image) in
+    let rest : ℕ = put_rows shape image regions in
+    count_law (oldest_first (map part_rows (map (log_part shape image) regions))) (log_rows shape region image)
+    ∙ ap (λ (n : ℕ). n + own) (charge_of_logs shape image regions)
+    ∙ (let swapped : rest + own ≡ own + rest = omega arith in swapped)
+    ∙ sym (sum_by-cons (λ (r : ℕ). charge_of_rows (log_rows shape r image)) region regions)
+
+-- of stores with logs alone the charge is the puts in their logs
+pub charge_of_named : (shape : Shape) (body : Body) (image : List ℕ) → body.hashed ≡ [] → body.sorted_count ≡ 0 → charge_of (stores_named shape body image) ≡ put_rows shape image (body.active ∷ body.frozen)
+unfolding rows_of stores_named sorted_rows
+charge_of_named shape body image hashes entries =
+    let logs : List StoredRow = oldest_first (map part_rows (map (log_part shape image) (body.active ∷ body.frozen))) in
+    ap (λ (n : ℕ). charge_of_rows (sorted_rows shape body.sorted n image ++ oldest_first (map known_rows (map (hash_part shape image) body.hashed)) ++ logs)) entries
+    ∙ ap (λ (ids : List ℕ). charge_of_rows (oldest_first (map known_rows (map (hash_part shape image) ids)) ++ logs)) hashes
+    ∙ charge_of_logs shape image (body.active ∷ body.frozen)

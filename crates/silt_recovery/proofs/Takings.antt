@@ -1,0 +1,276 @@
+-- What stands at the exits of an opening.
+use Rattle.std.proofs.Common.{◌≡◌, ◌≤◌, ◌<◌, ℕ, ◌+◌, ◌-◌, ◌*◌, inl, inr, false, IsTrue, List, [], ◌∷◌, ◌++◌, All, length, map, slice_index_or, Ok, ap, sym, ◌∙◌, subst, arith}
+use Rattle.std.specs.List.{list_all}
+use Rattle.std.proofs.lemmas.List.{append-nil}
+use Rattle.std.proofs.lemmas.List.Elements.{All-cons, All-nil}
+use Rattle.std.proofs.lemmas.List.FromFn.{length-map-range_with_len}
+use Rattle.std.proofs.Math.Nat.{one-le-mul}
+use Rattle.silt_device.specs.Disk.{Content, Left, LeavesOnly, Settles, Stays, ChangesWithin, Torn, size}
+use Rattle.silt_device.specs.Layout.{Shape, InLimits, gates_at, log_size, row_len, slot_at}
+use Rattle.silt_device.proofs.Images.{left_at_rest, left_after_failed_sync, shown_left, within_wider}
+use Rattle.silt_device.proofs.Regions.{up_least}
+use Rattle.silt_cuckoo.specs.Index.{index_of_keys}
+use Rattle.silt_image.specs.Header.{shape_of}
+use Rattle.silt_image.specs.Laws.{IsWhole}
+use Rattle.silt_image.specs.Meaning.{IsGood, IsSound, StandsFor, charge_of, charge_of_rows, image_map, map_of_rows, rows_of, with_log_rows}
+use Rattle.silt_image.specs.Stores.{Part, Stores, image_stores, log_part, stores_named}
+use Rattle.silt_image.proofs.Frame.{log_region_law}
+use Rattle.silt_image.proofs.Named.{stores_law, whole_law}
+use Rattle.silt_image.proofs.Rows.{own_rows_law}
+use Rattle.silt_image.proofs.Verdict.{rows_law, sound_law, stands_law}
+use Rattle.silt_log.specs.Rows.{StoredRow, first_rows, has_known_kind, log_rows, open_count, rows_from}
+use Rattle.silt_log.specs.State.{LogState, InBounds, all_rows, waiting_rows}
+use Rattle.silt_log.proofs.Waiting.{none_waiting}
+use Rattle.silt_log_store.specs.Calls.{SealsStore}
+use Rattle.silt_log_store.specs.State.{LogStoreState, keys_of}
+use Rattle.silt_manifest.proofs.Laws.{rules_elsewhere}
+use Rattle.silt_stores.specs.Calls.{AreLogsAlone, StandsOnLogs}
+use Rattle.silt_stores.specs.Standing.{IsFrozen, Stands, base_map, shown_stores}
+use Rattle.silt_stores.specs.State.{AreWhole, StoresState, region_of}
+use Rattle.silt_recovery.specs.Logs.{IsReadLog}
+use Rattle.silt_recovery.specs.Opening.{Holds, IsUnwritten, IsUnwrittenUnlessFailed, LeavesNoOther, TakesUp}
+use Rattle.silt_recovery.specs.Refusals.{IsFound, IsRefusedLook}
+use Rattle.silt_recovery.specs.declared.fault.OpenError.{OpenError}
+use Rattle.silt_recovery.specs.declared.fault.OpenError.TheVariants.{NotFormatted, Damaged, Crowded, Device, NoMemory}
+use Rattle.silt_recovery.proofs.Refusals.{refused_weaker}
+
+-- ---- where nothing was written
+
+-- after a failed sync
+pub unsettled : (old new : Content) → Stays old new → LeavesNoOther old new
+unsettled old new stays = record { each = λ honest image left. inl (left_after_failed_sync stays (sym stays.honest ∙ honest) image left) }
+
+-- after a sync the disk shows what it showed, and a stop leaves that
+pub settled_only : (old new : Content) → Settles old new → IsUnwritten old new
+settled_only old new settles = record {
+  shown = settles.shown;
+  left = record {
+    each = λ honest image left.
+        let was : IsTrue old.honest = sym settles.honest ∙ honest in
+        let is : image ≡ old.shown = left_at_rest settles.rests honest image left ∙ settles.shown was in
+        subst (Left old) (sym is) (shown_left old);
+  };
+}
+
+-- so it is refused, if it is
+pub unwritten : {F : Type 0} (old new : Content) (error : OpenError F) → Settles old new → IsUnwrittenUnlessFailed old new error
+unwritten old new NotFormatted settles = settled_only old new settles
+unwritten old new (Damaged place) settles = settled_only old new settles
+unwritten old new Crowded settles = settled_only old new settles
+unwritten old new (Device fault) settles = tt
+unwritten old new NoMemory settles = settled_only old new settles
+
+-- and each image might have been left before
+pub settled_image : (old new : Content) → Settles old new → LeavesNoOther old new
+settled_image old new settles = record { each = λ honest image left. inl ((settled_only old new settles).left.each honest image left) }
+
+-- why a look was refused is why the opening is
+pub looked_up : {F : Type 0} (W : F → Type 0) (old new : Content) (error : OpenError F) → Settles old new → IsRefusedLook (λ finding. IsTrue new.honest → IsFound new.shown finding) W error → IsRefusedLook (λ finding. IsTrue old.honest → IsFound old.shown finding) W error
+looked_up W old new error settles refused =
+    refused_weaker (λ finding. IsTrue new.honest → IsFound new.shown finding) (λ finding. IsTrue old.honest → IsFound old.shown finding) W error
+    (λ finding found h. subst (λ (image : List ℕ). IsFound image finding) (settles.shown h) (found (settles.honest ∙ h))) refused
+
+-- ---- the rows of a log
+
+-- as many rows as gates before the first closed one
+pub row_count : (shape : Shape) (region : ℕ) (image : List ℕ) → length (log_rows shape region image) ≡ open_count shape region image
+unfolding log_rows rows_from
+row_count shape region image = length-map-range_with_len _ 0 (open_count shape region image)
+
+-- all rows of a log that was scanned are those
+scanned_rows : (content : Content) (log : LogState) → log.used ≡ open_count log.shape log.region content.shown → all_rows content log ≡ log_rows log.shape log.region content.shown
+unfolding log_rows
+scanned_rows content log used = ap (first_rows log.shape log.region content.shown) used
+
+-- a log that was read stands while its rows stay
+frozen_stands : (between new : Content) (shape : Shape) (store : LogStoreState) → new.honest ≡ between.honest → IsReadLog between shape store
+    → (IsTrue between.honest → log_rows shape store.log.region new.shown ≡ log_rows shape store.log.region between.shown) → IsFrozen new store
+frozen_stands between new shape store honest read stays =
+    let was : IsTrue new.honest → IsTrue between.honest = λ h. sym honest ∙ h in
+    let rows : IsTrue between.honest → log_rows store.log.shape store.log.region new.shown ≡ log_rows store.log.shape store.log.region between.shown =
+    subst (λ (s : Shape). IsTrue between.honest → log_rows s store.log.region new.shown ≡ log_rows s store.log.region between.shown) (sym read.has_shape) stays in
+    let used : IsTrue between.honest → store.log.used ≡ open_count store.log.shape store.log.region new.shown = λ h.
+    (read.scanned h).used ∙ sym (row_count store.log.shape store.log.region between.shown) ∙ sym (ap length (rows h)) ∙ row_count store.log.shape store.log.region new.shown in
+    let all : IsTrue between.honest → all_rows new store.log ≡ all_rows between store.log = λ h.
+    scanned_rows new store.log (used h) ∙ rows h ∙ sym (scanned_rows between store.log (read.scanned h).used) in
+    record {
+      rows = λ h. used (was h);
+      indexed = record {
+        known = λ h. ap (list_all has_known_kind) (all (was h)) ∙ read.indexed.known (was h);
+        indexed = λ h. ap (λ (l : List StoredRow). index_of_keys store.log.shape.buckets (keys_of l)) (all (was h)) ∙ read.indexed.indexed (was h);
+      };
+    }
+
+-- stores with equal logs have equal rows in each
+same_rows : (shape : Shape) (a b : List ℕ) (stores : List LogStoreState) → map (log_part shape a) (map region_of stores) ≡ map (log_part shape b) (map region_of stores)
+    → All (λ (store : LogStoreState). log_rows shape store.log.region a ≡ log_rows shape store.log.region b) stores
+same_rows shape a b [] same = All-nil (λ (store : LogStoreState). log_rows shape store.log.region a ≡ log_rows shape store.log.region b)
+same_rows shape a b (store ∷ stores) same =
+    let first : log_part shape a store.log.region ≡ log_part shape b store.log.region = cc in
+    let rest : map (log_part shape a) (map region_of stores) ≡ map (log_part shape b) (map region_of stores) = cc in
+    All-cons (λ (s : LogStoreState). log_rows shape s.log.region a ≡ log_rows shape s.log.region b) store stores (ap (λ (part : Part). part.rows) first) (same_rows shape a b stores rest)
+
+-- what a seal changes lies in its log's region
+sealed_within : (log : LogState) (old new : Content) → InLimits log.shape → InBounds log → ChangesWithin (gates_at log.shape log.region + log.used + 1) (log.shape.log_capacity - (log.used + 1)) old new
+    → ChangesWithin (gates_at log.shape log.region) (log_size log.shape) old new
+sealed_within log old new limits bounds changes =
+    let bodies : 1 ≤ log.shape.log_capacity * row_len log.shape = one-le-mul limits.log_capacity_least (omega arith) in
+    within_wider (gates_at log.shape log.region) (log_size log.shape) (omega arith)
+    (omega (arith, bounds.room, limits.log_capacity_least, bodies, up_least log.shape.log_capacity, up_least (log.shape.log_capacity * row_len log.shape))) changes
+
+-- ---- where the active log was sealed
+
+module _ (old between new : Content) (s : StoresState) (settles : Settles old between) (holds : Holds between s)
+    (seals_within : ChangesWithin (gates_at s.active.log.shape s.active.log.region + s.active.log.used + 1) (s.active.log.shape.log_capacity - (s.active.log.used + 1)) between new)
+    (images : LeavesOnly new (λ image. log_rows s.active.log.shape s.active.log.region image ≡ log_rows s.active.log.shape s.active.log.region between.shown)) where
+  changes : ChangesWithin (gates_at s.active.log.shape s.active.log.region) (log_size s.active.log.shape) between new
+  changes = sealed_within s.active.log between new (subst InLimits (sym holds.whole.has_shape) holds.limits) holds.active.bounds seals_within
+
+  was : IsTrue new.honest → IsTrue between.honest
+  was h = sym changes.honest ∙ h
+
+  here : IsTrue old.honest → IsTrue between.honest
+  here h = settles.honest ∙ h
+
+  -- the change and the rows, in the manifest's words
+  changed : ChangesWithin (gates_at s.manifest.shape s.manifest.ruling.active) (log_size s.manifest.shape) between new
+  changed =
+      subst (λ (n : ℕ). ChangesWithin (gates_at s.manifest.shape n) (log_size s.manifest.shape) between new) holds.whole.active_region
+      (subst (λ (x : Shape). ChangesWithin (gates_at x s.active.log.region) (log_size x) between new) holds.whole.has_shape changes)
+
+  stays : LeavesOnly new (λ image. log_rows s.manifest.shape s.manifest.ruling.active image ≡ log_rows s.manifest.shape s.manifest.ruling.active between.shown)
+  stays =
+      subst (λ (n : ℕ). LeavesOnly new (λ image. log_rows s.manifest.shape n image ≡ log_rows s.manifest.shape n between.shown)) holds.whole.active_region
+      (subst (λ (x : Shape). LeavesOnly new (λ image. log_rows x s.active.log.region image ≡ log_rows x s.active.log.region between.shown)) holds.whole.has_shape images)
+
+  exists : s.manifest.ruling.active < s.manifest.shape.logs
+  exists =
+      subst (λ (n : ℕ). n < s.manifest.shape.logs) holds.whole.active_region
+      (subst (λ (x : Shape). s.active.log.region < x.logs) holds.whole.has_shape holds.active.bounds.region)
+
+  whole : IsTrue between.honest → IsWhole (shown_stores between s) between.shown
+  whole h = whole_law between.shown (shown_stores between s) (holds.named h)
+
+  -- the active log with its own rows
+  own_rows : IsTrue between.honest → with_log_rows s.manifest.ruling.active (log_rows s.manifest.shape s.manifest.ruling.active between.shown) (shown_stores between s) ≡ shown_stores between s
+  unfolding stores_named
+  own_rows h = own_rows_law (shown_stores between s) (log_rows s.manifest.shape s.manifest.ruling.active between.shown) (whole h).active
+
+  -- whatever a stop leaves has the stores that were shown
+  same_stores : LeavesOnly new (λ image. image_stores image ≡ Ok (shown_stores between s))
+  unfolding stores_named
+  same_stores = record {
+    each = λ honest image left.
+        let h : IsTrue between.honest = was honest in
+        let from = changed.left h image left in
+        let is : from.0 ≡ between.shown = left_at_rest settles.rests h from.0 from.1 in
+        let torn : Torn (gates_at s.manifest.shape s.manifest.ruling.active) (log_size s.manifest.shape) between.shown image =
+        subst (λ (before : List ℕ). Torn (gates_at s.manifest.shape s.manifest.ruling.active) (log_size s.manifest.shape) before image) is from.2 in
+        log_region_law between.shown image (shown_stores between s) s.manifest.ruling.active (holds.named h) exists torn
+        ∙ ap (λ (rows : List StoredRow). Ok (with_log_rows s.manifest.ruling.active rows (shown_stores between s))) (stays.each honest image left)
+        ∙ ap Ok (own_rows h);
+  }
+
+  -- and so is what is shown
+  shown_same : IsTrue between.honest → shown_stores new s ≡ shown_stores between s
+  unfolding stores_named
+  shown_same h = sym ((stores_law new.shown (shown_stores between s)).0 (same_stores.each (changes.honest ∙ h) new.shown (shown_left new))).named
+
+  -- each image stands for what was shown
+  stands_for : IsTrue old.honest → (image : List ℕ) → image_stores image ≡ Ok (shown_stores between s) → StandsOnLogs (shape_of old.shown) (image_map old.shown) image
+  unfolding stores_named image_map
+  stands_for o image stores =
+      let h : IsTrue between.honest = here o in
+      let stands : StandsFor s.manifest.shape (map_of_rows (rows_of (shown_stores between s))) image = stands_law image (shown_stores between s) stores (holds.sound h) in
+      let has_shape : s.manifest.shape ≡ shape_of old.shown = sym (whole h).has_shape ∙ ap shape_of (settles.shown o) in
+      let has_map : map_of_rows (rows_of (shown_stores between s)) ≡ image_map old.shown = ap map_of_rows (sym (rows_law between.shown (shown_stores between s) (holds.named h))) ∙ ap image_map (settles.shown o) in
+      record {
+        stands = subst (λ (x : Shape). StandsFor x (image_map old.shown) image) has_shape (subst (λ m. StandsFor s.manifest.shape m image) has_map stands);
+        logs_alone = subst AreLogsAlone (sym stores) holds.logs_alone;
+      }
+
+  pub sealed_images : LeavesNoOther old new
+  sealed_images = record { each = λ honest image left. inr (stands_for (sym settles.honest ∙ was honest) image (same_stores.each honest image left)) }
+
+  module _ (after : LogStoreState) (sizes : size new ≡ size between) (long_as : size between ≡ size old) (seals : SealsStore between new s.active after) where
+    same_log : after.log ≡ record s.active.log { loose = false }
+    same_log = seals.log.log
+
+    frozen_rows : IsTrue between.honest → All (λ (store : LogStoreState). log_rows s.manifest.shape store.log.region new.shown ≡ log_rows s.manifest.shape store.log.region between.shown) s.frozen
+    unfolding stores_named
+    frozen_rows h =
+        let all : map (log_part s.manifest.shape new.shown) (s.manifest.ruling.active ∷ s.manifest.ruling.frozen) ≡ map (log_part s.manifest.shape between.shown) (s.manifest.ruling.active ∷ s.manifest.ruling.frozen) =
+        ap (λ (x : Stores). x.logs) (shown_same h) in
+        let frozen : map (log_part s.manifest.shape new.shown) s.manifest.ruling.frozen ≡ map (log_part s.manifest.shape between.shown) s.manifest.ruling.frozen = cc in
+        same_rows s.manifest.shape new.shown between.shown s.frozen
+        (subst (λ (ids : List ℕ). map (log_part s.manifest.shape new.shown) ids ≡ map (log_part s.manifest.shape between.shown) ids) (sym holds.whole.frozen_regions) frozen)
+
+    settled : after.log.settled ≡ after.log.used
+    settled = ap (λ (l : LogState). l.settled) same_log ∙ holds.active.settled ∙ sym (ap (λ (l : LogState). l.used) same_log)
+
+    -- the rows of the active log
+    active_rows : IsTrue between.honest → all_rows new after.log ≡ log_rows s.manifest.shape s.manifest.ruling.active between.shown
+    active_rows h =
+        seals.all h ∙ scanned_rows between s.active.log (holds.active.scanned h).used
+        ∙ ap (λ (x : Shape). log_rows x s.active.log.region between.shown) holds.whole.has_shape ∙ ap (λ (n : ℕ). log_rows s.manifest.shape n between.shown) holds.whole.active_region
+
+    has_region : after.log.region ≡ s.manifest.ruling.active
+    has_region = ap (λ (l : LogState). l.region) same_log ∙ holds.whole.active_region
+
+    -- nothing is found in the stores with all rows of the active log
+    all_sound : IsTrue between.honest → IsSound (with_log_rows after.log.region (all_rows new after.log) (shown_stores new s))
+    all_sound h =
+        subst IsSound (sym (
+        ap (λ (x : Stores). with_log_rows after.log.region (all_rows new after.log) x) (shown_same h)
+        ∙ ap (λ (rows : List StoredRow). with_log_rows after.log.region rows (shown_stores between s)) (active_rows h)
+        ∙ ap (λ (n : ℕ). with_log_rows n (log_rows s.manifest.shape s.manifest.ruling.active between.shown) (shown_stores between s)) has_region
+        ∙ own_rows h
+        )) (holds.sound h)
+
+    all_counted : IsTrue between.honest → s.charge ≡ charge_of_rows (rows_of (shown_stores new s) ++ waiting_rows new after.log)
+    all_counted h =
+        holds.counted h ∙ ap charge_of (sym (shown_same h))
+        ∙ ap charge_of_rows (sym (append-nil (rows_of (shown_stores new s))))
+        ∙ ap (λ (rows : List StoredRow). charge_of_rows (rows_of (shown_stores new s) ++ rows)) (sym (none_waiting new after.log settled))
+
+    stands : Stands new (record s { active = after })
+    stands =
+        let sealed = seals.stands holds.active.indexed in
+        let least : slot_at 1 + 4096 ≤ size between = omega (arith, holds.has_size) in
+        record {
+          has_size = sizes ∙ holds.has_size;
+          whole = record {
+            has_shape = ap (λ (l : LogState). l.shape) same_log ∙ holds.whole.has_shape;
+            active_region = has_region;
+            frozen_regions = holds.whole.frozen_regions;
+            settled = holds.whole.settled;
+            most = holds.whole.most;
+          };
+          idle = holds.idle;
+          rules = rules_elsewhere s.manifest (gates_at s.manifest.shape s.manifest.ruling.active) (log_size s.manifest.shape) between new least (inr (omega arith)) changed (holds.rules settles.rests);
+          active = sealed.log;
+          indexed = sealed.index;
+          frozen = λ k d inside. frozen_stands between new s.manifest.shape (slice_index_or s.frozen k d) changes.honest (holds.frozen k d inside) (λ h. frozen_rows h k d inside);
+          named = record { each = λ honest image left. same_stores.each honest image left ∙ ap Ok (sym (shown_same (was honest))) };
+          sound = λ h. all_sound (was h);
+          counted = λ h. all_counted (was h);
+          logs_alone = holds.logs_alone;
+        }
+
+    -- the stores were taken up
+    pub taken_up : TakesUp old new (record s { active = after })
+    unfolding base_map stores_named image_map
+    taken_up = record {
+      disk = record { size = sizes ∙ long_as; honest = changes.honest ∙ settles.honest };
+      stands = stands;
+      quiet = record { settled = settled; none_wait = ap (map _) (none_waiting new after.log settled) };
+      good = λ o. subst IsGood (settles.shown o) ((sound_law between.shown (shown_stores between s) (holds.named (here o))).1 (holds.sound (here o)));
+      logs_alone = λ o. subst (λ (image : List ℕ). AreLogsAlone (image_stores image)) (settles.shown o) (subst AreLogsAlone (sym (holds.named (here o))) holds.logs_alone);
+      has_shape = λ o. sym (whole (here o)).has_shape ∙ ap shape_of (settles.shown o);
+      has_map = λ o.
+          ap (λ (x : Stores). map_of_rows (rows_of x)) (shown_same (here o)) ∙ ap map_of_rows (sym (rows_law between.shown (shown_stores between s) (holds.named (here o)))) ∙ ap image_map (settles.shown o);
+    }
+
+    -- the parts are those of stores
+    pub parts_whole : AreWhole (record s { active = after })
+    parts_whole = stands.whole

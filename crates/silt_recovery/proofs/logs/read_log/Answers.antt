@@ -1,0 +1,18 @@
+use Rattle.silt_recovery.proofs.Searches.{crowded_row, damaged_row, rebuilt_sound}
+use Rattle.silt_recovery.proofs.logs.read_log.Goals as goal
+
+pub returns-in-Ok-clause-sound : goal.returns-in-Ok-clause-sound
+returns-in-Ok-clause-sound g c = λ h.
+    let region = c.in-Ok.ensures.region in
+    rebuilt_sound (g.D.Disk.content c.args.disk.now) c.args.geometry c.args.region c.in-Ok.rebuilt.store c.in-Ok.rebuilt.puts region.0 region.1 (c.in-Ok.ensures.rebuilt h)
+
+pub returns-in-Err-Damaged-clause-cause : goal.returns-in-Err-Damaged-clause-cause
+returns-in-Err-Damaged-clause-cause g c = λ h.
+    let refused = rw c.in-Err-Damaged.field-0-is at c.in-Err-Damaged.ensures.err in
+    damaged_row c.args.geometry (g.D.Disk.content c.args.disk.now).shown c.args.region c.in-Err-Damaged.row (refused h)
+
+pub returns-in-Err-Crowded-clause-cause : goal.returns-in-Err-Crowded-clause-cause
+returns-in-Err-Crowded-clause-cause g c = λ h.
+    let refused = rw c.in-Err-Crowded.field-0-is at c.in-Err-Crowded.ensures.err in
+    let first = refused h in
+    crowded_row c.args.geometry (g.D.Disk.content c.args.disk.now).shown c.args.region first.0 first.1

@@ -1,0 +1,36 @@
+-- What formatting a device leaves.
+use Rattle.std.specs.Prelude.{◌≡◌, ◌≢◌, ◌⊎◌, ℕ, ◌∷◌, List, Some, get_or}
+use Rattle.std.specs.FinMap.{empty}
+use Rattle.silt_device.specs.Disk.{Content, Left, Torn, size}
+use Rattle.silt_device.specs.Layout.{Shape, device_size}
+use Rattle.silt_image.specs.Header.{header_bytes, header_of}
+use Rattle.silt_image.specs.Meaning.{image_verdict}
+use Rattle.silt_image.specs.declared.finding.Finding.TheVariants.{NotFormatted}
+use Rattle.silt_stores.specs.Calls.{StandsOnLogs}
+use Rattle.silt_recovery.specs.declared.fault.FormatError.{FormatError}
+use Rattle.silt_recovery.specs.declared.fault.FormatError.TheVariants.{BadGeometry, Device, NoMemory}
+
+-- Why a device was not formatted: it has another length, or a growth found no memory, and then it is as it was; or the disk gave a
+-- fault.
+abbrev pub FormatCause : {D F : Type 0} → (D → Content) → (D → F → Type 0) → Shape → D → D → FormatError F → Type 0
+FormatCause content gave shape old new BadGeometry = (size (content old) ≢ device_size shape) × (new ≡ old)
+FormatCause content gave shape old new NoMemory = (size (content old) ≡ device_size shape) × (new ≡ old)
+FormatCause content gave shape old new (Device fault) = (size (content old) ≡ device_size shape) × gave new fault
+
+-- the header's gate is closed
+abbrev pub IsGateClosed : List ℕ → Type 0
+IsGateClosed image = get_or image 0 0 ≢ 167
+
+-- the header's gate is closed, or the header of this shape stands behind it
+abbrev pub HasHeaderOrNone : Shape → List ℕ → Type 0
+HasHeaderOrNone shape image = IsGateClosed image ⊎ (header_of image ≡ 167 ∷ header_bytes shape)
+
+-- an image that might have been left before, but for the header's gate
+pub record IsLeftButForGate (old : Content) (image : List ℕ) : Type 0 where
+  pub before : List ℕ
+  pub left : Left old before
+  pub torn : Torn 0 1 before image
+
+-- what a stopped formatting leaves: what might have been left before, but for the header's gate; or no store; or the empty one
+abbrev pub IsHalfFormatted : Content → Shape → List ℕ → Type 0
+IsHalfFormatted old shape image = IsLeftButForGate old image ⊎ ((image_verdict image ≡ Some NotFormatted) ⊎ StandsOnLogs shape empty image)

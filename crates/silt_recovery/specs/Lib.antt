@@ -1,0 +1,4 @@
+pub mod Refusals
+pub mod Format
+pub mod Logs
+pub mod Opening

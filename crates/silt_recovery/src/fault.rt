@@ -1,0 +1,44 @@
+// Why a device was not formatted, not opened or not found whole.
+use silt_device::Disk;
+use silt_image::Place;
+
+/// Why a device was not formatted. A fault is the disk's own, of a call that failed within this very call.
+#[derive(Debug, Drop)]
+pub enum FormatError<F> {
+    /// The device is not as long as the geometry asks.
+    BadGeometry,
+    /// A write or a sync failed with this fault.
+    Device(F),
+    /// The bytes for the gates of a log found no memory.
+    NoMemory,
+}
+
+/// A device that was not formatted, and why.
+#[derive(Drop)]
+pub struct FormatFault<D: Disk> {
+    pub disk: D,
+    pub error: FormatError<D::Fault>,
+}
+
+/// Why a device was not opened or not found whole. The first thing that is found decides; a failed call or want of memory may be
+/// answered before it. A fault is the disk's own, of a call that failed within this very call.
+#[derive(Debug, Drop)]
+pub enum OpenError<F> {
+    /// The device holds no store.
+    NotFormatted,
+    /// A part of the device is not as a store leaves it.
+    Damaged(Place),
+    /// The keys of a log find no places in a table.
+    Crowded,
+    /// A read, a write or a sync failed with this fault.
+    Device(F),
+    /// A log or its table found no memory.
+    NoMemory,
+}
+
+/// A device that was not opened, and why.
+#[derive(Drop)]
+pub struct OpenFault<D: Disk> {
+    pub disk: D,
+    pub error: OpenError<D::Fault>,
+}

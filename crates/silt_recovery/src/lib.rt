@@ -1,0 +1,28 @@
+//! Making a store of a device, taking one up, and telling what one consists of.
+//!
+//! `format` writes an empty store. Its header's gate is closed first and opened last, so that a device whose formatting was stopped
+//! holds no store, or the empty one.
+//!
+//! `open` and `check` look at a device in one order: the header, the manifest, the active log, the frozen logs from the newest
+//! on, the number of puts. The first thing that is found decides. `open` settles what is shown before it looks, and then closes the
+//! gates of the active log past its first closed one: a row behind such a gate was dropped by a stop, and is not to come back.
+//! At each exit of an opening, whatever a stop leaves might have been left before, or stands for the map that was shown.
+//!
+//! In this stage a store has logs alone: a manifest that names hash stores or sorted entries is refused.
+#![tactic(auto)]
+
+mod checking;
+mod examining;
+mod fault;
+mod formatting;
+mod header;
+mod logs;
+mod opening;
+
+pub use checking::check;
+pub use fault::{FormatError, FormatFault, OpenError, OpenFault};
+pub use formatting::format;
+pub use opening::{Opened, open};
+
+#[cfg(test)]
+mod tests;

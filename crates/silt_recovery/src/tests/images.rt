@@ -1,0 +1,212 @@
+// Crafted images, and what is found in each.
+
+use crate::tests::{EMPTY, formatted, looked_at, small};
+use silt_device::Geometry;
+use silt_image::{Finding, Place, Report};
+use std::alloc::Global;
+use std::process::Abort;
+use std::test::Fail;
+
+// These bytes with some of them changed.
+fn changed(
+    rt: &impl Abort,
+    alloc: Global,
+    whole: &[u8],
+    changes: &[(usize, u8)],
+) -> Result<Vec<u8>, Fail> {
+    let mut bytes = whole.to_vec(alloc)?;
+    for (place, byte) in changes {
+        assert!(rt; *place < bytes.len());
+        bytes[*place] = *byte;
+    }
+    Ok(bytes)
+}
+
+// The bytes of an empty store of the small geometry.
+fn whole(alloc: Global) -> Result<Vec<u8>, Fail> {
+    let disk = formatted(alloc, small()?)?;
+    Ok(disk.shown().to_vec(alloc)?)
+}
+
+const HEADER: Finding = Finding::Damaged(Place::Header);
+
+const LENGTH: Finding = Finding::Damaged(Place::Length);
+
+const NO_SLOT: Finding = Finding::Damaged(Place::NoSlot);
+
+const CHARGE: Finding = Finding::Damaged(Place::Charge);
+
+// A row of the log in a region.
+const fn row(region: u32, row: u32) -> Finding {
+    Finding::Damaged(Place::Log { region, row })
+}
+
+// One byte of an empty store is changed: in the header, then in manifest slot 0, then the gate of slot 1.
+#[test]
+fn finds_each_damaged_byte(rt: HostRuntime) -> Result<(), Fail> {
+    let alloc = rt.alloc();
+    let whole = whole(alloc)?;
+    let cases: [(usize, u8, Finding); 16] = [
+        (0, 0x00, Finding::NotFormatted),
+        (1, b's', Finding::NotFormatted),
+        (12, 9, Finding::NotFormatted),
+        (20, 3, HEADER),
+        (28, 9, HEADER),
+        (36, 0, HEADER),
+        (28, 3, LENGTH),
+        (4096, 0x00, NO_SLOT),
+        (4108, 2, Finding::Damaged(Place::Slot(0))),
+        (4104, 1, Finding::Damaged(Place::Slot(0))),
+        (4112, 1, Finding::Damaged(Place::Slot(0))),
+        (4212, 2, Finding::Damaged(Place::Slot(0))),
+        (8192, 0xA7, Finding::Damaged(Place::Slot(1))),
+        // a hash store and a sorted entry, which no store has yet
+        (4144, 1, NO_SLOT),
+        (4216, 1, NO_SLOT),
+        (4216, 8, NO_SLOT),
+    ];
+    for (place, byte, found) in cases {
+        let bytes = changed(&rt, alloc, &whole, &[(place, byte)])?;
+        assert_eq!(rt;
+            looked_at(&rt, alloc, &bytes)?,
+            Err(found),
+            "{byte} at {place}"
+        );
+    }
+    Ok(())
+}
+
+// Bad numbers decide before the length.
+#[test]
+fn finds_another_length(rt: HostRuntime) -> Result<(), Fail> {
+    let alloc = rt.alloc();
+    let whole = whole(alloc)?;
+    assert_eq!(rt; whole.len(), 45_056);
+    for len in [0usize, 36] {
+        assert_eq!(rt;
+            looked_at(&rt, alloc, &whole[..len])?,
+            Err(Finding::NotFormatted),
+            "{len}"
+        );
+    }
+    for (len, buckets, found) in [
+        (37usize, 2u8, LENGTH),
+        (12_288, 2, LENGTH),
+        (45_055, 2, LENGTH),
+        (45_055, 3, HEADER),
+    ] {
+        let bytes = changed(&rt, alloc, &whole[..len], &[(20, buckets)])?;
+        assert_eq!(rt; looked_at(&rt, alloc, &bytes)?, Err(found), "{len}");
+    }
+    Ok(())
+}
+
+// The gates of log 0 are at 12,288 and its bodies at 16,384, 23 bytes each; those of log 1 at 20,480 and 24,576. Log 0 has a put
+// and a delete, and log 1, which is frozen, a put.
+const THREE_ROWS: [(usize, u8); 9] = [
+    (4112, 1),
+    (4116, 1),
+    (12_288, 0xA7),
+    (12_289, 0xA7),
+    (16_384, 1),
+    (16_407, 2),
+    (16_408, 7),
+    (20_480, 0xA7),
+    (24_576, 1),
+];
+
+#[test]
+fn counts_the_rows_of_all_logs(rt: HostRuntime) -> Result<(), Fail> {
+    let alloc = rt.alloc();
+    let bytes = changed(&rt, alloc, &whole(alloc)?, &THREE_ROWS)?;
+    let rows = Report {
+        active_rows: 2,
+        frozen: 1,
+        frozen_rows: 1,
+        charge: 2,
+        ..EMPTY
+    };
+    assert_eq!(rt; looked_at(&rt, alloc, &bytes)?, Ok(rows));
+    Ok(())
+}
+
+// Each change is made to what the earlier ones left: what is found first decides.
+#[test]
+fn finds_the_first_damage(rt: HostRuntime) -> Result<(), Fail> {
+    let alloc = rt.alloc();
+    let mut bytes = changed(&rt, alloc, &whole(alloc)?, &THREE_ROWS)?;
+    let cases: [(usize, u8, Finding); 5] = [
+        (36, 1, CHARGE),
+        (24_576, 3, row(1, 0)),
+        (16_407, 0, row(0, 1)),
+        (16_384, 3, row(0, 0)),
+        (12_288, 0xFF, row(1, 0)),
+    ];
+    for (place, byte, found) in cases {
+        assert!(rt; place < bytes.len());
+        bytes[place] = byte;
+        assert_eq!(rt;
+            looked_at(&rt, alloc, &bytes)?,
+            Err(found),
+            "{byte} at {place}"
+        );
+    }
+    Ok(())
+}
+
+// A row behind a closed gate is not there, and one behind a gate past it does not come back.
+#[test]
+fn drops_what_a_closed_gate_cuts_off(rt: HostRuntime) -> Result<(), Fail> {
+    let alloc = rt.alloc();
+    let changes: [(usize, u8); 5] = [
+        (12_288, 0xA7),
+        (12_290, 0xA7),
+        (16_384, 1),
+        (16_407, 3),
+        (16_430, 3),
+    ];
+    let bytes = changed(&rt, alloc, &whole(alloc)?, &changes)?;
+    let one = Report {
+        active_rows: 1,
+        charge: 1,
+        ..EMPTY
+    };
+    assert_eq!(rt; looked_at(&rt, alloc, &bytes)?, Ok(one));
+    Ok(())
+}
+
+// The keys 01.. to 05.. fall into one bucket, of four slots.
+const FIVE_ROWS: [(usize, u8); 15] = [
+    (12_288, 0xA7),
+    (12_289, 0xA7),
+    (12_290, 0xA7),
+    (12_291, 0xA7),
+    (12_292, 0xA7),
+    (16_384, 1),
+    (16_385, 1),
+    (16_407, 1),
+    (16_408, 2),
+    (16_430, 1),
+    (16_431, 3),
+    (16_453, 1),
+    (16_454, 4),
+    (16_476, 1),
+    (16_477, 5),
+];
+
+#[test]
+fn finds_a_crowded_log(rt: HostRuntime) -> Result<(), Fail> {
+    let alloc = rt.alloc();
+    let geometry = Geometry::new(2, 2, 8, 2, 2, 16).ok().ok_or("in limits")?;
+    let disk = formatted(alloc, geometry)?;
+    let five = changed(&rt, alloc, disk.shown(), &FIVE_ROWS)?;
+    assert_eq!(rt; looked_at(&rt, alloc, &five)?, Err(Finding::Crowded));
+    let four = changed(&rt, alloc, &five, &[(12_292, 0)])?;
+    let rows = Report {
+        active_rows: 4,
+        charge: 4,
+        ..EMPTY
+    };
+    assert_eq!(rt; looked_at(&rt, alloc, &four)?, Ok(rows));
+    Ok(())
+}

@@ -1,0 +1,131 @@
+-- What a put or a delete does, from what taking its row does.
+use Rattle.std.proofs.Common.{◌≡◌, ℕ, ◌+◌, ◌%◌, ◌^◌, inl, inr, true, false, IsTrue, List, [], ◌∷◌, length, refl, ap, sym, ◌∙◌, subst}
+use Rattle.std.proofs.lemmas.List.{length-map}
+use Rattle.silt_device.specs.Disk.{Content}
+use Rattle.silt_frame.specs.declared.key.Key.{Key}
+use Rattle.silt_frame.specs.declared.key.Kind.{Kind}
+use Rattle.silt_frame.specs.declared.key.Kind.TheVariants as kind
+use Rattle.silt_image.specs.Meaning.{command_of}
+use Rattle.silt_log.specs.Rows.{StoredRow, log_rows, stored_row}
+use Rattle.silt_log.specs.State.{all_rows}
+use Rattle.silt_manifest.specs.declared.body.Body.{Body}
+use Rattle.silt_stores.specs.Calls.{Advances, AreAllInUse as AllInUse, Breaks, CannotTake, IsLastGeneration, Remaps, SameDisk}
+use Rattle.silt_stores.specs.Standing.{Stands, full_image}
+use Rattle.silt_stores.specs.State.{StoresState, region_of}
+use Rattle.silt_stores.specs.Taking.{NeedsNext, TakesKey}
+use Rattle.silt_stores.proofs.Facts.{meaning}
+use Rattle.silt_store_set.specs.declared.event.Event.TheVariants.{Put, Delete}
+use Rattle.silt_store_set.specs.declared.event.Refusal.{Refusal}
+use Rattle.silt_store_set.specs.declared.event.Refusal.TheVariants.{Device, NoMemory, NoRoom, Spent}
+use Rattle.silt_store_set.specs.declared.event.Reply.TheVariants.{Accepted, Refused}
+use Rattle.silt_store_set.specs.Events.{is_failed}
+use Rattle.silt_store_set.specs.CoreState.{CoreState, AreAllInUse, Cause, Does, FailsBy, FailsRead, HasFreeLog, IsStopped, MayWrite, Takes, row_event}
+use Rattle.silt_store_set.proofs.Calls.{seen, advanced, broke, refused}
+
+-- a store that may write is not failed
+pub may_working : {D : Type 0} (k : Kind) (core : CoreState D) → MayWrite k core → core.failed ≡ false
+may_working kind.Put core may = may.may_count.working
+may_working kind.Delete core may = may.working
+
+module _ {D F : Type 0} (content : D → Content) (failures : D → ℕ) (gave : D → F → Type 0) (disk : D) (stores : StoresState) (count : ℕ) (stands : Stands (content disk) stores) where
+  -- the store before
+  abbrev before : CoreState D
+  before = seen content disk stores count false
+
+  -- the rows of the active log, in memory's words and in those of the full image
+  rows_are : IsTrue (content disk).honest → all_rows (content disk) stores.active.log ≡ log_rows stores.manifest.shape stores.manifest.ruling.active (full_image (content disk) stores)
+  rows_are h = sym ((meaning (content disk) stores stands).rows h)
+
+  stopped : (next : CoreState D) (key : List ℕ) → NeedsNext (content disk) stores key → IsStopped content failures gave before next key
+  stopped next key needs = λ h. subst (λ (rows : List StoredRow). CannotTake stores.manifest.shape rows key) (rows_are h) (needs h)
+
+  -- as many logs are frozen as the body names
+  frozen_count : length stores.frozen ≡ length stores.manifest.ruling.frozen
+  frozen_count = sym (length-map stores.frozen region_of) ∙ ap length stands.whole.frozen_regions
+
+  all_in_use : AllInUse stores → AreAllInUse before
+  all_in_use all = ap (λ (n : ℕ). n + 1) (sym frozen_count) ∙ all
+
+  has_free : (AllInUse stores → ⊥) → HasFreeLog before
+  has_free free = λ all. free (ap (λ (n : ℕ). n + 1) frozen_count ∙ all)
+
+  takes : (new : D) (after : StoresState) (next : ℕ) (key : List ℕ) → TakesKey (content disk) stores after key → Takes content failures gave before (seen content new after next false) key
+  takes new after next key (inl (place, same)) = inl (same, λ h cannot. place h (subst (λ (rows : List StoredRow). CannotTake stores.manifest.shape rows key) (sym (rows_are h)) cannot))
+  takes new after next key (inr turns) = inr (
+    record {
+      generation = ap (λ (b : Body). b.generation) turns.ruling;
+      frozen = ap (λ (b : Body). b.frozen) turns.ruling;
+      hashed = ap (λ (b : Body). b.hashed) turns.ruling;
+      sorted = ap (λ (b : Body). b.sorted) turns.ruling;
+      sorted_count = ap (λ (b : Body). b.sorted_count) turns.ruling;
+    },
+    stopped (seen content new after next false) key turns.needs,
+  )
+
+  -- ---- the row was taken
+
+  pub row_taken : (new : D) (after : StoresState) (k : Kind) (key : Key) (value : List ℕ) → MayWrite k before → SameDisk (content disk) (content new)
+      → Advances (command_of (stored_row k key value) ∷ []) (content disk) (content new) stores after → TakesKey (content disk) stores after key.0 → failures new ≡ failures disk
+      → Does content failures gave before (seen content new after (count + 1) false) (row_event k key value) (Accepted (count + 1))
+  row_taken new after kind.Put key value may same goes taken counted =
+      advanced content failures gave disk new stores after same stands (command_of (stored_row kind.Put key value) ∷ []) count (count + 1) (Put key value) (Accepted (count + 1)) goes (refl, refl) refl refl refl
+      (may, (takes new after (count + 1) key.0 taken, counted)) (λ m to e. e) (λ none. absurd (cc)) (λ _. tt)
+  row_taken new after kind.Delete key value may same goes taken counted =
+      advanced content failures gave disk new stores after same stands (command_of (stored_row kind.Delete key value) ∷ []) count (count + 1) (Delete key) (Accepted (count + 1)) goes (refl, refl) refl refl refl
+      (may, (takes new after (count + 1) key.0 taken, counted)) (λ m to e. e) (λ none. absurd (cc)) (λ _. tt)
+
+  -- ---- a call failed
+
+  broke_cause : (next : CoreState D) (k : Kind) (key : Key) (value : List ℕ) (fault : F) → MayWrite k before → FailsBy failures gave before next fault → Cause content failures gave before next (row_event k key value) (Refused (Device fault))
+  broke_cause next kind.Put key value fault may fails = (may, inr fails)
+  broke_cause next kind.Delete key value fault may fails = (may, inr fails)
+
+  read_cause : (next : CoreState D) (k : Kind) (key : Key) (value : List ℕ) (fault : F) → MayWrite k before → FailsRead gave before next fault → Cause content failures gave before next (row_event k key value) (Refused (Device fault))
+  read_cause next kind.Put key value fault may fails = (may, inl fails)
+  read_cause next kind.Delete key value fault may fails = (may, inl fails)
+
+  pub row_broke : (new : D) (after : StoresState) (k : Kind) (key : Key) (value : List ℕ) (fault : F) → MayWrite k before → SameDisk (content disk) (content new)
+      → Breaks (content disk) (content new) stores → Remaps [] (content disk) (content new) stores after → after.manifest.shape ≡ stores.manifest.shape
+      → gave new fault → failures new ≡ (failures disk + 1) % 2 ^ 64
+      → Does content failures gave before (seen content new after count true) (row_event k key value) (Refused (Device fault))
+  row_broke new after k key value fault may same breaks remaps shape given counted =
+      broke content failures gave disk new stores after same stands count (row_event k key value) fault breaks shape remaps
+      (broke_cause (seen content new after count true) k key value fault may (record { given = given; counted = counted; failed = refl }))
+
+  -- ---- the row was refused
+
+  -- nothing was changed
+  kept : (new : D) (after : StoresState) (k : Kind) (key : Key) (value : List ℕ) (refusal : Refusal F) → after ≡ stores → new ≡ disk → is_failed (Refused refusal) ≡ false
+      → Cause content failures gave before before (row_event k key value) (Refused refusal)
+      → Does content failures gave before (seen content new after count false) (row_event k key value) (Refused refusal)
+  kept new after k key value refusal same_stores same_disk other cause =
+      rw (same_stores, same_disk) (refused content failures gave disk stores count false (row_event k key value) refusal refl stands other cause)
+
+  pub row_unread : (new : D) (after : StoresState) (k : Kind) (key : Key) (value : List ℕ) (fault : F) → MayWrite k before → after ≡ stores → new ≡ disk → gave disk fault
+      → Does content failures gave before (seen content new after count false) (row_event k key value) (Refused (Device fault))
+  row_unread new after k key value fault may same_stores same_disk given =
+      kept new after k key value (Device fault) same_stores same_disk refl (read_cause before k key value fault may (record { given = given; working = refl; same = refl }))
+
+  no_room_cause : (k : Kind) (key : Key) (value : List ℕ) → MayWrite k before → NeedsNext (content disk) stores key.0 → AllInUse stores → Cause content failures gave before before (row_event k key value) (Refused NoRoom)
+  no_room_cause kind.Put key value may needs all = (may, (stopped before key.0 needs, all_in_use all))
+  no_room_cause kind.Delete key value may needs all = (may, (stopped before key.0 needs, all_in_use all))
+
+  pub row_no_room : (new : D) (after : StoresState) (k : Kind) (key : Key) (value : List ℕ) → MayWrite k before → after ≡ stores → new ≡ disk → NeedsNext (content disk) stores key.0 → AllInUse stores
+      → Does content failures gave before (seen content new after count false) (row_event k key value) (Refused NoRoom)
+  row_no_room new after k key value may same_stores same_disk needs all = kept new after k key value NoRoom same_stores same_disk refl (no_room_cause k key value may needs all)
+
+  spent_cause : (k : Kind) (key : Key) (value : List ℕ) → MayWrite k before → NeedsNext (content disk) stores key.0 → (AllInUse stores → ⊥) → IsLastGeneration stores → Cause content failures gave before before (row_event k key value) (Refused Spent)
+  spent_cause kind.Put key value may needs free last = (refl, inr (may, (stopped before key.0 needs, has_free free, last)))
+  spent_cause kind.Delete key value may needs free last = (refl, inr (may, (stopped before key.0 needs, has_free free, last)))
+
+  pub row_spent : (new : D) (after : StoresState) (k : Kind) (key : Key) (value : List ℕ) → MayWrite k before → after ≡ stores → new ≡ disk → NeedsNext (content disk) stores key.0 → (AllInUse stores → ⊥) → IsLastGeneration stores
+      → Does content failures gave before (seen content new after count false) (row_event k key value) (Refused Spent)
+  row_spent new after k key value may same_stores same_disk needs free last = kept new after k key value Spent same_stores same_disk refl (spent_cause k key value may needs free last)
+
+  memory_cause : (k : Kind) (key : Key) (value : List ℕ) → MayWrite k before → NeedsNext (content disk) stores key.0 → (AllInUse stores → ⊥) → (IsLastGeneration stores → ⊥) → Cause content failures gave before before (row_event k key value) (Refused NoMemory)
+  memory_cause kind.Put key value may needs free more = (may, (stopped before key.0 needs, has_free free, more))
+  memory_cause kind.Delete key value may needs free more = (may, (stopped before key.0 needs, has_free free, more))
+
+  pub row_no_memory : (new : D) (after : StoresState) (k : Kind) (key : Key) (value : List ℕ) → MayWrite k before → after ≡ stores → new ≡ disk → NeedsNext (content disk) stores key.0 → (AllInUse stores → ⊥) → (IsLastGeneration stores → ⊥)
+      → Does content failures gave before (seen content new after count false) (row_event k key value) (Refused NoMemory)
+  row_no_memory new after k key value may same_stores same_disk needs free more = kept new after k key value NoMemory same_stores same_disk refl (memory_cause k key value may needs free more)

@@ -1,0 +1,75 @@
+-- Rows done on a map in memory.
+use Rattle.std.proofs.Common.{◌≡◌, ◌<◌, ℕ, ◌+◌, ◌==◌, Bool, cond, if◌then◌else◌, false, List, [], ◌∷◌, ◌++◌, ◌-◌, length, map, take, drop, get_or, Some, None, ap, sym, ◌∙◌, subst, arith}
+use Rattle.std.specs.Ordering.{nat_cmp, eq_by_cmp}
+use Rattle.std.specs.Cmp.Lexicographic.{slice_cmp}
+use Rattle.std.specs.BTreeMap.{BTreeMap}
+use Rattle.std.specs.BTreeMap as tree
+use Rattle.std.specs.FinMap.{empty, get, get-empty, get-insert, get-remove}
+use Rattle.std.specs.Map.{lookup}
+use Rattle.std.proofs.lemmas.Cmp.{eq_by_cmp_equiv, nat_list_cmp_total}
+use Rattle.std.proofs.lemmas.List.{drop_more, length-drop, map-append, take_all, take_more}
+use Rattle.silt_frame.specs.declared.key.Key.{Key}
+use Rattle.silt_image.specs.Commands.{Command, Map, changed, delete, map_after, put}
+use Rattle.silt_image.specs.Meaning.{command_of, oldest_first}
+use Rattle.silt_image.proofs.Rows.{map_after-append}
+use Rattle.silt_log.specs.Rows.{StoredRow}
+use Rattle.silt_stores.specs.Lookup.{AreEntriesOf, key_cmp}
+use Rattle.silt_stores.specs.Folding.{DoesRows}
+
+-- which of two keys is named first does not matter
+tied : (a b : List ℕ) → eq_by_cmp (slice_cmp nat_cmp) a b ≡ eq_by_cmp (slice_cmp nat_cmp) b a
+tied a b = (eq_by_cmp_equiv nat_list_cmp_total).symm a b
+
+-- a put was done
+pub does_put : (row : StoredRow) (key : Key) (before after : BTreeMap Key (List ℕ)) → row.kind ≡ 1 → row.key ≡ key.0 → tree.Updates key_cmp before after key (Some row.value) → DoesRows (row ∷ []) before after
+does_put row key before after kind same updates m are q =
+    let is : command_of row ≡ put key.0 row.value = ap (λ (n : ℕ). if n == 1 then put row.key row.value else delete row.key) kind ∙ ap (λ (k : List ℕ). put k row.value) same in
+    updates.0 q
+    ∙ ap (cond (eq_by_cmp (slice_cmp nat_cmp) key.0 q.0) (Some row.value)) (are q)
+    ∙ ap (λ (b : Bool). cond b (Some row.value) (get m q.0)) (tied key.0 q.0)
+    ∙ sym (get-insert nat_list_cmp_total m key.0 row.value q.0)
+    ∙ ap (λ (c : Command). get (changed m c) q.0) (sym is)
+
+-- a delete was done
+pub does_delete : (row : StoredRow) (key : Key) (before after : BTreeMap Key (List ℕ)) → (row.kind == 1) ≡ false → row.key ≡ key.0 → tree.UpdatesBy key_cmp (key_cmp key) before after None → DoesRows (row ∷ []) before after
+does_delete row key before after kind same updates m are q =
+    let is : command_of row ≡ delete key.0 = ap (λ (b : Bool). if b then put row.key row.value else delete row.key) kind ∙ ap delete same in
+    updates.0 q
+    ∙ ap (cond (eq_by_cmp (slice_cmp nat_cmp) key.0 q.0) None) (are q)
+    ∙ ap (λ (b : Bool). cond b None (get m q.0)) (tied key.0 q.0)
+    ∙ sym (get-remove nat_list_cmp_total m key.0 q.0)
+    ∙ ap (λ (c : Command). get (changed m c) q.0) (sym is)
+
+-- no row was done
+pub does_none : (entries : BTreeMap Key (List ℕ)) → DoesRows [] entries entries
+does_none entries m are = are
+
+-- further rows were done
+pub does_more : (rows more : List StoredRow) (a b c : BTreeMap Key (List ℕ)) → DoesRows rows a b → DoesRows more b c → DoesRows (rows ++ more) a c
+does_more rows more a b c first second m are =
+    subst (λ (n : Map). AreEntriesOf n c) (sym (ap (map_after m) (map-append command_of rows more) ∙ map_after-append m (map command_of rows) (map command_of more)))
+    (second (map_after m (map command_of rows)) (first m are))
+
+-- one more row of some was done
+pub does_next : (rows : List StoredRow) (n : ℕ) (row : StoredRow) (a b c : BTreeMap Key (List ℕ)) → n < length rows → get_or rows n row ≡ row → DoesRows (take n rows) a b → DoesRows (row ∷ []) b c → DoesRows (take (n + 1) rows) a c
+does_next rows n row a b c inside is first second =
+    subst (λ (l : List StoredRow). DoesRows l a c) (sym (take_more rows n row inside ∙ ap (λ (r : StoredRow). take n rows ++ r ∷ []) is)) (does_more (take n rows) (row ∷ []) a b c first second)
+
+-- from no entries
+pub does_all : (rows : List StoredRow) (first last : BTreeMap Key (List ℕ)) → tree.IsEmpty first → DoesRows rows first last → AreEntriesOf (map_after empty (map command_of rows)) last
+does_all rows first last none does = does empty (λ key. ap (lookup (tree.is_at (key_cmp key))) none ∙ sym (get-empty (slice_cmp nat_cmp) key.0))
+
+-- all of some rows were done
+pub does_whole : (rows : List StoredRow) (n : ℕ) (a b : BTreeMap Key (List ℕ)) → length rows ≡ n → DoesRows (take n rows) a b → DoesRows rows a b
+does_whole rows n a b counted does = subst (λ (l : List StoredRow). DoesRows l a b) (take_all n rows (omega (arith, counted))) does
+
+-- the bytes from a place on
+pub bytes_from : (bytes : List ℕ) (n : ℕ) → take (length bytes - n) (drop n bytes) ≡ drop n bytes
+bytes_from bytes n = take_all (length bytes - n) (drop n bytes) (omega (arith, length-drop n bytes))
+
+-- the rows of one more log, newer than those that were done
+pub does_log : {X : Type 0} (rows_of : X → List StoredRow) (logs : List X) (n k : ℕ) (log : X) (a b c : BTreeMap Key (List ℕ)) → k ≡ n + 1 → n < length logs → get_or logs n log ≡ log
+    → DoesRows (oldest_first (map rows_of (drop k logs))) a b → DoesRows (rows_of log) b c → DoesRows (oldest_first (map rows_of (drop n logs))) a c
+does_log rows_of logs n k log a b c next inside is first second =
+    let split : drop n logs ≡ log ∷ drop k logs = drop_more logs n log inside ∙ ap (λ x. x ∷ drop (n + 1) logs) is ∙ ap (λ (m : ℕ). log ∷ drop m logs) (sym next) in
+    subst (λ l. DoesRows (oldest_first (map rows_of l)) a c) (sym split) (does_more (oldest_first (map rows_of (drop k logs))) (rows_of log) a b c first second)

@@ -1,0 +1,193 @@
+-- The steps of freezing.
+use Rattle.std.proofs.Common.{◌≡◌, ◌≢◌, ◌≤◌, ◌<◌, ℕ, ◌+◌, ◌-◌, ◌%◌, false, IsTrue, List, [], ◌∷◌, ◌++◌, suc, length, map, take, drop, replicate, Some, None, Ok, Err, Result, inr, refl, ap, sym, ◌∙◌, subst, arith}
+use Rattle.std.specs.Prelude.{All, Contains}
+use Rattle.std.proofs.lemmas.List.{append-nil, take-append-drop}
+use Rattle.std.proofs.Math.Nat.{mod-lt}
+use Rattle.silt_device.specs.Disk.{ChangesWithin, Content, LeavesOnly, size}
+use Rattle.silt_device.specs.Layout.{Shape, device_size, gates_at, log_size, slot_at}
+use Rattle.silt_device.proofs.Images.{within_wider}
+use Rattle.silt_device.proofs.Regions.{up_least}
+use Rattle.silt_log.specs.Rows.{StoredRow, log_rows}
+use Rattle.silt_log.specs.State.{all_rows}
+use Rattle.silt_log.specs.Calls.{Keeps}
+use Rattle.silt_log.proofs.Elsewhere.{IsOutside, log_elsewhere}
+use Rattle.silt_log.proofs.Waiting.{waiting_kept}
+use Rattle.silt_log_store.specs.State.{IsLogStore, LogStoreState}
+use Rattle.silt_manifest.specs.Ruling.{where_found}
+use Rattle.silt_manifest.specs.Standing.{ManifestState, Rules}
+use Rattle.silt_manifest.specs.declared.body.Body.{Body}
+use Rattle.silt_manifest.specs.declared.slot.Damage.{Damage}
+use Rattle.silt_manifest.proofs.Laws.{rules_elsewhere}
+use Rattle.silt_image.specs.Commands.{map_after}
+use Rattle.silt_image.specs.Stores.{Stores, image_stores}
+use Rattle.silt_image.specs.Meaning.{IsSound, charge_of_rows, command_of, map_of_rows, names_log, rows_of, with_log_rows}
+use Rattle.silt_image.proofs.Named.{whole_law}
+use Rattle.silt_image.proofs.Rows.{unnamed_law}
+use Rattle.silt_stores.specs.State.{IsSettled, StoresState}
+use Rattle.silt_stores.specs.Standing.{Stands, base_map, current_map, full_image, shown_stores, waiting_commands}
+use Rattle.silt_stores.specs.Calls.{Advances, Breaks, IsQuiet, Remaps, SameDisk}
+use Rattle.silt_stores.specs.Freezing.{names_region}
+use Rattle.silt_stores.proofs.Named.{named_body, named_shape, region_torn}
+use Rattle.silt_stores.proofs.Facts.{active_size, base_is, shown_named}
+use Rattle.silt_stores.proofs.Elsewhere.{all_frozen_elsewhere, indexed_same, not_among, outside_other, outside_slot}
+use Rattle.silt_stores.proofs.Chains.{advances_break, advances_remap}
+use Rattle.silt_stores.proofs.Standing.{Fits, fits_stand, shown_are}
+
+-- ---- a change that leaves the stores as they are
+
+-- outside the regions of all logs
+pub record IsApart (shape : Shape) (body : Body) (at count : ℕ) : Type 0 where
+  pub active : IsOutside shape body.active at count
+  pub frozen : (region : ℕ) → Contains body.frozen region → IsOutside shape region at count
+
+-- a log store under a change elsewhere
+pub store_elsewhere : (old new : Content) (store : LogStoreState) (at count : ℕ) → IsLogStore old store → size old ≡ device_size store.log.shape → size new ≡ size old
+    → IsOutside store.log.shape store.log.region at count → ChangesWithin at count old new → IsLogStore new store
+store_elsewhere old new store at count stands sized sizes outside changes =
+    let keeps : Keeps old new store.log store.log = log_elsewhere old new store.log at count stands.log (omega (arith, sized)) sizes outside changes in
+    record {
+      log = keeps.stands;
+      index = indexed_same old new store (λ h. subst IsTrue changes.honest h) (λ h. keeps.all (subst IsTrue changes.honest h)) stands.index;
+    }
+
+module _ (old new : Content) (s : StoresState) (at count : ℕ) (stands : Stands old s) (sizes : size new ≡ size old) (changes : ChangesWithin at count old new)
+    (apart : IsTrue old.honest → IsApart s.manifest.shape s.manifest.ruling at count) (outside : IsOutside s.active.log.shape s.active.log.region at count) where
+  pub same_here : SameDisk old new
+  same_here = record { size = sizes; honest = changes.honest }
+
+  kept : Keeps old new s.active.log s.active.log
+  kept = log_elsewhere old new s.active.log at count stands.active (omega (arith, active_size old s stands)) sizes outside changes
+
+  -- the stores stand on, with the manifest in such a state
+  pub stays_on : (m : ManifestState) → m.shape ≡ s.manifest.shape → m.ruling ≡ s.manifest.ruling → m.prepared ≡ None → Rules m new
+      → LeavesOnly new (λ image. image_stores image ≡ Ok (shown_stores old s)) → Advances [] old new s (record s { manifest = m })
+  stays_on m same_shape same_ruling idle rules named =
+      let t : Stores = shown_stores old s in
+      let back : IsTrue new.honest → IsTrue old.honest = λ h. subst IsTrue changes.honest h in
+      let t_shape : t.shape ≡ m.shape = named_shape s.manifest.shape s.manifest.ruling old.shown ∙ sym same_shape in
+      let t_body : t.body ≡ m.ruling = named_body s.manifest.shape s.manifest.ruling old.shown ∙ sym same_ruling in
+      let active_of : s.manifest.ruling.active ≡ m.ruling.active = ap (λ (b : Body). b.active) (sym same_ruling) in
+      let all : IsTrue old.honest → all_rows new s.active.log ≡ all_rows old s.active.log = kept.all in
+      let fits : Fits new (record s { manifest = m }) t = record {
+        has_size = sizes ∙ stands.has_size ∙ ap device_size (sym same_shape);
+        whole = record {
+          has_shape = stands.whole.has_shape ∙ sym same_shape;
+          active_region = stands.whole.active_region ∙ active_of;
+          frozen_regions = stands.whole.frozen_regions ∙ ap (λ (b : Body). b.frozen) (sym same_ruling);
+          settled = subst (λ (sh : Shape). All (IsSettled sh) s.frozen) (sym same_shape) stands.whole.settled;
+          most = subst (λ (sh : Shape). s.charge ≤ sh.sorted_capacity) (sym same_shape) stands.whole.most;
+        };
+        idle = idle;
+        rules = rules;
+        active = record { log = kept.stands; index = indexed_same old new s.active back (λ h. all (back h)) stands.indexed };
+        frozen = all_frozen_elsewhere old new s at count stands changes (λ h. (apart h).frozen);
+        same_shape = t_shape;
+        same_body = t_body;
+        named = named;
+        sound = λ h.
+            subst (λ (rows : List StoredRow). IsSound (with_log_rows m.ruling.active rows t)) (sym (all (back h)))
+            (subst (λ (n : ℕ). IsSound (with_log_rows n (all_rows old s.active.log) t)) (stands.whole.active_region ∙ active_of) (stands.sound (back h)));
+        counted = λ h.
+            stands.counted (back h) ∙ ap (λ (rows : List StoredRow). charge_of_rows (rows_of t ++ rows)) (sym (waiting_kept old new s.active.log s.active.log stands.active (back h) kept));
+        logs_alone = (ap (λ (b : Body). b.hashed) same_ruling ∙ stands.logs_alone.0, ap (λ (b : Body). b.sorted_count) same_ruling ∙ stands.logs_alone.1);
+      } in
+      record {
+        stands = fits_stand new (record s { manifest = m }) t fits;
+        shape = same_shape;
+        moves = λ h. record {
+          moved = [];
+          rest = ap (map command_of) (waiting_kept old new s.active.log s.active.log stands.active h kept) ∙ sym (append-nil (waiting_commands old s));
+          base =
+              base_is new (record s { manifest = m })
+              ∙ ap (λ (u : Stores). map_of_rows (rows_of u)) (shown_are new (record s { manifest = m }) t t_shape t_body named (subst IsTrue (sym changes.honest) h))
+              ∙ sym (base_is old s);
+        };
+      }
+
+-- ---- the region of the new log
+
+-- a region that the body does not name
+pub not_named : (body : Body) (region : ℕ) → names_region body region ≡ false → (id : ℕ) → Contains (body.active ∷ body.frozen) id → id ≢ region
+not_named body region free id there = not_among (body.active ∷ body.frozen) region id free there
+
+pub later_contains : (first : ℕ) (ids : List ℕ) (id : ℕ) → Contains ids id → Contains (first ∷ ids) id
+later_contains first ids id (k, inside, here) = (suc k, omega (arith, inside), here)
+
+-- it lies apart from the logs
+pub region_apart : (shape : Shape) (body : Body) (region : ℕ) → names_region body region ≡ false → IsApart shape body (gates_at shape region) (log_size shape)
+region_apart shape body region free = record {
+  active = outside_other shape body.active region (not_named body region free body.active (0, omega arith, refl));
+  frozen = λ id there. outside_other shape id region (not_named body region free id (later_contains body.active body.frozen id there));
+}
+
+module _ (old new : Content) (s : StoresState) (region : ℕ) (stands : Stands old s) (below : region < s.manifest.shape.logs) (free : names_region s.manifest.ruling region ≡ false)
+    (sizes : size new ≡ size old) (gates : ChangesWithin (gates_at s.manifest.shape region) s.manifest.shape.log_capacity old new) where
+  in_region : ChangesWithin (gates_at s.manifest.shape region) (log_size s.manifest.shape) old new
+  in_region = within_wider (gates_at s.manifest.shape region) (log_size s.manifest.shape) (omega arith) (omega (arith, up_least s.manifest.shape.log_capacity)) gates
+
+  -- whatever a stop leaves has the same stores
+  free_named : LeavesOnly new (λ image. image_stores image ≡ Ok (shown_stores old s))
+  free_named = record {
+    each = λ h image left.
+        let o : IsTrue old.honest = subst IsTrue gates.honest h in
+        let t : Stores = shown_stores old s in
+        let from = in_region.left o image left in
+        let names : names_log t region ≡ false = (whole_law old.shown t (shown_named old s stands o)).names region ∙ ap (λ (b : Body). names_region b region) (named_body s.manifest.shape s.manifest.ruling old.shown) ∙ free in
+        region_torn s.manifest.shape t region (log_rows s.manifest.shape region image) from.0 image (named_shape s.manifest.shape s.manifest.ruling old.shown) (stands.named.each o from.0 from.1) below from.2 refl
+        ∙ ap Ok (unnamed_law t region (log_rows s.manifest.shape region image) names);
+  }
+
+  outside_active : IsOutside s.active.log.shape s.active.log.region (gates_at s.manifest.shape region) (log_size s.manifest.shape)
+  outside_active =
+      subst (λ (sh : Shape). IsOutside sh s.active.log.region (gates_at s.manifest.shape region) (log_size s.manifest.shape)) (sym stands.whole.has_shape)
+      (subst (λ (n : ℕ). IsOutside s.manifest.shape n (gates_at s.manifest.shape region) (log_size s.manifest.shape)) (sym stands.whole.active_region) (region_apart s.manifest.shape s.manifest.ruling region free).active)
+
+  -- the stores stand on
+  pub cleared : Advances [] old new s s
+  cleared = stays_on old new s (gates_at s.manifest.shape region) (log_size s.manifest.shape) stands sizes in_region (λ h. region_apart s.manifest.shape s.manifest.ruling region free) outside_active
+      s.manifest refl refl stands.idle
+      (rules_elsewhere s.manifest (gates_at s.manifest.shape region) (log_size s.manifest.shape) old new (omega (arith, stands.has_size)) (inr (omega arith)) in_region stands.rules)
+      free_named
+
+  pub cleared_disk : SameDisk old new
+  cleared_disk = record { size = sizes; honest = gates.honest }
+
+  pub cleared_map : Remaps [] old new s s
+  cleared_map = advances_remap [] old new s s cleared_disk stands cleared
+
+  pub cleared_breaks : Breaks old new s
+  cleared_breaks = advances_break old new s s cleared_disk cleared
+
+-- ---- the manifest
+
+-- a body that rules was found
+pub found_ruling : (r : Result Body Damage) (body : Body) → where_found r ≡ Some body → r ≡ Ok body
+found_ruling (Ok found) body e = ap Ok (let same : found ≡ body = let g : Some found ≡ Some body = e in cc in same)
+found_ruling (Err damage) body e = absurd (let no : None ≡ Some body = e in cc)
+
+-- with no row waiting the full image is what is shown
+pub full_quiet : (content : Content) (s : StoresState) → s.active.log.settled ≡ s.active.log.used → full_image content s ≡ content.shown
+full_quiet content s settled =
+    let at : ℕ = gates_at s.active.log.shape s.active.log.region + s.active.log.settled in
+    let none : s.active.log.used - s.active.log.settled ≡ 0 = omega arith in
+    let nothing : replicate {A = ℕ} 0 167 ≡ [] = refl in
+    let end : at + 0 ≡ at = omega arith in
+    ap (λ (n : ℕ). take at content.shown ++ replicate n 167 ++ drop (at + length (replicate {A = ℕ} n 167)) content.shown) none
+    ∙ ap (λ (ones : List ℕ). take at content.shown ++ ones ++ drop (at + length ones) content.shown) nothing
+    ∙ ap (λ (front : List ℕ). front ++ drop (at + 0) content.shown) (append-nil (take at content.shown))
+    ∙ ap (λ (n : ℕ). take at content.shown ++ drop n content.shown) end
+    ∙ take-append-drop at content.shown
+
+-- with no row waiting the map of lookups is the base
+pub quiet_map : (content : Content) (s : StoresState) → IsQuiet content s → current_map content s ≡ base_map content s
+quiet_map content s is = ap (map_after (base_map content s)) is.none_wait
+
+-- a slot of the manifest lies apart from the logs
+pub slot_apart : (shape : Shape) (body : Body) (slot : ℕ) → slot < 2 → IsApart shape body (slot_at slot) 4096
+slot_apart shape body slot below = record {
+  active = outside_slot shape body.active slot below;
+  frozen = λ region there. outside_slot shape region slot below;
+}
+
+pub below_two : (n : ℕ) → n % 2 < 2
+below_two n = mod-lt n (omega arith)

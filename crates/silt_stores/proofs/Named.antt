@@ -1,0 +1,92 @@
+-- Stores that a body names, and the images that have them.
+use Rattle.std.proofs.Common.{◌≡◌, ◌<◌, ℕ, List, [], ◌++◌, map, take, Ok, refl, ap, sym, ◌∙◌, subst}
+use Rattle.std.proofs.lemmas.List.{append-nil}
+use Rattle.silt_device.specs.Disk.{Torn}
+use Rattle.silt_device.specs.Layout.{Shape, gates_at, log_size}
+use Rattle.silt_log.specs.Rows.{StoredRow, log_rows}
+use Rattle.silt_manifest.specs.declared.body.Body.{Body}
+use Rattle.silt_image.specs.Commands.{Map, map_after}
+use Rattle.silt_image.specs.Stores.{Stores, image_stores, stores_named}
+use Rattle.silt_image.specs.Meaning.{HasActive, IsSound, StandsFor, command_of, image_map, map_of_rows, rows_of, with_log_rows}
+use Rattle.silt_image.proofs.Named.{stores_law, whole_law}
+use Rattle.silt_image.proofs.Frame.{log_region_law}
+use Rattle.silt_image.proofs.Rows.{append_law, map_law, own_rows_law}
+use Rattle.silt_image.proofs.Sound.{beginning_law}
+use Rattle.silt_image.proofs.Verdict.{rows_law, stands_law}
+use Rattle.silt_stores.specs.Calls.{AreLogsAlone, StandsOnLogs}
+
+-- ---- one image
+
+pub named_shape : (shape : Shape) (body : Body) (image : List ℕ) → (stores_named shape body image).shape ≡ shape
+unfolding stores_named
+named_shape shape body image = refl
+
+pub named_body : (shape : Shape) (body : Body) (image : List ℕ) → (stores_named shape body image).body ≡ body
+unfolding stores_named
+named_body shape body image = refl
+
+-- other rows of a log leave the shape and the body
+pub with_shape : (region : ℕ) (rows : List StoredRow) (t : Stores) → (with_log_rows region rows t).shape ≡ t.shape
+unfolding with_log_rows
+with_shape region rows t = refl
+
+pub with_body : (region : ℕ) (rows : List StoredRow) (t : Stores) → (with_log_rows region rows t).body ≡ t.body
+unfolding with_log_rows
+with_body region rows t = refl
+
+-- the stores of an image are those that their body names in it
+pub named_here : (shape : Shape) (body : Body) (t : Stores) (image : List ℕ) → image_stores image ≡ Ok t → t.shape ≡ shape → t.body ≡ body → stores_named shape body image ≡ t
+named_here shape body t image is same_shape same_body =
+    ap (λ (s : Shape). stores_named s body image) (sym same_shape) ∙ ap (λ (b : Body). stores_named t.shape b image) (sym same_body)
+    ∙ sym ((stores_law image t).0 is).named
+
+-- an image that is changed in a log region has the stores with that log's rows
+pub region_torn : (shape : Shape) (t : Stores) (region : ℕ) (rows : List StoredRow) (before image : List ℕ) → t.shape ≡ shape → image_stores before ≡ Ok t → region < shape.logs
+    → Torn (gates_at shape region) (log_size shape) before image → log_rows shape region image ≡ rows → image_stores image ≡ Ok (with_log_rows region rows t)
+region_torn shape t region rows before image same named below torn are =
+    let inside : region < t.shape.logs = subst (λ (s : Shape). region < s.logs) (sym same) below in
+    let here : Torn (gates_at t.shape region) (log_size t.shape) before image = subst (λ (s : Shape). Torn (gates_at s region) (log_size s) before image) (sym same) torn in
+    log_region_law before image t region named inside here ∙ ap (λ (r : List StoredRow). Ok (with_log_rows region r t)) (ap (λ (s : Shape). log_rows s region image) same ∙ are)
+
+-- the first log is the active one
+pub active_named : (shape : Shape) (body : Body) (t : Stores) (rows : List StoredRow) (image : List ℕ) → image_stores image ≡ Ok t → t.shape ≡ shape → t.body ≡ body → log_rows shape body.active image ≡ rows → HasActive rows t
+active_named shape body t rows image is same_shape same_body are =
+    subst (λ (r : List StoredRow). HasActive r t) (ap (λ (s : Shape). log_rows s t.body.active image) same_shape ∙ ap (λ (b : Body). log_rows shape b.active image) same_body ∙ are) (whole_law image t is).active
+
+-- the map of an image with stores
+pub stores_map : (t : Stores) (image : List ℕ) → image_stores image ≡ Ok t → image_map image ≡ map_of_rows (rows_of t)
+unfolding image_map
+stores_map t image is = ap map_of_rows (rows_law image t is)
+
+-- an image with sound stores of logs alone
+pub stands_on_logs : (shape : Shape) (body : Body) (t : Stores) (m : Map) (image : List ℕ) → image_stores image ≡ Ok t → t.shape ≡ shape → t.body ≡ body → IsSound t → map_of_rows (rows_of t) ≡ m
+    → (body.hashed ≡ []) × (body.sorted_count ≡ 0) → StandsOnLogs shape m image
+stands_on_logs shape body t m image is same_shape same_body sound has_map alone = record {
+  stands = subst (λ (n : Map). StandsFor shape n image) has_map (subst (λ (s : Shape). StandsFor s (map_of_rows (rows_of t)) image) same_shape (stands_law image t is sound));
+  logs_alone = subst AreLogsAlone (sym is) (ap (λ (b : Body). b.hashed) same_body ∙ alone.0, ap (λ (b : Body). b.sorted_count) same_body ∙ alone.1);
+}
+
+-- ---- the rows of the active log
+
+module _ (t : Stores) (active : ℕ) (settled waiting : List StoredRow) (is : t.body.active ≡ active) (has : HasActive settled t) where
+  -- all rows with further ones in the active log
+  pub rows_with_more : (more : List StoredRow) → rows_of (with_log_rows active (settled ++ more) t) ≡ rows_of t ++ more
+  rows_with_more more = ap (λ (n : ℕ). rows_of (with_log_rows n (settled ++ more) t)) (sym is) ∙ append_law t settled more has
+
+  -- their map
+  pub map_with_more : (more : List StoredRow) → map_of_rows (rows_of (with_log_rows active (settled ++ more) t)) ≡ map_after (map_of_rows (rows_of t)) (map command_of more)
+  map_with_more more = ap map_of_rows (rows_with_more more) ∙ map_law (rows_of t) more
+
+  -- the log with its own rows
+  pub own_rows : with_log_rows active settled t ≡ t
+  own_rows = ap (λ (n : ℕ). with_log_rows n settled t) (sym is) ∙ own_rows_law t settled has
+
+  -- where nothing is found with all rows, nothing is with a beginning of the waiting ones
+  pub sound_some : (n : ℕ) → IsSound (with_log_rows active (settled ++ waiting) t) → IsSound (with_log_rows active (settled ++ take n waiting) t)
+  sound_some n sound = beginning_law t active n settled waiting sound
+
+  -- and with the settled ones alone
+  pub sound_settled : IsSound (with_log_rows active (settled ++ waiting) t) → IsSound t
+  sound_settled sound =
+      let none : take 0 waiting ≡ [] = refl in
+      subst IsSound (ap (λ (r : List StoredRow). with_log_rows active r t) (ap (λ (r : List StoredRow). settled ++ r) none ∙ append-nil settled) ∙ own_rows) (sound_some 0 sound)

@@ -1,0 +1,11 @@
+use Rattle.std.proofs.Common.{IsTrue, drop, map}
+use Rattle.silt_image.specs.Meaning.{oldest_first}
+use Rattle.silt_stores.specs.Folding.{DoesRows}
+use Rattle.silt_stores.proofs.Lookups.{rows_in}
+use Rattle.silt_stores.proofs.stores.Stores.entries.Given as goal
+
+-- the rows of the older logs are done
+abbrev pub invariant-loop-index : goal.invariant-loop-index
+invariant-loop-index g l =
+    IsTrue (g.D.Disk.content l.disk).honest
+    → DoesRows (oldest_first (map (rows_in (g.D.Disk.content l.disk)) (drop l.index l.self-inside.frozen.items))) l.initial.entries l.entries

@@ -1,0 +1,21 @@
+use Rattle.std.proofs.Common.{◌+◌, ◌%◌, ◌^◌, ℕ, [], ◌∷◌, ap, ◌∙◌}
+use Rattle.silt_image.specs.Meaning.{command_of}
+use Rattle.silt_log.specs.Rows.{stored_row}
+use Rattle.silt_stores.proofs.Chains.{advances_trans, breaks_after, remaps_trans}
+use Rattle.silt_stores.proofs.stores.Stores.take_in_next.Goals as goal
+
+pub append-requires-clause-placing : goal.append-requires-clause-placing
+append-requires-clause-placing g c κs within = c.placing_in_empty-placing.ensures (g.D.Disk.content c.freeze.new.disk)
+
+pub returns-in-Ok-append-clause-ok : goal.returns-in-Ok-append-clause-ok
+returns-in-Ok-append-clause-ok g c =
+    advances_trans [] (command_of (stored_row c.args.kind c.args.key.now c.args.value.now) ∷ []) (g.D.Disk.content c.args.disk.now) (g.D.Disk.content c.freeze.new.disk) (g.D.Disk.content c.append.new.disk) c.args.self.now c.freeze.new.self c.append.new.self
+    c.freeze.ensures.same c.in_default.ensures.ok c.in-Ok-append.ensures.ok
+
+pub returns-in-Err-append-clause-err : goal.returns-in-Err-append-clause-err
+returns-in-Err-append-clause-err g c =
+    let failures = c.in-Err-append.ensures.failures in (
+      (failures.0 ∙ ap (λ (n : ℕ). (n + 1) % 2 ^ 64) c.in_default.ensures.failures, failures.1),
+      breaks_after (g.D.Disk.content c.args.disk.now) (g.D.Disk.content c.freeze.new.disk) (g.D.Disk.content c.append.new.disk) c.args.self.now c.freeze.new.self c.freeze.ensures.same c.append.ensures.same c.in_default.ensures.ok c.in-Err-append.ensures.err,
+      remaps_trans [] [] (g.D.Disk.content c.args.disk.now) (g.D.Disk.content c.freeze.new.disk) (g.D.Disk.content c.append.new.disk) c.args.self.now c.freeze.new.self c.append.new.self c.freeze.ensures.same c.in_default.ensures.map c.in-Err-append.ensures.unmapped,
+    )

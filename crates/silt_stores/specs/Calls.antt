@@ -1,0 +1,86 @@
+-- What the calls of the stores do.
+use Rattle.std.specs.Prelude.{◌≡◌, ◌+◌, ◌^◌, ◌-◌, ◌⊎◌, ℕ, IsTrue, List, [], ◌∷◌, ◌++◌, length, Some, None, Result, Ok, Err}
+use Rattle.std.specs.FinMap.{get}
+use Rattle.silt_cuckoo.specs.Index.{index_of_keys}
+use Rattle.silt_device.specs.Disk.{Content, LeavesOnly, size}
+use Rattle.silt_device.specs.Layout.{Shape}
+use Rattle.silt_frame.specs.declared.key.Kind.{Kind}
+use Rattle.silt_frame.specs.declared.key.Kind.TheVariants.{Put, Delete}
+use Rattle.silt_image.specs.Commands.{Command, Map, map_after, Begins}
+use Rattle.silt_image.specs.Stores.{Stores, image_stores}
+use Rattle.silt_image.specs.Meaning.{StandsFor, image_map, keys_of}
+use Rattle.silt_image.specs.declared.finding.Finding.{Finding}
+use Rattle.silt_log.specs.Rows.{StoredRow}
+use Rattle.silt_stores.specs.State.{StoresState}
+use Rattle.silt_stores.specs.Standing.{Stands, base_map, current_map, full_image, waiting_commands}
+
+-- the disk is as long and as honest as before
+pub record SameDisk (old new : Content) : Type 0 where
+  pub size : size new ≡ size old
+  pub honest : new.honest ≡ old.honest
+
+-- a beginning of what waited, and these commands behind it, went into the base
+pub record Moves (adds : List Command) (old new : Content) (before after : StoresState) : Type 0 where
+  pub moved : List Command
+  pub rest : moved ++ waiting_commands new after ≡ waiting_commands old before ++ adds
+  pub base : base_map new after ≡ map_after (base_map old before) moved
+
+-- the stores stand on, and the commands that waited, and these behind them, wait or are in the base
+pub record Advances (adds : List Command) (old new : Content) (before after : StoresState) : Type 0 where
+  pub stands : Stands new after
+  pub shape : after.manifest.shape ≡ before.manifest.shape
+  pub moves : IsTrue old.honest → Moves adds old new before after
+
+-- the stores of an image are logs alone
+abbrev pub AreLogsAlone : Result Stores Finding → Type 0
+AreLogsAlone (Ok s) = (s.body.hashed ≡ []) × (s.body.sorted_count ≡ 0)
+AreLogsAlone (Err finding) = ⊥
+
+-- an image of logs alone, as all are in this stage, stands for this map
+pub record StandsOnLogs (shape : Shape) (map : Map) (image : List ℕ) : Type 0 where
+  pub stands : StandsFor shape map image
+  pub logs_alone : AreLogsAlone (image_stores image)
+
+-- an image stands for the base after a beginning of the commands that waited
+pub record HasBegun (shape : Shape) (base : Map) (waiting : List Command) (image : List ℕ) : Type 0 where
+  pub kept : List Command
+  pub begins : Begins kept waiting
+  pub stands : StandsOnLogs shape (map_after base kept) image
+
+-- whatever a stop leaves stands for the base after a beginning of what waited
+abbrev pub Breaks : Content → Content → StoresState → Type 0
+Breaks old new s = LeavesOnly new (HasBegun s.manifest.shape (base_map old s) (waiting_commands old s))
+
+-- with the gates of the waiting rows open, what is shown stands for its map of before, after these commands
+abbrev pub Remaps : List Command → Content → Content → StoresState → StoresState → Type 0
+Remaps adds old new before after = IsTrue old.honest → image_map (full_image new after) ≡ map_after (image_map (full_image old before)) adds
+
+-- no command waits
+pub record IsQuiet (content : Content) (s : StoresState) : Type 0 where
+  pub settled : s.active.log.settled ≡ s.active.log.used
+  pub none_wait : waiting_commands content s ≡ []
+
+-- how many puts a row of this kind is
+abbrev pub puts_of : Kind → ℕ
+puts_of Put = 1
+puts_of Delete = 0
+
+-- a lookup of a key: its value, or none
+abbrev pub Finds : Content → StoresState → List ℕ → List ℕ → Type 0
+Finds content s key value = IsTrue content.honest → get (current_map content s) key ≡ Some value
+
+-- a lookup finds no value of the key
+abbrev pub FindsNone : Content → StoresState → List ℕ → Type 0
+FindsNone content s key = IsTrue content.honest → get (current_map content s) key ≡ None
+
+-- a log with these rows cannot take a row of this key: it is full, or the keys with this one have no table
+abbrev pub CannotTake : Shape → List StoredRow → List ℕ → Type 0
+CannotTake shape rows key = (length rows ≡ shape.log_capacity) ⊎ (index_of_keys shape.buckets (keys_of rows ++ key ∷ []) ≡ None)
+
+-- every log region is in use
+abbrev pub AreAllInUse : StoresState → Type 0
+AreAllInUse s = length s.frozen + 1 ≡ s.manifest.shape.logs
+
+-- the last generation rules
+abbrev pub IsLastGeneration : StoresState → Type 0
+IsLastGeneration s = s.manifest.ruling.generation ≡ 2 ^ 63 - 1

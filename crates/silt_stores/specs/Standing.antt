@@ -1,0 +1,57 @@
+-- How the stores in memory stand on a disk.
+use Rattle.std.specs.Prelude.{◌≡◌, ℕ, IsTrue, List, [], ◌++◌, All, map, None, Ok}
+use Rattle.silt_device.specs.Disk.{Content, LeavesOnly, size}
+use Rattle.silt_device.specs.Layout.{device_size}
+use Rattle.silt_image.specs.Commands.{Command, Map, map_after}
+use Rattle.silt_image.specs.Stores.{Stores, image_stores, stores_named}
+use Rattle.silt_image.specs.Meaning.{IsSound, charge_of_rows, command_of, map_of_rows, rows_of, with_log_rows}
+use Rattle.silt_log.specs.Rows.{open_count}
+use Rattle.silt_log.specs.State.{IsLog, all_rows, waiting_rows}
+use Rattle.silt_log.specs.State as log
+use Rattle.silt_log_store.specs.State.{LogStoreState, IsIndexed}
+use Rattle.silt_manifest.specs.Standing.{Rules}
+use Rattle.silt_stores.specs.State.{StoresState, AreWhole}
+
+-- ---- what they mean
+
+-- the stores that the disk shows, as the manifest in memory names them
+abbrev pub shown_stores : Content → StoresState → Stores
+shown_stores content s = stores_named s.manifest.shape s.manifest.ruling content.shown
+
+-- the map of the settled rows
+unfoldable pub base_map : Content → StoresState → Map
+base_map content s = map_of_rows (rows_of (shown_stores content s))
+
+-- the commands of the rows that wait, in order
+abbrev pub waiting_commands : Content → StoresState → List Command
+waiting_commands content s = map command_of (waiting_rows content s.active.log)
+
+-- the map from which lookups answer
+abbrev pub current_map : Content → StoresState → Map
+current_map content s = map_after (base_map content s) (waiting_commands content s)
+
+-- what is shown, with the gates of the waiting rows open
+abbrev pub full_image : Content → StoresState → List ℕ
+full_image content s = log.full_image content s.active.log
+
+-- ---- how they stand
+
+-- a frozen log has the rows before the first closed gate, and their table
+pub record IsFrozen (content : Content) (store : LogStoreState) : Type 0 where
+  pub rows : IsTrue content.honest → store.log.used ≡ open_count store.log.shape store.log.region content.shown
+  pub indexed : IsIndexed content store
+
+-- The stores fit their disk: whatever a stop leaves has the stores that are shown, and nothing is found in these, also once the
+-- waiting rows are settled. In this stage there are logs alone.
+pub record Stands (content : Content) (s : StoresState) : Type 0 where
+  pub has_size : size content ≡ device_size s.manifest.shape
+  pub whole : AreWhole s
+  pub idle : s.manifest.prepared ≡ None
+  pub rules : Rules s.manifest content
+  pub active : IsLog content s.active.log
+  pub indexed : IsIndexed content s.active
+  pub frozen : All (IsFrozen content) s.frozen
+  pub named : LeavesOnly content (λ image. image_stores image ≡ Ok (shown_stores content s))
+  pub sound : IsTrue content.honest → IsSound (with_log_rows s.active.log.region (all_rows content s.active.log) (shown_stores content s))
+  pub counted : IsTrue content.honest → s.charge ≡ charge_of_rows (rows_of (shown_stores content s) ++ waiting_rows content s.active.log)
+  pub logs_alone : (s.manifest.ruling.hashed ≡ []) × (s.manifest.ruling.sorted_count ≡ 0)

@@ -1,0 +1,453 @@
+// The stores of a device in memory, and their calls.
+ghost use Rattle.std.specs.Prelude.{vec_capacity, ◌≡◌, ◌+◌, ◌<◌, ◌≤◌, [], ◌∷◌, ◌++◌, ◌↔◌, ℕ, length, nat_lt, sum_by, true, false, None, Some, Ok, IsTrue, IfOk, IfErr, IfSome, IfNone, OnOk, OnErr, MatchResult, if◌then◌else◌};
+ghost use Rattle.std.specs.BTreeMap as tree;
+ghost use Rattle.silt_device.specs.Disk.{Content, CountsFault, GaveAny, LeavesOnly, size};
+ghost use Rattle.silt_device.specs.Layout.{device_size};
+ghost use Rattle.silt_frame.specs.declared.key.Kind.{Kind};
+ghost use Rattle.silt_image.specs.Meaning.{command_of, report_of};
+ghost use Rattle.silt_log.specs.Rows.{stored_row};
+ghost use Rattle.silt_log.specs.State.{all_rows};
+ghost use Rattle.silt_stores.specs.Calls.{puts_of};
+
+use crate::entries::{EntriesError, do_log};
+use crate::freezing::{NextLog, NoNextLog, lowest_free, next_body};
+use crate::lookup::{Holder, Location, located};
+use silt_device::{Disk, Geometry};
+use silt_frame::{Key, Kind, Value};
+use silt_image::Report;
+use silt_log_store::{Found, LogStore, Placing};
+use silt_manifest::Manifest;
+use std::alloc::Global;
+use std::collections::BTreeMap;
+use std::marker::Model;
+use std::mem;
+
+// The generation after which there is none.
+const LAST_GENERATION: u64 = (1 << 63) - 1;
+
+/// The stores of a device: the manifest, the active log, the frozen logs, and how many put rows there are.
+#[derive(Drop)]
+pub struct Stores {
+    pub(crate) manifest: Manifest,
+    pub(crate) active: LogStore,
+    // The full logs, the newest first.
+    pub(crate) frozen: Vec<LogStore>,
+    // How many put rows there are, those that wait included.
+    pub(crate) charge: u32,
+}
+
+impl Model for Stores {
+    ghost use Rattle.std.specs.Prelude.{vec_capacity};
+    ghost use Rattle.silt_stores.specs.State.{StoresState, AreHeld};
+
+    ghost Value = { StoresState };
+
+    ghost view = { λ a. record { manifest = a.manifest; active = a.active; frozen = a.frozen.items; charge = a.charge } };
+
+    ghost invariant = { λ a. AreHeld (record { manifest = a.manifest; active = a.active; frozen = a.frozen.items; charge = a.charge }) (vec_capacity a.frozen) };
+}
+
+// How many puts a row of this kind is.
+fn puts_of(kind: Kind) -> u32
+    ensures { result ≡ puts_of kind }
+{
+    match kind {
+        Kind::Put => 1,
+        Kind::Delete => 0,
+    }
+}
+
+// How many rows some logs have together.
+fn row_count(stores: &[LogStore]) -> u32
+    requires { length stores.now ≤ 8 }
+    ensures { result ≡ sum_by (λ store. store.log.used) stores.now }
+{
+    let mut rows = 0;
+    for store in stores {
+        let _limits = store.geometry().log_capacity();
+        let _capacity = store.capacity();
+        rows += store.len();
+    }
+    rows
+}
+
+impl Stores {
+    ghost use Rattle.silt_cuckoo.specs.Slots.{empty_slots};
+    ghost use Rattle.silt_log_store.specs.Calls.{IsPlacingFor};
+    ghost use Rattle.silt_stores.specs.State.{StoresState, AreHeld, AreWhole};
+    ghost use Rattle.silt_stores.specs.Standing.{Stands, current_map, shown_stores, waiting_commands};
+    ghost use Rattle.silt_stores.specs.Calls.{Advances, Breaks, CannotTake, Finds, FindsNone, IsQuiet, Remaps, SameDisk};
+    ghost use Rattle.silt_stores.specs.Lookup.{AreEntriesOf, EntriesCause, FindsFrozen, IsHolder, IsLocation, Locates, store_at, value_at};
+    ghost use Rattle.silt_stores.specs.Freezing.{HasFrozen, IsEmptied, IsNextLog, MayTurn, NoNextCause, empty_store, unprepared};
+
+    /// The stores with these parts, where the frozen logs stand the newest first, in a `Vec` with room for seven.
+    pub fn new(manifest: Manifest, active: LogStore, frozen: Vec<LogStore>, charge: u32) -> Self
+        requires whole { AreWhole (record { manifest = manifest; active = active; frozen = frozen.items; charge = charge }) }
+        requires room { 7 ≤ vec_capacity frozen }
+        ensures { result ≡ record { manifest = manifest; active = active; frozen = frozen.items; charge = charge } }
+    {
+        Stores {
+            manifest,
+            active,
+            frozen,
+            charge,
+        }
+    }
+
+    /// The six numbers of the store.
+    pub fn geometry(&self) -> Geometry
+        ensures value { result ≡ self.now.manifest.shape }
+        ensures whole { AreWhole self.now }
+    {
+        self.manifest.geometry()
+    }
+
+    /// How many put rows there are, those that wait included.
+    pub fn charge(&self) -> u32
+        ensures value { result ≡ self.now.charge }
+        ensures most { self.now.charge ≤ self.now.manifest.shape.sorted_capacity }
+    {
+        self.charge
+    }
+
+    /// Whether a row waits for a flush.
+    pub fn has_waiting(&self) -> bool
+        ensures { result ≡ nat_lt self.now.active.log.settled self.now.active.log.used }
+    {
+        self.active.has_waiting()
+    }
+
+    /// What the stores consist of, in numbers. Where no row waits these are the numbers of what the device shows.
+    pub fn report(&self) -> Report
+        ensures { (content : Content) → Stands content self.now → IsTrue content.honest → self.now.active.log.settled ≡ self.now.active.log.used
+            → result ≡ report_of (shown_stores content self.now) }
+    {
+        let _limits = self.manifest.geometry().logs();
+        let ruling = self.manifest.ruling();
+        Report {
+            generation: ruling.generation,
+            active: ruling.active,
+            active_rows: self.active.len(),
+            frozen: self.frozen.len() as u32,
+            frozen_rows: row_count(&self.frozen),
+            hashes: 0,
+            hash_rows: 0,
+            entries: 0,
+            charge: self.charge,
+        }
+    }
+
+    // The log of a holder.
+    fn store_at(&self, holder: Holder) -> &LogStore
+        requires { IsHolder self.now holder }
+        ensures value { result.now ≡ store_at self.now holder }
+        ensures has_shape { (store_at self.now holder).log.shape ≡ self.now.manifest.shape }
+    {
+        match holder {
+            Holder::Active => &self.active,
+            Holder::Frozen(index) => &self.frozen[index],
+        }
+    }
+
+    // The last row of a key among the rows of the newest frozen log that has one, with the number of that log.
+    fn find_frozen<D: Disk>(&self, disk: &D, key: &Key) -> Result<Option<(usize, Found)>, D::Fault>
+        requires size { device_size self.now.manifest.shape ≤ size (D.content disk.now) }
+        ensures found { Stands (D.content disk.now) self.now → IsTrue (D.content disk.now).honest → IfOk result (FindsFrozen (D.content disk.now) self.now key.now.0) }
+        ensures there { IfOk result (λ found. IfSome found (λ row. (row.0 < length self.now.frozen) × (row.1.place < (store_at self.now (Holder.Frozen row.0)).log.used))) }
+        ensures fault { IfErr result (GaveAny D.gave disk.now) }
+    {
+        for (index, store) in self.frozen.iter().enumerate() {
+            if let Some(found) = store.find(disk, key)? {
+                return Ok(Some((index, found)));
+            }
+        }
+        Ok(None)
+    }
+
+    /// Where the row stands that has a key's value: the active log and then the frozen ones are gone through, the newest first,
+    /// and the first row of the key that is found decides. A delete ends the lookup with none.
+    ///
+    /// # Errors
+    ///
+    /// The fault of a read.
+    pub fn find<D: Disk>(&self, disk: &D, key: &Key) -> Result<Option<Location>, D::Fault>
+        requires size { device_size self.now.manifest.shape ≤ size (D.content disk.now) }
+        ensures located { Stands (D.content disk.now) self.now → IfOk result (Locates (D.content disk.now) self.now key.now.0) }
+        ensures there { IfOk result (λ location. IfSome location (IsLocation self.now)) }
+        ensures fault { IfErr result (GaveAny D.gave disk.now) }
+    {
+        match self.active.find(disk, key)? {
+            Some(found) => Ok(located(Holder::Active, found)),
+            None => match self.find_frozen(disk, key)? {
+                Some((index, found)) => Ok(located(Holder::Frozen(index), found)),
+                None => Ok(None),
+            },
+        }
+    }
+
+    /// Reads the value of the row at a location.
+    ///
+    /// # Errors
+    ///
+    /// The fault of the read. The bytes of `out` are then open.
+    pub fn read_value<D: Disk>(
+        &self,
+        disk: &D,
+        location: Location,
+        out: &mut [u8],
+    ) -> Result<(), D::Fault>
+        requires location { IsLocation self.now location }
+        requires out { length out.old ≡ self.now.manifest.shape.value_len }
+        requires size { device_size self.now.manifest.shape ≤ size (D.content disk.now) }
+        ensures value { IsTrue (D.content disk.now).honest → OnOk result (out.new ≡ value_at (D.content disk.now) self.now location) }
+        ensures fault { IfErr result (GaveAny D.gave disk.now) }
+    {
+        let store = self.store_at(location.holder);
+        let _held = store.len();
+        store.read_value(disk, location.place, out)
+    }
+
+    /// Writes a key's value over `out`, and answers whether there is one. Where there is none `out` stays as it was. It takes no
+    /// memory.
+    ///
+    /// # Errors
+    ///
+    /// The fault of a read. The bytes of `out` are then open.
+    pub fn get<D: Disk>(&self, disk: &D, key: &Key, out: &mut [u8]) -> Result<bool, D::Fault>
+        requires out { length out.old ≡ self.now.manifest.shape.value_len }
+        requires size { device_size self.now.manifest.shape ≤ size (D.content disk.now) }
+        ensures found { Stands (D.content disk.now) self.now → result ≡ Ok true → Finds (D.content disk.now) self.now key.now.0 out.new }
+        ensures none { Stands (D.content disk.now) self.now → result ≡ Ok false → FindsNone (D.content disk.now) self.now key.now.0 }
+        ensures absent { result ≡ Ok false → out.new ≡ out.old }
+        ensures fault { IfErr result (GaveAny D.gave disk.now) }
+    {
+        match self.find(disk, key)? {
+            Some(location) => {
+                self.read_value(disk, location, out)?;
+                Ok(true)
+            }
+            None => Ok(false),
+        }
+    }
+
+    /// Where a row of this key goes in the table of the active log, none where that log cannot take it.
+    ///
+    /// # Errors
+    ///
+    /// The fault of a read.
+    pub fn placing<D: Disk>(&self, disk: &D, key: &Key) -> Result<Option<Placing>, D::Fault>
+        requires size { device_size self.now.manifest.shape ≤ size (D.content disk.now) }
+        ensures none { Stands (D.content disk.now) self.now → IsTrue (D.content disk.now).honest
+            → IfOk result (λ placing. (placing ≡ None) ↔ CannotTake self.now.manifest.shape (all_rows (D.content disk.now) self.now.active.log) key.now.0) }
+        ensures some { IfOk result (λ placing. IfSome placing (IsPlacingFor (D.content disk.now) self.now.active key.now.0)) }
+        ensures fault { IfErr result (GaveAny D.gave disk.now) }
+    {
+        self.active.placing(disk, key)
+    }
+
+    /// Where a row of this key goes in the table of an active log that has no rows.
+    pub fn placing_in_empty(&self, key: &Key) -> Placing
+        requires used { self.now.active.log.used ≡ 0 }
+        requires table { self.now.active.table ≡ empty_slots self.now.active.log.shape.buckets }
+        ensures { (content : Content) → IsPlacingFor content self.now.active key.now.0 result }
+    {
+        self.active.placing_in_empty(key)
+    }
+
+    /// Writes a row behind the others of the active log. It waits there for a flush.
+    ///
+    /// # Errors
+    ///
+    /// The fault of a write.
+    pub fn append<D: Disk>(
+        &mut self,
+        disk: &mut D,
+        kind: Kind,
+        key: &Key,
+        value: &[u8],
+        placing: Placing,
+    ) -> Result<(), D::Fault>
+        requires stands { Stands (D.content disk.old) self.old }
+        requires placing { IsPlacingFor (D.content disk.old) self.old.active key.now.0 placing }
+        requires value { length value.now ≡ self.old.manifest.shape.value_len }
+        requires charge { self.old.charge + puts_of kind ≤ self.old.manifest.shape.sorted_capacity }
+        ensures same { SameDisk (D.content disk.old) (D.content disk.new) }
+        ensures failures { MatchResult result (λ _. D.failures disk.new ≡ D.failures disk.old) (CountsFault D.failures D.gave disk.old disk.new) }
+        ensures ok { OnOk result (Advances (command_of (stored_row kind key.now value.now) ∷ []) (D.content disk.old) (D.content disk.new) self.old self.new) }
+        ensures map { OnOk result (Remaps (command_of (stored_row kind key.now value.now) ∷ []) (D.content disk.old) (D.content disk.new) self.old self.new) }
+        ensures waits { IsTrue (D.content disk.old).honest → OnOk result (waiting_commands (D.content disk.new) self.new ≡ waiting_commands (D.content disk.old) self.old ++ command_of (stored_row kind key.now value.now) ∷ []) }
+        ensures state { OnOk result ((self.new.manifest ≡ self.old.manifest) × (self.new.frozen ≡ self.old.frozen) × (self.new.charge ≡ self.old.charge + puts_of kind)) }
+        ensures err { OnErr result (Breaks (D.content disk.old) (D.content disk.new) self.old) }
+        ensures unmapped { OnErr result (Remaps [] (D.content disk.old) (D.content disk.new) self.old self.new) }
+        ensures unchanged { OnErr result (self.new ≡ self.old) }
+    {
+        let _limits = self.manifest.geometry().sorted_capacity();
+        self.active.take(disk, kind, key, value, placing)?;
+        self.charge += puts_of(kind);
+        Ok(())
+    }
+
+    /// Settles the rows that wait: a sync, one write over their gates, a sync.
+    ///
+    /// # Errors
+    ///
+    /// The fault of a sync or of the write.
+    pub fn flush<D: Disk>(&mut self, disk: &mut D) -> Result<(), D::Fault>
+        requires waiting { self.old.active.log.settled < self.old.active.log.used }
+        requires stands { Stands (D.content disk.old) self.old }
+        ensures same { SameDisk (D.content disk.old) (D.content disk.new) }
+        ensures failures { MatchResult result (λ _. D.failures disk.new ≡ D.failures disk.old) (CountsFault D.failures D.gave disk.old disk.new) }
+        ensures ok { OnOk result (Advances [] (D.content disk.old) (D.content disk.new) self.old self.new) }
+        ensures map { Remaps [] (D.content disk.old) (D.content disk.new) self.old self.new }
+        ensures quiet { OnOk result (IsQuiet (D.content disk.new) self.new) }
+        ensures state { (self.new.manifest ≡ self.old.manifest) × (self.new.frozen ≡ self.old.frozen) × (self.new.charge ≡ self.old.charge) }
+        ensures err { OnErr result (Breaks (D.content disk.old) (D.content disk.new) self.old) }
+    {
+        self.active.open_gates(disk)?;
+        Ok(())
+    }
+
+    /// A new log in memory, in the lowest log region that is free, with the body that names it. It makes no device call.
+    ///
+    /// # Errors
+    ///
+    /// It is decided in this order: `NoRoom`, `Spent`, `NoMemory`.
+    pub fn next_log(&self, alloc: Global) -> Result<NextLog, NoNextLog>
+        ensures ok { IfOk result (IsNextLog self.now) }
+        ensures err { IfErr result (NoNextCause self.now) }
+    {
+        let geometry = self.manifest.geometry();
+        let ruling = self.manifest.ruling();
+        let Some(region) = lowest_free(geometry.logs(), &ruling) else {
+            return Err(NoNextLog::NoRoom);
+        };
+        if ruling.generation == LAST_GENERATION {
+            return Err(NoNextLog::Spent);
+        }
+        match LogStore::new(alloc, geometry, region) {
+            Ok(store) => Ok(NextLog {
+                store,
+                body: next_body(&ruling, region),
+            }),
+            Err(_) => Err(NoNextLog::NoMemory),
+        }
+    }
+
+    // Settles the rows that wait, if any do.
+    fn settle<D: Disk>(&mut self, disk: &mut D) -> Result<(), D::Fault>
+        requires { Stands (D.content disk.old) self.old }
+        ensures same { SameDisk (D.content disk.old) (D.content disk.new) }
+        ensures failures { MatchResult result (λ _. D.failures disk.new ≡ D.failures disk.old) (CountsFault D.failures D.gave disk.old disk.new) }
+        ensures ok { OnOk result (Advances [] (D.content disk.old) (D.content disk.new) self.old self.new) }
+        ensures map { Remaps [] (D.content disk.old) (D.content disk.new) self.old self.new }
+        ensures quiet { OnOk result (IsQuiet (D.content disk.new) self.new) }
+        ensures state { (self.new.manifest ≡ self.old.manifest) × (self.new.frozen ≡ self.old.frozen) × (self.new.charge ≡ self.old.charge) }
+        ensures err { OnErr result (Breaks (D.content disk.old) (D.content disk.new) self.old) }
+    {
+        if !self.has_waiting() {
+            return Ok(());
+        }
+        self.flush(disk)
+    }
+
+    // Closes all gates of the new log's region, which no log has.
+    fn clear_region<D: Disk>(&self, disk: &mut D, next: &mut NextLog) -> Result<(), D::Fault>
+        requires stands { Stands (D.content disk.old) self.now }
+        requires quiet { IsQuiet (D.content disk.old) self.now }
+        requires next { IsNextLog self.now next.old }
+        ensures same { SameDisk (D.content disk.old) (D.content disk.new) }
+        ensures failures { MatchResult result (λ _. D.failures disk.new ≡ D.failures disk.old) (CountsFault D.failures D.gave disk.old disk.new) }
+        ensures ok { OnOk result (Advances [] (D.content disk.old) (D.content disk.new) self.now self.now) }
+        ensures map { Remaps [] (D.content disk.old) (D.content disk.new) self.now self.now }
+        ensures quiet { OnOk result (IsQuiet (D.content disk.new) self.now) }
+        ensures emptied { OnOk result (IsEmptied (D.content disk.new) self.now next.new) }
+        ensures next { next.new ≡ next.old }
+        ensures err { OnErr result (Breaks (D.content disk.old) (D.content disk.new) self.now) }
+    {
+        next.store.prepare(disk)?;
+        Ok(())
+    }
+
+    // Writes the body that names the new log, behind a closed gate.
+    fn write_body<D: Disk>(&mut self, disk: &mut D, next: &NextLog) -> Result<(), D::Fault>
+        requires stands { Stands (D.content disk.old) self.old }
+        requires quiet { IsQuiet (D.content disk.old) self.old }
+        requires emptied { IsEmptied (D.content disk.old) self.old next.now }
+        ensures same { SameDisk (D.content disk.old) (D.content disk.new) }
+        ensures failures { MatchResult result (λ _. D.failures disk.new ≡ D.failures disk.old) (CountsFault D.failures D.gave disk.old disk.new) }
+        ensures ok { OnOk result (Advances [] (D.content disk.old) (D.content disk.new) self.old (unprepared self.new)) }
+        ensures turn { OnOk result (MayTurn (D.content disk.new) self.new next.now) }
+        ensures map { Remaps [] (D.content disk.old) (D.content disk.new) self.old self.new }
+        ensures state { (self.new.active ≡ self.old.active) × (self.new.frozen ≡ self.old.frozen) × (self.new.charge ≡ self.old.charge) × (self.new.manifest.shape ≡ self.old.manifest.shape) × (self.new.manifest.ruling ≡ self.old.manifest.ruling) }
+        ensures err { OnErr result (Breaks (D.content disk.old) (D.content disk.new) self.old) }
+    {
+        let _sound = self.manifest.ruling();
+        self.manifest.prepare_next(disk, next.body)?;
+        Ok(())
+    }
+
+    // Opens the gate of the body that names the new log, which then is the active one.
+    fn turn<D: Disk>(&mut self, disk: &mut D, next: NextLog) -> Result<(), D::Fault>
+        requires { MayTurn (D.content disk.old) self.old next }
+        ensures same { SameDisk (D.content disk.old) (D.content disk.new) }
+        ensures failures { MatchResult result (λ _. D.failures disk.new ≡ D.failures disk.old) (CountsFault D.failures D.gave disk.old disk.new) }
+        ensures ok { OnOk result (Advances [] (D.content disk.old) (D.content disk.new) (unprepared self.old) self.new) }
+        ensures map { Remaps [] (D.content disk.old) (D.content disk.new) self.old self.new }
+        ensures frozen { OnOk result (HasFrozen next (D.content disk.new) self.old self.new) }
+        ensures shape { self.new.manifest.shape ≡ self.old.manifest.shape }
+        ensures err { OnErr result (Breaks (D.content disk.old) (D.content disk.new) (unprepared self.old)) }
+    {
+        self.manifest.commit_next(disk)?;
+        let full = mem::replace(&mut self.active, next.store);
+        let Ok(()) = self.frozen.insert(0, full) else {
+            unreachable!()
+        };
+        Ok(())
+    }
+
+    /// Freezes the active log: settles what waits, closes the gates of the new log's region, and writes the manifest's next body,
+    /// which names the new log first. Then that is the active log.
+    ///
+    /// # Errors
+    ///
+    /// The fault of a write or of a sync.
+    pub fn freeze<D: Disk>(&mut self, disk: &mut D, mut next: NextLog) -> Result<(), D::Fault>
+        requires stands { Stands (D.content disk.old) self.old }
+        requires next { IsNextLog self.old next }
+        ensures same { SameDisk (D.content disk.old) (D.content disk.new) }
+        ensures failures { MatchResult result (λ _. D.failures disk.new ≡ D.failures disk.old) (CountsFault D.failures D.gave disk.old disk.new) }
+        ensures ok { OnOk result (Advances [] (D.content disk.old) (D.content disk.new) self.old self.new) }
+        ensures map { Remaps [] (D.content disk.old) (D.content disk.new) self.old self.new }
+        ensures frozen { OnOk result (HasFrozen next (D.content disk.new) self.old self.new) }
+        ensures shape { self.new.manifest.shape ≡ self.old.manifest.shape }
+        ensures err { OnErr result (Breaks (D.content disk.old) (D.content disk.new) self.old) }
+    {
+        self.settle(disk)?;
+        self.clear_region(disk, &mut next)?;
+        self.write_body(disk, &next)?;
+        self.turn(disk, next)?;
+        Ok(())
+    }
+
+    /// All keys with their values: the rows are done one after the other from the oldest, each read once.
+    ///
+    /// # Errors
+    ///
+    /// `Device` with the fault of a read, and `NoMemory`.
+    pub fn entries<D: Disk>(
+        &self,
+        alloc: Global,
+        disk: &D,
+    ) -> Result<BTreeMap<Key, Value>, EntriesError<D::Fault>>
+        requires size { device_size self.now.manifest.shape ≤ size (D.content disk.now) }
+        ensures entries { Stands (D.content disk.now) self.now → IsTrue (D.content disk.now).honest → IfOk result (AreEntriesOf (current_map (D.content disk.now) self.now)) }
+        ensures cause { IfErr result (EntriesCause (GaveAny D.gave disk.now)) }
+    {
+        let mut entries = BTreeMap::new(alloc);
+        for index in (0..self.frozen.len()).rev() {
+            do_log(alloc, disk, &self.frozen[index], &mut entries)?;
+        }
+        do_log(alloc, disk, &self.active, &mut entries)?;
+        Ok(entries)
+    }
+}
