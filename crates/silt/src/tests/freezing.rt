@@ -7,16 +7,16 @@ use std::test::Fail;
 const FIVE_PUTS: &str =
     "put 01.. 0001\nput 02.. 0002\nput 03.. 0003\nput 04.. 0004\nput 05.. 0005\n";
 
-// A script in which two dots stand for the thirty-eight zeros that follow two digits of a key.
+// A script in which each dot stands for nineteen zeros: two of them end a key of which two digits are written.
 fn with_keys<S: AllocGlobal>(rt: &S, text: &str) -> Result<Vec<u8>, Fail> {
     let mut bytes = Vec::new(rt.alloc());
-    let mut rest = text;
-    while let Some((before, after)) = rest.split_once("..") {
-        bytes.extend_from_slice(before.as_bytes())?;
-        bytes.extend_from_slice(&[b'0'; 38])?;
-        rest = after;
+    for byte in text.as_bytes() {
+        if *byte == b'.' {
+            bytes.extend_from_slice(&[b'0'; 19])?;
+        } else {
+            bytes.push(*byte)?;
+        }
     }
-    bytes.extend_from_slice(rest.as_bytes())?;
     Ok(bytes)
 }
 
