@@ -3,11 +3,14 @@ use Rattle.std.specs.Prelude.{◌≡◌, ◌+◌, ℕ, List, [], ◌∷◌, ◌+
 use Rattle.std.specs.FinMap.{empty}
 use Rattle.std.specs.List.{slice_get}
 use Rattle.std.specs.Io.KnownBytes.{Appends, Consumes, IsAtEnd}
+use Rattle.silt_device.specs.Layout.{InLimits, Shape}
 use Rattle.silt_device.specs.declared.life.Stop.{Stop as StopOf}
+use Rattle.silt_device.specs.declared.memory.MemFault.{MemFault}
 use Rattle.silt_store_set.specs.declared.event.Event.{Event as EventOf}
 use Rattle.silt_store_set.specs.declared.event.LifeReply.{LifeReply}
 use Rattle.silt_store_set.specs.declared.event.LifeReply.TheVariants.{NotOpened, Opened}
 use Rattle.silt_store_set.specs.declared.event.Refusal.{Refusal}
+use Rattle.silt_store_set.specs.declared.event.Refusal.TheVariants.{BadGeometry}
 use Rattle.silt_store_set.specs.declared.event.Reply.{Reply}
 use Rattle.silt_store_set.specs.declared.event.Reply.TheVariants.{Refused as RefusedReply}
 use Rattle.silt_image.specs.Commands.{Map}
@@ -18,6 +21,7 @@ use Rattle.silt_wire.specs.Lines.{Parses, asked_by, is_blank}
 use Rattle.silt_wire.specs.Replies.{fault_refusal, reply_text}
 use Rattle.silt_wire.specs.Sessions.{lines_after}
 use Rattle.silt_wire.specs.Stops.{stop_of}
+use Rattle.silt.specs.NewStores.{NewStoreCause}
 use Rattle.silt.specs.declared.printing.Place.{Place}
 use Rattle.silt.specs.declared.reading.Mark.{Mark}
 use Rattle.silt.specs.declared.reading.Mark.TheVariants.{Event, Refused, Stop}
@@ -165,6 +169,11 @@ EndsScript F value_len remaining left before after =
     × (replies : List (LifeReply F)) × (to : Map) × LivesHistory empty script.lives.items replies to
     × Appends before after (script_text replies script.marks.items)
 
--- it was written that the whole is refused, and nothing else
-abbrev pub TellsRefusal : (F : Type 0) → Option (List ℕ) → Option (List ℕ) → Type 0
-TellsRefusal F before after = (refusal : Refusal F) × Appends before after (reply_line (RefusedReply refusal))
+-- why the whole is refused: a number is out of its limits, or no new store was made, or memory was wanted
+abbrev pub ScriptCause : Shape → Refusal MemFault → Type 0
+ScriptCause shape BadGeometry = ¬ InLimits shape
+ScriptCause shape refusal = NewStoreCause shape refusal
+
+-- it was written that the whole is refused, for its cause, and nothing else
+abbrev pub TellsRefusal : Shape → Option (List ℕ) → Option (List ℕ) → Type 0
+TellsRefusal shape before after = (refusal : Refusal MemFault) × ScriptCause shape refusal × Appends before after (reply_line (RefusedReply refusal))

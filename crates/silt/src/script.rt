@@ -20,7 +20,7 @@ use crate::reading::read_script;
 use crate::words::Numbers;
 use silt_device::{BadGeometry, Geometry, MemDisk, MemFault, Stop};
 use silt_recovery::format;
-use silt_store_set::{Event, LifeReply, Refusal, formatting_refusal, lives};
+use silt_store_set::{Event, LifeReply, Refusal, lives};
 use silt_wire::write_refusal;
 use std::alloc::Global;
 use std::io::{self, ErrorKind, Read, Write};
@@ -38,7 +38,7 @@ pub fn script<R: Read, W: Write>(
     writer: &mut W,
 ) -> io::Result<u8>
     ensures refused { ¬ InLimits (shape_of numbers.now) → IfOk result (λ status. (status ≡ 1) × Appends (W.contents writer.old) (W.contents writer.new) (codes "refused 2 BadGeometry\n")) }
-    ensures told { IfOk result (λ status. (status ≡ 0) ⊎ ((status ≡ 1) × TellsRefusal MemFaultOf (W.contents writer.old) (W.contents writer.new))) }
+    ensures told { IfOk result (λ status. (status ≡ 0) ⊎ ((status ≡ 1) × TellsRefusal (shape_of numbers.now) (W.contents writer.old) (W.contents writer.new))) }
     ensures answered { result ≡ Ok 0 → EndsScript MemFaultOf (shape_of numbers.now).value_len (R.remaining reader.old) (R.remaining reader.new) (W.contents writer.old) (W.contents writer.new) }
 {
     let Ok(geometry) = geometry_of(numbers) else {
@@ -100,7 +100,7 @@ fn new_store(alloc: Global, geometry: Geometry) -> Result<MemDisk, Refusal<MemFa
     };
     match format(alloc, disk, geometry) {
         Ok(disk) => Ok(disk),
-        Err(fault) => Err(formatting_refusal(fault.error)),
+        Err(fault) => Err(Refusal::from(fault.error)),
     }
 }
 

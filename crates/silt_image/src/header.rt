@@ -1,6 +1,6 @@
 // The header of a device, both ways.
 ghost use Rattle.std.specs.Prelude.{◌≡◌, Ok, Err, IfOk, IfErr, MatchResult};
-ghost use Rattle.silt_device.specs.Layout.{InLimits};
+ghost use Rattle.silt_device.specs.Layout.{InLimits, device_size};
 ghost use Rattle.silt_image.specs.Header.{header_bytes, header_shape, is_formatted};
 ghost use Rattle.silt_image.specs.Stores.{shape_found};
 
@@ -48,6 +48,7 @@ fn geometry_of(header: &[u8; 37]) -> Result<Geometry, BadGeometry>
 #[tactic(auto, using(crate::proofs::HeaderExits::too_short, crate::proofs::HeaderExits::not_formatted, crate::proofs::HeaderExits::out_of_limits, crate::proofs::HeaderExits::has_shape))]
 pub fn read_header(len: u64, header: &[u8; 37]) -> Result<Geometry, Finding>
     ensures geometry { IfOk result (λ geometry. shape_found len header.now ≡ Ok geometry) }
+    ensures size { IfOk result (λ geometry. len ≡ device_size geometry) }
     ensures finding { IfErr result (λ finding. shape_found len header.now ≡ Err finding) }
 {
     if len < HEADER_LEN as u64 {

@@ -21,7 +21,7 @@ use Rattle.silt_manifest.specs.Standing.{IsFirst}
 use Rattle.silt_manifest.proofs.Laws.{first_elsewhere}
 use Rattle.silt_recovery.specs.Format.{HasHeaderOrNone, IsGateClosed, IsHalfFormatted}
 use Rattle.silt_recovery.proofs.Formats.{fresh_store, slice_join}
-use Rattle.silt_recovery.proofs.Headers.{not_formatted}
+use Rattle.silt_image.proofs.HeaderExits.{not_formatted}
 
 -- the first byte
 take_first : (image : List ℕ) → 1 ≤ length image → slice_range image 0 1 ≡ get_or image 0 0 ∷ []

@@ -1,4 +1,3 @@
-pub mod Headers
 pub mod Refusals
 pub mod Manifests
 pub mod Formats

@@ -11,7 +11,7 @@ use Rattle.silt_image.specs.declared.finding.Place.{Place}
 use Rattle.silt_image.specs.declared.finding.Place.TheVariants.{Header, Length, Slot, NoSlot, Log, Hash, Sorted, Charge}
 use Rattle.silt_manifest.specs.declared.body.Body.{Body}
 use Rattle.silt_stores.specs.Calls.{AreLogsAlone}
-use Rattle.silt_recovery.specs.Refusals.{IsFound, IsRefusedLook, NamesOtherStores, names_logs_alone}
+use Rattle.silt_recovery.specs.Refusals.{IsFound, IsRefusedLook, NamesOtherStores, names_logs_alone, refusal_of}
 use Rattle.silt_recovery.specs.declared.fault.OpenError.{OpenError}
 use Rattle.silt_recovery.specs.declared.fault.OpenError.TheVariants.{NotFormatted, Damaged, Crowded, Device, NoMemory}
 
@@ -22,6 +22,12 @@ refused_weaker P Q W (Damaged place) step refused = step (finding.Damaged place)
 refused_weaker P Q W Crowded step refused = step finding.Crowded refused
 refused_weaker P Q W (Device fault) step refused = refused
 refused_weaker P Q W NoMemory step refused = refused
+
+-- a look is refused for the finding that is told
+pub look_refused : {F : Type 0} (P : Finding → Type 0) (W : F → Type 0) (found : Finding) → P found → IsRefusedLook P W (refusal_of found)
+look_refused P W finding.NotFormatted is = is
+look_refused P W (finding.Damaged place) is = is
+look_refused P W finding.Crowded is = is
 
 -- the verdict is found
 damage_is_found : (image : List ℕ) (place : Place) → image_verdict image ≡ Some (finding.Damaged place) → IsFound image (finding.Damaged place)

@@ -25,6 +25,12 @@ abbrev pub IsFound : List ℕ → Finding → Type 0
 IsFound image (finding.Damaged NoSlot) = (image_verdict image ≡ Some (finding.Damaged NoSlot)) ⊎ NamesOtherStores image
 IsFound image other = image_verdict image ≡ Some other
 
+-- the refusal that tells a finding
+abbrev pub refusal_of : {F : Type 0} → Finding → OpenError F
+refusal_of finding.NotFormatted = NotFormatted
+refusal_of (finding.Damaged place) = Damaged place
+refusal_of finding.Crowded = Crowded
+
 -- why a look at a device is refused: for something that is found, by a fault that was given, or for want of memory
 abbrev pub IsRefusedLook : {F : Type 0} → (Finding → Type 0) → (F → Type 0) → OpenError F → Type 0
 IsRefusedLook Finds WasGiven NotFormatted = Finds finding.NotFormatted

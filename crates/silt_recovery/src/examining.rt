@@ -12,9 +12,9 @@ use crate::fault::OpenError;
 use crate::header::read_geometry;
 use crate::logs::{read_frozen, read_log};
 use silt_device::{Disk, Geometry};
-use silt_image::Place;
+use silt_image::{Finding, Place};
 use silt_log_store::LogStore;
-use silt_manifest::{Body, Damage, Manifest, ReadFault, read_current};
+use silt_manifest::{Body, Manifest, ReadFault, read_current};
 use std::alloc::Global;
 
 /// What is held in memory of a device in which nothing was found.
@@ -47,10 +47,7 @@ fn read_manifest<D: Disk>(disk: &D, geometry: Geometry) -> Result<Manifest, Open
 {
     let manifest = match read_current(disk, geometry) {
         Ok(manifest) => manifest,
-        Err(ReadFault::Damaged(Damage::Slot(slot))) => {
-            return Err(OpenError::Damaged(Place::Slot(slot)));
-        }
-        Err(ReadFault::Damaged(Damage::NoSlot)) => return Err(OpenError::Damaged(Place::NoSlot)),
+        Err(ReadFault::Damaged(damage)) => return Err(OpenError::from(Finding::from(damage))),
         Err(ReadFault::Device(fault)) => return Err(OpenError::Device(fault)),
     };
     if !names_logs_alone(&manifest.ruling()) {

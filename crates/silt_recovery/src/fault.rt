@@ -1,6 +1,9 @@
 // Why a device was not formatted, not opened or not found whole.
+ghost use Rattle.std.specs.Prelude.{◌≡◌};
+ghost use Rattle.silt_recovery.specs.Refusals.{refusal_of};
+
 use silt_device::Disk;
-use silt_image::Place;
+use silt_image::{Finding, Place};
 
 /// Why a device was not formatted. A fault is the disk's own, of a call that failed within this very call.
 #[derive(Debug, Drop)]
@@ -34,6 +37,18 @@ pub enum OpenError<F> {
     Device(F),
     /// A log or its table found no memory.
     NoMemory,
+}
+
+impl<F> From<Finding> for OpenError<F> {
+    ghost from_gives = { λ finding error. error ≡ refusal_of finding };
+
+    fn from(finding: Finding) -> Self {
+        match finding {
+            Finding::NotFormatted => OpenError::NotFormatted,
+            Finding::Damaged(place) => OpenError::Damaged(place),
+            Finding::Crowded => OpenError::Crowded,
+        }
+    }
 }
 
 /// A device that was not opened, and why.

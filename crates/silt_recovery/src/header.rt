@@ -1,16 +1,15 @@
 // The header of a device: its gate, and the six numbers behind it.
-ghost use Rattle.std.specs.Prelude.{◌≡◌, ◌∷◌, ◌≤◌, IsTrue, IfOk, IfErr, OnOk, MatchResult, Ok, Err, slice_range};
+ghost use Rattle.std.specs.Prelude.{◌≡◌, ◌∷◌, ◌≤◌, IsTrue, IfOk, IfErr, OnOk, Ok, Err};
 ghost use Rattle.silt_device.specs.Disk.{ChangesWithin, GaveAny, LeavesOnly, Rests, size};
-ghost use Rattle.silt_device.specs.Layout.{InLimits, device_size};
-ghost use Rattle.silt_image.specs.Header.{header_bytes, header_of, header_shape, is_formatted};
+ghost use Rattle.silt_device.specs.Layout.{device_size};
+ghost use Rattle.silt_image.specs.Header.{header_bytes, header_of};
 ghost use Rattle.silt_image.specs.Stores.{shape_found};
 ghost use Rattle.silt_recovery.specs.Format.{HasHeaderOrNone, IsGateClosed};
 ghost use Rattle.silt_recovery.specs.Refusals.{IsRefusedLook};
 
 use crate::fault::OpenError;
-use byteorder::{BigEndian, ByteOrder};
-use silt_device::{BadGeometry, Disk, Geometry, write_synced};
-use silt_image::Place;
+use silt_device::{Disk, Geometry, write_synced};
+use silt_image::{HEADER_LEN, header_bytes, read_header};
 
 /// The byte of an open gate. Every other one is closed.
 pub const OPEN: u8 = 0xA7;
@@ -18,40 +17,8 @@ pub const OPEN: u8 = 0xA7;
 /// The byte that closes a gate.
 pub const CLOSED: u8 = 0x00;
 
-// The gate, the magic bytes, the version and the six numbers.
-const HEADER_LEN: usize = 37;
-
-// What follows the gate first.
-const MAGIC: [u8; 8] = *b"SILTFLSH";
-
-// The version of the layout.
-const VERSION: u32 = 1;
-
-// Whether the gate is open, and the magic bytes and the version follow.
-fn is_formatted(header: &[u8; 37]) -> bool
-    ensures { result ≡ is_formatted header.now }
-{
-    header[0] == OPEN
-        && &header[1..9] == MAGIC.as_slice()
-        && BigEndian::read_u32(&header[9..13]) == VERSION
-}
-
-// The six numbers of a header.
-fn geometry_of(header: &[u8; 37]) -> Result<Geometry, BadGeometry>
-    ensures { MatchResult result (λ geometry. (geometry ≡ header_shape header.now) × InLimits (header_shape header.now)) (λ _. ¬ InLimits (header_shape header.now)) }
-{
-    Geometry::new(
-        BigEndian::read_u32(&header[13..17]),
-        BigEndian::read_u32(&header[17..21]),
-        BigEndian::read_u32(&header[21..25]),
-        BigEndian::read_u32(&header[25..29]),
-        BigEndian::read_u32(&header[29..33]),
-        BigEndian::read_u32(&header[33..37]),
-    )
-}
-
 // The bytes of the header.
-fn read_header<D: Disk>(disk: &D) -> Result<[u8; 37], D::Fault>
+fn read_bytes<D: Disk>(disk: &D) -> Result<[u8; 37], D::Fault>
     requires { 37 ≤ size (D.content disk.now) }
     ensures bytes { IsTrue (D.content disk.now).honest → IfOk result (λ header. header ≡ header_of (D.content disk.now).shown) }
     ensures fault { IfErr result (GaveAny D.gave disk.now) }
@@ -76,43 +43,14 @@ pub fn read_geometry<D: Disk>(disk: &D) -> Result<Geometry, OpenError<D::Fault>>
     if disk.len() < HEADER_LEN as u64 {
         return Err(OpenError::NotFormatted);
     }
-    let header = match read_header(disk) {
+    let header = match read_bytes(disk) {
         Ok(header) => header,
         Err(fault) => return Err(OpenError::Device(fault)),
     };
-    if !is_formatted(&header) {
-        return Err(OpenError::NotFormatted);
+    match read_header(disk.len(), &header) {
+        Ok(geometry) => Ok(geometry),
+        Err(finding) => Err(OpenError::from(finding)),
     }
-    let Ok(geometry) = geometry_of(&header) else {
-        return Err(OpenError::Damaged(Place::Header));
-    };
-    if disk.len() != geometry.size() {
-        return Err(OpenError::Damaged(Place::Length));
-    }
-    Ok(geometry)
-}
-
-// What follows the header's gate: the magic bytes, the version and the six numbers.
-fn header_bytes(geometry: &Geometry) -> [u8; 36]
-    ensures { result ≡ header_bytes geometry.now }
-{
-    let mut bytes = [0; HEADER_LEN - 1];
-    let (magic, rest) = bytes.split_at_mut(8);
-    magic.copy_from_slice(&MAGIC);
-    let (version, rest) = rest.split_at_mut(4);
-    BigEndian::write_u32(version, VERSION);
-    let (value_len, rest) = rest.split_at_mut(4);
-    BigEndian::write_u32(value_len, geometry.value_len());
-    let (buckets, rest) = rest.split_at_mut(4);
-    BigEndian::write_u32(buckets, geometry.buckets());
-    let (log_capacity, rest) = rest.split_at_mut(4);
-    BigEndian::write_u32(log_capacity, geometry.log_capacity());
-    let (logs, rest) = rest.split_at_mut(4);
-    BigEndian::write_u32(logs, geometry.logs());
-    let (hashes, sorted_capacity) = rest.split_at_mut(4);
-    BigEndian::write_u32(hashes, geometry.hashes());
-    BigEndian::write_u32(sorted_capacity, geometry.sorted_capacity());
-    bytes
 }
 
 /// Writes the header behind its closed gate, and then opens the gate, each with a sync.

@@ -4,6 +4,7 @@ use Rattle.silt_device.specs.Disk.{Content, LeavesOnly}
 use Rattle.silt_image.specs.Commands.{Command, Map, map_after}
 use Rattle.silt_image.specs.Meaning.{image_map}
 use Rattle.silt_stores.specs.Calls.{Advances, Breaks, HasBegun, SameDisk, StandsOnLogs}
+use Rattle.silt_stores.specs.Laws.{IsGoodWith}
 use Rattle.silt_stores.specs.Standing.{Stands, base_map, full_image, waiting_commands}
 use Rattle.silt_stores.specs.State.{StoresState}
 use Rattle.silt_stores.proofs.Facts.{meaning}
@@ -31,14 +32,16 @@ seen content disk stores count failed = record {
   failed = failed;
 }
 
--- the map is the base after the waiting commands, and each image stands for the base
+-- the map is the base after the waiting commands, the numbers are the full image's, and each image stands for the base
 pub record Standing {D : Type 0} (content : D → Content) (core : CoreState D) : Type 0 where
+  pub numbers : IsTrue (content core.disk).honest → IsGoodWith core.shape core.body core.charge core.full
   pub joins : IsTrue (content core.disk).honest → map_of core ≡ map_after core.base core.waiting
   pub safe : LeavesOnly (content core.disk) (StandsOnLogs core.shape core.base)
 
 -- a store that is not failed stands
 pub stands_seen : {D : Type 0} (content : D → Content) (disk : D) (stores : StoresState) (count : ℕ) (failed : Bool) → Stands (content disk) stores → Standing content (seen content disk stores count failed)
 stands_seen content disk stores count failed stands = record {
+  numbers = (meaning (content disk) stores stands).numbers;
   joins = λ h. (meaning (content disk) stores stands).full h ∙ ap (λ m. map_after m (waiting_commands (content disk) stores)) (sym ((meaning (content disk) stores stands).shown h));
   safe = record {
     each = λ h image left. subst (λ m. StandsOnLogs stores.manifest.shape m image) (sym ((meaning (content disk) stores stands).shown h)) ((meaning (content disk) stores stands).safe.each h image left);
@@ -82,6 +85,7 @@ module _ {D F : Type 0} (content : D → Content) (failures : D → ℕ) (gave :
     names = λ _ _. refl;
     step = step;
     joins = λ f h. (stands f).joins h;
+    numbers = λ f h. (stands f).numbers h;
     moves = λ f h. record { moved = []; rest = sym (append_nil core.waiting) ∙ ap (λ cs. core.waiting ++ cs) (sym none); base = refl };
     settles = settles;
     safe = λ f. (stands f).safe;
@@ -156,6 +160,7 @@ module _ {D F : Type 0} (content : D → Content) (failures : D → ℕ) (gave :
           names = λ _ none. named (sym own ∙ none);
           step = λ _ h. step _ _ (advanced_map adds goes h);
           joins = λ _ h. standing.joins (there h);
+          numbers = λ _ h. standing.numbers (there h);
           moves = λ _ h.
               let moves = goes.moves h in
               record {
@@ -185,6 +190,7 @@ module _ {D F : Type 0} (content : D → Content) (failures : D → ℕ) (gave :
       names = λ f. absurd (cc);
       step = λ _ h. subst (Step (image_map (full_image (content disk) stores)) event (Refused (Device fault))) (sym (maps h)) (step_refused (image_map (full_image (content disk) stores)) event (Device fault));
       joins = λ f. absurd (cc);
+      numbers = λ f. absurd (cc);
       moves = λ f. absurd (cc);
       settles = λ _. tt;
       safe = λ f. absurd (cc);

@@ -1,8 +1,8 @@
 -- What an opening answers, from what recovery finds.
-use Rattle.std.proofs.Common.{◌≡◌, ◌-◌, ℕ, inl, inr, false, IsTrue, List, [], map, Option, Some, None, refl, ap, sym, ◌∙◌, arith}
+use Rattle.std.proofs.Common.{◌≡◌, ◌-◌, ℕ, inl, inr, false, IsTrue, List, [], Option, Some, None, refl, ap, sym, ◌∙◌, arith}
 use Rattle.silt_device.specs.Disk.{Content}
 use Rattle.silt_image.specs.Commands.{map_after}
-use Rattle.silt_image.specs.Meaning.{IsGood, command_of}
+use Rattle.silt_image.specs.Meaning.{IsGood}
 use Rattle.silt_image.specs.Stores.{image_stores}
 use Rattle.silt_image.specs.declared.finding.Finding.TheVariants as finding
 use Rattle.silt_image.specs.declared.finding.Place.{Place}
@@ -86,5 +86,6 @@ opened content old disk stores takes =
       waiting = λ h. waits;
       base = λ h. means.shown (there h) ∙ takes.has_map h;
       has_map = λ h. means.full (there h) ∙ ap (map_after _) waits ∙ takes.has_map h;
+      numbers = λ h. means.numbers (there h);
       safe = (stands_seen content disk stores 0 false takes.stands).safe;
     }

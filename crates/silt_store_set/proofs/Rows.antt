@@ -10,6 +10,7 @@ use Rattle.silt_log.specs.Rows.{StoredRow, log_rows, stored_row}
 use Rattle.silt_log.specs.State.{all_rows}
 use Rattle.silt_manifest.specs.declared.body.Body.{Body}
 use Rattle.silt_stores.specs.Calls.{Advances, AreAllInUse as AllInUse, Breaks, CannotTake, IsLastGeneration, Remaps, SameDisk}
+use Rattle.silt_stores.specs.Freezing.{IsLowestFree, next_body}
 use Rattle.silt_stores.specs.Standing.{Stands, full_image}
 use Rattle.silt_stores.specs.State.{StoresState, region_of}
 use Rattle.silt_stores.specs.Taking.{NeedsNext, TakesKey}
@@ -19,13 +20,19 @@ use Rattle.silt_store_set.specs.declared.event.Refusal.{Refusal}
 use Rattle.silt_store_set.specs.declared.event.Refusal.TheVariants.{Device, NoMemory, NoRoom, Spent}
 use Rattle.silt_store_set.specs.declared.event.Reply.TheVariants.{Accepted, Refused}
 use Rattle.silt_store_set.specs.Events.{is_failed}
-use Rattle.silt_store_set.specs.CoreState.{CoreState, AreAllInUse, Cause, Does, FailsBy, FailsRead, HasFreeLog, IsStopped, MayWrite, Takes, row_event}
+use Rattle.silt_store_set.specs.CoreState.{CoreState, AreAllInUse, Cause, Does, FailsBy, FailsRead, Freezes, HasFreeLog, IsStopped, MayWrite, Takes, row_event}
 use Rattle.silt_store_set.proofs.Calls.{seen, advanced, broke, refused}
 
 -- a store that may write is not failed
 pub may_working : {D : Type 0} (k : Kind) (core : CoreState D) → MayWrite k core → core.failed ≡ false
 may_working kind.Put core may = may.may_count.working
 may_working kind.Delete core may = may.working
+
+-- a body that is the next one with the lowest free region
+freezes : (logs : ℕ) (old new : Body) (region : ℕ) → IsLowestFree logs old region → new ≡ next_body old region → Freezes logs old new
+freezes logs old new region lowest is =
+    let active : region ≡ new.active = sym (ap (λ (b : Body). b.active) is) in
+    record { lowest = subst (IsLowestFree logs old) active lowest; is = is ∙ ap (next_body old) active }
 
 module _ {D F : Type 0} (content : D → Content) (failures : D → ℕ) (gave : D → F → Type 0) (disk : D) (stores : StoresState) (count : ℕ) (stands : Stands (content disk) stores) where
   -- the store before
@@ -52,13 +59,7 @@ module _ {D F : Type 0} (content : D → Content) (failures : D → ℕ) (gave :
   takes : (new : D) (after : StoresState) (next : ℕ) (key : List ℕ) → TakesKey (content disk) stores after key → Takes content failures gave before (seen content new after next false) key
   takes new after next key (inl (place, same)) = inl (same, λ h cannot. place h (subst (λ (rows : List StoredRow). CannotTake stores.manifest.shape rows key) (sym (rows_are h)) cannot))
   takes new after next key (inr turns) = inr (
-    record {
-      generation = ap (λ (b : Body). b.generation) turns.ruling;
-      frozen = ap (λ (b : Body). b.frozen) turns.ruling;
-      hashed = ap (λ (b : Body). b.hashed) turns.ruling;
-      sorted = ap (λ (b : Body). b.sorted) turns.ruling;
-      sorted_count = ap (λ (b : Body). b.sorted_count) turns.ruling;
-    },
+    freezes stores.manifest.shape.logs stores.manifest.ruling after.manifest.ruling turns.region turns.lowest turns.ruling,
     stopped (seen content new after next false) key turns.needs,
   )
 

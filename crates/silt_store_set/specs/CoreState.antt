@@ -11,6 +11,8 @@ use Rattle.silt_image.specs.Meaning.{image_map, IsGood}
 use Rattle.silt_log.specs.Rows.{StoredRow, log_rows}
 use Rattle.silt_manifest.specs.declared.body.Body.{Body}
 use Rattle.silt_stores.specs.Calls.{CannotTake, HasBegun, SameDisk, StandsOnLogs}
+use Rattle.silt_stores.specs.Freezing.{IsLowestFree, next_body}
+use Rattle.silt_stores.specs.Laws.{IsGoodWith}
 use Rattle.silt_store_set.specs.declared.event.Event.{Event}
 use Rattle.silt_store_set.specs.declared.event.Event.TheVariants.{Put, Delete, Flush, Get, Convert, Merge}
 use Rattle.silt_store_set.specs.declared.event.Progress.TheVariants.{Idle}
@@ -95,13 +97,10 @@ pub record FailsRead {D F : Type 0} (gave : D → F → Type 0) (old new : CoreS
   pub working : old.failed ≡ false
   pub same : new ≡ old
 
--- the body after the active log was frozen: it stands in front of the other frozen logs, and another region takes writes
-pub record Freezes (old new : Body) : Type 0 where
-  pub generation : new.generation ≡ old.generation + 1
-  pub frozen : new.frozen ≡ old.active ∷ old.frozen
-  pub hashed : new.hashed ≡ old.hashed
-  pub sorted : new.sorted ≡ old.sorted
-  pub sorted_count : new.sorted_count ≡ old.sorted_count
+-- the active log was frozen: it stands in front of the other frozen logs, and the lowest free region takes writes
+pub record Freezes (logs : ℕ) (old new : Body) : Type 0 where
+  pub lowest : IsLowestFree logs old new.active
+  pub is : new ≡ next_body old new.active
 
 module _ {D F : Type 0} (content : D → Content) (failures : D → ℕ) (gave : D → F → Type 0) (old new : CoreState D) where
   -- the active log cannot take a row of this key: it is full, or the placing rule gives up
@@ -110,7 +109,7 @@ module _ {D F : Type 0} (content : D → Content) (failures : D → ℕ) (gave :
 
   -- the active log takes the row, or it is frozen, where it cannot, and another one takes it
   abbrev pub Takes : List ℕ → Type 0
-  Takes key = ((new.body ≡ old.body) × (IsTrue (content old.disk).honest → ¬ CannotTake old.shape (active_rows old) key)) ⊎ (Freezes old.body new.body × IsStopped key)
+  Takes key = ((new.body ≡ old.body) × (IsTrue (content old.disk).honest → ¬ CannotTake old.shape (active_rows old) key)) ⊎ (Freezes old.shape.logs old.body new.body × IsStopped key)
 
   -- a row of this key was written, and no call failed
   abbrev pub WritesRow : List ℕ → Type 0
@@ -206,6 +205,8 @@ pub record Does {D F : Type 0} (content : D → Content) (failures : D → ℕ) 
   -- the reply is that of a map
   pub step : old.failed ≡ false → IsTrue (content old.disk).honest → Step (map_of old) event reply (map_of new)
   pub joins : new.failed ≡ false → IsTrue (content old.disk).honest → map_of new ≡ map_after new.base new.waiting
+  -- the numbers by which the store refuses are those of what is shown with the gates of the waiting rows open
+  pub numbers : new.failed ≡ false → IsTrue (content old.disk).honest → IsGoodWith new.shape new.body new.charge new.full
   pub moves : new.failed ≡ false → IsTrue (content old.disk).honest → Moves old new (accepted_command event reply)
   pub settles : IsTrue (content old.disk).honest → Settles new reply
   -- each image stands for the base, or, where the call failed, for the base as it was after a beginning of what waited
@@ -255,4 +256,5 @@ pub record Opens {D : Type 0} (content : D → Content) (old : Content) (core : 
   pub waiting : IsTrue old.honest → core.waiting ≡ []
   pub base : IsTrue old.honest → core.base ≡ image_map old.shown
   pub has_map : IsTrue old.honest → map_of core ≡ image_map old.shown
+  pub numbers : IsTrue old.honest → IsGoodWith core.shape core.body core.charge core.full
   pub safe : LeavesOnly (content core.disk) (StandsOnLogs core.shape core.base)

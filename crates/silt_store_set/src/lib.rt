@@ -23,5 +23,4 @@ mod tests;
 pub use crate::store::{Core, OpenFault};
 pub use event::{Event, LifeReply, Progress, Refusal, Reply};
 pub use life::lives;
-pub use replies::{formatting_refusal, opening_refusal};
 pub use silt_image::Place;

@@ -45,27 +45,29 @@ pub fn copied<D: Disk>(
     }
 }
 
-/// The refusal by which a formatting is told.
-pub fn formatting_refusal<F: Drop>(error: FormatError<F>) -> Refusal<F>
-    ensures { result ≡ refusal_of_formatting error }
-{
-    match error {
-        FormatError::BadGeometry => Refusal::BadGeometry,
-        FormatError::Device(fault) => Refusal::Device(fault),
-        FormatError::NoMemory => Refusal::NoMemory,
+impl<F> From<FormatError<F>> for Refusal<F> {
+    ghost from_gives = { λ error refusal. refusal ≡ refusal_of_formatting error };
+
+    fn from(error: FormatError<F>) -> Self {
+        match error {
+            FormatError::BadGeometry => Refusal::BadGeometry,
+            FormatError::Device(fault) => Refusal::Device(fault),
+            FormatError::NoMemory => Refusal::NoMemory,
+        }
     }
 }
 
-/// The refusal by which an opening or a check is told.
-pub fn opening_refusal<F: Drop>(error: OpenError<F>) -> Refusal<F>
-    ensures { result ≡ refusal_of_opening error }
-{
-    match error {
-        OpenError::NotFormatted => Refusal::NotFormatted,
-        OpenError::Damaged(place) => Refusal::Damaged(place),
-        OpenError::Crowded => Refusal::Crowded,
-        OpenError::Device(fault) => Refusal::Device(fault),
-        OpenError::NoMemory => Refusal::NoMemory,
+impl<F> From<OpenError<F>> for Refusal<F> {
+    ghost from_gives = { λ error refusal. refusal ≡ refusal_of_opening error };
+
+    fn from(error: OpenError<F>) -> Self {
+        match error {
+            OpenError::NotFormatted => Refusal::NotFormatted,
+            OpenError::Damaged(place) => Refusal::Damaged(place),
+            OpenError::Crowded => Refusal::Crowded,
+            OpenError::Device(fault) => Refusal::Device(fault),
+            OpenError::NoMemory => Refusal::NoMemory,
+        }
     }
 }
 

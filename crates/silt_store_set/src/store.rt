@@ -3,7 +3,7 @@ ghost use Rattle.std.specs.Prelude.{◌≡◌, ◌<◌, ◌≤◌, length, false
 ghost use Rattle.silt_store_set.specs.Events.{Legal};
 ghost use Rattle.silt_device.specs.Disk.{GaveAny};
 
-use crate::replies::{accepted, copied, opening_refusal, progressed, zeros};
+use crate::replies::{accepted, copied, progressed, zeros};
 use crate::{Event, Progress, Refusal, Reply};
 use silt_device::{Disk, Geometry};
 use silt_frame::{Key, Kind, Value};
@@ -83,7 +83,7 @@ impl<D: Disk> Core<D> {
             }),
             Err(fault) => Err(OpenFault {
                 disk: fault.disk,
-                refusal: opening_refusal(fault.error),
+                refusal: Refusal::from(fault.error),
             }),
         }
     }

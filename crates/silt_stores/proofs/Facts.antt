@@ -12,17 +12,23 @@ use Rattle.silt_log.proofs.Elsewhere.{all_are_settled_and_waiting}
 use Rattle.silt_log.proofs.Exits.{log_inside}
 use Rattle.silt_image.specs.Commands.{Map, map_after}
 use Rattle.silt_image.specs.Stores.{Stores, image_stores}
-use Rattle.silt_image.specs.Meaning.{HasActive, IsSound, command_of, image_map, map_of_rows, rows_of, with_log_rows}
+use Rattle.silt_image.specs.Meaning.{HasActive, IsSound, charge_of_rows, command_of, image_charge, image_map, map_of_rows, rows_of, with_log_rows}
+use Rattle.silt_image.proofs.Verdict.{rows_law, stands_law}
 use Rattle.silt_stores.specs.State.{StoresState}
 use Rattle.silt_stores.specs.Standing.{Stands, base_map, current_map, full_image, shown_stores}
 use Rattle.silt_stores.specs.Calls.{StandsOnLogs}
-use Rattle.silt_stores.specs.Laws.{MeaningLaw}
-use Rattle.silt_stores.proofs.Named.{active_named, map_with_more, named_body, named_shape, region_torn, sound_settled, stands_on_logs, stores_map, with_body, with_shape}
+use Rattle.silt_stores.specs.Laws.{IsGoodWith, MeaningLaw}
+use Rattle.silt_stores.proofs.Named.{active_named, map_with_more, named_body, named_here, named_shape, region_torn, rows_with_more, sound_settled, stands_on_logs, stores_map, with_body, with_shape}
 
 -- the map of the settled rows
 pub base_is : (content : Content) (s : StoresState) → base_map content s ≡ map_of_rows (rows_of (shown_stores content s))
 unfolding base_map
 base_is content s = refl
+
+-- the charge of an image is that of its stores
+charge_is : (image : List ℕ) (t : Stores) → image_stores image ≡ Ok t → image_charge image ≡ charge_of_rows (rows_of t)
+unfolding image_charge
+charge_is image t is = ap charge_of_rows (rows_law image t is)
 
 -- opening the gates of the waiting rows changes their log's region alone
 pub full_torn : (content : Content) (l : LogState) → InBounds l → size content ≡ device_size l.shape → Torn (gates_at l.shape l.region) (log_size l.shape) content.shown (log.full_image content l)
@@ -109,6 +115,23 @@ module _ (content : Content) (s : StoresState) (stands : Stands content s) where
   full_map honest = map_with_rows honest (full_image content s) (waiting_rows content s.active.log)
       (full_stores honest ∙ ap (λ (rows : List StoredRow). Ok (with_log_rows s.manifest.ruling.active rows (shown_stores content s))) rows_split)
 
+  -- the numbers of the full image
+  pub full_numbers : IsTrue content.honest → IsGoodWith s.manifest.shape s.manifest.ruling s.charge (full_image content s)
+  full_numbers honest =
+      let t : Stores = with_log_rows s.manifest.ruling.active (all_rows content s.active.log) (shown_stores content s) in
+      let split : t ≡ with_log_rows s.manifest.ruling.active (settled_rows content s.active.log ++ waiting_rows content s.active.log) (shown_stores content s) =
+      ap (λ (rows : List StoredRow). with_log_rows s.manifest.ruling.active rows (shown_stores content s)) rows_split in
+      let is : image_stores (full_image content s) ≡ Ok t = full_stores honest in
+      record {
+        stores = is ∙ ap Ok (sym (named_here s.manifest.shape s.manifest.ruling t (full_image content s) is
+            (with_shape s.manifest.ruling.active (all_rows content s.active.log) (shown_stores content s) ∙ named_shape s.manifest.shape s.manifest.ruling content.shown)
+            (with_body s.manifest.ruling.active (all_rows content s.active.log) (shown_stores content s) ∙ named_body s.manifest.shape s.manifest.ruling content.shown)));
+        good = (stands_law (full_image content s) t is (subst IsSound (sym split) (all_sound honest))).good;
+        charged = charge_is (full_image content s) t is ∙ ap (λ (u : Stores). charge_of_rows (rows_of u)) split
+            ∙ ap charge_of_rows (rows_with_more (shown_stores content s) s.manifest.ruling.active (settled_rows content s.active.log) (waiting_rows content s.active.log) active_is (has_active honest) (waiting_rows content s.active.log))
+            ∙ sym (stands.counted honest);
+      }
+
   -- the map of what is shown
   pub shown_map : IsTrue content.honest → image_map content.shown ≡ base_map content s
   shown_map honest = stores_map (shown_stores content s) content.shown (shown_named honest) ∙ sym (base_is content s)
@@ -142,5 +165,6 @@ meaning content s stands = record {
   full = full_map content s stands;
   shown = shown_map content s stands;
   safe = base_safe content s stands;
+  numbers = full_numbers content s stands;
   rows = full_rows content s stands;
 }

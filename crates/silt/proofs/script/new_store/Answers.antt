@@ -10,4 +10,4 @@ returns-in-Ok-format-clause-images c = new_is_safe (memory_content c.in-Ok-forma
 pub returns-in-Err-clause-cause : goal.returns-in-Err-clause-cause
 returns-in-Err-clause-cause c =
     let fits = fresh_size c.size.result c.in-Ok.disk c.in-Ok.ensures ∙ c.size.ensures.value in
-    rw c.formatting_refusal.ensures (format_cause c.args.geometry c.in-Ok.disk c.in-Err.fault.disk c.in-Err.fault.error fits c.in-Err.ensures.same c.in-Err.ensures.cause)
+    rw c.from.ensures (format_cause c.args.geometry c.in-Ok.disk c.in-Err.fault.disk c.in-Err.fault.error fits c.in-Err.ensures.same c.in-Err.ensures.cause)

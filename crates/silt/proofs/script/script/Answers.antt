@@ -2,9 +2,10 @@ use Rattle.std.proofs.Common.{◌≡◌, ℕ, [], ap, ◌∙◌, subst}
 use Rattle.silt_device.specs.Layout.{Shape}
 use Rattle.silt_device.specs.declared.memory.MemFault.{MemFault}
 use Rattle.silt_wire.specs.Sessions.{lines_after}
-use Rattle.silt.specs.Scripts.{Reads}
+use Rattle.silt.specs.Numbers.{shape_of}
+use Rattle.silt.specs.Scripts.{Reads, ScriptCause}
 use Rattle.silt_store_set.specs.declared.event.Refusal.TheVariants.{BadGeometry, NoMemory}
-use Rattle.silt.proofs.Outcomes.{told_refused}
+use Rattle.silt.proofs.Outcomes.{refused_as_new, told_refused}
 use Rattle.silt.proofs.Refusals.{tells_bad_geometry}
 use Rattle.silt.proofs.script.script.Goals as goal
 
@@ -26,10 +27,15 @@ returns-in-Ok-run_lives-clause-answered g c = λ _.
     )
 
 pub returns-in_default-clause-told : goal.returns-in_default-clause-told
-returns-in_default-clause-told g c = told_refused c.refuse.result _ _ BadGeometry c.refuse.ensures
+returns-in_default-clause-told g c = told_refused (shape_of c.args.numbers.now) c.refuse.result _ _ BadGeometry c.in_default.ensures c.refuse.ensures
 
 pub returns-in-Err-clause-told : goal.returns-in-Err-clause-told
-returns-in-Err-clause-told g c = told_refused c.refuse-in-Err.result _ _ NoMemory c.refuse-in-Err.ensures
+returns-in-Err-clause-told g c = told_refused (shape_of c.args.numbers.now) c.refuse-in-Err.result _ _ NoMemory tt c.refuse-in-Err.ensures
+
+pub returns-clause-told : goal.returns-clause-told
+returns-clause-told g c =
+    told_refused (shape_of c.args.numbers.now) c.refuse-in-Err-run_lives.result _ _ c.in-Err-run_lives.refusal
+    (subst (λ (shape : Shape). ScriptCause shape c.in-Err-run_lives.refusal) c.in-Ok.ensures.0 (refused_as_new _ c.in-Err-run_lives.refusal c.in-Err-run_lives.ensures.cause)) c.refuse-in-Err-run_lives.ensures
 
 pub returns-in_default-clause-refused : goal.returns-in_default-clause-refused
 returns-in_default-clause-refused g c = λ _. tells_bad_geometry MemFault c.refuse.result _ _ c.refuse.ensures

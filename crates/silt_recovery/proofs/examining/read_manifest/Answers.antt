@@ -1,25 +1,21 @@
-use Rattle.std.proofs.Common.{◌≡◌, false, true, inr, sym, ap, ◌∙◌, subst}
-use Rattle.silt_device.specs.Disk.{GaveAny, Shows}
-use Rattle.silt_manifest.specs.Faults.{IsDamaged, IsNotRead}
-use Rattle.silt_manifest.specs.declared.slot.Damage.TheVariants.{Slot, NoSlot}
-use Rattle.silt_recovery.specs.Refusals.{names_logs_alone}
+use Rattle.std.proofs.Common.{◌≡◌, IsTrue, false, true, inr, sym, ap, ◌∙◌, subst}
+use Rattle.silt_device.specs.Disk.{GaveAny}
+use Rattle.silt_image.specs.Stores.{damage_finding}
+use Rattle.silt_manifest.specs.Faults.{IsNotRead}
+use Rattle.silt_recovery.specs.Refusals.{IsFound, IsRefusedLook, names_logs_alone, refusal_of}
 use Rattle.silt_recovery.proofs.Manifests.{damage_verdict, ruled_stores}
-use Rattle.silt_recovery.proofs.Refusals.{names_logs, names_others}
+use Rattle.silt_recovery.proofs.Refusals.{look_refused, names_logs, names_others}
 use Rattle.silt_recovery.proofs.examining.read_manifest.Goals as goal
 
-pub returns-in-Err-Damaged-Slot-clause-cause : goal.returns-in-Err-Damaged-Slot-clause-cause
-returns-in-Err-Damaged-Slot-clause-cause g c = λ h.
+pub returns-in-Err-Damaged-clause-cause : goal.returns-in-Err-Damaged-clause-cause
+returns-in-Err-Damaged-clause-cause g c =
     let content = g.D.Disk.content c.args.disk.now in
-    let refused = subst (IsNotRead content c.args.geometry (GaveAny g.D.Disk.gave c.args.disk.now)) c.in-Err-Damaged-Slot.field-0-is c.in-Err-Damaged-Slot.ensures.refused in
-    let damaged = subst (λ damage. Shows content (IsDamaged c.args.geometry damage)) c.in-Err-Damaged-Slot.field-0-0-is refused in
-    damage_verdict c.args.geometry content.shown (Slot c.in-Err-Damaged-Slot.slot) (c.requires.shape h) (damaged.holds h)
-
-pub returns-in-Err-Damaged-NoSlot-clause-cause : goal.returns-in-Err-Damaged-NoSlot-clause-cause
-returns-in-Err-Damaged-NoSlot-clause-cause g c = λ h.
-    let content = g.D.Disk.content c.args.disk.now in
-    let refused = subst (IsNotRead content c.args.geometry (GaveAny g.D.Disk.gave c.args.disk.now)) c.in-Err-Damaged-NoSlot.field-0-is c.in-Err-Damaged-NoSlot.ensures.refused in
-    let damaged = subst (λ damage. Shows content (IsDamaged c.args.geometry damage)) c.in-Err-Damaged-NoSlot.field-0-0-is refused in
-    damage_verdict c.args.geometry content.shown NoSlot (c.requires.shape h) (damaged.holds h)
+    let gave = GaveAny g.D.Disk.gave c.args.disk.now in
+    let refused = subst (IsNotRead content c.args.geometry gave) c.in-Err-Damaged.field-0-is c.in-Err-Damaged.ensures.refused in
+    let found : IsTrue content.honest → IsFound content.shown (damage_finding c.in-Err-Damaged.damage) = λ h. damage_verdict c.args.geometry content.shown c.in-Err-Damaged.damage (c.requires.shape h) (refused.holds h) in
+    subst (IsRefusedLook (λ finding. IsTrue content.honest → IsFound content.shown finding) gave)
+    (ap refusal_of (sym c.from.ensures) ∙ sym c.from-in-Err-Damaged.ensures)
+    (look_refused (λ finding. IsTrue content.honest → IsFound content.shown finding) gave (damage_finding c.in-Err-Damaged.damage) found)
 
 pub returns-then-not-names_logs_alone-clause-cause : goal.returns-then-not-names_logs_alone-clause-cause
 returns-then-not-names_logs_alone-clause-cause g c = λ h.
