@@ -55,7 +55,7 @@ pub fn write_row<D: Disk>(disk: &mut D, at: u64, head: &[u8], value: &[u8]) -> R
     ensures written { OnOk result (Writes at (head.now ++ value.now) (D.content disk.old) (D.content disk.new)) }
     ensures failures { MatchResult result (λ _. D.failures disk.new ≡ D.failures disk.old) (CountsFault D.failures D.gave disk.old disk.new) }
 {
-    let _size = disk.len();
+    let _size = disk.len(); // so no place within it passes a word
     disk.write(at, head)?;
     disk.write(at + head.len() as u64, value)?;
     Ok(())

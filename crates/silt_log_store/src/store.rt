@@ -281,7 +281,7 @@ impl LogStore {
         requires table { self.now.table ≡ empty_slots self.now.log.shape.buckets }
         ensures { (content : Content) → IsPlacingFor content self.now _key.now.0 result }
     {
-        let _limits = self.log.geometry().log_capacity();
+        let _limits = self.log.geometry().log_capacity(); // at least one row
         Placing { standing: None }
     }
 

@@ -67,7 +67,7 @@ impl Manifest {
         ensures value { result ≡ self.now.ruling }
         ensures sound { is_well_formed self.now.shape (ruling_slot self.now) self.now.ruling ≡ true }
     {
-        let _ = &self.geometry;
+        let _ = &self.geometry; // the body is well formed for it
         self.ruling
     }
 
@@ -161,7 +161,7 @@ impl Manifest {
         ensures unchanged { OnErr result (self.new ≡ self.old) }
         ensures failures { MatchResult result (λ _. D.failures disk.new ≡ D.failures disk.old) (CountsFault D.failures D.gave disk.old disk.new) }
     {
-        let _limits = self.geometry.logs();
+        let _limits = self.geometry.logs(); // at most eight
         let slot = self.spare_slot();
         write_synced(disk, self.closing_place(), &[CLOSED])?;
         write_body(disk, slot, &next.to_bytes())?;

@@ -48,7 +48,7 @@ pub fn read_log<D: Disk>(
 {
     match LogStore::rebuild(alloc, disk, geometry, region) {
         Ok(rebuilt) => {
-            let _rows = rebuilt.store.len();
+            let _rows = rebuilt.store.len(); // at most as many as the log has room for
             Ok(rebuilt)
         }
         Err(RebuildError::Damaged(row)) => Err(OpenError::Damaged(Place::Log { region, row })),

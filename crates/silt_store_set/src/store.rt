@@ -270,7 +270,7 @@ impl<D: Disk> Core<D> {
         ensures legal { IsTrue (D.content self.old.disk).honest → IfOk result (λ replies. Legal self.old.count (map_of self.old) events.now replies.items self.new.count (map_of self.new)) }
         ensures err { OnErr result (self.new ≡ self.old) }
     {
-        let _ = &self.disk;
+        let _ = &self.disk; // the store is as it was made
         let mut replies = Vec::with_capacity(alloc, events.len())?;
         for event in events {
             let reply = self.answer(alloc, event);

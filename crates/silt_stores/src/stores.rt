@@ -64,7 +64,7 @@ fn row_count(stores: &[LogStore]) -> u32
 {
     let mut rows = 0;
     for store in stores {
-        let _limits = store.geometry().log_capacity();
+        let _limits = store.geometry().log_capacity(); // so the sum of eight is small
         let _capacity = store.capacity();
         rows += store.len();
     }
@@ -122,7 +122,7 @@ impl Stores {
         ensures { (content : Content) → Stands content self.now → IsTrue content.honest → self.now.active.log.settled ≡ self.now.active.log.used
             → result ≡ report_of (shown_stores content self.now) }
     {
-        let _limits = self.manifest.geometry().logs();
+        let _limits = self.manifest.geometry().logs(); // at most eight
         let ruling = self.manifest.ruling();
         Report {
             generation: ruling.generation,
@@ -203,7 +203,7 @@ impl Stores {
         ensures fault { IfErr result (GaveAny D.gave disk.now) }
     {
         let store = self.store_at(location.holder);
-        let _held = store.len();
+        let _held = store.len(); // at most as many as the log has room for
         store.read_value(disk, location.place, out)
     }
 
@@ -281,7 +281,7 @@ impl Stores {
         ensures unmapped { OnErr result (Remaps [] (D.content disk.old) (D.content disk.new) self.old self.new) }
         ensures unchanged { OnErr result (self.new ≡ self.old) }
     {
-        let _limits = self.manifest.geometry().sorted_capacity();
+        let _limits = self.manifest.geometry().sorted_capacity(); // so the charge fits its word
         self.active.take(disk, kind, key, value, placing)?;
         self.charge += puts_of(kind);
         Ok(())
@@ -381,7 +381,7 @@ impl Stores {
         ensures state { (self.new.active ≡ self.old.active) × (self.new.frozen ≡ self.old.frozen) × (self.new.charge ≡ self.old.charge) × (self.new.manifest.shape ≡ self.old.manifest.shape) × (self.new.manifest.ruling ≡ self.old.manifest.ruling) }
         ensures err { OnErr result (Breaks (D.content disk.old) (D.content disk.new) self.old) }
     {
-        let _sound = self.manifest.ruling();
+        let _sound = self.manifest.ruling(); // the next body is well formed as it is
         self.manifest.prepare_next(disk, next.body)?;
         Ok(())
     }
