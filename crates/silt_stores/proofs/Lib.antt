@@ -16,5 +16,4 @@ pub mod Holdings
 pub mod Emptied
 pub mod Folds
 pub mod Steps
-pub mod Reports
 pub mod Takes

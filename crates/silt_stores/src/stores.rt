@@ -1,10 +1,10 @@
 // The stores of a device in memory, and their calls.
-ghost use Rattle.std.specs.Prelude.{vec_capacity, ◌≡◌, ◌+◌, ◌<◌, ◌≤◌, [], ◌∷◌, ◌++◌, ◌↔◌, ℕ, length, nat_lt, sum_by, true, false, None, Some, Ok, IsTrue, IfOk, IfErr, IfSome, IfNone, OnOk, OnErr, MatchResult, if◌then◌else◌};
+ghost use Rattle.std.specs.Prelude.{vec_capacity, ◌≡◌, ◌+◌, ◌<◌, ◌≤◌, [], ◌∷◌, ◌++◌, ◌↔◌, ℕ, length, nat_lt, true, false, None, Some, Ok, IsTrue, IfOk, IfErr, IfSome, IfNone, OnOk, OnErr, MatchResult, if◌then◌else◌};
 ghost use Rattle.std.specs.BTreeMap as tree;
 ghost use Rattle.silt_device.specs.Disk.{Content, CountsFault, GaveAny, LeavesOnly, size};
 ghost use Rattle.silt_device.specs.Layout.{device_size};
 ghost use Rattle.silt_frame.specs.declared.key.Kind.{Kind};
-ghost use Rattle.silt_image.specs.Meaning.{command_of, report_of};
+ghost use Rattle.silt_image.specs.Meaning.{command_of};
 ghost use Rattle.silt_log.specs.Rows.{stored_row};
 ghost use Rattle.silt_log.specs.State.{all_rows};
 ghost use Rattle.silt_stores.specs.Calls.{puts_of};
@@ -14,7 +14,6 @@ use crate::freezing::{NextLog, NoNextLog, lowest_free, next_body};
 use crate::lookup::{Holder, Location, located};
 use silt_device::{Disk, Geometry};
 use silt_frame::{Key, Kind, Value};
-use silt_image::Report;
 use silt_log_store::{Found, LogStore, Placing};
 use silt_manifest::Manifest;
 use std::alloc::Global;
@@ -57,25 +56,11 @@ fn puts_of(kind: Kind) -> u32
     }
 }
 
-// How many rows some logs have together.
-fn row_count(stores: &[LogStore]) -> u32
-    requires { length stores.now ≤ 8 }
-    ensures { result ≡ sum_by (λ store. store.log.used) stores.now }
-{
-    let mut rows = 0;
-    for store in stores {
-        let _limits = store.geometry().log_capacity(); // so the sum of eight is small
-        let _capacity = store.capacity();
-        rows += store.len();
-    }
-    rows
-}
-
 impl Stores {
     ghost use Rattle.silt_cuckoo.specs.Slots.{empty_slots};
     ghost use Rattle.silt_log_store.specs.Calls.{IsPlacingFor};
     ghost use Rattle.silt_stores.specs.State.{StoresState, AreHeld, AreWhole};
-    ghost use Rattle.silt_stores.specs.Standing.{Stands, current_map, shown_stores, waiting_commands};
+    ghost use Rattle.silt_stores.specs.Standing.{Stands, current_map, waiting_commands};
     ghost use Rattle.silt_stores.specs.Calls.{Advances, Breaks, CannotTake, Finds, FindsNone, IsQuiet, Remaps, SameDisk};
     ghost use Rattle.silt_stores.specs.Lookup.{AreEntriesOf, EntriesCause, FindsFrozen, IsHolder, IsLocation, Locates, store_at, value_at};
     ghost use Rattle.silt_stores.specs.Freezing.{HasFrozen, IsEmptied, IsNextLog, MayTurn, NoNextCause, empty_store, unprepared};
@@ -115,26 +100,6 @@ impl Stores {
         ensures { result ≡ nat_lt self.now.active.log.settled self.now.active.log.used }
     {
         self.active.has_waiting()
-    }
-
-    /// What the stores consist of, in numbers. Where no row waits these are the numbers of what the device shows.
-    pub fn report(&self) -> Report
-        ensures { (content : Content) → Stands content self.now → IsTrue content.honest → self.now.active.log.settled ≡ self.now.active.log.used
-            → result ≡ report_of (shown_stores content self.now) }
-    {
-        let _limits = self.manifest.geometry().logs(); // at most eight
-        let ruling = self.manifest.ruling();
-        Report {
-            generation: ruling.generation,
-            active: ruling.active,
-            active_rows: self.active.len(),
-            frozen: self.frozen.len() as u32,
-            frozen_rows: row_count(&self.frozen),
-            hashes: 0,
-            hash_rows: 0,
-            entries: 0,
-            charge: self.charge,
-        }
     }
 
     // The log of a holder.
