@@ -1,0 +1,24 @@
+-- Laws of entries, for the layers above.
+use Rattle.std.specs.Prelude.{◌≡◌, ℕ, ◌<◌, IsTrue, List, [], length, get_or, slice_get, Some}
+use Rattle.silt_device.specs.Layout.{Shape}
+use Rattle.silt_log.specs.Rows.{StoredRow}
+use Rattle.silt_image.specs.Stores.{sorted_rows}
+use Rattle.silt_image.specs.Meaning.{is_key_below, keys_of, sorted_findings}
+
+-- so many rows, each of them a put
+pub record ArePuts (rows : List StoredRow) (count : ℕ) : Type 0 where
+  pub counted : length rows ≡ count
+  pub puts : (place : ℕ) (row : StoredRow) → slice_get rows place ≡ Some row → row.kind ≡ 1
+
+-- the entries of a region are so many puts
+abbrev pub EntriesLaw : Type 0
+EntriesLaw = (shape : Shape) (region count : ℕ) (image : List ℕ) → ArePuts (sorted_rows shape region count image) count
+
+-- a lower place has a lower key, and a key stands at one place
+pub record IsRising (rows : List StoredRow) : Type 0 where
+  pub below : (low high : ℕ) → low < high → high < length rows → IsTrue (is_key_below (get_or (keys_of rows) low []) (get_or (keys_of rows) high []))
+  pub once : (place other : ℕ) → place < length rows → other < length rows → get_or (keys_of rows) place [] ≡ get_or (keys_of rows) other [] → place ≡ other
+
+-- entries in which nothing is found rise
+abbrev pub RisingLaw : Type 0
+RisingLaw = (rows : List StoredRow) → sorted_findings rows ≡ [] → IsRising rows

@@ -1,0 +1,4 @@
+pub mod State
+pub mod Finding
+pub mod Rebuild
+pub mod Laws

@@ -1,0 +1,22 @@
+-- What a rebuild finds in entries.
+use Rattle.std.specs.Prelude.{◌≡◌, ℕ, List, [], slice_get, Option, Some, None}
+use Rattle.silt_log.specs.Rows.{StoredRow}
+use Rattle.silt_image.specs.Meaning.{sorted_findings}
+use Rattle.silt_image.specs.declared.finding.Finding.TheVariants as finding
+use Rattle.silt_image.specs.declared.finding.Place.TheVariants.{Sorted}
+use Rattle.silt_sorted_store.specs.declared.rebuilding.RebuildError.{RebuildError}
+use Rattle.silt_sorted_store.specs.declared.rebuilding.RebuildError.TheVariants.{Damaged, Device}
+
+-- the first finding in the entries is that this one is not above the one before it
+abbrev pub IsFirstOutOfOrder : List StoredRow → ℕ → Type 0
+IsFirstOutOfOrder rows place = slice_get (sorted_findings rows) 0 ≡ Some (finding.Damaged (Sorted place))
+
+-- the place of the first entry that is not above the one before it, none where nothing is found
+abbrev pub FindsOutOfOrder : List StoredRow → Option ℕ → Type 0
+FindsOutOfOrder rows None = sorted_findings rows ≡ []
+FindsOutOfOrder rows (Some place) = IsFirstOutOfOrder rows place
+
+-- why a rebuild was refused: by the place of an entry, or by the fault of a read
+abbrev pub IsRefusedRebuild : {F : Type 0} → (ℕ → Type 0) → (F → Type 0) → RebuildError F → Type 0
+IsRefusedRebuild IsDamaged WasGiven (Damaged place) = IsDamaged place
+IsRefusedRebuild IsDamaged WasGiven (Device fault) = WasGiven fault

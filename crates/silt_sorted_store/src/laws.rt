@@ -1,0 +1,12 @@
+// Laws of entries, for the layers above.
+ghost use Rattle.silt_sorted_store.specs.Laws.{EntriesLaw, RisingLaw};
+
+/// The entries of a sorted region are as many as are asked for, and each is a put.
+pub fn entries_law()
+    ensures { EntriesLaw }
+{}
+
+/// In entries in which nothing is found a lower place has a lower key, and each key stands at one place.
+pub fn rising_law()
+    ensures { RisingLaw }
+{}
