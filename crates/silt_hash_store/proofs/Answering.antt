@@ -1,0 +1,261 @@
+-- The rows that a conversion writes make of a map what the log's rows make.
+use Rattle.std.proofs.Common.{◌≡◌, ℕ, zero, suc, ◌*◌, ◌<◌, ◌⊎◌, ◌==◌, Bool, true, false, cond, if◌then◌else◌, List, [], ◌∷◌, length, map, filter, get_or, slice_get, Option, Some, None, inl, inr, refl, sym, ap, ◌∙◌, arith}
+use Rattle.std.specs.FinMap.{get, get-insert, get-remove, same_map, slice_cmp-IsAntisymmetric, nat_cmp-IsAntisymmetric}
+use Rattle.std.specs.List.{range_with_len}
+use Rattle.std.specs.Str.{bytes_eq}
+use Rattle.std.specs.Ordering.{nat_cmp, eq_by_cmp}
+use Rattle.std.specs.Cmp.Lexicographic.{slice_cmp}
+use Rattle.std.proofs.lemmas.Bool.{and_from, and_parts, cases_Bool}
+use Rattle.std.proofs.lemmas.Cmp.{eq_by_cmp_equiv, nat_list_cmp_total}
+use Rattle.std.proofs.lemmas.List.FromFn.{get_or-map-range_with_len, length-map-range_with_len}
+use Rattle.std.proofs.lemmas.Map.Text.{is_eq-slice_cmp}
+use Rattle.std.proofs.lemmas.Option.{get_or_from_slice_get, slice_get-get_or, slice_get_within}
+use Rattle.std.proofs.lemmas.Slice.Eq.{bytes_eq-Decides}
+use Rattle.silt_cuckoo.specs.Index.{IsNewest}
+use Rattle.silt_cuckoo.specs.Slots.{Entry, Slots, entry_at}
+use Rattle.silt_cuckoo.proofs.Paths.{entry_inside}
+use Rattle.silt_cuckoo.proofs.Placed.{has_entry}
+use Rattle.silt_cuckoo.proofs.Indexing.{index_law, newest_apart}
+use Rattle.silt_device.specs.Layout.{Shape}
+use Rattle.silt_image.specs.Commands.{Map, changed, delete, map_after, put}
+use Rattle.silt_image.specs.Laws.{value_of}
+use Rattle.silt_image.specs.Meaning.{command_of, keys_of}
+use Rattle.silt_log.specs.Rows.{StoredRow, has_known_kind}
+use Rattle.silt_log_store.proofs.Entries.{entry_law}
+use Rattle.silt_log_store.proofs.Rows.{key_of_row, keys_count}
+use Rattle.silt_hash_store.specs.Converting.{converted_row, converted_rows, empty_row}
+use Rattle.silt_hash_store.specs.Laws.{ConvertedMapLaw, IsTableOf}
+use Rattle.silt_hash_store.specs.Slots.{is_row_of}
+use Rattle.silt_hash_store.proofs.Slotting.{empty_not_known}
+use Rattle.silt_hash_store.proofs.Soundness.{empty_kind, entry_known, place_inside, row_of_entry, row_of_none}
+
+-- two keys are told apart as bytes
+same_key : (key other : List ℕ) → eq_by_cmp (slice_cmp nat_cmp) key other ≡ bytes_eq other key
+same_key key other = (eq_by_cmp_equiv nat_list_cmp_total).symm key other ∙ is_eq-slice_cmp other key
+
+-- what a map has for a key after one row more
+changed_get : (m : Map) (row : StoredRow) (key : List ℕ) → get (changed m (command_of row)) key ≡ cond (bytes_eq row.key key) (value_of row) (get m key)
+changed_get m row key = go (row.kind == 1) refl
+  where
+    go : (b : Bool) → (row.kind == 1) ≡ b → get (changed m (command_of row)) key ≡ cond (bytes_eq row.key key) (value_of row) (get m key)
+    go true is =
+        ap (λ (b : Bool). get (changed m (if b then put row.key row.value else delete row.key)) key) is
+        ∙ get-insert nat_list_cmp_total m row.key row.value key
+        ∙ ap (λ (b : Bool). cond b (Some row.value) (get m key)) (same_key key row.key)
+        ∙ ap (λ (b : Bool). cond (bytes_eq row.key key) (if b then Some row.value else None) (get m key)) (sym is)
+    go false is =
+        ap (λ (b : Bool). get (changed m (if b then put row.key row.value else delete row.key)) key) is
+        ∙ get-remove nat_list_cmp_total m row.key key
+        ∙ ap (λ (b : Bool). cond b None (get m key)) (same_key key row.key)
+        ∙ ap (λ (b : Bool). cond (bytes_eq row.key key) (if b then Some row.value else None) (get m key)) (sym is)
+
+-- a row of the key sets its value, and another row leaves what there is
+set_by : (m : Map) (row : StoredRow) (key : List ℕ) → bytes_eq row.key key ≡ true → get (changed m (command_of row)) key ≡ value_of row
+set_by m row key same = changed_get m row key ∙ ap (λ (b : Bool). cond b (value_of row) (get m key)) same
+
+left_by : (m : Map) (row : StoredRow) (key : List ℕ) → bytes_eq row.key key ≡ false → get (changed m (command_of row)) key ≡ get m key
+left_by m row key other = changed_get m row key ∙ ap (λ (b : Bool). cond b (value_of row) (get m key)) other
+
+-- some row of a known kind has the key
+abbrev HasRow : List ℕ → List StoredRow → Type 0
+HasRow key rows = (i : ℕ) × (row : StoredRow) × (slice_get rows i ≡ Some row) × (is_row_of key row ≡ true)
+
+-- all rows of the key have this value
+abbrev AllHave : Option (List ℕ) → List ℕ → List StoredRow → Type 0
+AllHave v key rows = (i : ℕ) (row : StoredRow) → slice_get rows i ≡ Some row → is_row_of key row ≡ true → value_of row ≡ v
+
+-- a map after the rows of known kinds among some
+abbrev after_known : Map → List StoredRow → Map
+after_known m rows = map_after m (map command_of (filter has_known_kind rows))
+
+kept_first : (row : StoredRow) (rows : List StoredRow) → has_known_kind row ≡ true → filter has_known_kind (row ∷ rows) ≡ row ∷ filter has_known_kind rows
+kept_first row rows known = rw known refl
+
+dropped_first : (row : StoredRow) (rows : List StoredRow) → has_known_kind row ≡ false → filter has_known_kind (row ∷ rows) ≡ filter has_known_kind rows
+dropped_first row rows unknown = rw unknown refl
+
+-- a row of the key, where the first is not one
+later_row : (key : List ℕ) (row : StoredRow) (rows : List StoredRow) → is_row_of key row ≡ false → HasRow key (row ∷ rows) → HasRow key rows
+later_row key row rows lacks (zero, other, there, passes) =
+    let same : row ≡ other = cc in
+    let has : is_row_of key row ≡ true = ap (is_row_of key) same ∙ passes in
+    absurd (cc)
+later_row key row rows lacks (suc i, other, there, passes) = (i, other, there, passes)
+
+-- one row more in front of rows of which the value is known
+settled_more : (v : Option (List ℕ)) (key : List ℕ) (m : Map) (row : StoredRow) (rows : List StoredRow) → AllHave v key (row ∷ rows) → ((get m key ≡ v) ⊎ HasRow key (row ∷ rows))
+    → ((n : Map) → ((get n key ≡ v) ⊎ HasRow key rows) → get (after_known n rows) key ≡ v) → get (after_known m (row ∷ rows)) key ≡ v
+settled_more v key m row rows all some rest = go (has_known_kind row) refl (bytes_eq row.key key) refl
+  where
+    further : is_row_of key row ≡ false → (n : Map) → get n key ≡ get m key → (get n key ≡ v) ⊎ HasRow key rows
+    further lacks n same = elim some [
+      | inl has ↦ inl (same ∙ has)
+      | inr found ↦ inr (later_row key row rows lacks found)
+    ]
+
+    go : (known : Bool) → has_known_kind row ≡ known → (same : Bool) → bytes_eq row.key key ≡ same → get (after_known m (row ∷ rows)) key ≡ v
+    go true known true same =
+        ap (λ (l : List StoredRow). get (map_after m (map command_of l)) key) (kept_first row rows known)
+        ∙ rest (changed m (command_of row)) (inl (set_by m row key same ∙ all 0 row refl (and_from _ _ known same)))
+    go true known false other =
+        let lacks : is_row_of key row ≡ false = rw (known, other) refl in
+        ap (λ (l : List StoredRow). get (map_after m (map command_of l)) key) (kept_first row rows known)
+        ∙ rest (changed m (command_of row)) (further lacks (changed m (command_of row)) (left_by m row key other))
+    go false unknown same is =
+        let lacks : is_row_of key row ≡ false = rw unknown refl in
+        ap (λ (l : List StoredRow). get (map_after m (map command_of l)) key) (dropped_first row rows unknown)
+        ∙ rest m (further lacks m refl)
+
+-- Where all rows of a key have one value, and the map has it before or some row has the key, the map has it after the rows of known
+-- kinds.
+settled : (v : Option (List ℕ)) (key : List ℕ) (m : Map) (rows : List StoredRow) → AllHave v key rows → ((get m key ≡ v) ⊎ HasRow key rows) → get (after_known m rows) key ≡ v
+settled v key m [] all (inl has) = has
+settled v key m [] all (inr (i, row, there, passes)) = absurd (cc)
+settled v key m (row ∷ rows) all some = settled_more v key m row rows all some (λ n rest. settled v key n rows (λ i other there passes. all (suc i) other there passes) rest)
+
+-- a map below rows of other keys
+untouched : (key : List ℕ) (m : Map) (rows : List StoredRow) → ((i : ℕ) (other : StoredRow) → slice_get rows i ≡ Some other → bytes_eq other.key key ≡ false) → get (map_after m (map command_of rows)) key ≡ get m key
+untouched key m [] none = refl
+untouched key m (other ∷ rows) none = untouched key (changed m (command_of other)) rows (λ i next at. none (suc i) next at) ∙ left_by m other key (none 0 other refl)
+
+-- the last row of a key: no later row has it
+pub record IsLast (rows : List StoredRow) (key : List ℕ) (last : ℕ) (row : StoredRow) : Type 0 where
+  pub there : slice_get rows last ≡ Some row
+  pub has_key : bytes_eq row.key key ≡ true
+  pub none : (later : ℕ) (other : StoredRow) → last < later → slice_get rows later ≡ Some other → bytes_eq other.key key ≡ false
+
+-- that of a longer list
+last_more : (first : StoredRow) (rows : List StoredRow) (key : List ℕ) (last : ℕ) (row : StoredRow) → IsLast rows key last row → IsLast (first ∷ rows) key (suc last) row
+last_more first rows key last row is = record { there = is.there; has_key = is.has_key; none = go }
+  where
+    go : (later : ℕ) (other : StoredRow) → suc last < later → slice_get (first ∷ rows) later ≡ Some other → bytes_eq other.key key ≡ false
+    go zero other above at = absurd (omega arith)
+    go (suc later) other above at = is.none later other (omega arith) at
+
+-- or the first row, where no other has the key
+last_first : (first : StoredRow) (rows : List StoredRow) (key : List ℕ) → bytes_eq first.key key ≡ true → ((i : ℕ) (other : StoredRow) → slice_get rows i ≡ Some other → bytes_eq other.key key ≡ false) → IsLast (first ∷ rows) key 0 first
+last_first first rows key has none = record { there = refl; has_key = has; none = go }
+  where
+    go : (later : ℕ) (other : StoredRow) → 0 < later → slice_get (first ∷ rows) later ≡ Some other → bytes_eq other.key key ≡ false
+    go zero other above at = absurd (omega arith)
+    go (suc later) other above at = none later other at
+
+-- no row has the key, where the first has not and no other
+none_more : (first : StoredRow) (rows : List StoredRow) (key : List ℕ) → bytes_eq first.key key ≡ false → ((i : ℕ) (other : StoredRow) → slice_get rows i ≡ Some other → bytes_eq other.key key ≡ false)
+    → (i : ℕ) (other : StoredRow) → slice_get (first ∷ rows) i ≡ Some other → bytes_eq other.key key ≡ false
+none_more first rows key has none zero other at = let same : first ≡ other = cc in ap (λ (r : StoredRow). bytes_eq r.key key) (sym same) ∙ has
+none_more first rows key has none (suc i) other at = none i other at
+
+-- a key has a last row, or none
+last_row : (key : List ℕ) (rows : List StoredRow) → ((last : ℕ) × (row : StoredRow) × IsLast rows key last row) ⊎ ((i : ℕ) (other : StoredRow) → slice_get rows i ≡ Some other → bytes_eq other.key key ≡ false)
+last_row key [] = inr (λ i other at. absurd (cc))
+last_row key (first ∷ rows) = elim (last_row key rows) [
+  | inl (last, row, is) ↦ inl (suc last, row, last_more first rows key last row is)
+  | inr none ↦ elim (cases_Bool (bytes_eq first.key key)) [
+    | inl has ↦ inl (0, first, last_first first rows key has none)
+    | inr other ↦ inr (none_more first rows key other none)
+  ]
+]
+
+-- the last row of a key decides
+decided : (key : List ℕ) (m : Map) (rows : List StoredRow) (last : ℕ) (row : StoredRow) → slice_get rows last ≡ Some row → bytes_eq row.key key ≡ true
+    → ((later : ℕ) (other : StoredRow) → last < later → slice_get rows later ≡ Some other → bytes_eq other.key key ≡ false) → get (map_after m (map command_of rows)) key ≡ value_of row
+decided key m [] last row there same none = absurd (cc)
+decided key m (first ∷ rows) zero row there same none =
+    let is_first : first ≡ row = cc in
+    untouched key (changed m (command_of first)) rows (λ i other at. none (suc i) other (omega arith) at)
+    ∙ set_by m first key (ap (λ (r : StoredRow). bytes_eq r.key key) is_first ∙ same) ∙ ap value_of is_first
+decided key m (first ∷ rows) (suc last) row there same none = decided key (changed m (command_of first)) rows last row there same (λ later other above at. none (suc later) other (omega arith) at)
+
+-- ---- the rows that are due
+
+module _ (s : Shape) (rows : List StoredRow) (table : Slots) (is : IsTableOf s rows table) where
+  abbrev empty : StoredRow
+  empty = empty_row s
+
+  -- a row that is due in a slot
+  due_there : (slot : ℕ) → slot < 4 * s.buckets → slice_get (converted_rows s table rows) slot ≡ Some (converted_row s table rows slot)
+  unfolding converted_rows
+  due_there slot below =
+      let long = length-map-range_with_len (converted_row s table rows) 0 (4 * s.buckets) in
+      slice_get-get_or (map (converted_row s table rows) (range_with_len 0 (4 * s.buckets))) slot empty (omega (arith, below, long))
+      ∙ ap Some (get_or-map-range_with_len (converted_row s table rows) 0 (4 * s.buckets) slot slot empty below (omega arith))
+
+  due_within : (slot : ℕ) (row : StoredRow) → slice_get (converted_rows s table rows) slot ≡ Some row → slot < 4 * s.buckets
+  unfolding converted_rows
+  due_within slot row there = omega (arith, slice_get_within (map (converted_row s table rows) (range_with_len 0 (4 * s.buckets))) slot row there, length-map-range_with_len (converted_row s table rows) 0 (4 * s.buckets))
+
+  -- a row of a key that is due is the log's row at a newest place
+  due_newest : (key : List ℕ) (slot : ℕ) (row : StoredRow) → slice_get (converted_rows s table rows) slot ≡ Some row → is_row_of key row ≡ true → (place : ℕ) × IsNewest (keys_of rows) place × (slice_get rows place ≡ Some row)
+  due_newest key slot row there passes = go (entry_at table slot) refl
+    where
+      is_row : converted_row s table rows slot ≡ row
+      is_row = let here = due_there slot (due_within slot row there) in cc
+
+      go : (e : Option Entry) → entry_at table slot ≡ e → (place : ℕ) × IsNewest (keys_of rows) place × (slice_get rows place ≡ Some row)
+      go None none =
+          let unknown : has_known_kind row ≡ false = ap has_known_kind (sym is_row) ∙ empty_not_known (converted_row s table rows slot) (ap (λ (r : StoredRow). r.kind) (row_of_none s rows table is slot none) ∙ empty_kind s) in
+          let known = (and_parts (has_known_kind row) (bytes_eq row.key key) passes).0 in
+          absurd (cc)
+      go (Some (tag, place)) at = (
+        place,
+        (entry_law s.buckets (keys_of rows) table is.count is.indexed).newest slot tag place at,
+        slice_get-get_or rows place empty (place_inside s rows table is slot tag place at) ∙ ap Some (sym (row_of_entry s rows table is slot tag place at) ∙ is_row),
+      )
+
+  -- the last row of a key has its newest place
+  last_newest : (key : List ℕ) (last : ℕ) (row : StoredRow) → IsLast rows key last row → IsNewest (keys_of rows) last
+  last_newest key last row it = (
+    omega (arith, slice_get_within rows last row it.there, keys_count rows),
+    λ later above below same.
+        let inside : later < length rows = omega (arith, below, keys_count rows) in
+        let there : slice_get rows later ≡ Some (get_or rows later empty) = slice_get-get_or rows later empty inside in
+        let is_key : row.key ≡ key = (bytes_eq-Decides row.key key).0 it.has_key in
+        let its : (get_or rows later empty).key ≡ key = sym (key_of_row rows later (get_or rows later empty) there) ∙ same ∙ key_of_row rows last row it.there ∙ is_key in
+        let passes : bytes_eq (get_or rows later empty).key key ≡ true = (bytes_eq-Decides (get_or rows later empty).key key).1 its in
+        let fails = it.none later (get_or rows later empty) above there in
+        absurd (cc),
+  )
+
+  -- and is due in some slot
+  last_due : (key : List ℕ) (last : ℕ) (row : StoredRow) → IsLast rows key last row → HasRow key (converted_rows s table rows)
+  last_due key last row it =
+      let held = (entry_law s.buckets (keys_of rows) table is.count is.indexed).held last (last_newest key last row it) in
+      let entry = has_entry table held.0 last held.1 in
+      let index = index_law s.buckets (keys_of rows) table is.count is.indexed in
+      let below : held.0 < 4 * s.buckets = omega (arith, entry_inside table held.0 entry.0 entry.1, index.table.four_each, index.count) in
+      let at : get_or rows entry.0.1 empty ≡ row = ap (λ n. get_or rows n empty) entry.2 ∙ get_or_from_slice_get rows last row empty it.there in
+      let due : converted_row s table rows held.0 ≡ row = row_of_entry s rows table is held.0 entry.0.0 entry.0.1 entry.1 ∙ at in
+      let known : has_known_kind row ≡ true = ap has_known_kind (sym due) ∙ entry_known s rows table is held.0 entry.0.0 entry.0.1 entry.1 in
+      (held.0, row, due_there held.0 below ∙ ap Some due, and_from _ _ known it.has_key)
+
+  -- both make the same of each key
+  same_get : (m : Map) (key : List ℕ) → get (after_known m (converted_rows s table rows)) key ≡ get (map_after m (map command_of rows)) key
+  same_get m key = elim (last_row key rows) [
+    | inl (last, row, it) ↦
+        settled (value_of row) key m (converted_rows s table rows)
+        (λ slot other there passes.
+        let found = due_newest key slot other there passes in
+        let has = (bytes_eq-Decides other.key key).0 (and_parts (has_known_kind other) (bytes_eq other.key key) passes).1 in
+        let same_keys : get_or (keys_of rows) found.0 [] ≡ get_or (keys_of rows) last [] = key_of_row rows found.0 other found.2 ∙ has ∙ sym ((bytes_eq-Decides row.key key).0 it.has_key) ∙ sym (key_of_row rows last row it.there) in
+        let place : found.0 ≡ last = newest_apart (keys_of rows) found.0 last found.1 (last_newest key last row it) same_keys in
+        let both : Some other ≡ Some row = sym found.2 ∙ ap (slice_get rows) place ∙ it.there in
+        let same : other ≡ row = cc in
+        ap value_of same)
+        (inr (last_due key last row it))
+        ∙ sym (decided key m rows last row it.there it.has_key it.none)
+    | inr none ↦
+        settled (get m key) key m (converted_rows s table rows)
+        (λ slot other there passes.
+        let found = due_newest key slot other there passes in
+        let fails = none found.0 other found.2 in
+        let has = (and_parts (has_known_kind other) (bytes_eq other.key key) passes).1 in
+        absurd (cc))
+        (inl refl)
+        ∙ sym (untouched key m rows none)
+  ]
+
+-- the rows that are due make of each map what the log's rows make
+pub converted_map : ConvertedMapLaw
+converted_map s rows table m is =
+    same_map nat_list_cmp_total (slice_cmp-IsAntisymmetric nat_cmp-IsAntisymmetric) (after_known m (converted_rows s table rows)) (map_after m (map command_of rows)) (same_get s rows table is m)

@@ -1,0 +1,9 @@
+pub mod Answering
+pub mod Elsewhere
+pub mod Finding
+pub mod Growing
+pub mod Marking
+pub mod Reading
+pub mod Slotting
+pub mod Soundness
+pub mod Writing

@@ -1,0 +1,18 @@
+use Rattle.std.proofs.Common.{◌≡◌, ◌<◌, Some, option_map, sym, ap, subst, ◌∙◌, OnOk, arith}
+use Rattle.silt_cuckoo.specs.Slots.{Entry, entry_at}
+use Rattle.silt_log.specs.Rows.{StoredRow, row_of}
+use Rattle.silt_hash_store.proofs.Writing.{due_is}
+use Rattle.silt_hash_store.proofs.conversion.read_due.Goals as goal
+
+pub read_row-requires-clause-place : goal.read_row-requires-clause-place
+read_row-requires-clause-place g c =
+    let held = c.slot.ensures.held in
+    let below = held.below c.args.slot c.in-Some.place (ap (option_map (λ (e : Entry). e.1)) (sym c.slot.ensures.value ∙ c.in-Some.is)) in
+    omega (arith, below, held.bounds.room)
+
+pub returns-in-Some-clause-due : goal.returns-in-Some-clause-due
+returns-in-Some-clause-due g c = λ honest.
+    let entry : entry_at c.args.log.now.table c.args.slot ≡ Some (c.in-Some.field-0-0, c.in-Some.place) = sym c.slot.ensures.value ∙ c.in-Some.is in
+    let below : c.in-Some.place < c.args.log.now.log.used = c.slot.ensures.held.below c.args.slot c.in-Some.place (ap (option_map (λ (e : Entry). e.1)) entry) in
+    subst (λ (row : StoredRow). OnOk c.read_row.result (row_of c.read_row.new.out ≡ row)) (due_is (g.D.Disk.content c.args.disk.now) c.args.log.now c.args.slot c.in-Some.field-0-0 c.in-Some.place entry below)
+    (c.read_row.ensures.row honest)

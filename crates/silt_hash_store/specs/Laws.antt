@@ -1,0 +1,53 @@
+-- Laws of hash stores and conversions, for the layers above.
+use Rattle.std.specs.Prelude.{◌≡◌, ℕ, ◌+◌, ◌*◌, ◌≤◌, ◌<◌, ◌⊎◌, true, List, [], Some, map, filter}
+use Rattle.std.specs.List.{list_all}
+use Rattle.silt_cuckoo.specs.Slots.{Slots, IsBucketCount}
+use Rattle.silt_cuckoo.specs.Index.{index_of_keys}
+use Rattle.silt_device.specs.Disk.{ChangesWithin, Content, size}
+use Rattle.silt_device.specs.Layout.{Shape, bodies_at, device_size, gates_at, hash_at, row_len}
+use Rattle.silt_image.specs.Commands.{Map, map_after}
+use Rattle.silt_image.specs.Meaning.{command_of, hash_findings, keys_of}
+use Rattle.silt_log.specs.Rows.{StoredRow, has_known_kind}
+use Rattle.silt_log.specs.State.{InBounds}
+use Rattle.silt_log_store.specs.State.{LogStoreState}
+use Rattle.silt_hash_store.specs.Converting.{ConversionState, HasWritten, converted_rows}
+use Rattle.silt_hash_store.specs.State.{HashState, IsHashStore, IsHeldHash}
+
+-- rows of known kinds, and the table of their keys
+pub record IsTableOf (shape : Shape) (rows : List StoredRow) (table : Slots) : Type 0 where
+  pub count : IsBucketCount shape.buckets
+  pub known : list_all has_known_kind rows ≡ true
+  pub indexed : index_of_keys shape.buckets (keys_of rows) ≡ Some table
+
+-- nothing is found in the rows that are due
+abbrev pub ConvertedSoundLaw : Type 0
+ConvertedSoundLaw =
+    (shape : Shape) (rows : List StoredRow) (table : Slots) (region : ℕ) → IsTableOf shape rows table
+    → hash_findings shape (record { region = region; rows = converted_rows shape table rows }) ≡ []
+
+-- whatever map stands below, the rows that are due make of it what the log's rows make
+abbrev pub ConvertedMapLaw : Type 0
+ConvertedMapLaw =
+    (shape : Shape) (rows : List StoredRow) (table : Slots) (map_below : Map) → IsTableOf shape rows table
+    → map_after map_below (map command_of (filter has_known_kind (converted_rows shape table rows))) ≡ map_after map_below (map command_of rows)
+
+-- this range lies before the slots of a hash region or behind them
+abbrev pub IsOutsideSlots : Shape → ℕ → ℕ → ℕ → Type 0
+IsOutsideSlots shape region at count = (at + count ≤ hash_at shape region) ⊎ (hash_at shape region + 4 * shape.buckets * row_len shape ≤ at)
+
+-- this range lies before the gates of a log region or behind its bodies
+abbrev pub IsOutsideLog : Shape → ℕ → ℕ → ℕ → Type 0
+IsOutsideLog shape region at count = (at + count ≤ gates_at shape region) ⊎ (bodies_at shape region + shape.log_capacity * row_len shape ≤ at)
+
+-- a hash store stands on after a change outside its slots
+abbrev pub HashElsewhereLaw : Type 0
+HashElsewhereLaw =
+    (store : HashState) (old new : Content) (at count : ℕ) → IsHeldHash store → device_size store.shape ≤ size old → IsOutsideSlots store.shape store.region at count
+    → ChangesWithin at count old new → IsHashStore old store → IsHashStore new store
+
+-- a conversion has written what it had, after a change outside its slots and its log
+abbrev pub WrittenElsewhereLaw : Type 0
+WrittenElsewhereLaw =
+    (log : LogStoreState) (conversion : ConversionState) (old new : Content) (at count : ℕ) → InBounds log.log → conversion.region < conversion.shape.hashes
+    → conversion.next ≤ 4 * conversion.shape.buckets → device_size conversion.shape ≤ size old → IsOutsideLog log.log.shape log.log.region at count
+    → IsOutsideSlots conversion.shape conversion.region at count → ChangesWithin at count old new → HasWritten old log conversion → HasWritten new log conversion

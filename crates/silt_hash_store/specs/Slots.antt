@@ -1,0 +1,51 @@
+-- The slots of a hash region, and their tags.
+use Rattle.std.specs.Prelude.{◌≡◌, ◌≢◌, ℕ, ◌+◌, ◌*◌, ◌==◌, Bool, ◌&&◌, if◌then◌else◌, List, get_or, map, Option, Some, None}
+use Rattle.std.specs.List.{range_with_len}
+use Rattle.std.specs.Str.{bytes_eq}
+use Rattle.silt_cuckoo.specs.Keys.{first_bucket, second_bucket}
+use Rattle.silt_cuckoo.specs.Placing.{other_bucket}
+use Rattle.silt_device.specs.Layout.{Shape, hash_at, row_len}
+use Rattle.silt_frame.specs.Frame.{kind_of}
+use Rattle.silt_hash_store.specs.declared.region.Head.{Head}
+use Rattle.silt_hash_store.specs.declared.region.Head.TheVariants.{Empty, Unknown, Row}
+use Rattle.silt_image.specs.Meaning.{is_sound_hash_slot}
+use Rattle.silt_image.specs.Stores.{hash_rows}
+use Rattle.silt_log.specs.Rows.{StoredRow, body_row, has_known_kind}
+
+-- where a slot begins
+abbrev pub slot_at : Shape → ℕ → ℕ → ℕ
+slot_at shape region slot = hash_at shape region + slot * row_len shape
+
+-- the row in a slot
+unfoldable pub slot_row : Shape → ℕ → List ℕ → ℕ → StoredRow
+slot_row shape region image slot = body_row (hash_at shape region) (row_len shape) image slot
+
+-- the rows in the slots before this one
+unfoldable pub rows_before : Shape → ℕ → List ℕ → ℕ → List StoredRow
+rows_before shape region image slot = map (slot_row shape region image) (range_with_len 0 slot)
+
+-- nothing is found at a slot
+abbrev pub is_sound_slot : Shape → ℕ → List ℕ → ℕ → Bool
+is_sound_slot shape region image slot = is_sound_hash_slot shape (hash_rows shape region image) slot (slot_row shape region image slot)
+
+-- a row of a known kind has this key
+abbrev pub is_row_of : List ℕ → StoredRow → Bool
+is_row_of key row = has_known_kind row && bytes_eq row.key key
+
+-- what a head says, of a row with this kind byte and this key
+abbrev pub HeadSays : ℕ → List ℕ → Head → Type 0
+HeadSays byte key Empty = byte ≡ 0
+HeadSays byte key Unknown = (kind_of byte ≡ None) × (byte ≢ 0)
+HeadSays byte key (Row kind its_key) = (kind_of byte ≡ Some kind) × (its_key.0 ≡ key)
+
+-- the tag of a slot
+abbrev pub tag_at : List (Option ℕ) → ℕ → Option ℕ
+tag_at tags slot = get_or tags slot None
+
+-- what a tag of 16 bits stands for: none for the greatest number
+abbrev pub tag_seen : ℕ → Option ℕ
+tag_seen number = if number == 65535 then None else Some number
+
+-- the tag that a row has in a slot: none where it is empty, else that bucket of its key's two in which the slot does not lie
+abbrev pub tag_of : ℕ → ℕ → StoredRow → Option ℕ
+tag_of buckets slot row = if row.kind == 0 then None else Some (other_bucket (first_bucket buckets row.key) (second_bucket buckets row.key) slot)

@@ -1,0 +1,162 @@
+// A log's rows, written into a hash region slot by slot.
+ghost use Rattle.std.specs.Prelude.{◌≡◌, ◌==◌, ◌+◌, ◌*◌, ◌<◌, ◌≤◌, ◌^◌, Some, length, replicate, None, IsTrue, IfOk, IfErr, IfSome, OnOk, OnErr, MatchResult};
+ghost use Rattle.silt_device.specs.Disk.{Content, ChangesWithin, CountsFault, GaveAny, size};
+ghost use Rattle.silt_device.specs.Layout.{device_size, row_len};
+ghost use Rattle.silt_hash_store.specs.Converting.{converted_row, converted_rows, with_entry};
+ghost use Rattle.silt_image.specs.Stores.{hash_rows};
+ghost use Rattle.silt_log.specs.Rows.{row_of};
+ghost use Rattle.silt_log.specs.State.{all_rows};
+ghost use Rattle.silt_log_store.specs.State.{IsHeldStore};
+
+use crate::region::HashRegion;
+use crate::store::HashStore;
+use crate::tags::Tags;
+use silt_device::Disk;
+use silt_log_store::LogStore;
+use std::alloc::{AllocError, Global};
+use std::marker::Model;
+
+/// Why a step of a conversion failed.
+#[derive(Debug, Drop)]
+pub enum StepError<F> {
+    /// The read of a row failed with this fault. Nothing is changed.
+    Read(F),
+    /// The write of a slot failed with this fault. What the slot then shows is open.
+    Write(F),
+}
+
+/// A log on its way to become a hash store: the region, the tags of the slots that were written, and the next slot.
+///
+/// It holds the bytes of one row, so that no step takes memory.
+#[derive(Drop)]
+pub struct Conversion {
+    region: HashRegion,
+    tags: Tags,
+    next: u32,
+    row: Vec<u8>,
+}
+
+impl Model for Conversion {
+    ghost use Rattle.std.specs.Prelude.{vec_len};
+    ghost use Rattle.silt_hash_store.specs.Converting.{ConversionState, IsHeldConversion};
+
+    ghost Value = { ConversionState };
+
+    ghost view = { λ a. record { shape = a.region.geometry; region = a.region.number; tags = a.tags; next = a.next } };
+
+    ghost invariant = { λ a. IsHeldConversion (record { shape = a.region.geometry; region = a.region.number; tags = a.tags; next = a.next }) (vec_len a.row) };
+}
+
+// Puts the bytes that are due in a slot into a buffer: those of the row of the log's entry there, zeros where it has none.
+fn read_due<D: Disk>(log: &LogStore, disk: &D, slot: u32, out: &mut [u8]) -> Result<(), D::Fault>
+    requires out { length out.old ≡ row_len log.now.log.shape }
+    requires size { device_size log.now.log.shape ≤ size (D.content disk.now) }
+    ensures due { IsTrue (D.content disk.now).honest → OnOk result (row_of out.new ≡ converted_row log.now.log.shape log.now.table (all_rows (D.content disk.now) log.now.log) slot) }
+    ensures fault { IfErr result (GaveAny D.gave disk.now) }
+    ensures held { IsHeldStore log.now }
+{
+    match log.slot(slot) {
+        Some((_, place)) => log.read_row(disk, place, out),
+        None => {
+            out.fill(0);
+            Ok(())
+        }
+    }
+}
+
+// The tag of the log's entry in a slot, where it has one.
+fn note_entry(tags: &mut Tags, slot: u32, entry: Option<(u32, u32)>)
+    requires slot { slot < length tags.old }
+    requires tag { IfSome entry (λ e. e.0 < 2 ^ 15) }
+    ensures { tags.new ≡ with_entry tags.old slot entry }
+{
+    if let Some((tag, _)) = entry {
+        tags.set(slot, tag);
+    }
+}
+
+impl Conversion {
+    ghost use Rattle.silt_log_store.specs.State.{LogStoreState, IsFrozenStore};
+    ghost use Rattle.silt_hash_store.specs.Converting.{ConversionState, FailsStep, HasWritten, IsHeldConversion, Steps};
+    ghost use Rattle.silt_hash_store.specs.Slots.{slot_at};
+    ghost use Rattle.silt_hash_store.specs.State.{IsHashStore};
+
+    /// A conversion of a log into this region, with no slot written. It takes all memory that the conversion needs: two bytes a
+    /// slot, and those of one row.
+    ///
+    /// # Errors
+    ///
+    /// Where the tags or the row find no memory.
+    pub fn start(alloc: Global, log: &LogStore, region: u32) -> Result<Self, AllocError>
+        requires { region < log.now.log.shape.hashes }
+        ensures start { IfOk result (λ conversion. conversion ≡ record { shape = log.now.log.shape; region = region; tags = replicate (4 * log.now.log.shape.buckets) None; next = 0 }) }
+        ensures written { (content : Content) → IfOk result (HasWritten content log.now) }
+    {
+        let geometry = log.geometry();
+        let region = HashRegion {
+            geometry,
+            number: region,
+        };
+        Ok(Conversion {
+            region,
+            tags: Tags::new(alloc, region.slot_count())?,
+            next: 0,
+            row: vec![in alloc; 0; geometry.row_len()]?,
+        })
+    }
+
+    /// Whether all slots are written.
+    pub fn is_done(&self) -> bool
+        ensures value { result ≡ (self.now.next == 4 * self.now.shape.buckets) }
+        ensures most { self.now.next ≤ 4 * self.now.shape.buckets }
+    {
+        self.next == self.region.slot_count()
+    }
+
+    /// Writes the next slot: reads the row that is due there, where one is, and writes its bytes, or zeros. It takes no memory.
+    ///
+    /// # Errors
+    ///
+    /// `Read` where the read failed: nothing is changed. `Write` where the write failed: the conversion is as it was.
+    pub fn step<D: Disk>(&mut self, log: &LogStore, disk: &mut D) -> Result<(), StepError<D::Fault>>
+        requires more { self.old.next < 4 * self.old.shape.buckets }
+        requires shape { self.old.shape ≡ log.now.log.shape }
+        requires size { device_size self.old.shape ≤ size (D.content disk.old) }
+        ensures size { size (D.content disk.new) ≡ size (D.content disk.old) }
+        ensures changes { ChangesWithin (slot_at self.old.shape self.old.region self.old.next) (row_len self.old.shape) (D.content disk.old) (D.content disk.new) }
+        ensures ok { OnOk result (Steps log.now (D.content disk.old) (D.content disk.new) self.old self.new) }
+        ensures err { OnErr result (self.new ≡ self.old) }
+        ensures written { HasWritten (D.content disk.old) log.now self.old → HasWritten (D.content disk.new) log.now self.new }
+        ensures frozen { IsFrozenStore (D.content disk.old) log.now → IsFrozenStore (D.content disk.new) log.now }
+        ensures failures { MatchResult result (λ _. D.failures disk.new ≡ D.failures disk.old) (FailsStep (GaveAny D.gave) (CountsFault D.failures D.gave disk.old disk.new) disk.old disk.new) }
+    {
+        let slot = self.next;
+        if let Err(fault) = read_due(log, disk, slot, &mut self.row) {
+            return Err(StepError::Read(fault));
+        }
+        if let Err(fault) = self.region.write_slot(disk, slot, &self.row) {
+            return Err(StepError::Write(fault));
+        }
+        note_entry(&mut self.tags, slot, log.slot(slot));
+        self.next = slot + 1;
+        Ok(())
+    }
+
+    /// The hash store of a conversion that is done.
+    pub fn into_store(self) -> HashStore
+        requires done { self.next ≡ 4 * self.shape.buckets }
+        ensures store { result ≡ record { shape = self.shape; region = self.region; tags = self.tags } }
+        ensures rows { (content : Content) (log : LogStoreState) → HasWritten content log self → IsTrue content.honest
+            → hash_rows self.shape self.region content.shown ≡ converted_rows self.shape log.table (all_rows content log.log) }
+        ensures stands { (content : Content) (log : LogStoreState) → IsFrozenStore content log → HasWritten content log self → IsHashStore content result }
+    {
+        let _limits = self.region.geometry.buckets();
+        let Conversion {
+            region,
+            tags,
+            next: _,
+            row: _,
+        } = self;
+        HashStore { region, tags }
+    }
+}

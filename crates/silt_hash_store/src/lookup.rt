@@ -1,0 +1,69 @@
+// Look-ups of a key among the slots of its two buckets.
+ghost use Rattle.std.specs.Prelude.{◌+◌, ◌*◌, ◌<◌, ◌≤◌, IsTrue, IfOk, IfErr, IfSome};
+ghost use Rattle.silt_device.specs.Disk.{GaveAny, size};
+ghost use Rattle.silt_device.specs.Layout.{device_size};
+ghost use Rattle.silt_hash_store.specs.Lookup.{FindsIn, MatchesKey, MatchesTag};
+ghost use Rattle.silt_hash_store.specs.Slots.{HeadSays, slot_row, tag_at};
+ghost use Rattle.silt_log.specs.Rows.{StoredRow};
+
+use crate::region::{HashRegion, Head};
+use crate::tags::Tags;
+use silt_device::Disk;
+use silt_frame::{Key, Kind};
+use silt_log_store::Found;
+
+// The kind of a head, where it is that of a row with the key.
+fn kind_with_key(head: Head, key: &Key) -> Option<Kind>
+    ensures { (row : StoredRow) → HeadSays row.kind row.key head → MatchesKey row key.now.0 result }
+{
+    match head {
+        Head::Row(kind, its_key) if its_key == *key => Some(kind),
+        _ => None,
+    }
+}
+
+// The kind of the row in a slot, where the slot has this tag and the row has the key. A slot with another tag is not read.
+fn match_at<D: Disk>(
+    region: &HashRegion,
+    tags: &Tags,
+    disk: &D,
+    slot: u32,
+    tag: u32,
+    key: &Key,
+) -> Result<Option<Kind>, D::Fault>
+    requires slot { slot < 4 * region.now.geometry.buckets }
+    requires size { device_size region.now.geometry ≤ size (D.content disk.now) }
+    ensures matches { IsTrue (D.content disk.now).honest → IfOk result (MatchesTag (tag_at tags.now slot) tag (slot_row region.now.geometry region.now.number (D.content disk.now).shown slot) key.now.0) }
+    ensures fault { IfErr result (GaveAny D.gave disk.now) }
+{
+    if tags.get(slot) != Some(tag) {
+        return Ok(None);
+    }
+    let head = region.read_head(disk, slot)?;
+    Ok(kind_with_key(head, key))
+}
+
+/// The row of a key among the slots of a bucket that have this tag: a head is read for each up to it.
+pub fn find_in<D: Disk>(
+    region: &HashRegion,
+    tags: &Tags,
+    disk: &D,
+    bucket: u32,
+    tag: u32,
+    key: &Key,
+) -> Result<Option<Found>, D::Fault>
+    requires bucket { bucket < region.now.geometry.buckets }
+    requires size { device_size region.now.geometry ≤ size (D.content disk.now) }
+    ensures finds { IsTrue (D.content disk.now).honest → IfOk result (FindsIn (record { shape = region.now.geometry; region = region.now.number; tags = tags.now }) (D.content disk.now).shown bucket tag key.now.0) }
+    ensures place { IfOk result (λ found. IfSome found (λ row. row.place < 4 * region.now.geometry.buckets)) }
+    ensures fault { IfErr result (GaveAny D.gave disk.now) }
+{
+    let _slots = region.slot_count();
+    let start = 4 * bucket;
+    for slot in start..start + 4 {
+        if let Some(kind) = match_at(region, tags, disk, slot, tag, key)? {
+            return Ok(Some(Found { kind, place: slot }));
+        }
+    }
+    Ok(None)
+}

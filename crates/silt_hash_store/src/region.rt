@@ -1,0 +1,111 @@
+// A hash region on a device: where its slots lie, and how one is read or written.
+ghost use Rattle.std.specs.Prelude.{◌≡◌, ◌+◌, ◌*◌, ◌<◌, ◌≤◌, ◌^◌, length, drop, slice_index, IsTrue, IfOk, IfErr, OnOk, MatchResult};
+ghost use Rattle.silt_device.specs.Disk.{ChangesWithin, CountsFault, GaveAny, size};
+ghost use Rattle.silt_device.specs.Layout.{device_size, row_len};
+ghost use Rattle.silt_hash_store.specs.Slots.{HeadSays, slot_at, slot_row};
+ghost use Rattle.silt_log.specs.Rows.{row_of};
+
+use silt_device::{Disk, Geometry};
+use silt_frame::{HEAD_LEN, Key, Kind, head_of};
+
+/// What the head of a slot says.
+#[derive(Clone, Copy)]
+pub enum Head {
+    /// The slot is empty: its kind byte is 0.
+    Empty,
+    /// The kind byte is another than 0, 1 and 2.
+    Unknown,
+    /// A row of this kind and this key.
+    Row(Kind, Key),
+}
+
+/// A hash region, by the geometry of its store and its number.
+#[derive(Clone, Copy)]
+pub struct HashRegion {
+    pub geometry: Geometry,
+    pub number: u32,
+    ghost there: { number < geometry.hashes },
+}
+
+// What the bytes of a head say.
+fn head_said(bytes: &[u8; HEAD_LEN]) -> Head
+    ensures { HeadSays (slice_index bytes.now 0) (drop 1 bytes.now) result }
+{
+    if bytes[0] == 0 {
+        return Head::Empty;
+    }
+    match head_of(bytes) {
+        Some((kind, key)) => Head::Row(kind, key),
+        None => Head::Unknown,
+    }
+}
+
+impl HashRegion {
+    /// How many slots there are.
+    pub fn slot_count(&self) -> u32
+        ensures count { result ≡ 4 * self.now.geometry.buckets }
+        ensures most { result ≤ 2 ^ 17 }
+    {
+        4 * self.geometry.buckets()
+    }
+
+    // Where a slot begins.
+    fn slot_at(&self, slot: u32) -> u64
+        requires { slot < 4 * self.now.geometry.buckets }
+        ensures value { result ≡ slot_at self.now.geometry self.now.number slot }
+        ensures fits { result + row_len self.now.geometry ≤ device_size self.now.geometry }
+        ensures most { device_size self.now.geometry ≤ 2 ^ 39 }
+    {
+        self.geometry.hash_at(self.number) + u64::from(slot) * self.geometry.row_len() as u64
+    }
+
+    /// Reads the head of a slot.
+    ///
+    /// # Errors
+    ///
+    /// The fault of the read.
+    pub fn read_head<D: Disk>(&self, disk: &D, slot: u32) -> Result<Head, D::Fault>
+        requires slot { slot < 4 * self.now.geometry.buckets }
+        requires size { device_size self.now.geometry ≤ size (D.content disk.now) }
+        ensures head { IsTrue (D.content disk.now).honest → IfOk result (HeadSays (slot_row self.now.geometry self.now.number (D.content disk.now).shown slot).kind (slot_row self.now.geometry self.now.number (D.content disk.now).shown slot).key) }
+        ensures fault { IfErr result (GaveAny D.gave disk.now) }
+    {
+        let mut head = [0; HEAD_LEN];
+        disk.read(self.slot_at(slot), &mut head)?;
+        Ok(head_said(&head))
+    }
+
+    /// Reads the value of the row in a slot.
+    ///
+    /// # Errors
+    ///
+    /// The fault of the read. The bytes of `out` are then open.
+    pub fn read_value<D: Disk>(&self, disk: &D, slot: u32, out: &mut [u8]) -> Result<(), D::Fault>
+        requires slot { slot < 4 * self.now.geometry.buckets }
+        requires out { length out.old ≡ self.now.geometry.value_len }
+        requires size { device_size self.now.geometry ≤ size (D.content disk.now) }
+        ensures value { IsTrue (D.content disk.now).honest → OnOk result (out.new ≡ (slot_row self.now.geometry self.now.number (D.content disk.now).shown slot).value) }
+        ensures fault { IfErr result (GaveAny D.gave disk.now) }
+    {
+        disk.read(self.slot_at(slot) + HEAD_LEN as u64, out)?;
+        Ok(())
+    }
+
+    /// Writes the bytes of a row into a slot.
+    ///
+    /// # Errors
+    ///
+    /// The fault of the write. What the slot then shows is open.
+    pub fn write_slot<D: Disk>(&self, disk: &mut D, slot: u32, row: &[u8]) -> Result<(), D::Fault>
+        requires slot { slot < 4 * self.now.geometry.buckets }
+        requires row { length row.now ≡ row_len self.now.geometry }
+        requires size { device_size self.now.geometry ≤ size (D.content disk.old) }
+        ensures size { size (D.content disk.new) ≡ size (D.content disk.old) }
+        ensures changes { ChangesWithin (slot_at self.now.geometry self.now.number slot) (row_len self.now.geometry) (D.content disk.old) (D.content disk.new) }
+        ensures written { IsTrue (D.content disk.old).honest → OnOk result (slot_row self.now.geometry self.now.number (D.content disk.new).shown slot ≡ row_of row.now) }
+        ensures failures { MatchResult result (λ _. D.failures disk.new ≡ D.failures disk.old) (CountsFault D.failures D.gave disk.old disk.new) }
+    {
+        disk.write(self.slot_at(slot), row)?;
+        Ok(())
+    }
+}

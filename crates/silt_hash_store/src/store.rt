@@ -1,0 +1,160 @@
+// A hash store and its look-ups.
+ghost use Rattle.std.specs.Prelude.{◌≡◌, ◌*◌, ◌<◌, ◌≤◌, ℕ, length, IsTrue, IfOk, IfErr, IfSome, OnOk};
+ghost use Rattle.silt_device.specs.Disk.{GaveAny, size};
+ghost use Rattle.silt_device.specs.Layout.{device_size};
+ghost use Rattle.silt_image.specs.Stores.{hash_rows};
+
+use crate::lookup::find_in;
+use crate::rebuilding::{RebuildError, Rebuilt, rebuild_region};
+use crate::region::{HashRegion, Head};
+use crate::tags::Tags;
+use silt_cuckoo::key_buckets;
+use silt_device::{Disk, Geometry};
+use silt_frame::{Key, Row};
+use silt_log_store::Found;
+use std::alloc::Global;
+use std::marker::Model;
+
+/// A hash region with the tag of each of its slots.
+///
+/// On a disk that is not honest its calls are safe and end, but say nothing of rows. Only `rebuild` takes memory.
+#[derive(Drop)]
+pub struct HashStore {
+    pub(crate) region: HashRegion,
+    pub(crate) tags: Tags,
+}
+
+impl Model for HashStore {
+    ghost use Rattle.silt_hash_store.specs.State.{HashState, IsHeldHash};
+
+    ghost Value = { HashState };
+
+    ghost view = { λ s. record { shape = s.region.geometry; region = s.region.number; tags = s.tags } };
+
+    ghost invariant = { λ s. IsHeldHash (record { shape = s.region.geometry; region = s.region.number; tags = s.tags }) };
+}
+
+impl HashStore {
+    ghost use Rattle.silt_hash_store.specs.State.{HashState, IsHeldHash, IsHashStore, IsTagged};
+    ghost use Rattle.silt_hash_store.specs.Lookup.{FindsRow, IsRowAt};
+    ghost use Rattle.silt_hash_store.specs.Rebuild.{IsFirstUnsound, IsRebuiltHash, IsRefusedHash};
+    ghost use Rattle.silt_hash_store.specs.Slots.{rows_before, slot_row};
+
+    /// The geometry of the store.
+    pub fn geometry(&self) -> Geometry
+        ensures value { result ≡ self.now.shape }
+        ensures held { IsHeldHash self.now }
+    {
+        self.region.geometry
+    }
+
+    /// The number of the region.
+    pub fn region(&self) -> u32
+        ensures value { result ≡ self.now.region }
+        ensures held { IsHeldHash self.now }
+    {
+        self.region.number
+    }
+
+    // The row of a key among the slots that have tags: first those of its first bucket, then, where it differs, of its second.
+    pub(crate) fn look_up<D: Disk>(&self, disk: &D, key: &Key) -> Result<Option<Found>, D::Fault>
+        requires size { device_size self.now.shape ≤ size (D.content disk.now) }
+        ensures finds { IsTrue (D.content disk.now).honest → (count : ℕ) → IsTagged self.now (D.content disk.now).shown count
+            → IfOk result (FindsRow (rows_before self.now.shape self.now.region (D.content disk.now).shown count) key.now.0) }
+        ensures place { IfOk result (λ found. IfSome found (λ row. row.place < 4 * self.now.shape.buckets)) }
+        ensures fault { IfErr result (GaveAny D.gave disk.now) }
+    {
+        let (first, second) = key_buckets(&key.0, self.region.geometry.buckets());
+        if let Some(found) = find_in(&self.region, &self.tags, disk, first, second, key)? {
+            return Ok(Some(found));
+        }
+        if first == second {
+            return Ok(None);
+        }
+        find_in(&self.region, &self.tags, disk, second, first, key)
+    }
+
+    /// The row of a key: its kind and its slot. The head of each slot of the key's buckets with a tag that fits is read, at most
+    /// eight of 21 bytes. It takes no memory.
+    ///
+    /// # Errors
+    ///
+    /// The fault of a read.
+    pub fn find<D: Disk>(&self, disk: &D, key: &Key) -> Result<Option<Found>, D::Fault>
+        requires size { device_size self.now.shape ≤ size (D.content disk.now) }
+        ensures finds { IsTrue (D.content disk.now).honest → IsHashStore (D.content disk.now) self.now
+            → IfOk result (FindsRow (hash_rows self.now.shape self.now.region (D.content disk.now).shown) key.now.0) }
+        ensures place { IfOk result (λ found. IfSome found (λ row. row.place < 4 * self.now.shape.buckets)) }
+        ensures fault { IfErr result (GaveAny D.gave disk.now) }
+    {
+        let _region = &self.region;
+        self.look_up(disk, key)
+    }
+
+    /// Reads the value of the row in a slot.
+    ///
+    /// # Errors
+    ///
+    /// The fault of the read. The bytes of `out` are then open.
+    pub fn read_value<D: Disk>(&self, disk: &D, slot: u32, out: &mut [u8]) -> Result<(), D::Fault>
+        requires slot { slot < 4 * self.now.shape.buckets }
+        requires out { length out.old ≡ self.now.shape.value_len }
+        requires size { device_size self.now.shape ≤ size (D.content disk.now) }
+        ensures value { IsTrue (D.content disk.now).honest → OnOk result (out.new ≡ (slot_row self.now.shape self.now.region (D.content disk.now).shown slot).value) }
+        ensures fault { IfErr result (GaveAny D.gave disk.now) }
+    {
+        self.region.read_value(disk, slot, out)
+    }
+
+    /// The kind and the key of the row in a slot, none where the slot is empty or its kind is unknown. Its head is read. It takes
+    /// no memory.
+    ///
+    /// # Errors
+    ///
+    /// The fault of the read.
+    pub fn row_at<D: Disk>(&self, disk: &D, slot: u32) -> Result<Option<Row>, D::Fault>
+        requires slot { slot < 4 * self.now.shape.buckets }
+        requires size { device_size self.now.shape ≤ size (D.content disk.now) }
+        ensures row { IsTrue (D.content disk.now).honest → IfOk result (IsRowAt (slot_row self.now.shape self.now.region (D.content disk.now).shown slot) slot) }
+        ensures fault { IfErr result (GaveAny D.gave disk.now) }
+    {
+        match self.region.read_head(disk, slot)? {
+            Head::Row(kind, key) => Ok(Some(Row {
+                kind,
+                key,
+                place: slot,
+            })),
+            Head::Empty | Head::Unknown => Ok(None),
+        }
+    }
+
+    /// A store of what is on the device, in one pass over the slots: the head of each is read once, and for each row the heads of
+    /// the earlier slots of its buckets whose tags fit, at most eight. It takes two bytes a slot.
+    ///
+    /// # Errors
+    ///
+    /// `Damaged` with the first slot that has an unknown kind, a row that belongs into other buckets, or a row of a key that an
+    /// earlier slot has. `Device` with the fault of a read, and `NoMemory`.
+    pub fn rebuild<D: Disk>(
+        alloc: Global,
+        disk: &D,
+        geometry: Geometry,
+        region: u32,
+    ) -> Result<Rebuilt, RebuildError<D::Fault>>
+        requires region { region < geometry.hashes }
+        requires size { device_size geometry ≤ size (D.content disk.now) }
+        ensures region { IfOk result (λ rebuilt. (rebuilt.store.shape ≡ geometry) × (rebuilt.store.region ≡ region)) }
+        ensures rebuilt { IsTrue (D.content disk.now).honest → IfOk result (IsRebuiltHash (D.content disk.now)) }
+        ensures most { IfOk result (λ rebuilt. (rebuilt.puts ≤ rebuilt.rows) × (rebuilt.rows ≤ 4 * geometry.buckets)) }
+        ensures err { IfErr result (IsRefusedHash (λ slot. IsTrue (D.content disk.now).honest → IsFirstUnsound (D.content disk.now) geometry region slot) (GaveAny D.gave disk.now)) }
+    {
+        rebuild_region(
+            alloc,
+            disk,
+            HashRegion {
+                geometry,
+                number: region,
+            },
+        )
+    }
+}

@@ -1,0 +1,57 @@
+// The tags of the slots of a hash region, in two bytes a slot.
+ghost use Rattle.std.specs.Prelude.{◌≡◌, ◌<◌, ◌^◌, IfOk, None, Some, length, replicate, slice_set};
+ghost use Rattle.silt_hash_store.specs.Slots.{tag_at};
+
+use std::alloc::{AllocError, Global};
+use std::marker::Model;
+
+// The number that stands for no tag. Every tag is the number of a bucket, and so below it.
+const NO_TAG: u16 = 0xFFFF;
+
+/// The tag of each slot, or none.
+#[derive(Drop)]
+pub struct Tags {
+    numbers: Vec<u16>,
+}
+
+impl Model for Tags {
+    ghost use Rattle.std.specs.Prelude.{ℕ, List, Option, map};
+    ghost use Rattle.silt_hash_store.specs.Slots.{tag_seen};
+
+    ghost Value = { List (Option ℕ) };
+
+    ghost view = { λ t. map tag_seen t.numbers.items };
+}
+
+impl Tags {
+    /// So many slots without a tag.
+    ///
+    /// # Errors
+    ///
+    /// Where the tags find no memory.
+    pub fn new(alloc: Global, slots: u32) -> Result<Self, AllocError>
+        ensures { IfOk result (λ tags. tags ≡ replicate slots None) }
+    {
+        let numbers = vec![in alloc; NO_TAG; slots as usize]?;
+        Ok(Tags { numbers })
+    }
+
+    /// The tag of a slot, none where it has none or is past the last.
+    pub fn get(&self, slot: u32) -> Option<u32>
+        ensures { result ≡ tag_at self.now slot }
+    {
+        match self.numbers.get(slot as usize) {
+            Some(number) if *number != NO_TAG => Some(u32::from(*number)),
+            _ => None,
+        }
+    }
+
+    /// A slot gets this tag.
+    pub fn set(&mut self, slot: u32, tag: u32)
+        requires slot { slot < length self.old }
+        requires tag { tag < 2 ^ 15 }
+        ensures { self.new ≡ slice_set self.old slot (Some tag) }
+    {
+        self.numbers[slot as usize] = tag as u16;
+    }
+}
