@@ -1,5 +1,6 @@
 // What no contract says: printed text and statuses, letter for letter, through the program over memory.
 
+mod converting;
 mod freezing;
 
 use crate::program::program;

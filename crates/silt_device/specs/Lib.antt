@@ -1,5 +1,6 @@
 pub mod Disk
 pub mod Fault
+pub mod File
 pub mod Layout
 pub mod Lives
 pub mod Memory

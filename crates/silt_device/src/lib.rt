@@ -16,24 +16,30 @@
 //! nothing else changes that count. So a caller that answers with a fault shows that a device call of its own failed.
 //!
 //! **Honesty.** What is said of bytes is said of an honest disk, and a call leaves a disk as honest as it was. The disks in
-//! memory are honest. That a real file is honest is an assumption, which nothing here shows.
+//! memory are honest. That a real file is honest is an assumption, which nothing here shows: of a disk in a file no clause says
+//! what its bytes are.
 //!
 //! `MemDisk` is a disk in memory that stops at a chosen write or sync, and is then restarted with what such a stop could leave.
-//! On a `FaultDisk` one chosen call fails. `write_synced` is a write with the sync that settles it: on it stands nearly all that
-//! changes a device. `Geometry` is the six numbers of a store, with the place of each of its parts on a device.
+//! On a `FaultDisk` one chosen call fails. `FileDisk` is a disk in a file. `write_synced` is a write with the sync that settles
+//! it: on it stands nearly all that changes a device. `Geometry` is the six numbers of a store, with the place of each of its
+//! parts on a device.
 #![tactic(auto)]
 
 mod disk;
 mod fault;
+mod file;
 mod geometry;
 mod life;
 mod memory;
 
 pub use disk::{Call, Disk, Stoppable, write_synced};
 pub use fault::FaultDisk;
+pub use file::{FileDisk, FileFault};
 pub use geometry::{BadGeometry, Geometry, regions_lie_apart};
 pub use life::{Fill, Stop};
 pub use memory::{MemDisk, MemFault};
 
+#[cfg(test)]
+mod file_tests;
 #[cfg(test)]
 mod tests;

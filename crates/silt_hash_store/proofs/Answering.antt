@@ -23,7 +23,7 @@ use Rattle.silt_image.specs.Meaning.{command_of, keys_of}
 use Rattle.silt_log.specs.Rows.{StoredRow, has_known_kind}
 use Rattle.silt_log_store.proofs.Entries.{entry_law}
 use Rattle.silt_log_store.proofs.Rows.{key_of_row, keys_count}
-use Rattle.silt_hash_store.specs.Converting.{converted_row, converted_rows, empty_row}
+use Rattle.silt_hash_store.specs.Converting.{converted_before, converted_row, converted_rows, empty_row}
 use Rattle.silt_hash_store.specs.Laws.{ConvertedMapLaw, IsTableOf}
 use Rattle.silt_hash_store.specs.Slots.{is_row_of}
 use Rattle.silt_hash_store.proofs.Slotting.{empty_not_known}
@@ -175,14 +175,14 @@ module _ (s : Shape) (rows : List StoredRow) (table : Slots) (is : IsTableOf s r
 
   -- a row that is due in a slot
   due_there : (slot : ℕ) → slot < 4 * s.buckets → slice_get (converted_rows s table rows) slot ≡ Some (converted_row s table rows slot)
-  unfolding converted_rows
+  unfolding converted_before converted_rows
   due_there slot below =
       let long = length-map-range_with_len (converted_row s table rows) 0 (4 * s.buckets) in
       slice_get-get_or (map (converted_row s table rows) (range_with_len 0 (4 * s.buckets))) slot empty (omega (arith, below, long))
       ∙ ap Some (get_or-map-range_with_len (converted_row s table rows) 0 (4 * s.buckets) slot slot empty below (omega arith))
 
   due_within : (slot : ℕ) (row : StoredRow) → slice_get (converted_rows s table rows) slot ≡ Some row → slot < 4 * s.buckets
-  unfolding converted_rows
+  unfolding converted_before converted_rows
   due_within slot row there = omega (arith, slice_get_within (map (converted_row s table rows) (range_with_len 0 (4 * s.buckets))) slot row there, length-map-range_with_len (converted_row s table rows) 0 (4 * s.buckets))
 
   -- a row of a key that is due is the log's row at a newest place

@@ -1,14 +1,14 @@
 -- What calls on other parts of the disk leave of a hash store and of a conversion.
-use Rattle.std.proofs.Common.{◌≡◌, ℕ, ◌+◌, ◌*◌, ◌≤◌, ◌<◌, IsTrue, List, length, sym, subst, ap, ◌∙◌, inl, inr, arith}
+use Rattle.std.proofs.Common.{◌≡◌, ℕ, ◌+◌, ◌*◌, ◌≤◌, ◌<◌, IsTrue, List, filter, length, sym, subst, ap, ◌∙◌, inl, inr, arith}
 use Rattle.silt_device.specs.Disk.{Torn, size}
 use Rattle.silt_device.specs.Layout.{Shape, device_size, hash_at, row_len}
 use Rattle.silt_device.proofs.Images.{torn_slice_after, torn_slice_before}
-use Rattle.silt_image.specs.Meaning.{hash_findings}
+use Rattle.silt_image.specs.Meaning.{charge_of_rows, hash_findings}
 use Rattle.silt_image.specs.Stores.{hash_rows}
-use Rattle.silt_log.specs.Rows.{StoredRow, row_of}
+use Rattle.silt_log.specs.Rows.{StoredRow, has_known_kind, row_of}
 use Rattle.silt_log.proofs.Bodies.{map_range_same}
 use Rattle.silt_log_store.proofs.Elsewhere.{rows_outside}
-use Rattle.silt_hash_store.specs.Converting.{converted_row}
+use Rattle.silt_hash_store.specs.Converting.{converted_before, converted_row}
 use Rattle.silt_hash_store.specs.Laws.{HashElsewhereLaw, IsOutsideSlots, WrittenElsewhereLaw}
 use Rattle.silt_hash_store.specs.Slots.{rows_before, slot_at, slot_row, tag_of}
 use Rattle.silt_hash_store.proofs.Reading.{slot_inside}
@@ -62,4 +62,8 @@ written_elsewhere log conversion old new at count bounds there most fits log_out
           ∙ is.due was slot low
           ∙ ap (λ (rows : List StoredRow). converted_row conversion.shape log.table rows slot) (sym (rows_outside old new log.log at count bounds log_fits log_outside changes was));
       tagged = is.tagged;
+      charged = λ honest.
+          let was : IsTrue old.honest = sym changes.honest ∙ honest in
+          is.charged was
+          ∙ ap (λ (rows : List StoredRow). charge_of_rows (filter has_known_kind (converted_before conversion.shape log.table rows conversion.next))) (sym (rows_outside old new log.log at count bounds log_fits log_outside changes was));
     }

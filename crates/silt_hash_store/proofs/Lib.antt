@@ -1,9 +1,11 @@
 pub mod Answering
+pub mod Charging
 pub mod Elsewhere
 pub mod Finding
 pub mod Growing
 pub mod Marking
 pub mod Reading
+pub mod Replacing
 pub mod Slotting
 pub mod Soundness
 pub mod Writing

@@ -19,7 +19,7 @@ use Rattle.silt_log.specs.Rows.{StoredRow, has_known_kind}
 use Rattle.silt_log_store.specs.Laws.{HasEntries}
 use Rattle.silt_log_store.proofs.Entries.{entry_law}
 use Rattle.silt_log_store.proofs.Rows.{key_of_row, keys_count, passes_at}
-use Rattle.silt_hash_store.specs.Converting.{converted_row, converted_rows, empty_row, row_for, tag_of_entry}
+use Rattle.silt_hash_store.specs.Converting.{converted_before, converted_row, converted_rows, empty_row, row_for, tag_of_entry}
 use Rattle.silt_hash_store.specs.Laws.{ConvertedSoundLaw, IsTableOf}
 use Rattle.silt_hash_store.specs.Slots.{is_row_of, tag_of}
 use Rattle.silt_hash_store.proofs.Finding.{holds_none}
@@ -131,7 +131,7 @@ module _ (s : Shape) (rows : List StoredRow) (table : Slots) (is : IsTableOf s r
 
   -- each slot is sound
   sound_due : (slot : ℕ) → slot < 4 * s.buckets → is_sound_hash_slot s (converted_rows s table rows) slot (converted_row s table rows slot) ≡ true
-  unfolding converted_rows
+  unfolding converted_before converted_rows
   sound_due slot below = go (entry_at table slot) refl
     where
       go : (e : Option Entry) → entry_at table slot ≡ e → is_sound_hash_slot s (map (converted_row s table rows) (range_with_len 0 (4 * s.buckets))) slot (converted_row s table rows slot) ≡ true
@@ -149,7 +149,7 @@ module _ (s : Shape) (rows : List StoredRow) (table : Slots) (is : IsTableOf s r
 
 -- nothing is found in the rows that are due
 pub converted_sound : ConvertedSoundLaw
-unfolding hash_findings converted_rows
+unfolding hash_findings converted_before converted_rows
 converted_sound s rows table region is =
     let all : List StoredRow = map (converted_row s table rows) (range_with_len 0 (4 * s.buckets)) in
     let part : Part = record { region = region; rows = all } in

@@ -1,19 +1,23 @@
 -- What a step of a conversion leaves, and the store of a conversion that is done.
-use Rattle.std.proofs.Common.{◌≡◌, ◌≢◌, ℕ, ◌+◌, ◌*◌, ◌≤◌, ◌<◌, IsTrue, List, length, Option, Some, None, inl, inr, option_map, refl, sym, subst, ap, ◌∙◌, arith, length-set, get_or-set_other, get_or-set_same}
+use Rattle.std.proofs.Common.{◌≡◌, ◌≢◌, ℕ, ◌+◌, ◌*◌, ◌≤◌, ◌<◌, true, IsTrue, List, [], ◌∷◌, ◌++◌, filter, length, Option, Some, None, inl, inr, option_map, refl, sym, subst, ap, ◌∙◌, arith, length-set, get_or-set_other, get_or-set_same}
 use Rattle.std.proofs.lemmas.Bool.{cases_eq}
-use Rattle.silt_cuckoo.specs.Slots.{Entry, IsBucketCount, entry_at}
+use Rattle.std.proofs.lemmas.List.Elements.{filter-append}
+use Rattle.std.proofs.lemmas.List.FromFn.{map-range_with_len_more}
+use Rattle.silt_cuckoo.specs.Slots.{Entry, IsBucketCount, Slots, entry_at}
 use Rattle.silt_device.specs.Disk.{ChangesWithin, Content, size}
 use Rattle.silt_device.specs.Layout.{Shape, device_size, hash_at, row_len}
 use Rattle.silt_device.proofs.Regions.{regions_apart}
-use Rattle.silt_image.specs.Meaning.{hash_findings}
+use Rattle.silt_image.specs.Meaning.{charge_of_rows, hash_findings}
 use Rattle.silt_image.specs.Stores.{hash_rows}
-use Rattle.silt_log.specs.Rows.{StoredRow, row_at}
+use Rattle.silt_image.proofs.Rows.{count_law}
+use Rattle.silt_log.specs.Rows.{StoredRow, has_known_kind, row_at}
 use Rattle.silt_log.specs.State.{InBounds, all_rows}
 use Rattle.silt_log.proofs.Bodies.{map_range_same}
 use Rattle.silt_log.proofs.Elsewhere.{IsOutside, row_of_all}
-use Rattle.silt_log_store.specs.State.{IsFrozenStore, LogStoreState}
+use Rattle.silt_log_store.specs.State.{IsFrozenStore, IsIndexed, LogStoreState}
 use Rattle.silt_log_store.proofs.Elsewhere.{frozen_elsewhere, rows_outside}
-use Rattle.silt_hash_store.specs.Converting.{ConversionState, HasWritten, IsHeldConversion, Steps, converted_row, converted_rows, empty_row, row_for, tag_of_entry, with_entry}
+use Rattle.silt_log_store.proofs.Rows.{known_there}
+use Rattle.silt_hash_store.specs.Converting.{ConversionState, HasWritten, IsHeldConversion, Steps, converted_before, converted_row, converted_rows, empty_row, row_for, tag_of_entry, with_entry}
 use Rattle.silt_hash_store.specs.Laws.{IsTableOf}
 use Rattle.silt_hash_store.specs.Slots.{rows_before, slot_at, slot_row, tag_at, tag_of}
 use Rattle.silt_hash_store.specs.State.{IsHashStore}
@@ -26,6 +30,31 @@ pub due_is : (content : Content) (log : LogStoreState) (slot tag place : ℕ) �
     → row_at log.log.shape log.log.region content.shown place ≡ converted_row log.log.shape log.table (all_rows content log.log) slot
 due_is content log slot tag place at below =
     sym (ap (λ (e : Option Entry). row_for log.log.shape (all_rows content log.log) (option_map (λ (x : Entry). x.1) e)) at ∙ row_of_all content log.log place (empty_row log.log.shape) below)
+
+-- and it is of a known kind
+pub due_known : (content : Content) (log : LogStoreState) (place : ℕ) → IsIndexed content log → IsTrue content.honest → place < log.log.used
+    → has_known_kind (row_at log.log.shape log.log.region content.shown place) ≡ true
+due_known content log place index honest below = known_there content log.log place (index.known honest) below
+
+-- the puts that are due in one slot more
+due_more : (s : Shape) (table : Slots) (rows : List StoredRow) (n : ℕ)
+    → charge_of_rows (filter has_known_kind (converted_before s table rows (n + 1))) ≡ charge_of_rows (filter has_known_kind (converted_before s table rows n)) + charge_of_rows (filter has_known_kind (converted_row s table rows n ∷ []))
+unfolding converted_before
+due_more s table rows n =
+    let before : List StoredRow = converted_before s table rows n in
+    ap (λ (l : List StoredRow). charge_of_rows (filter has_known_kind l)) (map-range_with_len_more (converted_row s table rows) 0 n n (omega arith))
+    ∙ ap charge_of_rows (filter-append has_known_kind before (converted_row s table rows n ∷ []))
+    ∙ count_law (filter has_known_kind before) (filter has_known_kind (converted_row s table rows n ∷ []))
+
+-- a conversion with no slot written
+pub none_written : (content : Content) (log : LogStoreState) (conversion : ConversionState) → conversion.shape ≡ log.log.shape → conversion.next ≡ 0 → conversion.puts ≡ 0 → HasWritten content log conversion
+unfolding converted_before
+none_written content log conversion same next puts = record {
+  shape = same;
+  due = λ honest slot below. absurd (omega (arith, next));
+  tagged = λ slot below. absurd (omega (arith, next));
+  charged = λ honest. puts ∙ ap (λ n. charge_of_rows (filter has_known_kind (converted_before conversion.shape log.table (all_rows content log.log) n))) (sym next);
+}
 
 -- ---- tags
 
@@ -44,22 +73,23 @@ pub entry_elsewhere : (tags : List (Option ℕ)) (slot other : ℕ) (entry : Opt
 entry_elsewhere tags slot other None apart = refl
 entry_elsewhere tags slot other (Some entry) apart = get_or-set_other tags slot other (Some entry.0) None apart
 
--- a conversion with one slot more
-pub held_step : (conversion : ConversionState) (len : ℕ) (entry : Option Entry) → IsHeldConversion conversion len → conversion.next < 4 * conversion.shape.buckets
-    → IsHeldConversion (record conversion { next = conversion.next + 1; tags = with_entry conversion.tags conversion.next entry }) len
-held_step conversion len entry held below = record {
+-- a conversion with one slot more, and at most one put more
+pub held_step : (conversion : ConversionState) (len puts : ℕ) (entry : Option Entry) → IsHeldConversion conversion len → conversion.next < 4 * conversion.shape.buckets → puts ≤ 1
+    → IsHeldConversion (record conversion { next = conversion.next + 1; tags = with_entry conversion.tags conversion.next entry; puts = conversion.puts + puts }) len
+held_step conversion len puts entry held below few = record {
   there = held.there;
   long = entry_long conversion.tags conversion.next entry ∙ held.long;
   most = omega (arith, below);
+  counted = omega (arith, held.counted, few);
   later = λ slot past. entry_elsewhere conversion.tags conversion.next slot entry (λ same. absurd (omega arith)) ∙ held.later slot (omega arith);
   buffer = held.buffer;
 }
 
 -- with the tags named in another way
-pub held_as : (conversion : ConversionState) (tags : List (Option ℕ)) (len : ℕ) (entry : Option Entry) → IsHeldConversion conversion len → conversion.next < 4 * conversion.shape.buckets
-    → tags ≡ with_entry conversion.tags conversion.next entry → IsHeldConversion (record conversion { next = conversion.next + 1; tags = tags }) len
-held_as conversion tags len entry held below same =
-    subst (λ (t : List (Option ℕ)). IsHeldConversion (record conversion { next = conversion.next + 1; tags = t }) len) (sym same) (held_step conversion len entry held below)
+pub held_as : (conversion : ConversionState) (tags : List (Option ℕ)) (len puts : ℕ) (entry : Option Entry) → IsHeldConversion conversion len → conversion.next < 4 * conversion.shape.buckets → puts ≤ 1
+    → tags ≡ with_entry conversion.tags conversion.next entry → IsHeldConversion (record conversion { next = conversion.next + 1; tags = tags; puts = conversion.puts + puts }) len
+held_as conversion tags len puts entry held below few same =
+    subst (λ (t : List (Option ℕ)). IsHeldConversion (record conversion { next = conversion.next + 1; tags = t; puts = conversion.puts + puts }) len) (sym same) (held_step conversion len puts entry held below few)
 
 -- ---- a slot that is written
 
@@ -101,19 +131,22 @@ module _ (old new : Content) (log : LogStoreState) (conversion : ConversionState
         slot_elsewhere conversion.shape conversion.region conversion.next slot old.shown new.shown (omega (arith, slots_inside conversion.shape conversion.region there, fits)) below (omega (arith, low, below)) (λ at. absurd (omega arith)) (changes.shown was)
         ∙ is.due was slot low ∙ ap (λ (rows : List StoredRow). converted_row conversion.shape log.table rows slot) (sym (rows_kept was));
     tagged = is.tagged;
+    charged = λ honest.
+        let was : IsTrue old.honest = sym changes.honest ∙ honest in
+        is.charged was ∙ ap (λ (rows : List StoredRow). charge_of_rows (filter has_known_kind (converted_before conversion.shape log.table rows conversion.next))) (sym (rows_kept was));
   }
 
   -- and the next one what is due
   pub written_step : (after : ConversionState) → conversion.region < conversion.shape.hashes → conversion.next < 4 * conversion.shape.buckets → length conversion.tags ≡ 4 * conversion.shape.buckets
-      → tag_at conversion.tags conversion.next ≡ None → Steps log old new conversion after → HasWritten old log conversion → HasWritten new log after
-  written_step after there below long none steps is =
+      → tag_at conversion.tags conversion.next ≡ None → Steps log old new conversion after → IsFrozenStore old log → HasWritten old log conversion → HasWritten new log after
+  written_step after there below long none steps frozen is =
       let kept = written_kept there below is in
       subst (λ (a : ConversionState). HasWritten new log a) (sym steps.next) (record {
         shape = is.shape;
         due = λ honest slot low. elim (cases_eq slot conversion.next) [
           | inl here ↦
               let was : IsTrue old.honest = sym changes.honest ∙ honest in
-              ap (slot_row conversion.shape conversion.region new.shown) here ∙ steps.shows was ∙ ap (λ (rows : List StoredRow). converted_row conversion.shape log.table rows conversion.next) (sym (rows_kept was))
+              ap (slot_row conversion.shape conversion.region new.shown) here ∙ steps.shows was frozen ∙ ap (λ (rows : List StoredRow). converted_row conversion.shape log.table rows conversion.next) (sym (rows_kept was))
               ∙ ap (converted_row conversion.shape log.table (all_rows new log.log)) (sym here)
           | inr other ↦ kept.due honest slot (omega arith)
         ];
@@ -122,6 +155,12 @@ module _ (old new : Content) (log : LogStoreState) (conversion : ConversionState
               ∙ entry_here conversion.tags conversion.next (entry_at log.table conversion.next) (omega (arith, below, long)) none ∙ ap (λ n. tag_of_entry (entry_at log.table n)) (sym here)
           | inr other ↦ entry_elsewhere conversion.tags conversion.next slot (entry_at log.table conversion.next) other ∙ is.tagged slot (omega arith)
         ];
+        charged = λ honest.
+            let was : IsTrue old.honest = sym changes.honest ∙ honest in
+            steps.added was frozen
+            ∙ ap (λ n. n + charge_of_rows (filter has_known_kind (converted_row conversion.shape log.table (all_rows old log.log) conversion.next ∷ []))) (is.charged was)
+            ∙ sym (due_more conversion.shape log.table (all_rows old log.log) conversion.next)
+            ∙ ap (λ (rows : List StoredRow). charge_of_rows (filter has_known_kind (converted_before conversion.shape log.table rows (conversion.next + 1)))) (sym (rows_kept was));
       })
 
 -- ---- all slots
@@ -129,11 +168,22 @@ module _ (old new : Content) (log : LogStoreState) (conversion : ConversionState
 -- the slots of a conversion that is done show all rows that are due
 pub all_due : (content : Content) (log : LogStoreState) (conversion : ConversionState) → conversion.next ≡ 4 * conversion.shape.buckets → HasWritten content log conversion → IsTrue content.honest
     → hash_rows conversion.shape conversion.region content.shown ≡ converted_rows conversion.shape log.table (all_rows content log.log)
-unfolding rows_before converted_rows
+unfolding rows_before converted_before converted_rows
 all_due content log conversion done is honest =
     all_before conversion.shape conversion.region content.shown
     ∙ map_range_same (slot_row conversion.shape conversion.region content.shown) (converted_row conversion.shape log.table (all_rows content log.log)) 0 (4 * conversion.shape.buckets)
     (λ slot low high. is.due honest slot (omega arith))
+
+-- and its puts are those of all rows that are due
+pub all_charged : (content : Content) (log : LogStoreState) (conversion : ConversionState) → conversion.next ≡ 4 * conversion.shape.buckets → HasWritten content log conversion → IsTrue content.honest
+    → conversion.puts ≡ charge_of_rows (filter has_known_kind (converted_rows conversion.shape log.table (all_rows content log.log)))
+unfolding converted_rows
+all_charged content log conversion done is honest =
+    is.charged honest ∙ ap (λ n. charge_of_rows (filter has_known_kind (converted_before conversion.shape log.table (all_rows content log.log) n))) done
+
+-- the table of a log that is only read is that of its rows
+pub table_of : (content : Content) (log : LogStoreState) → IsBucketCount log.log.shape.buckets → IsFrozenStore content log → IsTrue content.honest → IsTableOf log.log.shape (all_rows content log.log) log.table
+table_of content log count frozen honest = record { count = count; known = frozen.index.known honest; indexed = frozen.index.indexed honest }
 
 -- the store of a conversion that is done stands
 pub store_stands : (content : Content) (log : LogStoreState) (conversion : ConversionState) → IsBucketCount conversion.shape.buckets → conversion.next ≡ 4 * conversion.shape.buckets
@@ -141,13 +191,13 @@ pub store_stands : (content : Content) (log : LogStoreState) (conversion : Conve
 store_stands content log conversion count done frozen is = record {
   sound = λ honest.
       ap (λ (rows : List StoredRow). hash_findings conversion.shape (record { region = conversion.region; rows = rows })) (all_due content log conversion done is honest)
-      ∙ converted_sound conversion.shape (all_rows content log.log) log.table conversion.region (table_of honest);
+      ∙ converted_sound conversion.shape (all_rows content log.log) log.table conversion.region (its_table honest);
   tagged = λ honest slot below.
       is.tagged slot (omega (arith, below, done))
-      ∙ sym (converted_tag conversion.shape (all_rows content log.log) log.table (table_of honest) slot)
+      ∙ sym (converted_tag conversion.shape (all_rows content log.log) log.table (its_table honest) slot)
       ∙ ap (tag_of conversion.shape.buckets slot) (sym (is.due honest slot (omega (arith, below, done))));
 }
   where
-    table_of : IsTrue content.honest → IsTableOf conversion.shape (all_rows content log.log) log.table
-    table_of honest = subst (λ (s : Shape). IsTableOf s (all_rows content log.log) log.table) (sym is.shape)
-        (record { count = subst (λ (s : Shape). IsBucketCount s.buckets) is.shape count; known = frozen.index.known honest; indexed = frozen.index.indexed honest })
+    its_table : IsTrue content.honest → IsTableOf conversion.shape (all_rows content log.log) log.table
+    its_table honest = subst (λ (s : Shape). IsTableOf s (all_rows content log.log) log.table) (sym is.shape)
+        (table_of content log (subst (λ (s : Shape). IsBucketCount s.buckets) is.shape count) frozen honest)

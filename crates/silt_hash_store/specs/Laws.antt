@@ -1,15 +1,17 @@
 -- Laws of hash stores and conversions, for the layers above.
-use Rattle.std.specs.Prelude.{◌≡◌, ℕ, ◌+◌, ◌*◌, ◌≤◌, ◌<◌, ◌⊎◌, true, List, [], Some, map, filter}
+use Rattle.std.specs.Prelude.{◌≡◌, ℕ, ◌+◌, ◌-◌, ◌*◌, ◌≤◌, ◌<◌, ◌⊎◌, true, List, [], ◌∷◌, ◌++◌, Some, length, map, filter, take}
 use Rattle.std.specs.List.{list_all}
 use Rattle.silt_cuckoo.specs.Slots.{Slots, IsBucketCount}
 use Rattle.silt_cuckoo.specs.Index.{index_of_keys}
 use Rattle.silt_device.specs.Disk.{ChangesWithin, Content, size}
 use Rattle.silt_device.specs.Layout.{Shape, bodies_at, device_size, gates_at, hash_at, row_len}
 use Rattle.silt_image.specs.Commands.{Map, map_after}
-use Rattle.silt_image.specs.Meaning.{command_of, hash_findings, keys_of}
+use Rattle.silt_image.specs.Meaning.{IsSound, charge_of, charge_of_rows, command_of, hash_findings, keys_of, known_rows, map_of_rows, rows_of}
+use Rattle.silt_image.specs.Stores.{Part, Stores}
 use Rattle.silt_log.specs.Rows.{StoredRow, has_known_kind}
 use Rattle.silt_log.specs.State.{InBounds}
 use Rattle.silt_log_store.specs.State.{LogStoreState}
+use Rattle.silt_manifest.specs.declared.body.Body.{Body}
 use Rattle.silt_hash_store.specs.Converting.{ConversionState, HasWritten, converted_rows}
 use Rattle.silt_hash_store.specs.State.{HashState, IsHashStore, IsHeldHash}
 
@@ -30,6 +32,41 @@ abbrev pub ConvertedMapLaw : Type 0
 ConvertedMapLaw =
     (shape : Shape) (rows : List StoredRow) (table : Slots) (map_below : Map) → IsTableOf shape rows table
     → map_after map_below (map command_of (filter has_known_kind (converted_rows shape table rows))) ≡ map_after map_below (map command_of rows)
+
+-- the rows that are due have no more puts than the log's rows
+abbrev pub ConvertedChargeLaw : Type 0
+ConvertedChargeLaw =
+    (shape : Shape) (rows : List StoredRow) (table : Slots) → IsTableOf shape rows table
+    → charge_of_rows (filter has_known_kind (converted_rows shape table rows)) ≤ charge_of_rows rows
+
+-- ---- a conversion that is finished
+
+-- the stores under a body that names this hash store in front of the others, and no longer the oldest log
+unfoldable pub with_converted : Body → Part → Stores → Stores
+with_converted body part s = record s { body = body; logs = take (length s.logs - 1) s.logs; hashes = part ∷ s.hashes }
+
+-- the oldest log of the stores has these rows
+pub record HasOldest (rows : List StoredRow) (s : Stores) : Type 0 where
+  pub newer : List Part
+  pub region : ℕ
+  pub logs : s.logs ≡ newer ++ record { region = region; rows = rows } ∷ []
+
+-- stores with this hash store in place of a log of these rows stand for the same map, also with rows behind, are sound, and have the
+-- puts of the hash store in place of the log's
+pub record ReplacesLog (rows : List StoredRow) (part : Part) (old new : Stores) : Type 0 where
+  pub map : map_of_rows (rows_of new) ≡ map_of_rows (rows_of old)
+  pub behind : (more : List StoredRow) → map_of_rows (rows_of new ++ more) ≡ map_of_rows (rows_of old ++ more)
+  pub sound : IsSound new
+  pub charge : charge_of new + charge_of_rows rows ≡ charge_of old + charge_of_rows (known_rows part)
+
+-- the rows that are due may stand in a hash store in place of the oldest log
+abbrev pub ConvertsLaw : Type 0
+ConvertsLaw =
+    (s : Stores) (body : Body) (rows : List StoredRow) (table : Slots) (region : ℕ) → HasOldest rows s → IsTableOf s.shape rows table → IsSound s
+    → ReplacesLog rows (record { region = region; rows = converted_rows s.shape table rows }) s
+    (with_converted body (record { region = region; rows = converted_rows s.shape table rows }) s)
+
+-- ---- changes elsewhere
 
 -- this range lies before the slots of a hash region or behind them
 abbrev pub IsOutsideSlots : Shape → ℕ → ℕ → ℕ → Type 0

@@ -1,12 +1,13 @@
 // A log's rows, written into a hash region slot by slot.
-ghost use Rattle.std.specs.Prelude.{◌≡◌, ◌==◌, ◌+◌, ◌*◌, ◌<◌, ◌≤◌, ◌^◌, Some, length, replicate, None, IsTrue, IfOk, IfErr, IfSome, OnOk, OnErr, MatchResult};
+ghost use Rattle.std.specs.Prelude.{◌≡◌, ◌==◌, ◌+◌, ◌*◌, ◌<◌, ◌≤◌, ◌^◌, true, false, [], ◌∷◌, filter, Some, length, replicate, None, IsTrue, IfOk, IfErr, IfSome, OnOk, OnErr, MatchResult};
 ghost use Rattle.silt_device.specs.Disk.{Content, ChangesWithin, CountsFault, GaveAny, size};
 ghost use Rattle.silt_device.specs.Layout.{device_size, row_len};
 ghost use Rattle.silt_hash_store.specs.Converting.{converted_row, converted_rows, with_entry};
+ghost use Rattle.silt_image.specs.Meaning.{charge_of_rows};
 ghost use Rattle.silt_image.specs.Stores.{hash_rows};
-ghost use Rattle.silt_log.specs.Rows.{row_of};
+ghost use Rattle.silt_log.specs.Rows.{has_known_kind, row_of};
 ghost use Rattle.silt_log.specs.State.{all_rows};
-ghost use Rattle.silt_log_store.specs.State.{IsHeldStore};
+ghost use Rattle.silt_log_store.specs.State.{IsHeldStore, IsIndexed};
 
 use crate::region::HashRegion;
 use crate::store::HashStore;
@@ -25,7 +26,8 @@ pub enum StepError<F> {
     Write(F),
 }
 
-/// A log on its way to become a hash store: the region, the tags of the slots that were written, and the next slot.
+/// A log on its way to become a hash store: the region, the tags of the slots that were written, the next slot, and how many puts
+/// were written.
 ///
 /// It holds the bytes of one row, so that no step takes memory.
 #[derive(Drop)]
@@ -33,6 +35,7 @@ pub struct Conversion {
     region: HashRegion,
     tags: Tags,
     next: u32,
+    puts: u32,
     row: Vec<u8>,
 }
 
@@ -42,24 +45,49 @@ impl Model for Conversion {
 
     ghost Value = { ConversionState };
 
-    ghost view = { λ a. record { shape = a.region.geometry; region = a.region.number; tags = a.tags; next = a.next } };
+    ghost view = { λ a. record { shape = a.region.geometry; region = a.region.number; tags = a.tags; next = a.next; puts = a.puts } };
 
-    ghost invariant = { λ a. IsHeldConversion (record { shape = a.region.geometry; region = a.region.number; tags = a.tags; next = a.next }) (vec_len a.row) };
+    ghost invariant = { λ a. IsHeldConversion (record { shape = a.region.geometry; region = a.region.number; tags = a.tags; next = a.next; puts = a.puts }) (vec_len a.row) };
 }
 
-// Puts the bytes that are due in a slot into a buffer: those of the row of the log's entry there, zeros where it has none.
-fn read_due<D: Disk>(log: &LogStore, disk: &D, slot: u32, out: &mut [u8]) -> Result<(), D::Fault>
+// Fills the bytes of a row with zeros where its kind is unknown, and says how many puts the row then is.
+fn settle_row(row: &mut [u8]) -> u32
+    requires some { 0 < length row.old }
+    ensures known { has_known_kind (row_of row.old) ≡ true → row.new ≡ row.old }
+    ensures unknown { has_known_kind (row_of row.old) ≡ false → row.new ≡ replicate (length row.old) 0 }
+    ensures puts { result ≡ charge_of_rows (filter has_known_kind (row_of row.new ∷ [])) }
+    ensures most { result ≤ 1 }
+{
+    match row[0] {
+        1 => 1,
+        2 => 0,
+        _ => {
+            row.fill(0);
+            0
+        }
+    }
+}
+
+// Puts the bytes that are due in a slot into a buffer, and says how many puts they are: the bytes of the row of the log's entry
+// there, zeros where it has none or the row's kind is unknown.
+fn read_due<D: Disk>(log: &LogStore, disk: &D, slot: u32, out: &mut [u8]) -> Result<u32, D::Fault>
     requires out { length out.old ≡ row_len log.now.log.shape }
     requires size { device_size log.now.log.shape ≤ size (D.content disk.now) }
-    ensures due { IsTrue (D.content disk.now).honest → OnOk result (row_of out.new ≡ converted_row log.now.log.shape log.now.table (all_rows (D.content disk.now) log.now.log) slot) }
+    ensures due { IsTrue (D.content disk.now).honest → IsIndexed (D.content disk.now) log.now
+        → OnOk result (row_of out.new ≡ converted_row log.now.log.shape log.now.table (all_rows (D.content disk.now) log.now.log) slot) }
+    ensures puts { IfOk result (λ puts. puts ≡ charge_of_rows (filter has_known_kind (row_of out.new ∷ []))) }
+    ensures most { IfOk result (λ puts. puts ≤ 1) }
     ensures fault { IfErr result (GaveAny D.gave disk.now) }
     ensures held { IsHeldStore log.now }
 {
     match log.slot(slot) {
-        Some((_, place)) => log.read_row(disk, place, out),
+        Some((_, place)) => {
+            log.read_row(disk, place, out)?;
+            Ok(settle_row(out))
+        }
         None => {
             out.fill(0);
-            Ok(())
+            Ok(0)
         }
     }
 }
@@ -79,7 +107,7 @@ impl Conversion {
     ghost use Rattle.silt_log_store.specs.State.{LogStoreState, IsFrozenStore};
     ghost use Rattle.silt_hash_store.specs.Converting.{ConversionState, FailsStep, HasWritten, IsHeldConversion, Steps};
     ghost use Rattle.silt_hash_store.specs.Slots.{slot_at};
-    ghost use Rattle.silt_hash_store.specs.State.{IsHashStore};
+    ghost use Rattle.silt_hash_store.specs.State.{IsHashStore, IsHeldHash};
 
     /// A conversion of a log into this region, with no slot written. It takes all memory that the conversion needs: two bytes a
     /// slot, and those of one row.
@@ -89,7 +117,7 @@ impl Conversion {
     /// Where the tags or the row find no memory.
     pub fn start(alloc: Global, log: &LogStore, region: u32) -> Result<Self, AllocError>
         requires { region < log.now.log.shape.hashes }
-        ensures start { IfOk result (λ conversion. conversion ≡ record { shape = log.now.log.shape; region = region; tags = replicate (4 * log.now.log.shape.buckets) None; next = 0 }) }
+        ensures start { IfOk result (λ conversion. conversion ≡ record { shape = log.now.log.shape; region = region; tags = replicate (4 * log.now.log.shape.buckets) None; next = 0; puts = 0 }) }
         ensures written { (content : Content) → IfOk result (HasWritten content log.now) }
     {
         let geometry = log.geometry();
@@ -101,6 +129,7 @@ impl Conversion {
             region,
             tags: Tags::new(alloc, region.slot_count())?,
             next: 0,
+            puts: 0,
             row: vec![in alloc; 0; geometry.row_len()]?,
         })
     }
@@ -113,7 +142,24 @@ impl Conversion {
         self.next == self.region.slot_count()
     }
 
-    /// Writes the next slot: reads the row that is due there, where one is, and writes its bytes, or zeros. It takes no memory.
+    /// The number of the region that is written.
+    pub fn region(&self) -> u32
+        ensures value { result ≡ self.now.region }
+        ensures there { self.now.region < self.now.shape.hashes }
+    {
+        self.region.number
+    }
+
+    /// How many of the rows that were written are puts.
+    pub fn puts(&self) -> u32
+        ensures value { result ≡ self.now.puts }
+        ensures most { self.now.puts ≤ self.now.next }
+    {
+        self.puts
+    }
+
+    /// Writes the next slot: reads the row that is due there, where one is, and writes its bytes, or zeros. Zeros are also written
+    /// for a row of an unknown kind, which only a disk that is not honest can show. It takes no memory.
     ///
     /// # Errors
     ///
@@ -126,19 +172,21 @@ impl Conversion {
         ensures changes { ChangesWithin (slot_at self.old.shape self.old.region self.old.next) (row_len self.old.shape) (D.content disk.old) (D.content disk.new) }
         ensures ok { OnOk result (Steps log.now (D.content disk.old) (D.content disk.new) self.old self.new) }
         ensures err { OnErr result (self.new ≡ self.old) }
-        ensures written { HasWritten (D.content disk.old) log.now self.old → HasWritten (D.content disk.new) log.now self.new }
+        ensures written { IsFrozenStore (D.content disk.old) log.now → HasWritten (D.content disk.old) log.now self.old → HasWritten (D.content disk.new) log.now self.new }
         ensures frozen { IsFrozenStore (D.content disk.old) log.now → IsFrozenStore (D.content disk.new) log.now }
         ensures failures { MatchResult result (λ _. D.failures disk.new ≡ D.failures disk.old) (FailsStep (GaveAny D.gave) (CountsFault D.failures D.gave disk.old disk.new) disk.old disk.new) }
     {
         let slot = self.next;
-        if let Err(fault) = read_due(log, disk, slot, &mut self.row) {
-            return Err(StepError::Read(fault));
-        }
+        let puts = match read_due(log, disk, slot, &mut self.row) {
+            Ok(puts) => puts,
+            Err(fault) => return Err(StepError::Read(fault)),
+        };
         if let Err(fault) = self.region.write_slot(disk, slot, &self.row) {
             return Err(StepError::Write(fault));
         }
         note_entry(&mut self.tags, slot, log.slot(slot));
         self.next = slot + 1;
+        self.puts += puts;
         Ok(())
     }
 
@@ -146,15 +194,19 @@ impl Conversion {
     pub fn into_store(self) -> HashStore
         requires done { self.next ≡ 4 * self.shape.buckets }
         ensures store { result ≡ record { shape = self.shape; region = self.region; tags = self.tags } }
+        ensures held { IsHeldHash result }
         ensures rows { (content : Content) (log : LogStoreState) → HasWritten content log self → IsTrue content.honest
             → hash_rows self.shape self.region content.shown ≡ converted_rows self.shape log.table (all_rows content log.log) }
+        ensures charged { (content : Content) (log : LogStoreState) → HasWritten content log self → IsTrue content.honest
+            → self.puts ≡ charge_of_rows (filter has_known_kind (converted_rows self.shape log.table (all_rows content log.log))) }
         ensures stands { (content : Content) (log : LogStoreState) → IsFrozenStore content log → HasWritten content log self → IsHashStore content result }
     {
-        let _limits = self.region.geometry.buckets();
+        let _limits = self.region.geometry.buckets(); // so the number of buckets lies within its limits
         let Conversion {
             region,
             tags,
             next: _,
+            puts: _,
             row: _,
         } = self;
         HashStore { region, tags }

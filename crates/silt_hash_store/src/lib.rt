@@ -5,7 +5,8 @@
 //! So a look-up reads the heads of the slots whose tags fit, at most eight, compares the keys, and trusts no tag.
 //!
 //! A `Conversion` writes such a region from a log, slot by slot: the slot that an entry has in the log's table is the slot of its
-//! row. A store is also rebuilt from what is on the device, in one pass over the slots, or refused with the first slot that is
+//! row. It counts the puts that it writes. When it is done, the hash store may stand in the place of the log: the map is the same.
+//! A store is also rebuilt from what is on the device, in one pass over the slots, or refused with the first slot that is
 //! damaged.
 #![tactic(auto)]
 
@@ -18,7 +19,10 @@ mod store;
 mod tags;
 
 pub use conversion::{Conversion, StepError};
-pub use laws::{converted_map_law, converted_sound_law, hash_elsewhere_law, written_elsewhere_law};
+pub use laws::{
+    converted_charge_law, converted_map_law, converted_sound_law, converts_law, hash_elsewhere_law,
+    written_elsewhere_law,
+};
 pub use rebuilding::{RebuildError, Rebuilt};
 pub use silt_log_store::Found;
 pub use store::HashStore;

@@ -58,7 +58,7 @@ pub fn find_in<D: Disk>(
     ensures place { IfOk result (λ found. IfSome found (λ row. row.place < 4 * region.now.geometry.buckets)) }
     ensures fault { IfErr result (GaveAny D.gave disk.now) }
 {
-    let _slots = region.slot_count();
+    let _slots = region.slot_count(); // so the numbers of the slots fit their word
     let start = 4 * bucket;
     for slot in start..start + 4 {
         if let Some(kind) = match_at(region, tags, disk, slot, tag, key)? {

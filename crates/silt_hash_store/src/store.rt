@@ -87,7 +87,7 @@ impl HashStore {
         ensures place { IfOk result (λ found. IfSome found (λ row. row.place < 4 * self.now.shape.buckets)) }
         ensures fault { IfErr result (GaveAny D.gave disk.now) }
     {
-        let _region = &self.region;
+        let _region = &self.region; // so each slot has a tag
         self.look_up(disk, key)
     }
 

@@ -274,31 +274,68 @@ fn run_steps<D: Disk>(
     (reads, writes)
 }
 
-// Converts log 0 into hash region 0 in ten steps: how many reads and writes failed, and what the store then has of two keys.
-fn convert<D: Disk>(
-    alloc: Global,
-    disk: &mut D,
-    geometry: Geometry,
-) -> Option<((u32, u32), Option<Found>, Option<Found>)>
+// What a conversion comes to: how many reads and writes failed, how many puts it counted, and what the store then has of two keys.
+#[derive(Clone, Copy, Debug, PartialEq, Eq)]
+struct Converted {
+    failed: (u32, u32),
+    puts: u32,
+    first: Option<Found>,
+    second: Option<Found>,
+}
+
+// Converts a log into hash region 0 in ten steps.
+fn convert_log<D: Disk>(alloc: Global, disk: &mut D, log: &LogStore) -> Option<Converted>
+    requires region { 0 < log.now.log.shape.hashes }
+    requires size { device_size log.now.log.shape ≤ size (D.content disk.old) }
+    ensures { size (D.content disk.new) ≡ size (D.content disk.old) }
+{
+    let Ok(mut conversion) = Conversion::start(alloc, log, 0) else {
+        return None;
+    };
+    let failed = run_steps(&mut conversion, log, disk, 10);
+    if !conversion.is_done() {
+        return None;
+    }
+    let puts = conversion.puts();
+    let store = conversion.into_store();
+    let first = store.find(disk, &paired(1)).ok()?;
+    let second = store.find(disk, &paired(2)).ok()?;
+    Some(Converted {
+        failed,
+        puts,
+        first,
+        second,
+    })
+}
+
+// Converts log 0 into hash region 0.
+fn convert<D: Disk>(alloc: Global, disk: &mut D, geometry: Geometry) -> Option<Converted>
     requires log { 0 < geometry.logs }
     requires region { 0 < geometry.hashes }
     requires size { device_size geometry ≤ size (D.content disk.old) }
     ensures { size (D.content disk.new) ≡ size (D.content disk.old) }
 {
-    let Ok(rebuilt) = LogStore::rebuild(alloc, disk, geometry, 0) else {
+    let Ok(log) = LogStore::rebuild(alloc, disk, geometry, 0) else {
         return None;
     };
-    let Ok(mut conversion) = Conversion::start(alloc, &rebuilt.store, 0) else {
+    convert_log(alloc, disk, &log)
+}
+
+// Converts log 0 into hash region 0, where the kind of its last row is changed behind its back.
+fn convert_changed<D: Disk>(alloc: Global, disk: &mut D, geometry: Geometry) -> Option<Converted>
+    requires log { 0 < geometry.logs }
+    requires region { 0 < geometry.hashes }
+    requires size { device_size geometry ≤ size (D.content disk.old) }
+    requires room { 28856 ≤ size (D.content disk.old) }
+    ensures { size (D.content disk.new) ≡ size (D.content disk.old) }
+{
+    let Ok(log) = LogStore::rebuild(alloc, disk, geometry, 0) else {
         return None;
     };
-    let failed = run_steps(&mut conversion, &rebuilt.store, disk, 10);
-    if !conversion.is_done() {
+    let Ok(()) = disk.write(16_430, &[3]) else {
         return None;
-    }
-    let store = conversion.into_store();
-    let first = store.find(disk, &paired(1)).ok()?;
-    let second = store.find(disk, &paired(2)).ok()?;
-    Some((failed, first, second))
+    };
+    convert_log(alloc, disk, &log)
 }
 
 // Writes three rows of two keys into log 0, and rows of an unknown kind into all slots of hash region 0.
@@ -321,46 +358,70 @@ fn converts_a_log(rt: HostRuntime) -> Result<(), Fail> {
     let mut disk = MemDisk::new(alloc, geometry.size() as usize)?;
     prepare(&mut disk)?;
     assert_eq!(rt; rebuild(alloc, &disk, geometry), Outcome::Damaged(0));
-    let put = Some(Found {
-        kind: Kind::Put,
-        place: 0,
-    });
-    let deleted = Some(Found {
-        kind: Kind::Delete,
-        place: 1,
-    });
-    assert_eq!(rt;
-        convert(alloc, &mut disk, geometry),
-        Some(((0, 0), put, deleted))
-    );
+    let expected = Converted {
+        failed: (0, 0),
+        puts: 1,
+        first: Some(Found {
+            kind: Kind::Put,
+            place: 0,
+        }),
+        second: Some(Found {
+            kind: Kind::Delete,
+            place: 1,
+        }),
+    };
+    assert_eq!(rt; convert(alloc, &mut disk, geometry), Some(expected));
     assert_eq!(rt; rebuild(alloc, &disk, geometry), Outcome::Rebuilt(2, 1));
     assert_eq!(rt; &disk.shown()[28_693..28_695], [9, 9].as_slice());
     assert_eq!(rt; &disk.shown()[28_718..28_856], [0; 138].as_slice());
     Ok(())
 }
 
-// Converts log 0 where a call of this kind and this number fails: how many reads and writes of the steps failed.
+// A row that is of an unknown kind when it is read is written as an empty slot, and is no put.
+#[test]
+fn writes_no_row_of_an_unknown_kind(rt: HostRuntime) -> Result<(), Fail> {
+    let alloc = rt.alloc();
+    let geometry = small()?;
+    let mut disk = MemDisk::new(alloc, geometry.size() as usize)?;
+    prepare(&mut disk)?;
+    let expected = Converted {
+        failed: (0, 0),
+        puts: 0,
+        first: None,
+        second: Some(Found {
+            kind: Kind::Delete,
+            place: 1,
+        }),
+    };
+    assert_eq!(rt; convert_changed(alloc, &mut disk, geometry), Some(expected));
+    assert_eq!(rt; rebuild(alloc, &disk, geometry), Outcome::Rebuilt(1, 0));
+    assert_eq!(rt; &disk.shown()[28_672..28_695], [0; 23].as_slice());
+    Ok(())
+}
+
+// Converts log 0 where a call of this kind and this number fails: how many reads and writes of the steps failed, and how many puts
+// were counted.
 fn failed_steps(
     alloc: Global,
     disk: MemDisk,
     geometry: Geometry,
     call: Call,
     number: u64,
-) -> Option<(u32, u32)>
+) -> Option<((u32, u32), u32)>
     requires log { 0 < geometry.logs }
     requires region { 0 < geometry.hashes }
     requires size { device_size geometry ≤ size (memory_content disk) }
 {
     let mut disk = FaultDisk::new(disk, call, number);
-    let (failed, first, second) = convert(alloc, &mut disk, geometry)?;
-    if first.is_some() && second.is_some() {
-        Some(failed)
+    let converted = convert(alloc, &mut disk, geometry)?;
+    if converted.first.is_some() && converted.second.is_some() {
+        Some((converted.failed, converted.puts))
     } else {
         None
     }
 }
 
-// A step after one that failed does what the failed one was to do. The log's rebuild makes four reads, and there are two rows to
+// A step after one that failed does what the failed one was to do, and counts its put once. The log's rebuild makes four reads, and there are two rows to
 // read and eight slots to write.
 #[test]
 fn goes_on_after_a_failed_step(rt: HostRuntime) -> Result<(), Fail> {
@@ -377,7 +438,7 @@ fn goes_on_after_a_failed_step(rt: HostRuntime) -> Result<(), Fail> {
         prepare(&mut disk)?;
         assert_eq!(rt;
             failed_steps(alloc, disk, geometry, call, number),
-            Some(failed),
+            Some((failed, 1)),
             "call {number}"
         );
     }

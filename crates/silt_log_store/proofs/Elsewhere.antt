@@ -20,7 +20,7 @@ rows_outside old new log at count bounds fits outside changes honest =
 -- so its store stays indexed
 pub index_elsewhere : (old new : Content) (store : LogStoreState) (at count : ℕ) → IsIndexed old store → InBounds store.log → device_size store.log.shape ≤ size old → IsOutside store.log.shape store.log.region at count → ChangesWithin at count old new → IsIndexed new store
 index_elsewhere old new store at count index bounds fits outside changes =
-    index_kept old new store store changes.honest index refl refl (rows_outside old new store.log at count bounds fits outside changes)
+    index_kept old new store store changes.honest index refl refl refl (rows_outside old new store.log at count bounds fits outside changes)
 
 -- a store that takes rows stands
 pub store_elsewhere : (old new : Content) (store : LogStoreState) (at count : ℕ) → IsLogStore old store → device_size store.log.shape ≤ size old → size new ≡ size old → IsOutside store.log.shape store.log.region at count → ChangesWithin at count old new → IsLogStore new store

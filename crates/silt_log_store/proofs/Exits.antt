@@ -17,15 +17,16 @@ use Rattle.silt_log.specs.Calls.{Empties, Appends, OpensSome}
 use Rattle.silt_log.proofs.Elsewhere.{all_count}
 use Rattle.silt_log.proofs.Exits.{region_lies}
 use Rattle.silt_log.proofs.Standing.{gates_torn_rows}
-use Rattle.silt_log_store.specs.State.{LogStoreState, IsHeldStore, IsIndexed, IsLogStore, keys_of}
+use Rattle.silt_log_store.specs.State.{LogStoreState, IsHeldStore, IsIndexed, IsLogStore, keys_of, put_count}
 use Rattle.silt_log_store.specs.Calls.{IsPlacingFor, EmptiesStore, TakesRow, OpensSomeOfStore}
 use Rattle.silt_log_store.specs.Finding.{FindsLast}
+use Rattle.silt_log_store.specs.Growing.{puts_of}
 use Rattle.silt_log_store.specs.Lookup.{IsFirstMatch}
 use Rattle.silt_log_store.specs.declared.lookup.Match.{Match}
 use Rattle.silt_log_store.specs.declared.placing.Placing.{Placing}
 use Rattle.silt_log_store.proofs.Finds.{standing_is, match_is_last, none_is_none, next_table}
 use Rattle.silt_log_store.proofs.Named.{byte_of_kind}
-use Rattle.silt_log_store.proofs.Rows.{keys_count, keys_push, known_push}
+use Rattle.silt_log_store.proofs.Rows.{keys_count, keys_push, known_push, puts_push}
 
 -- the table of no keys
 pub index_none : (buckets : ℕ) → index_of_keys buckets [] ≡ Some (empty_slots buckets)
@@ -77,30 +78,33 @@ module _ (content : Content) (store : LogStoreState) (key : List ℕ) (held : Is
 
 -- ---- what calls leave of the table
 
--- the same rows have the same table
-pub index_kept : (old new : Content) (before after : LogStoreState) → new.honest ≡ old.honest → IsIndexed old before → after.table ≡ before.table → after.log.shape ≡ before.log.shape
+-- the same rows have the same table and the same number of puts
+pub index_kept : (old new : Content) (before after : LogStoreState) → new.honest ≡ old.honest → IsIndexed old before → after.table ≡ before.table → after.puts ≡ before.puts → after.log.shape ≡ before.log.shape
     → (IsTrue old.honest → all_rows new after.log ≡ all_rows old before.log) → IsIndexed new after
-index_kept old new before after same index table shape all = record {
+index_kept old new before after same index table puts shape all = record {
   known = λ honest. let was = sym same ∙ honest in ap (list_all has_known_kind) (all was) ∙ index.known was;
   indexed = λ honest.
       let was = sym same ∙ honest in
       ap (λ s. index_of_keys s.buckets (keys_of (all_rows new after.log))) shape ∙ ap (λ rows. index_of_keys before.log.shape.buckets (keys_of rows)) (all was) ∙ index.indexed was ∙ ap Some (sym table);
+  counted = λ honest. let was = sym same ∙ honest in puts ∙ index.counted was ∙ ap put_count (sym (all was));
 }
 
--- a store whose log was prepared, and whose table is empty
-pub empties_store : (new : Content) (store : LogStoreState) (log : LogState) → Empties new store.log log → store.table ≡ empty_slots store.log.shape.buckets → EmptiesStore new store (record { log = log; table = store.table })
+-- a store whose log was prepared, whose table is empty, and which counts no puts
+pub empties_store : (new : Content) (store : LogStoreState) (log : LogState) → Empties new store.log log → store.table ≡ empty_slots store.log.shape.buckets → store.puts ≡ 0 → EmptiesStore new store (record { log = log; table = store.table; puts = store.puts })
 unfolding rows_from
-empties_store new store log empties empty =
+empties_store new store log empties empty no_puts =
     let none : all_rows new log ≡ [] = ap (λ (l : LogState). all_rows new l) empties.log in
     let shape : log.shape ≡ store.log.shape = ap (λ (l : LogState). l.shape) empties.log in
     record {
       log = empties;
       table = refl;
+      puts = refl;
       stands = record {
         log = empties.stands;
         index = record {
           known = λ honest. ap (list_all has_known_kind) none;
           indexed = λ honest. ap (λ rows. index_of_keys log.shape.buckets (keys_of rows)) none ∙ ap (λ s. index_of_keys s.buckets []) shape ∙ index_none store.log.shape.buckets ∙ ap Some (sym empty);
+          counted = λ honest. no_puts ∙ ap put_count (sym none);
         };
       };
     }
@@ -110,12 +114,12 @@ placed_is : (result : Bool) (table : Slots) (o : Option Slots) → IsSome o → 
 placed_is true table o some is = is
 placed_is false table o some is = absurd (let none : is_some o ≡ false = ap is_some is in cc)
 
--- a store whose log took a row, with the key in the table
-pub takes_row : (old new : Content) (store : LogStoreState) (log : LogState) (table : Slots) (kind : Kind) (key : Key) (value : List ℕ) (placing : Placing) (result : Bool) → new.honest ≡ old.honest → IsIndexed old store
-    → IsPlacingFor old store key.0 placing
+-- a store whose log took a row, with the key in the table and one put more where it is one
+pub takes_row : (old new : Content) (store : LogStoreState) (log : LogState) (table : Slots) (puts : ℕ) (kind : Kind) (key : Key) (value : List ℕ) (placing : Placing) (result : Bool) → new.honest ≡ old.honest → IsIndexed old store
+    → IsPlacingFor old store key.0 placing → puts ≡ store.puts + puts_of kind
     → placed_or_replaced (bucket_count store.table) store.table key.0 store.log.used placing.standing ≡ (if result then Some table else None)
-    → Appends (stored_row kind key value) old new store.log log → TakesRow (stored_row kind key value) old new store (record { log = log; table = table })
-takes_row old new store log table kind key value placing result same index at placed appends =
+    → Appends (stored_row kind key value) old new store.log log → TakesRow (stored_row kind key value) old new store (record { log = log; table = table; puts = puts })
+takes_row old new store log table puts kind key value placing result same index at more placed appends =
     let row : StoredRow = stored_row kind key value in
     let rows : List StoredRow = all_rows old store.log in
     let shape : log.shape ≡ store.log.shape = ap (λ (l : LogState). l.shape) appends.log in
@@ -133,6 +137,9 @@ takes_row old new store log table kind key value placing result same index at pl
               ∙ ap (λ all. index_of_keys store.log.shape.buckets (keys_of all)) (appends.all was)
               ∙ ap (index_of_keys store.log.shape.buckets) (keys_push rows row)
               ∙ placed_is result table (index_of_keys store.log.shape.buckets (keys_of rows ++ key.0 ∷ [])) (at.takes was index) (at.table was index ∙ placed);
+          counted = λ honest.
+              let was = sym same ∙ honest in
+              more ∙ ap (λ n. n + puts_of kind) (index.counted was) ∙ sym (puts_push rows row kind (byte_of_kind kind)) ∙ ap put_count (sym (appends.all was));
         };
       };
     }
@@ -183,22 +190,23 @@ gates_leave_rows old new log from count bounds fits most changes honest =
 -- a store some of whose gates may be open
 pub opens_some : (old new : Content) (store : LogStoreState) (log : LogState) → device_size store.log.shape ≤ size old → IsLogStore old store
     → ChangesWithin (gates_at store.log.shape store.log.region + store.log.settled) (store.log.used - store.log.settled) old new
-    → OpensSome old new store.log log → OpensSomeOfStore old new store (record { log = log; table = store.table })
+    → OpensSome old new store.log log → OpensSomeOfStore old new store (record { log = log; table = store.table; puts = store.puts })
 opens_some old new store log fits is changes opens =
     let bounds : InBounds store.log = is.log.bounds in
     record {
-      store = ap (λ (l : LogState). let made : LogStoreState = record { log = l; table = store.table } in made) opens.log;
+      store = ap (λ (l : LogState). let made : LogStoreState = record { log = l; table = store.table; puts = store.puts } in made) opens.log;
       log = opens;
-      index = index_kept old new store (record { log = log; table = store.table }) changes.honest is.index refl (ap (λ (l : LogState). l.shape) opens.log)
+      index = index_kept old new store (record { log = log; table = store.table; puts = store.puts }) changes.honest is.index refl refl (ap (λ (l : LogState). l.shape) opens.log)
           (λ honest. ap (all_rows new) opens.log ∙ gates_leave_rows old new store.log store.log.settled (store.log.used - store.log.settled) bounds fits (omega (arith, bounds.order, bounds.room)) changes honest);
     }
 
 -- what holds of every store still holds of one that took a row
-pub held_after : (store : LogStoreState) (log : LogState) (table : Slots) (place : ℕ) → IsHeldStore store → InBounds log → log ≡ record store.log { used = store.log.used + 1 } → IsTable table → bucket_count table ≡ bucket_count store.table
-    → place ≡ store.log.used → PlacesBelow table (place + 1) → IsHeldStore (record { log = log; table = table })
-held_after store log table place held bounds taken is_table count at below = record {
+pub held_after : (store : LogStoreState) (log : LogState) (table : Slots) (puts place : ℕ) → IsHeldStore store → InBounds log → log ≡ record store.log { used = store.log.used + 1 } → IsTable table → bucket_count table ≡ bucket_count store.table
+    → place ≡ store.log.used → PlacesBelow table (place + 1) → puts ≤ store.puts + 1 → IsHeldStore (record { log = log; table = table; puts = puts })
+held_after store log table puts place held bounds taken is_table count at below few = record {
   bounds = bounds;
   table = is_table;
   count = count ∙ held.count ∙ ap (λ (l : LogState). l.shape.buckets) (sym taken);
   below = subst (PlacesBelow table) (ap (λ n. n + 1) at ∙ ap (λ (l : LogState). l.used) (sym taken)) below;
+  most = omega (arith, held.most, few, ap (λ (l : LogState). l.used) taken);
 }

@@ -1,10 +1,9 @@
 -- A rebuild, row by row.
-use Rattle.std.proofs.Common.{◌≡◌, ℕ, ◌+◌, ◌<◌, ◌≤◌, false, cond, eqb, List, [], ◌∷◌, ◌++◌, length, take, get_or, find, slice_get, Option, Some, None, IsTrue, IsSome, IfSome, option_map, refl, sym, subst, ap, ◌∙◌, arith, length-append}
+use Rattle.std.proofs.Common.{◌≡◌, ℕ, ◌+◌, ◌<◌, ◌≤◌, false, List, [], ◌∷◌, ◌++◌, length, take, get_or, find, slice_get, Option, Some, None, IsTrue, IsSome, IfSome, option_map, refl, sym, subst, ap, ◌∙◌, arith, length-append}
 use Rattle.std.specs.List.{list_all}
 use Rattle.std.specs.Option.{is_some}
 use Rattle.std.specs.Str.{bytes_eq}
 use Rattle.std.proofs.lemmas.List.{get_or-map}
-use Rattle.std.proofs.lemmas.List.Sums.{sum_by-append}
 use Rattle.std.proofs.lemmas.Option.{get_or_from_slice_get, slice_get_within}
 use Rattle.silt_device.specs.Disk.{Content, Rests}
 use Rattle.silt_device.proofs.Images.{left_at_rest}
@@ -24,15 +23,14 @@ use Rattle.silt_cuckoo.proofs.Search.{found_in_range}
 use Rattle.silt_log.specs.Rows.{StoredRow, has_known_kind, row_at, row_head, first_rows, log_rows}
 use Rattle.silt_log.specs.State.{LogState, InBounds, IsScanned}
 use Rattle.silt_log_store.specs.Growing.{IsKeyIndex, IsOfRows, AddsKey, puts_of}
-use Rattle.silt_log_store.specs.Rebuild.{IsSoundBefore, IsFirstDamaged, IsFirstCrowded, IsRebuilt, IsRefusedRebuild, has_known_kind_at, put_count}
-use Rattle.silt_log_store.specs.State.{IsHeldStore, IsIndexed, IsFrozenStore, keys_of}
+use Rattle.silt_log_store.specs.Rebuild.{IsSoundBefore, IsFirstDamaged, IsFirstCrowded, IsRebuilt, IsRefusedRebuild, has_known_kind_at}
+use Rattle.silt_log_store.specs.State.{IsHeldStore, IsIndexed, IsFrozenStore, keys_of, put_count}
 use Rattle.silt_log_store.specs.declared.index.KeyIndex.{KeyIndex}
 use Rattle.silt_log_store.specs.declared.rebuilding.RebuildError.{RebuildError}
 use Rattle.silt_log_store.specs.declared.rebuilding.RebuildError.TheVariants.{Damaged, Crowded, Device, NoMemory}
 use Rattle.silt_log_store.proofs.Exits.{index_none}
 use Rattle.silt_log_store.proofs.Finds.{next_table}
-use Rattle.silt_log_store.proofs.Named.{kind_of_byte}
-use Rattle.silt_log_store.proofs.Rows.{keys_push, known_push, rows_more, rows_taken, rows_count, rows_at}
+use Rattle.silt_log_store.proofs.Rows.{keys_push, known_push, puts_push, rows_more, rows_taken, rows_count, rows_at}
 
 -- ---- the keys and their table
 
@@ -123,18 +121,6 @@ head_says_none row is = go (kind_of row.kind) is
     go None h = refl
     go (Some k) h = absurd (cc)
 
--- a put counts for one
-kind_counts : (row : StoredRow) (kind : Kind) → kind_of row.kind ≡ Some kind → cond (eqb row.kind 1) 1 0 ≡ puts_of kind
-kind_counts row Put is = ap (λ n. cond (eqb n 1) 1 0) (sym (kind_of_byte row.kind Put is))
-kind_counts row Delete is = ap (λ n. cond (eqb n 1) 1 0) (sym (kind_of_byte row.kind Delete is))
-
--- the puts of one row more
-puts_push : (rows : List StoredRow) (row : StoredRow) (kind : Kind) → kind_of row.kind ≡ Some kind → put_count (rows ++ row ∷ []) ≡ put_count rows + puts_of kind
-puts_push rows row kind is =
-    let last : cond (eqb row.kind 1) 1 0 ≡ puts_of kind = kind_counts row kind is in
-    let all = sum_by-append (λ (r : StoredRow). cond (eqb r.kind 1) 1 0) rows (row ∷ []) in
-    omega (arith, all, last)
-
 -- the index of one row more
 pub rows_grow : (rows : List StoredRow) (row : StoredRow) (kind : Kind) (key : Key) (old new : KeyIndex) → row_head row ≡ Some (kind, key) → IsOfRows rows old → AddsKey kind key.0 old new → IsOfRows (rows ++ row ∷ []) new
 rows_grow rows row kind key old new head are adds =
@@ -191,8 +177,8 @@ module _ (shape : Shape) (region : ℕ) (image : List ℕ) (count place : ℕ) (
 
 -- ---- the store
 
--- a log with the table of all its keys is held
-pub rebuilt_held : (log : LogState) (index : KeyIndex) → InBounds log → IsBucketCount log.shape.buckets → IsKeyIndex index → bucket_count index.table ≡ log.shape.buckets → length index.keys.items ≡ log.used → IsHeldStore (record { log = log; table = index.table })
+-- a log with the table of all its keys and the number of its puts is held
+pub rebuilt_held : (log : LogState) (index : KeyIndex) → InBounds log → IsBucketCount log.shape.buckets → IsKeyIndex index → bucket_count index.table ≡ log.shape.buckets → length index.keys.items ≡ log.used → IsHeldStore (record { log = log; table = index.table; puts = index.puts })
 rebuilt_held log index bounds count is buckets keys =
     let holds = index_law (bucket_count index.table) index.keys.items index.table (subst IsBucketCount (sym buckets) count) is.indexed in
     record {
@@ -200,6 +186,7 @@ rebuilt_held log index bounds count is buckets keys =
       table = holds.table;
       count = buckets;
       below = λ slot place held. subst (λ n. place < n) keys (holds.no_other place (slot, held)).0;
+      most = subst (λ n. index.puts ≤ n) keys is.most;
     }
 
 module _ (content : Content) (log : LogState) (index : KeyIndex) (scanned : IsTrue content.honest → IsScanned content log) (is : IsKeyIndex index) (buckets : bucket_count index.table ≡ log.shape.buckets)
@@ -214,11 +201,11 @@ module _ (content : Content) (log : LogState) (index : KeyIndex) (scanned : IsTr
   keys_table honest = ap (index_of_keys log.shape.buckets) (sym (are honest).keys_are) ∙ ap (λ n. index_of_keys n index.keys.items) (sym buckets) ∙ is.indexed
 
   -- so the store is indexed
-  pub rebuilt_index : IsIndexed content (record { log = log; table = index.table })
-  rebuilt_index = record { known = λ honest. (are honest).known; indexed = keys_table }
+  pub rebuilt_index : IsIndexed content (record { log = log; table = index.table; puts = index.puts })
+  rebuilt_index = record { known = λ honest. (are honest).known; indexed = keys_table; counted = λ honest. (are honest).counted }
 
   -- and rebuilt
-  pub rebuilt_is : IsTrue content.honest → IsRebuilt content (record { log = log; table = index.table }) index.puts
+  pub rebuilt_is : IsTrue content.honest → IsRebuilt content (record { log = log; table = index.table; puts = index.puts })
   rebuilt_is honest = record {
     scanned = scanned honest;
     known = ap (list_all has_known_kind) (sym (rows_are honest)) ∙ (are honest).known;
@@ -227,7 +214,7 @@ module _ (content : Content) (log : LogState) (index : KeyIndex) (scanned : IsTr
   }
 
   -- and frozen where the disk is at rest
-  pub rebuilt_frozen : Rests content → IsFrozenStore content (record { log = log; table = index.table })
+  pub rebuilt_frozen : Rests content → IsFrozenStore content (record { log = log; table = index.table; puts = index.puts })
   rebuilt_frozen rests = record {
     images = record { each = λ honest image left. ap (log_rows log.shape log.region) (left_at_rest rests honest image left) ∙ sym (rows_are honest) };
     index = rebuilt_index;

@@ -1,9 +1,10 @@
 -- Kinds and their bytes.
-use Rattle.std.proofs.Common.{◌≡◌, ℕ, eqb, Some, None, inl, inr, refl, sym, ap, ◌∙◌}
+use Rattle.std.proofs.Common.{◌≡◌, ℕ, cond, eqb, Some, None, inl, inr, refl, sym, ap, ◌∙◌}
 use Rattle.std.proofs.lemmas.Bool.{cases_Bool, cond-true, cond-false, eqb-true}
 use Rattle.silt_frame.specs.Frame.{kind_byte, kind_of}
 use Rattle.silt_frame.specs.declared.key.Kind.{Kind}
 use Rattle.silt_frame.specs.declared.key.Kind.TheVariants.{Put, Delete}
+use Rattle.silt_log_store.specs.Growing.{puts_of}
 
 -- the kind that a byte stands for has this byte
 pub kind_of_byte : (byte : ℕ) (kind : Kind) → kind_of byte ≡ Some kind → kind_byte kind ≡ byte
@@ -27,3 +28,8 @@ kind_of_byte byte kind is = elim (cases_Bool (eqb byte 1)) [
 pub byte_of_kind : (kind : Kind) → kind_of (kind_byte kind) ≡ Some kind
 byte_of_kind Put = refl
 byte_of_kind Delete = refl
+
+-- a byte counts as its kind does: a put for one
+pub kind_counts : (byte : ℕ) (kind : Kind) → kind_of byte ≡ Some kind → cond (eqb byte 1) 1 0 ≡ puts_of kind
+kind_counts byte Put is = ap (λ n. cond (eqb n 1) 1 0) (sym (kind_of_byte byte Put is))
+kind_counts byte Delete is = ap (λ n. cond (eqb n 1) 1 0) (sym (kind_of_byte byte Delete is))

@@ -1,17 +1,22 @@
 -- The rows of a log and their keys, by their numbers.
-use Rattle.std.proofs.Common.{◌≡◌, ℕ, ◌+◌, ◌<◌, ◌≤◌, Bool, true, ◌&&◌, List, [], ◌∷◌, ◌++◌, length, map, take, get_or, slice_get, Some, inl, inr, refl, sym, ap, ◌∙◌, arith}
+use Rattle.std.proofs.Common.{◌≡◌, ℕ, ◌+◌, ◌<◌, ◌≤◌, Bool, true, ◌&&◌, cond, eqb, List, [], ◌∷◌, ◌++◌, length, map, take, get_or, slice_get, Some, inl, inr, refl, sym, ap, ◌∙◌, arith}
 use Rattle.std.specs.List.{range_with_len, list_all}
 use Rattle.std.proofs.lemmas.Bool.{cases_Bool, false≢true}
 use Rattle.std.proofs.lemmas.List.{get_or-map, length-map, map_push}
 use Rattle.std.proofs.lemmas.List.Folds.{list_all_at, list_all-append}
+use Rattle.std.proofs.lemmas.List.Sums.{sum_by-append}
 use Rattle.std.proofs.lemmas.List.FromFn.{map-range_with_len_more, take-map-range_with_len, length-map-range_with_len, get_or-map-range_with_len}
 use Rattle.std.proofs.lemmas.Option.{slice_get-get_or, get_or_from_slice_get, slice_get_within}
 use Rattle.silt_device.specs.Disk.{Content}
 use Rattle.silt_device.specs.Layout.{Shape}
+use Rattle.silt_frame.specs.Frame.{kind_of}
+use Rattle.silt_frame.specs.declared.key.Kind.{Kind}
 use Rattle.silt_log.specs.Rows.{StoredRow, has_known_kind, row_at, rows_from, first_rows}
 use Rattle.silt_log.specs.State.{LogState, all_rows}
 use Rattle.silt_log.proofs.Elsewhere.{all_count, row_of_all}
-use Rattle.silt_log_store.specs.State.{keys_of}
+use Rattle.silt_log_store.specs.State.{keys_of, put_count}
+use Rattle.silt_log_store.specs.Growing.{puts_of}
+use Rattle.silt_log_store.proofs.Named.{kind_counts}
 
 -- a row and its key
 pub key_of_row : (rows : List StoredRow) (place : ℕ) (row : StoredRow) → slice_get rows place ≡ Some row → get_or (keys_of rows) place [] ≡ row.key
@@ -51,6 +56,13 @@ known_push rows row known here = list_all-append has_known_kind rows (row ∷ []
   where
     both : (list_all has_known_kind rows && (has_known_kind row && true)) ≡ true
     both = rw (known, here) refl
+
+-- the puts of one row more
+pub puts_push : (rows : List StoredRow) (row : StoredRow) (kind : Kind) → kind_of row.kind ≡ Some kind → put_count (rows ++ row ∷ []) ≡ put_count rows + puts_of kind
+puts_push rows row kind is =
+    let last : cond (eqb row.kind 1) 1 0 ≡ puts_of kind = kind_counts row.kind kind is in
+    let all = sum_by-append (λ (r : StoredRow). cond (eqb r.kind 1) 1 0) rows (row ∷ []) in
+    omega (arith, all, last)
 
 -- the keys of one row more
 pub keys_push : (rows : List StoredRow) (row : StoredRow) → keys_of (rows ++ row ∷ []) ≡ keys_of rows ++ row.key ∷ []

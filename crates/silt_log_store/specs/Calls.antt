@@ -13,6 +13,7 @@ use Rattle.silt_log_store.specs.declared.placing.Placing.{Placing}
 pub record EmptiesStore (new : Content) (before after : LogStoreState) : Type 0 where
   pub log : Empties new before.log after.log
   pub table : after.table ≡ before.table
+  pub puts : after.puts ≡ before.puts
   pub stands : IsLogStore new after
 
 -- one more row waits, and its key is in the table
@@ -30,6 +31,7 @@ pub record KeepsStore (old new : Content) (before after : LogStoreState) : Type 
 pub record OpensStore (old new : Content) (before after : LogStoreState) : Type 0 where
   pub log : Opens old new before.log after.log
   pub table : after.table ≡ before.table
+  pub puts : after.puts ≡ before.puts
   pub stands : IsLogStore new after
 
 -- some of the gates of the waiting rows may be open; what is found is the same
@@ -42,6 +44,7 @@ pub record OpensSomeOfStore (old new : Content) (before after : LogStoreState) :
 pub record SealsStore (old new : Content) (before after : LogStoreState) : Type 0 where
   pub log : Seals old new before.log after.log
   pub table : after.table ≡ before.table
+  pub puts : after.puts ≡ before.puts
   pub all : IsTrue old.honest → all_rows new after.log ≡ all_rows old before.log
   pub stands : IsIndexed old before → IsLogStore new after
 

@@ -7,8 +7,7 @@ use Rattle.silt_cuckoo.specs.Slots.{bucket_count}
 use Rattle.silt_cuckoo.specs.Index.{index_of_keys}
 use Rattle.silt_log.specs.Rows.{StoredRow, has_known_kind}
 use Rattle.silt_log_store.specs.declared.index.KeyIndex.{KeyIndex}
-use Rattle.silt_log_store.specs.Rebuild.{put_count}
-use Rattle.silt_log_store.specs.State.{keys_of}
+use Rattle.silt_log_store.specs.State.{keys_of, put_count}
 
 -- how many puts a row of this kind counts for
 abbrev pub puts_of : Kind → ℕ

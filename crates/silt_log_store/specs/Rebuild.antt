@@ -1,5 +1,5 @@
 -- What a rebuild finds in the rows of a log, the oldest first.
-use Rattle.std.specs.Prelude.{◌≡◌, ℕ, ◌+◌, ◌<◌, ◌==◌, Bool, true, false, List, length, map, take, get_or, count_by, IsSome, Some, None}
+use Rattle.std.specs.Prelude.{◌≡◌, ℕ, ◌+◌, ◌<◌, Bool, true, false, List, length, map, take, get_or, IsSome, Some, None}
 use Rattle.std.specs.List.{list_all}
 use Rattle.silt_device.specs.Disk.{Content}
 use Rattle.silt_log.specs.Rows.{StoredRow, has_known_kind, log_rows}
@@ -7,15 +7,11 @@ use Rattle.silt_log.specs.State.{IsScanned}
 use Rattle.silt_cuckoo.specs.Index.{index_of_keys}
 use Rattle.silt_log_store.specs.declared.rebuilding.RebuildError.{RebuildError}
 use Rattle.silt_log_store.specs.declared.rebuilding.RebuildError.TheVariants.{Damaged, Crowded, Device, NoMemory}
-use Rattle.silt_log_store.specs.State.{LogStoreState, keys_of}
+use Rattle.silt_log_store.specs.State.{LogStoreState, keys_of, put_count}
 
 -- the row of this number is there and of a known kind
 abbrev pub has_known_kind_at : List StoredRow → ℕ → Bool
 has_known_kind_at rows place = get_or (map has_known_kind rows) place false
-
--- how many rows are puts
-abbrev pub put_count : List StoredRow → ℕ
-put_count rows = count_by (λ row. row.kind == 1) rows
 
 -- the rows before this one are of known kinds, and their keys have places in a table
 pub record IsSoundBefore (buckets : ℕ) (rows : List StoredRow) (place : ℕ) : Type 0 where
@@ -35,12 +31,13 @@ pub record IsFirstCrowded (buckets : ℕ) (rows : List StoredRow) (place : ℕ) 
   pub known : has_known_kind_at rows place ≡ true
   pub crowded : index_of_keys buckets (keys_of (take (place + 1) rows)) ≡ None
 
--- a store that was rebuilt from what is shown: the rows before the first closed gate, all of known kinds, so many of them puts
-pub record IsRebuilt (content : Content) (store : LogStoreState) (puts : ℕ) : Type 0 where
+-- a store that was rebuilt from what is shown: the rows before the first closed gate, all of known kinds, the table of their keys
+-- and the number of their puts
+pub record IsRebuilt (content : Content) (store : LogStoreState) : Type 0 where
   pub scanned : IsScanned content store.log
   pub known : list_all has_known_kind (log_rows store.log.shape store.log.region content.shown) ≡ true
   pub indexed : index_of_keys store.log.shape.buckets (keys_of (log_rows store.log.shape store.log.region content.shown)) ≡ Some store.table
-  pub counted : puts ≡ put_count (log_rows store.log.shape store.log.region content.shown)
+  pub counted : store.puts ≡ put_count (log_rows store.log.shape store.log.region content.shown)
 
 -- why a rebuild was refused: by the damaged row's number, by a key with no place, or by the fault of a read; want of memory says nothing
 abbrev pub IsRefusedRebuild : {F : Type 0} → (ℕ → Type 0) → Type 0 → (F → Type 0) → RebuildError F → Type 0

@@ -1,5 +1,5 @@
 -- A log with the table of its keys, and how it stands on a disk.
-use Rattle.std.specs.Prelude.{◌≡◌, ℕ, true, IsTrue, List, map, Some}
+use Rattle.std.specs.Prelude.{◌≡◌, ℕ, ◌==◌, ◌≤◌, true, IsTrue, List, map, count_by, Some}
 use Rattle.std.specs.List.{list_all}
 use Rattle.silt_device.specs.Disk.{Content, LeavesOnly}
 use Rattle.silt_log.specs.Rows.{StoredRow, has_known_kind, log_rows}
@@ -7,26 +7,34 @@ use Rattle.silt_log.specs.State.{LogState, InBounds, IsLog, all_rows}
 use Rattle.silt_cuckoo.specs.Slots.{Slots, IsTable, PlacesBelow, bucket_count}
 use Rattle.silt_cuckoo.specs.Index.{index_of_keys}
 
--- a log and the table of its keys
+-- a log, the table of its keys, and how many of the rows are puts, those that wait included
 pub record LogStoreState : Type 0 where
   pub log : LogState
   pub table : Slots
+  pub puts : ℕ
 
--- what holds of every log store, on any disk: its table has the buckets of its geometry, and places of its rows alone
+-- what holds of every log store, on any disk: its table has the buckets of its geometry, and places of its rows alone, and it
+-- counts at most its rows as puts
 pub record IsHeldStore (store : LogStoreState) : Type 0 where
   pub bounds : InBounds store.log
   pub table : IsTable store.table
   pub count : bucket_count store.table ≡ store.log.shape.buckets
   pub below : PlacesBelow store.table store.log.used
+  pub most : store.puts ≤ store.log.used
 
 -- the keys of some rows, in their order
 abbrev pub keys_of : List StoredRow → List (List ℕ)
 keys_of rows = map (λ row. row.key) rows
 
--- on an honest disk the rows that are shown are of known kinds, and the table is that of their keys
+-- how many rows are puts
+abbrev pub put_count : List StoredRow → ℕ
+put_count rows = count_by (λ row. row.kind == 1) rows
+
+-- on an honest disk the rows that are shown are of known kinds, the table is that of their keys, and the number is that of their puts
 pub record IsIndexed (content : Content) (store : LogStoreState) : Type 0 where
   pub known : IsTrue content.honest → list_all has_known_kind (all_rows content store.log) ≡ true
   pub indexed : IsTrue content.honest → index_of_keys store.log.shape.buckets (keys_of (all_rows content store.log)) ≡ Some store.table
+  pub counted : IsTrue content.honest → store.puts ≡ put_count (all_rows content store.log)
 
 -- a log store that takes rows, as it stands on a disk: its log stands there, and its table is that of the log's keys
 pub record IsLogStore (content : Content) (store : LogStoreState) : Type 0 where

@@ -74,7 +74,7 @@ impl KeyIndex {
 }
 
 // How many puts a row of this kind counts for.
-fn puts_of(kind: Kind) -> u32
+pub fn puts_of(kind: Kind) -> u32
     ensures value { result ≡ puts_of kind }
     ensures most { result ≤ 1 }
 {

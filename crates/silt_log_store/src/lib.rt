@@ -3,7 +3,8 @@
 //! A `LogStore` is a log and a partial-key table: the table holds the place of the last row of each key under the key's two
 //! buckets, and knows nothing else of the key. So a look-up reads the head of each candidate's row on the device and compares
 //! the keys, at most one read of 21 bytes a candidate. The table is exactly what the placing rule makes of the log's keys, the
-//! oldest first: a store that is rebuilt from the device has the table that it had before.
+//! oldest first: a store that is rebuilt from the device has the table that it had before. Beside the table it counts the puts
+//! among its rows.
 //!
 //! A store takes a row while its log has room and the rule finds a place for the key: `placing` reads and answers where the key
 //! goes, and `take` writes, with no read, so that a caller can tell a read that failed from a write that did. What a
@@ -19,7 +20,7 @@ mod store;
 
 pub use laws::entry_law;
 pub use placing::Placing;
-pub use rebuilding::{RebuildError, Rebuilt};
+pub use rebuilding::RebuildError;
 pub use store::{Found, LogStore};
 
 #[cfg(test)]

@@ -10,7 +10,6 @@ ghost use Rattle.silt_log_store.specs.State.{IsHeldStore};
 ghost use Rattle.silt_log_store.specs.Rebuild.{IsFirstCrowded, IsFirstDamaged, IsRefusedRebuild};
 
 use crate::index::KeyIndex;
-use crate::store::LogStore;
 use silt_device::Disk;
 use silt_log::Log;
 use std::alloc::Global;
@@ -26,13 +25,6 @@ pub enum RebuildError<F> {
     Device(F),
     /// The table, the gates or the list of the keys found no memory.
     NoMemory,
-}
-
-/// A log store that was rebuilt, and how many of its rows are puts.
-#[derive(Drop)]
-pub struct Rebuilt {
-    pub store: LogStore,
-    pub puts: u32,
 }
 
 // Reads the head of the row of this number, which follows the rows so far, and adds its key.
@@ -84,7 +76,7 @@ pub fn index_rows<D: Disk>(
     requires size { device_size log.now.shape ≤ size (D.content disk.now) }
     ensures index { IfOk result IsKeyIndex }
     ensures buckets { IfOk result (λ index. bucket_count index.table ≡ log.now.shape.buckets) }
-    ensures held { IfOk result (λ index. IsHeldStore (record { log = log.now; table = index.table })) }
+    ensures held { IfOk result (λ index. IsHeldStore (record { log = log.now; table = index.table; puts = index.puts })) }
     ensures rows { IsTrue (D.content disk.now).honest → IfOk result (IsOfRows (first_rows log.now.shape log.now.region (D.content disk.now).shown log.now.used)) }
     ensures err { IfErr result (IsRefusedRebuild
         (λ row. IsTrue (D.content disk.now).honest → IsFirstDamaged log.now.shape.buckets (first_rows log.now.shape log.now.region (D.content disk.now).shown log.now.used) row)

@@ -1,4 +1,4 @@
-// A log region with the table of its keys, and the calls that change it.
+// A log region with the table of its keys and the number of its puts, and the calls that change it.
 ghost use Rattle.std.specs.Prelude.{◌≡◌, ◌==◌, ◌↔◌, ◌+◌, ◌-◌, ◌<◌, ◌≤◌, ◌++◌, ◌⊎◌, ℕ, [], ◌∷◌, length, replicate, nat_lt, false, true, IsTrue, IsSome, IfSome, None, IfOk, IfErr, OnOk, OnErr, MatchResult};
 ghost use Rattle.std.specs.List.{list_all};
 ghost use Rattle.silt_cuckoo.specs.Slots.{empty_slots, entry_at};
@@ -9,11 +9,12 @@ ghost use Rattle.silt_frame.specs.Frame.{head_bytes};
 ghost use Rattle.silt_log.specs.Calls.{HasBeginning};
 ghost use Rattle.silt_log.specs.Rows.{body_at, has_known_kind, log_rows, row_at, row_of, stored_row};
 ghost use Rattle.silt_log.specs.State.{IsScanned, all_rows, settled_rows};
+ghost use Rattle.silt_log_store.specs.Growing.{puts_of};
 
-use crate::index::KeyIndex;
+use crate::index::{KeyIndex, puts_of};
 use crate::lookup::{look_up, slot_of};
 use crate::placing::{Placing, has_place, place_key};
-use crate::rebuilding::{RebuildError, Rebuilt, index_rows};
+use crate::rebuilding::{RebuildError, index_rows};
 use silt_cuckoo::Table;
 use silt_device::{Disk, Geometry};
 use silt_frame::{Key, Kind};
@@ -28,7 +29,7 @@ pub struct Found {
     pub place: u32,
 }
 
-/// A log region with the table of its keys.
+/// A log region with the table of its keys, and how many of its rows are puts.
 ///
 /// On a disk that is not honest its calls are safe and end, but say nothing of rows: a look-up passes over a row of an unknown
 /// kind. Only `new` and `rebuild` take memory.
@@ -36,6 +37,7 @@ pub struct Found {
 pub struct LogStore {
     log: Log,
     table: Table,
+    puts: u32,
 }
 
 impl Model for LogStore {
@@ -43,9 +45,9 @@ impl Model for LogStore {
 
     ghost Value = { LogStoreState };
 
-    ghost view = { λ a. record { log = a.log; table = a.table } };
+    ghost view = { λ a. record { log = a.log; table = a.table; puts = a.puts } };
 
-    ghost invariant = { λ a. IsHeldStore (record { log = a.log; table = a.table }) };
+    ghost invariant = { λ a. IsHeldStore (record { log = a.log; table = a.table; puts = a.puts }) };
 }
 
 impl LogStore {
@@ -62,11 +64,15 @@ impl LogStore {
     /// Where the bytes for the gates or the table find no memory.
     pub fn new(alloc: Global, geometry: Geometry, region: u32) -> Result<Self, AllocError>
         requires { region < geometry.logs }
-        ensures { IfOk result (λ store. store ≡ record { log = record { shape = geometry; region = region; settled = 0; used = 0; loose = false }; table = empty_slots geometry.buckets }) }
+        ensures { IfOk result (λ store. store ≡ record { log = record { shape = geometry; region = region; settled = 0; used = 0; loose = false }; table = empty_slots geometry.buckets; puts = 0 }) }
     {
         let log = Log::new(alloc, geometry, region)?;
         let table = Table::new(alloc, geometry.buckets())?;
-        Ok(LogStore { log, table })
+        Ok(LogStore {
+            log,
+            table,
+            puts: 0,
+        })
     }
 
     /// How many rows there are, those that wait included.
@@ -75,6 +81,14 @@ impl LogStore {
         ensures held { IsHeldStore self.now }
     {
         self.log.len()
+    }
+
+    /// How many of the rows are puts, those that wait included.
+    pub fn puts(&self) -> u32
+        ensures value { result ≡ self.now.puts }
+        ensures held { IsHeldStore self.now }
+    {
+        self.puts
     }
 
     /// Whether there is no row, not even one that waits.
@@ -146,13 +160,15 @@ impl LogStore {
         self.table.slot(slot as usize)
     }
 
-    /// Closes all gates of the region, and syncs. The table is to be empty, as it is in a new store. Then the store has no rows.
+    /// Closes all gates of the region, and syncs. The table is to be empty and no put counted, as it is in a new store. Then the
+    /// store has no rows.
     ///
     /// # Errors
     ///
     /// The fault of the write or of the sync. The store is then as it was.
     pub fn prepare<D: Disk>(&mut self, disk: &mut D) -> Result<(), D::Fault>
         requires empty { self.old.table ≡ empty_slots self.old.log.shape.buckets }
+        requires puts { self.old.puts ≡ 0 }
         requires size { device_size self.old.log.shape ≤ size (D.content disk.old) }
         ensures size { size (D.content disk.new) ≡ size (D.content disk.old) }
         ensures changes { ChangesWithin (gates_at self.old.log.shape self.old.log.region) self.old.log.shape.log_capacity (D.content disk.old) (D.content disk.new) }
@@ -286,11 +302,11 @@ impl LogStore {
     }
 
     /// Takes a row behind the others, at a placing that was made for its key and this store as it stands: writes the row with its
-    /// gate closed, and puts the key into the table. It reads nothing and takes no memory.
+    /// gate closed, puts the key into the table, and counts a put. It reads nothing and takes no memory.
     ///
     /// # Errors
     ///
-    /// The fault of a write. The store has the same rows and the same table as before.
+    /// The fault of a write. The store has the same rows, the same table and the same number of puts as before.
     pub fn take<D: Disk>(
         &mut self,
         disk: &mut D,
@@ -308,12 +324,15 @@ impl LogStore {
         ensures written { OnOk result (Writes (body_at self.old.log.shape self.old.log.region self.old.log.used) (head_bytes kind key.now ++ value.now) (D.content disk.old) (D.content disk.new)) }
         ensures images { LeavesOnly (D.content disk.new) (λ image. log_rows self.old.log.shape self.old.log.region image ≡ settled_rows (D.content disk.old) self.old.log) }
         ensures ok { OnOk result (TakesRow (stored_row kind key.now value.now) (D.content disk.old) (D.content disk.new) self.old self.new) }
+        ensures puts { OnOk result (self.new.puts ≡ self.old.puts + puts_of kind) }
         ensures err { OnErr result (KeepsStore (D.content disk.old) (D.content disk.new) self.old self.new) }
         ensures failures { MatchResult result (λ _. D.failures disk.new ≡ D.failures disk.old) (CountsFault D.failures D.gave disk.old disk.new) }
     {
+        let _capacity = self.log.capacity(); // fits its word, and so does the count of the puts
         let place = self.log.len();
         self.log.append(disk, kind, key, value)?;
         let _placed = place_key(&mut self.table, key, placing.standing, place);
+        self.puts += puts_of(kind);
         Ok(())
     }
 
@@ -359,13 +378,13 @@ impl LogStore {
         disk: &D,
         geometry: Geometry,
         region: u32,
-    ) -> Result<Rebuilt, RebuildError<D::Fault>>
+    ) -> Result<Self, RebuildError<D::Fault>>
         requires region { region < geometry.logs }
         requires size { device_size geometry ≤ size (D.content disk.now) }
-        ensures region { IfOk result (λ rebuilt. (rebuilt.store.log.shape ≡ geometry) × (rebuilt.store.log.region ≡ region) × (rebuilt.store.log.settled ≡ rebuilt.store.log.used)) }
-        ensures rebuilt { IsTrue (D.content disk.now).honest → IfOk result (λ rebuilt. IsRebuilt (D.content disk.now) rebuilt.store rebuilt.puts) }
-        ensures index { IfOk result (λ rebuilt. IsIndexed (D.content disk.now) rebuilt.store) }
-        ensures frozen { Rests (D.content disk.now) → IfOk result (λ rebuilt. IsFrozenStore (D.content disk.now) rebuilt.store) }
+        ensures region { IfOk result (λ store. (store.log.shape ≡ geometry) × (store.log.region ≡ region) × (store.log.settled ≡ store.log.used)) }
+        ensures rebuilt { IsTrue (D.content disk.now).honest → IfOk result (IsRebuilt (D.content disk.now)) }
+        ensures index { IfOk result (IsIndexed (D.content disk.now)) }
+        ensures frozen { Rests (D.content disk.now) → IfOk result (IsFrozenStore (D.content disk.now)) }
         ensures err { IfErr result (IsRefusedRebuild
             (λ place. IsTrue (D.content disk.now).honest → IsFirstDamaged geometry.buckets (log_rows geometry region (D.content disk.now).shown) place)
             (IsTrue (D.content disk.now).honest → (place : ℕ) × IsFirstCrowded geometry.buckets (log_rows geometry region (D.content disk.now).shown) place)
@@ -383,7 +402,6 @@ impl LogStore {
             keys: _,
             puts,
         } = index_rows(alloc, disk, &log)?;
-        let store = LogStore { log, table };
-        Ok(Rebuilt { store, puts })
+        Ok(LogStore { log, table, puts })
     }
 }

@@ -77,7 +77,7 @@ fn rebuild_log<D: Disk>(alloc: Global, disk: &D, geometry: Geometry) -> Outcome
     requires size { device_size geometry ≤ size (D.content disk.now) }
 {
     match LogStore::rebuild(alloc, disk, geometry, 0) {
-        Ok(rebuilt) => Outcome::Rebuilt(rebuilt.store.len(), rebuilt.puts),
+        Ok(store) => Outcome::Rebuilt(store.len(), store.puts()),
         Err(RebuildError::Damaged(place)) => Outcome::Damaged(place),
         Err(RebuildError::Crowded) => Outcome::Crowded,
         Err(_) => Outcome::Failed,
@@ -89,10 +89,10 @@ fn can_take<D: Disk>(alloc: Global, disk: &D, geometry: Geometry, key: &Key) -> 
     requires region { 0 < geometry.logs }
     requires size { device_size geometry ≤ size (D.content disk.now) }
 {
-    let Ok(rebuilt) = LogStore::rebuild(alloc, disk, geometry, 0) else {
+    let Ok(store) = LogStore::rebuild(alloc, disk, geometry, 0) else {
         return None;
     };
-    rebuilt.store.can_take(disk, key).ok()
+    store.can_take(disk, key).ok()
 }
 
 // What the log 0 that is on the disk has of a key.
@@ -100,10 +100,10 @@ fn find<D: Disk>(alloc: Global, disk: &D, geometry: Geometry, key: &Key) -> Opti
     requires region { 0 < geometry.logs }
     requires size { device_size geometry ≤ size (D.content disk.now) }
 {
-    let Ok(rebuilt) = LogStore::rebuild(alloc, disk, geometry, 0) else {
+    let Ok(store) = LogStore::rebuild(alloc, disk, geometry, 0) else {
         return None;
     };
-    rebuilt.store.find(disk, key).ok()
+    store.find(disk, key).ok()
 }
 
 #[test]
@@ -230,7 +230,9 @@ fn finds_the_last_row_of_a_key(rt: HostRuntime) -> Result<(), Fail> {
     let mut disk = MemDisk::new(alloc, geometry.size() as usize)?;
     let mut store = LogStore::new(alloc, geometry, 0)?;
     store.prepare(&mut disk)?;
+    assert_eq!(rt; store.puts(), 0);
     assert_eq!(rt; put_three(&mut store, &mut disk)?, (2, [0, 3], 3));
+    assert_eq!(rt; store.puts(), 2);
     let deleted = Found {
         kind: Kind::Delete,
         place: 1,
@@ -252,14 +254,14 @@ fn seal<D: Disk>(alloc: Global, disk: &mut D, geometry: Geometry) -> Option<(boo
     let Ok(()) = disk.sync() else {
         return None;
     };
-    let Ok(mut rebuilt) = LogStore::rebuild(alloc, disk, geometry, 0) else {
+    let Ok(mut store) = LogStore::rebuild(alloc, disk, geometry, 0) else {
         return None;
     };
-    let before = rebuilt.store.is_loose();
-    let Ok(()) = rebuilt.store.seal(disk) else {
+    let before = store.is_loose();
+    let Ok(()) = store.seal(disk) else {
         return None;
     };
-    Some((before, rebuilt.store.is_loose()))
+    Some((before, store.is_loose()))
 }
 
 #[test]

@@ -1,5 +1,5 @@
 -- What an examination holds, or why it is refused.
-use Rattle.std.proofs.Common.{◌≡◌, ◌≤◌, ◌<◌, ◌+◌, ℕ, nat_lt, true, IsTrue, List, [], ◌∷◌, ◌++◌, All, length, map, None, Ok, refl, ap, sym, ◌∙◌, subst, arith}
+use Rattle.std.proofs.Common.{◌≡◌, ◌≤◌, ◌<◌, ◌+◌, ℕ, nat_lt, true, IsTrue, List, [], ◌∷◌, ◌++◌, All, length, sum_by, None, Ok, refl, ap, sym, ◌∙◌, subst, arith}
 use Rattle.std.specs.List.{list_all}
 use Rattle.std.proofs.lemmas.Bool.{and_parts, ltb-true}
 use Rattle.std.proofs.lemmas.List.{append-nil}
@@ -7,25 +7,28 @@ use Rattle.std.proofs.lemmas.List.Elements.{All-cons, All-nil, All-weaker}
 use Rattle.std.proofs.lemmas.List.Sums.{sum_by-cons}
 use Rattle.silt_device.specs.Disk.{Content, Rests, size}
 use Rattle.silt_device.specs.Layout.{Shape, InLimits, device_size}
-use Rattle.silt_image.specs.Meaning.{IsSound, charge_of, charge_of_rows}
-use Rattle.silt_image.specs.Stores.{hash_part, image_stores, sorted_rows, stores_named}
+use Rattle.silt_hash_store.specs.State.{HashState, IsHashStore}
+use Rattle.silt_image.specs.Meaning.{IsSound, charge_of, charge_of_rows, sorted_findings}
+use Rattle.silt_image.specs.Stores.{Stores, image_stores, sorted_rows, stores_named}
 use Rattle.silt_image.specs.declared.finding.Finding.{Finding}
 use Rattle.silt_image.specs.declared.finding.Finding.TheVariants.{Damaged}
 use Rattle.silt_image.specs.declared.finding.Place.TheVariants.{Charge}
-use Rattle.silt_image.proofs.Search.{overcharged_law}
-use Rattle.silt_image.proofs.Sound.{logs_sound_law}
+use Rattle.silt_image.proofs.Search.{charge_found_law}
+use Rattle.silt_image.proofs.Sound.{parts_law}
 use Rattle.silt_log.specs.Rows.{log_rows}
 use Rattle.silt_log_store.specs.State.{LogStoreState}
 use Rattle.silt_manifest.specs.Body.{all_below, is_well_formed}
 use Rattle.silt_manifest.specs.Standing.{ManifestState, Rules}
 use Rattle.silt_manifest.specs.declared.body.Body.{Body}
 use Rattle.silt_manifest.proofs.SoundBodies.{sound_parts}
-use Rattle.silt_stores.specs.State.{IsSettled}
+use Rattle.silt_stores.specs.State.{IsHashOf, IsSettled}
+use Rattle.silt_recovery.specs.Hashes.{AreReadHashes, AreSoundHashes, HasFirstSlot, IsReadHash, region_puts, region_rows}
 use Rattle.silt_recovery.specs.Logs.{AreReadLogs, AreSoundLogs, HasFirstFinding, IsReadLog, put_rows}
 use Rattle.silt_recovery.specs.Opening.{Holds}
 use Rattle.silt_recovery.specs.Refusals.{IsFound}
 use Rattle.silt_recovery.proofs.Refusals.{verdict_is_found}
-use Rattle.silt_recovery.proofs.Searches.{charge_of_named, found_within, log_verdict, sound_both}
+use Rattle.silt_recovery.proofs.HashSearches.{charge_of_named, known_count, rows_of_hashes, slot_verdict}
+use Rattle.silt_recovery.proofs.Searches.{found_within, log_verdict, sound_both}
 
 -- the stores in the words of the six numbers and the body
 pub named_so : (content : Content) (manifest : ManifestState) (shape : Shape) (body : Body) → shape ≡ manifest.shape → body ≡ manifest.ruling
@@ -47,45 +50,74 @@ module _ (content : Content) (shape : Shape) (body : Body) (named : IsTrue conte
         verdict_is_found content.shown finding (log_verdict shape body content.shown finding (named h)
         (subst (λ (ids : List ℕ). HasFirstFinding shape content.shown ids finding) all (found_within shape content.shown (body.active ∷ []) regions [] finding (sound h) (found h))))
 
-    module _ (logs_alone : (body.hashed ≡ []) × (body.sorted_count ≡ 0)) (regions : List ℕ) (are : regions ≡ body.frozen) (frozen : List LogStoreState) (older : ℕ) (read : AreReadLogs content shape regions frozen older)
-        (newest : ℕ) (counted : IsTrue content.honest → newest ≡ charge_of_rows (log_rows shape body.active content.shown)) where
+    module _ (regions : List ℕ) (are : regions ≡ body.frozen) (frozen : List LogStoreState) (older : ℕ) (read : AreReadLogs content shape regions frozen older) where
       -- nothing is found in any log
       all_sound : IsTrue content.honest → AreSoundLogs shape content.shown (body.active ∷ body.frozen)
       all_sound h =
           subst (λ (ids : List ℕ). AreSoundLogs shape content.shown (body.active ∷ ids)) are (sound_both shape content.shown (body.active ∷ []) regions (sound h) (read.sound h))
 
-      -- the puts that were counted are all
-      charge_is : IsTrue content.honest → newest + older ≡ charge_of (stores_named shape body content.shown)
-      charge_is h =
-          let puts : ℕ → ℕ = λ (region : ℕ). charge_of_rows (log_rows shape region content.shown) in
-          ap (λ (n : ℕ). n + older) (counted h) ∙ ap (λ (n : ℕ). puts body.active + n) (read.counted h ∙ ap (put_rows shape content.shown) are)
-          ∙ sym (sum_by-cons puts body.active body.frozen)
-          ∙ sym (charge_of_named shape body content.shown logs_alone.0 logs_alone.1)
+      -- or in a hash store
+      pub hashed_refused : (ids : List ℕ) → ids ≡ body.hashed → (finding : Finding) → (IsTrue content.honest → HasFirstSlot shape content.shown ids finding) → IsTrue content.honest → IsFound content.shown finding
+      hashed_refused ids named_ids finding found h =
+          verdict_is_found content.shown finding (slot_verdict shape body content.shown finding (named h) (all_sound h)
+          (subst (λ (hashed : List ℕ). HasFirstSlot shape content.shown hashed finding) named_ids (found h)))
 
-      -- too many puts
-      pub charge_refused : shape.sorted_capacity < newest + older → IsTrue content.honest → IsFound content.shown (Damaged Charge)
-      unfolding stores_named sorted_rows
-      charge_refused many h =
-          let none_hashed : (stores_named shape body content.shown).hashes ≡ [] = ap (map (hash_part shape content.shown)) logs_alone.0 in
-          let none_sorted : (stores_named shape body content.shown).entries ≡ [] = ap (λ (n : ℕ). sorted_rows shape body.sorted n content.shown) logs_alone.1 in
-          verdict_is_found content.shown (Damaged Charge)
-          (overcharged_law content.shown (stores_named shape body content.shown) (named h) (all_sound h) none_hashed none_sorted (subst (λ (n : ℕ). shape.sorted_capacity < n) (charge_is h) many))
+      module _ (no_entries : body.sorted_count ≡ 0) (ids : List ℕ) (named_ids : ids ≡ body.hashed) (hashes : List HashState) (hash_puts hash_rows : ℕ) (hashed : AreReadHashes content shape ids hashes hash_puts hash_rows)
+          (newest : ℕ) (counted : IsTrue content.honest → newest ≡ charge_of_rows (log_rows shape body.active content.shown)) where
+        -- nothing is found in any hash store
+        hashes_sound : IsTrue content.honest → AreSoundHashes shape content.shown body.hashed
+        hashes_sound h = subst (λ (all : List ℕ). AreSoundHashes shape content.shown all) named_ids (hashed.sound h)
 
-      -- nothing is found
-      nothing_found : newest + older ≤ shape.sorted_capacity → IsTrue content.honest → IsSound (stores_named shape body content.shown)
-      unfolding stores_named sorted_rows
-      nothing_found most h =
-          let none_hashed : (stores_named shape body content.shown).hashes ≡ [] = ap (map (hash_part shape content.shown)) logs_alone.0 in
-          let none_sorted : (stores_named shape body content.shown).entries ≡ [] = ap (λ (n : ℕ). sorted_rows shape body.sorted n content.shown) logs_alone.1 in
-          (logs_sound_law (stores_named shape body content.shown) (all_sound h) none_hashed none_sorted).1 (subst (λ (n : ℕ). n ≤ shape.sorted_capacity) (charge_is h) most)
+        -- and nothing in the entries, which are none
+        entries_sound : sorted_findings (stores_named shape body content.shown).entries ≡ []
+        unfolding stores_named sorted_rows sorted_findings
+        entries_sound = ap (λ (n : ℕ). sorted_findings (sorted_rows shape body.sorted n content.shown)) no_entries
 
-      -- what is held
-      pub held : (manifest : ManifestState) (active : LogStoreState) (charge : ℕ) → InLimits shape → shape ≡ manifest.shape → body ≡ manifest.ruling → size content ≡ device_size manifest.shape → manifest.prepared ≡ None → (Rests content → Rules manifest content)
-          → IsReadLog content shape active → active.log.region ≡ body.active → charge ≡ newest + older → charge ≤ shape.sorted_capacity → Holds content (record { manifest = manifest; active = active; frozen = frozen; charge = charge })
-      held manifest active charge limits same_shape same_body sized idle rules own region total most =
-          let same_stores : stores_named shape body content.shown ≡ stores_named manifest.shape manifest.ruling content.shown =
-          ap (λ (s : Shape). stores_named s body content.shown) same_shape ∙ ap (λ (b : Body). stores_named manifest.shape b content.shown) same_body in
-          record {
+        -- the puts that were counted are all
+        charge_is : IsTrue content.honest → newest + older + hash_puts ≡ charge_of (stores_named shape body content.shown)
+        charge_is h =
+            let puts : ℕ → ℕ = λ (region : ℕ). charge_of_rows (log_rows shape region content.shown) in
+            let in_logs : newest + older ≡ put_rows shape content.shown (body.active ∷ body.frozen) =
+            ap (λ (n : ℕ). n + older) (counted h) ∙ ap (λ (n : ℕ). puts body.active + n) (read.counted h ∙ ap (put_rows shape content.shown) are) ∙ sym (sum_by-cons puts body.active body.frozen) in
+            let in_hashes : hash_puts ≡ sum_by (region_puts shape content.shown) body.hashed = hashed.charged h ∙ ap (sum_by (region_puts shape content.shown)) named_ids in
+            let all : charge_of (stores_named shape body content.shown) ≡ sum_by (region_puts shape content.shown) body.hashed + put_rows shape content.shown (body.active ∷ body.frozen) = charge_of_named shape body content.shown no_entries in
+            omega (arith, in_logs, in_hashes, all)
+
+        -- too many puts
+        pub charge_refused : shape.sorted_capacity < newest + older + hash_puts → IsTrue content.honest → IsFound content.shown (Damaged Charge)
+        unfolding stores_named
+        charge_refused many h =
+            verdict_is_found content.shown (Damaged Charge)
+            (charge_found_law content.shown (stores_named shape body content.shown) (named h) (all_sound h) (hashes_sound h) entries_sound (subst (λ (n : ℕ). shape.sorted_capacity < n) (charge_is h) many))
+
+        -- nothing is found
+        nothing_found : newest + older + hash_puts ≤ shape.sorted_capacity → IsTrue content.honest → IsSound (stores_named shape body content.shown)
+        unfolding stores_named
+        nothing_found most h =
+            (parts_law (stores_named shape body content.shown)).1 (record {
+              logs = all_sound h;
+              hashes = hashes_sound h;
+              entries = entries_sound;
+              charge = subst (λ (n : ℕ). n ≤ shape.sorted_capacity) (charge_is h) most;
+            })
+
+        module _ (manifest : ManifestState) (same_shape : shape ≡ manifest.shape) (same_body : body ≡ manifest.ruling) where
+          -- the stores in the words of the manifest
+          same_stores : stores_named shape body content.shown ≡ stores_named manifest.shape manifest.ruling content.shown
+          same_stores = ap (λ (s : Shape). stores_named s body content.shown) same_shape ∙ ap (λ (b : Body). stores_named manifest.shape b content.shown) same_body
+
+          -- the rows that were counted are all
+          pub rows_counted : IsTrue content.honest → hash_rows ≡ sum_by known_count (stores_named manifest.shape manifest.ruling content.shown).hashes
+          unfolding stores_named
+          rows_counted h =
+              hashed.counted h ∙ ap (sum_by (region_rows shape content.shown)) named_ids ∙ rows_of_hashes shape content.shown body.hashed
+              ∙ ap (λ (s : Stores). sum_by known_count s.hashes) same_stores
+
+          -- what is held
+          pub held : (active : LogStoreState) (charge : ℕ) → InLimits shape → size content ≡ device_size manifest.shape → manifest.prepared ≡ None → (Rests content → Rules manifest content)
+              → IsReadLog content shape active → active.log.region ≡ body.active → charge ≡ newest + older + hash_puts → charge ≤ shape.sorted_capacity
+              → Holds content (record { manifest = manifest; active = active; frozen = frozen; hashes = hashes; converting = None; charge = charge })
+          held active charge limits sized idle rules own region total most = record {
             limits = subst InLimits same_shape limits;
             has_size = sized;
             whole = record {
@@ -93,16 +125,21 @@ module _ (content : Content) (shape : Shape) (body : Body) (named : IsTrue conte
               active_region = region ∙ ap (λ (b : Body). b.active) same_body;
               frozen_regions = read.has_regions ∙ are ∙ ap (λ (b : Body). b.frozen) same_body;
               settled = All-weaker (IsReadLog content shape) (IsSettled manifest.shape) (λ store is. record { has_shape = is.has_shape ∙ same_shape; settled = is.settled }) frozen read.each;
+              hash_regions = hashed.has_regions ∙ named_ids ∙ ap (λ (b : Body). b.hashed) same_body;
+              hashed = All-weaker (IsReadHash content shape) (IsHashOf manifest.shape) (λ store is. record { has_shape = is.hash.has_shape ∙ same_shape; held = is.hash.held }) hashes hashed.each;
+              under_way = tt;
               most = subst (λ (s : Shape). charge ≤ s.sorted_capacity) same_shape most;
             };
             idle = idle;
+            none_converted = refl;
             rules = rules;
             active = subst (λ (s : Shape). IsReadLog content s active) same_shape own;
             frozen = subst (λ (s : Shape). All (IsReadLog content s) frozen) same_shape read.each;
+            hashed = All-weaker (IsReadHash content shape) (IsHashStore content) (λ store is. is.stands) hashes hashed.each;
             named = λ h. named h ∙ ap Ok same_stores;
             sound = λ h. subst IsSound same_stores (nothing_found (subst (λ (n : ℕ). n ≤ shape.sorted_capacity) total most) h);
             counted = λ h. total ∙ charge_is h ∙ ap charge_of same_stores;
-            logs_alone = subst (λ (b : Body). (b.hashed ≡ []) × (b.sorted_count ≡ 0)) same_body logs_alone;
+            no_entries = ap (λ (b : Body). b.sorted_count) (sym same_body) ∙ no_entries;
           }
 
 -- regions that exist, by a test
@@ -112,13 +149,27 @@ all_exist n (id ∷ ids) is =
     let parts = and_parts (nat_lt id n) (list_all (λ (other : ℕ). nat_lt other n) ids) is in
     All-cons (λ (other : ℕ). other < n) id ids (ltb-true id n parts.0) (all_exist n ids parts.1)
 
--- the logs of a body that is well formed exist, and all but one may be frozen
-pub record HasLogs (shape : Shape) (body : Body) : Type 0 where
+-- the logs and the hash stores of a body that is well formed exist, and are no more than a device can have
+pub record HasRegions (shape : Shape) (body : Body) : Type 0 where
   pub active : body.active < shape.logs
   pub few : length body.frozen ≤ 7
   pub frozen : All (λ (region : ℕ). region < shape.logs) body.frozen
+  pub few_hashed : length body.hashed ≤ 16
+  pub hashed : All (λ (region : ℕ). region < shape.hashes) body.hashed
 
-pub named_logs : (shape : Shape) (slot : ℕ) (body : Body) → InLimits shape → is_well_formed shape slot body ≡ true → HasLogs shape body
-named_logs shape slot body limits sound =
+pub named_regions : (shape : Shape) (slot : ℕ) (body : Body) → InLimits shape → is_well_formed shape slot body ≡ true → HasRegions shape body
+named_regions shape slot body limits sound =
     let parts = sound_parts shape slot body sound in
-    record { active = parts.active; few = omega (arith, parts.frozen_count, limits.logs_most); frozen = all_exist shape.logs body.frozen parts.frozen }
+    record {
+      active = parts.active;
+      few = omega (arith, parts.frozen_count, limits.logs_most);
+      frozen = all_exist shape.logs body.frozen parts.frozen;
+      few_hashed = omega (arith, parts.hashed_count, limits.hashes_most);
+      hashed = all_exist shape.hashes body.hashed parts.hashed;
+    }
+
+-- the same of a body and of numbers that are named in another way
+pub regions_so : (manifest : ManifestState) (slot : ℕ) (shape : Shape) (body : Body) → shape ≡ manifest.shape → body ≡ manifest.ruling → InLimits shape → is_well_formed manifest.shape slot manifest.ruling ≡ true → HasRegions shape body
+regions_so manifest slot shape body same_shape same_body limits sound =
+    named_regions shape slot body limits
+    (ap (λ (s : Shape). is_well_formed s slot body) same_shape ∙ ap (λ (b : Body). is_well_formed manifest.shape slot b) same_body ∙ sound)

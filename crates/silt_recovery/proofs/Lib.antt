@@ -3,6 +3,7 @@ pub mod Manifests
 pub mod Formats
 pub mod HalfFormats
 pub mod Searches
+pub mod HashSearches
 pub mod Frozen
 pub mod Examinations
 pub mod Takings

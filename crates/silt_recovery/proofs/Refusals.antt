@@ -1,7 +1,5 @@
 -- Refusals in other words.
-use Rattle.std.proofs.Common.{◌≡◌, ◌==◌, ℕ, true, false, ◌&&◌, List, [], ◌∷◌, length, Some, Ok, inl, inr, refl, ap, ◌∙◌, subst, arith}
-use Rattle.std.proofs.lemmas.Bool.{and_parts}
-use Rattle.std.proofs.lemmas.Bool.Decides.{nat_tests}
+use Rattle.std.proofs.Common.{◌≡◌, ◌<◌, ℕ, List, Some, Ok, inl, inr, subst, arith}
 use Rattle.silt_device.specs.Layout.{Shape}
 use Rattle.silt_image.specs.Stores.{image_stores, stores_named}
 use Rattle.silt_image.specs.Meaning.{IsGood, image_verdict}
@@ -10,8 +8,8 @@ use Rattle.silt_image.specs.declared.finding.Finding.TheVariants as finding
 use Rattle.silt_image.specs.declared.finding.Place.{Place}
 use Rattle.silt_image.specs.declared.finding.Place.TheVariants.{Header, Length, Slot, NoSlot, Log, Hash, Sorted, Charge}
 use Rattle.silt_manifest.specs.declared.body.Body.{Body}
-use Rattle.silt_stores.specs.Calls.{AreLogsAlone}
-use Rattle.silt_recovery.specs.Refusals.{IsFound, IsRefusedLook, NamesOtherStores, names_logs_alone, refusal_of}
+use Rattle.silt_stores.specs.Calls.{HaveNoEntries}
+use Rattle.silt_recovery.specs.Refusals.{IsFound, IsRefusedLook, NamesEntries, refusal_of}
 use Rattle.silt_recovery.specs.declared.fault.OpenError.{OpenError}
 use Rattle.silt_recovery.specs.declared.fault.OpenError.TheVariants.{NotFormatted, Damaged, Crowded, Device, NoMemory}
 
@@ -45,39 +43,22 @@ verdict_is_found image finding.NotFormatted is = is
 verdict_is_found image (finding.Damaged place) is = damage_is_found image place is
 verdict_is_found image finding.Crowded is = is
 
--- a list of no length
-none_long : {X : Type 0} (xs : List X) → (length xs == 0) ≡ true → xs ≡ []
-none_long [] e = refl
-none_long (x ∷ xs) e = absurd (grind (arith, nat_tests))
-
--- a body that names logs alone
-pub names_logs : (body : Body) → names_logs_alone body ≡ true → (body.hashed ≡ []) × (body.sorted_count ≡ 0)
-names_logs body is =
-    let parts = and_parts (length body.hashed == 0) (body.sorted_count == 0) is in
-    (none_long body.hashed parts.0, let e = parts.1 in grind (arith, nat_tests))
-
--- one that names other stores too
-pub names_others : (shape : Shape) (body : Body) (image : List ℕ) → image_stores image ≡ Ok (stores_named shape body image) → names_logs_alone body ≡ false → NamesOtherStores image
+-- a body that names sorted entries
+pub names_entries : (shape : Shape) (body : Body) (image : List ℕ) → image_stores image ≡ Ok (stores_named shape body image) → 0 < body.sorted_count → NamesEntries image
 unfolding stores_named
-names_others shape body image stores others = record {
-  named = stores_named shape body image;
-  are = stores;
-  others = λ alone.
-      let both = subst AreLogsAlone stores alone in
-      let yes : names_logs_alone body ≡ true = ap (λ (ids : List ℕ). (length ids == 0) && (body.sorted_count == 0)) both.0 ∙ ap (λ (n : ℕ). n == 0) both.1 in
-      absurd (cc);
-}
+names_entries shape body image stores some = record { named = stores_named shape body image; are = stores; some = some }
 
--- a good image of logs alone is refused for no finding
-pub good_is_not_found : (image : List ℕ) → IsGood image → AreLogsAlone (image_stores image) → (found : Finding) → IsFound image found → ⊥
-good_is_not_found image good alone finding.NotFormatted is = absurd (cc)
-good_is_not_found image good alone (finding.Damaged Header) is = absurd (cc)
-good_is_not_found image good alone (finding.Damaged Length) is = absurd (cc)
-good_is_not_found image good alone (finding.Damaged (Slot slot)) is = absurd (cc)
-good_is_not_found image good alone (finding.Damaged NoSlot) (inl is) = absurd (cc)
-good_is_not_found image good alone (finding.Damaged NoSlot) (inr others) = others.others alone
-good_is_not_found image good alone (finding.Damaged (Log region row)) is = absurd (cc)
-good_is_not_found image good alone (finding.Damaged (Hash region slot)) is = absurd (cc)
-good_is_not_found image good alone (finding.Damaged (Sorted place)) is = absurd (cc)
-good_is_not_found image good alone (finding.Damaged Charge) is = absurd (cc)
-good_is_not_found image good alone finding.Crowded is = absurd (cc)
+-- a good image with no sorted entries is refused for no finding
+pub good_is_not_found : (image : List ℕ) → IsGood image → HaveNoEntries (image_stores image) → (found : Finding) → IsFound image found → ⊥
+good_is_not_found image good unsorted finding.NotFormatted is = absurd (cc)
+good_is_not_found image good unsorted (finding.Damaged Header) is = absurd (cc)
+good_is_not_found image good unsorted (finding.Damaged Length) is = absurd (cc)
+good_is_not_found image good unsorted (finding.Damaged (Slot slot)) is = absurd (cc)
+good_is_not_found image good unsorted (finding.Damaged NoSlot) (inl is) = absurd (cc)
+good_is_not_found image good unsorted (finding.Damaged NoSlot) (inr names) =
+    let none : names.named.body.sorted_count ≡ 0 = subst HaveNoEntries names.are unsorted in absurd (omega (arith, none, names.some))
+good_is_not_found image good unsorted (finding.Damaged (Log region row)) is = absurd (cc)
+good_is_not_found image good unsorted (finding.Damaged (Hash region slot)) is = absurd (cc)
+good_is_not_found image good unsorted (finding.Damaged (Sorted place)) is = absurd (cc)
+good_is_not_found image good unsorted (finding.Damaged Charge) is = absurd (cc)
+good_is_not_found image good unsorted finding.Crowded is = absurd (cc)

@@ -6,7 +6,6 @@ use Rattle.std.proofs.lemmas.List.Sums.{sum_by-cons}
 use Rattle.silt_device.specs.Disk.{Content}
 use Rattle.silt_device.specs.Layout.{Shape, InLimits}
 use Rattle.silt_device.proofs.Regions.{bucket_count_most}
-use Rattle.silt_image.specs.Meaning.{known_rows}
 use Rattle.silt_image.specs.Stores.{Part, Stores, hash_part, log_part, stores_named}
 use Rattle.silt_image.specs.declared.finding.Report.{Report}
 use Rattle.silt_image.proofs.Verdict.{sound_law}
@@ -14,12 +13,13 @@ use Rattle.silt_log.specs.Rows.{log_rows}
 use Rattle.silt_log_store.specs.State.{LogStoreState}
 use Rattle.silt_manifest.specs.Body.{is_well_formed}
 use Rattle.silt_manifest.specs.declared.body.Body.{Body}
-use Rattle.silt_stores.specs.Calls.{AreLogsAlone}
+use Rattle.silt_stores.specs.Calls.{HaveNoEntries}
 use Rattle.silt_stores.specs.Standing.{shown_stores}
 use Rattle.silt_stores.specs.State.{StoresState, region_of}
 use Rattle.silt_recovery.specs.Logs.{IsReadLog}
-use Rattle.silt_recovery.specs.Opening.{Holds, IsReported}
-use Rattle.silt_recovery.proofs.Examinations.{HasLogs, named_logs}
+use Rattle.silt_recovery.specs.Opening.{CountsHashRows, Holds, IsReported}
+use Rattle.silt_recovery.proofs.Examinations.{HasRegions, named_regions}
+use Rattle.silt_recovery.proofs.HashSearches.{known_count}
 use Rattle.silt_recovery.proofs.Takings.{row_count}
 
 -- how many rows a log has, in memory and on the device
@@ -45,19 +45,19 @@ counts_read content shape (store ∷ stores) h read =
     ∙ sym (sum_by-cons part_count (log_part shape content.shown store.log.region) (map (log_part shape content.shown) (map region_of stores)))
 
 -- the numbers of the stores that are held
-pub reported : (content : Content) (s : StoresState) (body : Body) → Holds content s → body ≡ s.manifest.ruling → IsTrue content.honest → IsReported content.shown (record {
+pub reported : (content : Content) (s : StoresState) (body : Body) (hash_rows : ℕ) → Holds content s → CountsHashRows content s hash_rows → body ≡ s.manifest.ruling → IsTrue content.honest → IsReported content.shown (record {
   generation = body.generation;
   active = body.active;
   active_rows = s.active.log.used;
   frozen = length body.frozen;
   frozen_rows = sum_by used_rows s.frozen;
   hashes = length body.hashed;
-  hash_rows = 0;
+  hash_rows = hash_rows;
   entries = body.sorted_count;
   charge = s.charge;
 })
 unfolding stores_named
-reported content s body holds same h =
+reported content s body hash_rows holds counts same h =
     let named : Stores = shown_stores content s in
     let own = count_read content s.manifest.shape s.active h holds.active in
     let first : Part = log_part s.manifest.shape content.shown s.manifest.ruling.active in
@@ -67,8 +67,6 @@ reported content s body holds same h =
     ∙ sym (sum_by-cons part_count first []) in
     let frozen_rows : sum_by used_rows s.frozen ≡ sum_by part_count (map (log_part s.manifest.shape content.shown) s.manifest.ruling.frozen) =
     counts_read content s.manifest.shape s.frozen h holds.frozen ∙ ap (λ (ids : List ℕ). sum_by part_count (map (log_part s.manifest.shape content.shown) ids)) holds.whole.frozen_regions in
-    let hash_rows : 0 ≡ sum_by (λ (part : Part). length (known_rows part)) (map (hash_part s.manifest.shape content.shown) s.manifest.ruling.hashed) =
-    sym (ap (λ (ids : List ℕ). sum_by (λ (part : Part). length (known_rows part)) (map (hash_part s.manifest.shape content.shown) ids)) holds.logs_alone.0) in
     let told : Body → ℕ → ℕ → ℕ → ℕ → Report = λ b n older hashed charge. record {
       generation = b.generation;
       active = b.active;
@@ -84,14 +82,14 @@ reported content s body holds same h =
       stores = shown_stores content s;
       are = holds.named h;
       good = (sound_law content.shown (shown_stores content s) (holds.named h)).1 (holds.sound h);
-      logs_alone = subst AreLogsAlone (sym (holds.named h)) holds.logs_alone;
+      no_entries = subst HaveNoEntries (sym (holds.named h)) holds.no_entries;
       numbers =
-          ap (λ (b : Body). told b s.active.log.used (sum_by used_rows s.frozen) 0 s.charge) same
-          ∙ ap (λ (n : ℕ). told s.manifest.ruling n (sum_by used_rows s.frozen) 0 s.charge) active_rows
-          ∙ ap (λ (n : ℕ). told s.manifest.ruling (sum_by part_count (first ∷ [])) n 0 s.charge) frozen_rows
-          ∙ ap (λ (n : ℕ). told s.manifest.ruling (sum_by part_count (first ∷ [])) (sum_by part_count (map (log_part s.manifest.shape content.shown) s.manifest.ruling.frozen)) n s.charge) hash_rows
+          ap (λ (b : Body). told b s.active.log.used (sum_by used_rows s.frozen) hash_rows s.charge) same
+          ∙ ap (λ (n : ℕ). told s.manifest.ruling n (sum_by used_rows s.frozen) hash_rows s.charge) active_rows
+          ∙ ap (λ (n : ℕ). told s.manifest.ruling (sum_by part_count (first ∷ [])) n hash_rows s.charge) frozen_rows
+          ∙ ap (λ (n : ℕ). told s.manifest.ruling (sum_by part_count (first ∷ [])) (sum_by part_count (map (log_part s.manifest.shape content.shown) s.manifest.ruling.frozen)) n s.charge) (counts h)
           ∙ ap (λ (n : ℕ). told s.manifest.ruling (sum_by part_count (first ∷ [])) (sum_by part_count (map (log_part s.manifest.shape content.shown) s.manifest.ruling.frozen))
-          (sum_by (λ (part : Part). length (known_rows part)) (map (hash_part s.manifest.shape content.shown) s.manifest.ruling.hashed)) n) (holds.counted h);
+          (sum_by known_count (map (hash_part s.manifest.shape content.shown) s.manifest.ruling.hashed)) n) (holds.counted h);
     }
 
 -- no log has more rows than a table has room for
@@ -102,7 +100,7 @@ few_rows content shape stores limits read =
     omega (arith, room, limits.log_capacity_most, bucket_count_most shape.buckets limits.buckets)) stores read
 
 -- the same of numbers that are named in another way
-pub reported_so : (content : Content) (s : StoresState) (body : Body) (rows frozen older hashes : ℕ) → Holds content s → body ≡ s.manifest.ruling → rows ≡ s.active.log.used → frozen ≡ length body.frozen → older ≡ sum_by used_rows s.frozen → hashes ≡ length body.hashed
+pub reported_so : (content : Content) (s : StoresState) (body : Body) (rows frozen older hashes hash_rows : ℕ) → Holds content s → CountsHashRows content s hash_rows → body ≡ s.manifest.ruling → rows ≡ s.active.log.used → frozen ≡ length body.frozen → older ≡ sum_by used_rows s.frozen → hashes ≡ length body.hashed
     → IsTrue content.honest → IsReported content.shown (record {
       generation = body.generation;
       active = body.active;
@@ -110,11 +108,11 @@ pub reported_so : (content : Content) (s : StoresState) (body : Body) (rows froz
       frozen = frozen;
       frozen_rows = older;
       hashes = hashes;
-      hash_rows = 0;
+      hash_rows = hash_rows;
       entries = body.sorted_count;
       charge = s.charge;
     })
-reported_so content s body rows frozen older hashes holds same are_rows are_frozen are_older are_hashes h =
+reported_so content s body rows frozen older hashes hash_rows holds counts same are_rows are_frozen are_older are_hashes h =
     let told : ℕ → ℕ → ℕ → ℕ → Report = λ a b c d. record {
       generation = body.generation;
       active = body.active;
@@ -122,17 +120,17 @@ reported_so content s body rows frozen older hashes holds same are_rows are_froz
       frozen = b;
       frozen_rows = c;
       hashes = d;
-      hash_rows = 0;
+      hash_rows = hash_rows;
       entries = body.sorted_count;
       charge = s.charge;
     } in
     subst (λ (n : ℕ). IsReported content.shown (told n frozen older hashes)) (sym are_rows)
     (subst (λ (n : ℕ). IsReported content.shown (told s.active.log.used n older hashes)) (sym are_frozen)
     (subst (λ (n : ℕ). IsReported content.shown (told s.active.log.used (length body.frozen) n hashes)) (sym are_older)
-    (subst (λ (n : ℕ). IsReported content.shown (told s.active.log.used (length body.frozen) (sum_by used_rows s.frozen) n)) (sym are_hashes) (reported content s body holds same h))))
+    (subst (λ (n : ℕ). IsReported content.shown (told s.active.log.used (length body.frozen) (sum_by used_rows s.frozen) n)) (sym are_hashes) (reported content s body hash_rows holds counts same h))))
 
 -- no more logs are frozen than a device can have
 pub few_frozen : (content : Content) (s : StoresState) (slot : ℕ) → Holds content s → is_well_formed s.manifest.shape slot s.manifest.ruling ≡ true → length s.frozen ≤ 7
 few_frozen content s slot holds sound =
-    let logs : HasLogs s.manifest.shape s.manifest.ruling = named_logs s.manifest.shape slot s.manifest.ruling holds.limits sound in
-    omega (arith, logs.few, ap length holds.whole.frozen_regions, length-map s.frozen region_of)
+    let all : HasRegions s.manifest.shape s.manifest.ruling = named_regions s.manifest.shape slot s.manifest.ruling holds.limits sound in
+    omega (arith, all.few, ap length holds.whole.frozen_regions, length-map s.frozen region_of)

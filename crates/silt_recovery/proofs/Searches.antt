@@ -10,8 +10,8 @@ use Rattle.silt_device.specs.Disk.{Content}
 use Rattle.silt_device.specs.Layout.{Shape}
 use Rattle.silt_cuckoo.specs.Index.{index_of_keys}
 use Rattle.silt_image.specs.Laws.{FirstFinding}
-use Rattle.silt_image.specs.Meaning.{charge_of, charge_of_rows, finding_if, fits_table, image_verdict, keys_of, known_rows, log_findings, oldest_first, part_rows, rows_of}
-use Rattle.silt_image.specs.Stores.{hash_part, image_stores, log_part, sorted_rows, stores_named}
+use Rattle.silt_image.specs.Meaning.{charge_of_rows, finding_if, fits_table, image_verdict, keys_of, log_findings, oldest_first, part_rows}
+use Rattle.silt_image.specs.Stores.{image_stores, log_part, stores_named}
 use Rattle.silt_image.specs.declared.finding.Finding.{Finding}
 use Rattle.silt_image.specs.declared.finding.Finding.TheVariants.{Damaged, Crowded}
 use Rattle.silt_image.specs.declared.finding.Place.TheVariants.{Log}
@@ -77,8 +77,8 @@ module _ (shape : Shape) (image : List ℕ) (region : ℕ) where
       append-nil (log_findings shape (log_part shape image region)) ∙ (log_sound_law shape (log_part shape image region)).1 (known, ap is_some indexed)
 
 -- a log that was rebuilt
-pub rebuilt_sound : (content : Content) (shape : Shape) (region : ℕ) (store : LogStoreState) (puts : ℕ) → store.log.shape ≡ shape → store.log.region ≡ region → IsRebuilt content store puts → AreSoundLogs shape content.shown (region ∷ [])
-rebuilt_sound content shape region store puts has_shape has_region rebuilt =
+pub rebuilt_sound : (content : Content) (shape : Shape) (region : ℕ) (store : LogStoreState) → store.log.shape ≡ shape → store.log.region ≡ region → IsRebuilt content store → AreSoundLogs shape content.shown (region ∷ [])
+rebuilt_sound content shape region store has_shape has_region rebuilt =
     let own : AreSoundLogs store.log.shape content.shown (store.log.region ∷ []) = sound_log store.log.shape content.shown store.log.region store.table rebuilt.known rebuilt.indexed in
     subst (λ (s : Shape). AreSoundLogs s content.shown (region ∷ [])) has_shape (subst (λ (r : ℕ). AreSoundLogs store.log.shape content.shown (r ∷ [])) has_region own)
 
@@ -116,7 +116,7 @@ log_verdict shape body image finding stores found =
 -- ---- the puts
 
 -- the puts in the rows of some logs
-charge_of_logs : (shape : Shape) (image regions : List ℕ) → charge_of_rows (oldest_first (map part_rows (map (log_part shape image) regions))) ≡ put_rows shape image regions
+pub charge_of_logs : (shape : Shape) (image regions : List ℕ) → charge_of_rows (oldest_first (map part_rows (map (log_part shape image) regions))) ≡ put_rows shape image regions
 charge_of_logs shape image [] = refl
 charge_of_logs shape image (region ∷ regions) =
     let own : ℕ = charge_of_rows (log_rows shape region image) in
@@ -125,12 +125,3 @@ charge_of_logs shape image (region ∷ regions) =
     ∙ ap (λ (n : ℕ). n + own) (charge_of_logs shape image regions)
     ∙ (let swapped : rest + own ≡ own + rest = omega arith in swapped)
     ∙ sym (sum_by-cons (λ (r : ℕ). charge_of_rows (log_rows shape r image)) region regions)
-
--- of stores with logs alone the charge is the puts in their logs
-pub charge_of_named : (shape : Shape) (body : Body) (image : List ℕ) → body.hashed ≡ [] → body.sorted_count ≡ 0 → charge_of (stores_named shape body image) ≡ put_rows shape image (body.active ∷ body.frozen)
-unfolding rows_of stores_named sorted_rows
-charge_of_named shape body image hashes entries =
-    let logs : List StoredRow = oldest_first (map part_rows (map (log_part shape image) (body.active ∷ body.frozen))) in
-    ap (λ (n : ℕ). charge_of_rows (sorted_rows shape body.sorted n image ++ oldest_first (map known_rows (map (hash_part shape image) body.hashed)) ++ logs)) entries
-    ∙ ap (λ (ids : List ℕ). charge_of_rows (oldest_first (map known_rows (map (hash_part shape image) ids)) ++ logs)) hashes
-    ∙ charge_of_logs shape image (body.active ∷ body.frozen)

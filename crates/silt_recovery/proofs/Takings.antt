@@ -1,15 +1,19 @@
 -- What stands at the exits of an opening.
-use Rattle.std.proofs.Common.{◌≡◌, ◌≤◌, ◌<◌, ℕ, ◌+◌, ◌-◌, ◌*◌, inl, inr, false, IsTrue, List, [], ◌∷◌, ◌++◌, All, length, map, slice_index_or, Ok, ap, sym, ◌∙◌, subst, arith}
+use Rattle.std.proofs.Common.{◌≡◌, ◌≤◌, ◌<◌, ℕ, ◌+◌, ◌-◌, ◌*◌, inl, inr, false, IsTrue, List, [], ◌∷◌, ◌++◌, All, length, map, slice_index_or, Option, None, Ok, ap, sym, ◌∙◌, subst, arith}
 use Rattle.std.specs.List.{list_all}
+use Rattle.std.specs.Option.{IfSome}
 use Rattle.std.proofs.lemmas.List.{append-nil}
 use Rattle.std.proofs.lemmas.List.Elements.{All-cons, All-nil}
 use Rattle.std.proofs.lemmas.List.FromFn.{length-map-range_with_len}
 use Rattle.std.proofs.Math.Nat.{one-le-mul}
 use Rattle.silt_device.specs.Disk.{Content, Left, LeavesOnly, Settles, Stays, ChangesWithin, Torn, size}
-use Rattle.silt_device.specs.Layout.{Shape, InLimits, gates_at, log_size, row_len, slot_at}
+use Rattle.silt_device.specs.Layout.{Shape, InLimits, device_size, gates_at, hash_at, log_size, row_len, slot_at}
 use Rattle.silt_device.proofs.Images.{left_at_rest, left_after_failed_sync, shown_left, within_wider}
-use Rattle.silt_device.proofs.Regions.{up_least}
+use Rattle.silt_device.proofs.Regions.{next_region, up_least}
 use Rattle.silt_cuckoo.specs.Index.{index_of_keys}
+use Rattle.silt_hash_store.specs.Converting.{ConversionState, HasWritten}
+use Rattle.silt_hash_store.specs.State.{HashState, IsHashStore}
+use Rattle.silt_hash_store.proofs.Elsewhere.{hash_elsewhere}
 use Rattle.silt_image.specs.Header.{shape_of}
 use Rattle.silt_image.specs.Laws.{IsWhole}
 use Rattle.silt_image.specs.Meaning.{IsGood, IsSound, StandsFor, charge_of, charge_of_rows, image_map, map_of_rows, rows_of, with_log_rows}
@@ -22,11 +26,11 @@ use Rattle.silt_log.specs.Rows.{StoredRow, first_rows, has_known_kind, log_rows,
 use Rattle.silt_log.specs.State.{LogState, InBounds, all_rows, waiting_rows}
 use Rattle.silt_log.proofs.Waiting.{none_waiting}
 use Rattle.silt_log_store.specs.Calls.{SealsStore}
-use Rattle.silt_log_store.specs.State.{LogStoreState, keys_of}
+use Rattle.silt_log_store.specs.State.{LogStoreState, keys_of, put_count}
 use Rattle.silt_manifest.proofs.Laws.{rules_elsewhere}
-use Rattle.silt_stores.specs.Calls.{AreLogsAlone, StandsOnLogs}
+use Rattle.silt_stores.specs.Calls.{HaveNoEntries, StandsUnsorted}
 use Rattle.silt_stores.specs.Standing.{IsFrozen, Stands, base_map, shown_stores}
-use Rattle.silt_stores.specs.State.{AreWhole, StoresState, region_of}
+use Rattle.silt_stores.specs.State.{AreWhole, IsHashOf, IsUnderWay, StoresState, oldest_log, region_of}
 use Rattle.silt_recovery.specs.Logs.{IsReadLog}
 use Rattle.silt_recovery.specs.Opening.{Holds, IsUnwritten, IsUnwrittenUnlessFailed, LeavesNoOther, TakesUp}
 use Rattle.silt_recovery.specs.Refusals.{IsFound, IsRefusedLook}
@@ -98,6 +102,7 @@ frozen_stands between new shape store honest read stays =
       indexed = record {
         known = λ h. ap (list_all has_known_kind) (all (was h)) ∙ read.indexed.known (was h);
         indexed = λ h. ap (λ (l : List StoredRow). index_of_keys store.log.shape.buckets (keys_of l)) (all (was h)) ∙ read.indexed.indexed (was h);
+        counted = λ h. read.indexed.counted (was h) ∙ ap put_count (sym (all (was h)));
       };
     }
 
@@ -117,6 +122,22 @@ sealed_within log old new limits bounds changes =
     let bodies : 1 ≤ log.shape.log_capacity * row_len log.shape = one-le-mul limits.log_capacity_least (omega arith) in
     within_wider (gates_at log.shape log.region) (log_size log.shape) (omega arith)
     (omega (arith, bounds.room, limits.log_capacity_least, bodies, up_least log.shape.log_capacity, up_least (log.shape.log_capacity * row_len log.shape))) changes
+
+-- a hash store stands while a log region alone is changed
+hash_stands : (between new : Content) (shape : Shape) (log : ℕ) (store : HashState) → log < shape.logs → device_size shape ≤ size between → ChangesWithin (gates_at shape log) (log_size shape) between new → IsHashOf shape store
+    → IsHashStore between store → IsHashStore new store
+hash_stands between new shape log store exists fits changes is stands =
+    let behind : log * log_size shape + log_size shape ≤ shape.logs * log_size shape = next_region log shape.logs (log_size shape) exists in
+    let before : gates_at shape log + log_size shape ≤ hash_at shape store.region = omega (arith, behind) in
+    hash_elsewhere store between new (gates_at shape log) (log_size shape) is.held (subst (λ (x : Shape). device_size x ≤ size between) (sym is.has_shape) fits)
+    (inl (subst (λ (x : Shape). gates_at shape log + log_size shape ≤ hash_at x store.region) (sym is.has_shape) before)) changes stands
+
+-- where no conversion is under way, nothing is asked of one
+none_converts : (s : StoresState) → s.converting ≡ None → IfSome s.converting (IsUnderWay s)
+none_converts s none = subst (λ (converting : Option ConversionState). IfSome converting (IsUnderWay s)) (sym none) tt
+
+none_written : (content : Content) (s : StoresState) → s.converting ≡ None → IfSome s.converting (HasWritten content (oldest_log s))
+none_written content s none = subst (λ (converting : Option ConversionState). IfSome converting (HasWritten content (oldest_log s))) (sym none) tt
 
 -- ---- where the active log was sealed
 
@@ -177,7 +198,7 @@ module _ (old between new : Content) (s : StoresState) (settles : Settles old be
   shown_same h = sym ((stores_law new.shown (shown_stores between s)).0 (same_stores.each (changes.honest ∙ h) new.shown (shown_left new))).named
 
   -- each image stands for what was shown
-  stands_for : IsTrue old.honest → (image : List ℕ) → image_stores image ≡ Ok (shown_stores between s) → StandsOnLogs (shape_of old.shown) (image_map old.shown) image
+  stands_for : IsTrue old.honest → (image : List ℕ) → image_stores image ≡ Ok (shown_stores between s) → StandsUnsorted (shape_of old.shown) (image_map old.shown) image
   unfolding stores_named image_map
   stands_for o image stores =
       let h : IsTrue between.honest = here o in
@@ -186,7 +207,7 @@ module _ (old between new : Content) (s : StoresState) (settles : Settles old be
       let has_map : map_of_rows (rows_of (shown_stores between s)) ≡ image_map old.shown = ap map_of_rows (sym (rows_law between.shown (shown_stores between s) (holds.named h))) ∙ ap image_map (settles.shown o) in
       record {
         stands = subst (λ (x : Shape). StandsFor x (image_map old.shown) image) has_shape (subst (λ m. StandsFor s.manifest.shape m image) has_map stands);
-        logs_alone = subst AreLogsAlone (sym stores) holds.logs_alone;
+        no_entries = subst HaveNoEntries (sym stores) holds.no_entries;
       }
 
   pub sealed_images : LeavesNoOther old new
@@ -244,6 +265,9 @@ module _ (old between new : Content) (s : StoresState) (settles : Settles old be
             active_region = has_region;
             frozen_regions = holds.whole.frozen_regions;
             settled = holds.whole.settled;
+            hash_regions = holds.whole.hash_regions;
+            hashed = holds.whole.hashed;
+            under_way = none_converts (record s { active = after }) holds.none_converted;
             most = holds.whole.most;
           };
           idle = holds.idle;
@@ -251,10 +275,12 @@ module _ (old between new : Content) (s : StoresState) (settles : Settles old be
           active = sealed.log;
           indexed = sealed.index;
           frozen = λ k d inside. frozen_stands between new s.manifest.shape (slice_index_or s.frozen k d) changes.honest (holds.frozen k d inside) (λ h. frozen_rows h k d inside);
+          hashed = λ k d inside. hash_stands between new s.manifest.shape s.manifest.ruling.active (slice_index_or s.hashes k d) exists (omega (arith, holds.has_size)) changed (holds.whole.hashed k d inside) (holds.hashed k d inside);
+          written = none_written new (record s { active = after }) holds.none_converted;
           named = record { each = λ honest image left. same_stores.each honest image left ∙ ap Ok (sym (shown_same (was honest))) };
           sound = λ h. all_sound (was h);
           counted = λ h. all_counted (was h);
-          logs_alone = holds.logs_alone;
+          no_entries = holds.no_entries;
         }
 
     -- the stores were taken up
@@ -265,7 +291,8 @@ module _ (old between new : Content) (s : StoresState) (settles : Settles old be
       stands = stands;
       quiet = record { settled = settled; none_wait = ap (map _) (none_waiting new after.log settled) };
       good = λ o. subst IsGood (settles.shown o) ((sound_law between.shown (shown_stores between s) (holds.named (here o))).1 (holds.sound (here o)));
-      logs_alone = λ o. subst (λ (image : List ℕ). AreLogsAlone (image_stores image)) (settles.shown o) (subst AreLogsAlone (sym (holds.named (here o))) holds.logs_alone);
+      none_converted = holds.none_converted;
+      no_entries = λ o. subst (λ (image : List ℕ). HaveNoEntries (image_stores image)) (settles.shown o) (subst HaveNoEntries (sym (holds.named (here o))) holds.no_entries);
       has_shape = λ o. sym (whole (here o)).has_shape ∙ ap shape_of (settles.shown o);
       has_map = λ o.
           ap (λ (x : Stores). map_of_rows (rows_of x)) (shown_same (here o)) ∙ ap map_of_rows (sym (rows_law between.shown (shown_stores between s) (holds.named (here o)))) ∙ ap image_map (settles.shown o);

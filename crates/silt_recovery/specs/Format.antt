@@ -6,7 +6,7 @@ use Rattle.silt_device.specs.Layout.{Shape, device_size}
 use Rattle.silt_image.specs.Header.{header_bytes, header_of}
 use Rattle.silt_image.specs.Meaning.{image_verdict}
 use Rattle.silt_image.specs.declared.finding.Finding.TheVariants.{NotFormatted}
-use Rattle.silt_stores.specs.Calls.{StandsOnLogs}
+use Rattle.silt_stores.specs.Calls.{StandsUnsorted}
 use Rattle.silt_recovery.specs.declared.fault.FormatError.{FormatError}
 use Rattle.silt_recovery.specs.declared.fault.FormatError.TheVariants.{BadGeometry, Device, NoMemory}
 
@@ -33,4 +33,4 @@ pub record IsLeftButForGate (old : Content) (image : List ℕ) : Type 0 where
 
 -- what a stopped formatting leaves: what might have been left before, but for the header's gate; or no store; or the empty one
 abbrev pub IsHalfFormatted : Content → Shape → List ℕ → Type 0
-IsHalfFormatted old shape image = IsLeftButForGate old image ⊎ ((image_verdict image ≡ Some NotFormatted) ⊎ StandsOnLogs shape empty image)
+IsHalfFormatted old shape image = IsLeftButForGate old image ⊎ ((image_verdict image ≡ Some NotFormatted) ⊎ StandsUnsorted shape empty image)

@@ -1,28 +1,22 @@
 -- Why a device is refused.
-use Rattle.std.specs.Prelude.{◌≡◌, ◌⊎◌, ℕ, ◌==◌, Bool, ◌&&◌, List, length, Some, Ok}
+use Rattle.std.specs.Prelude.{◌≡◌, ◌⊎◌, ◌<◌, ℕ, List, Some, Ok}
 use Rattle.silt_image.specs.Stores.{Stores, image_stores}
 use Rattle.silt_image.specs.Meaning.{image_verdict}
 use Rattle.silt_image.specs.declared.finding.Finding.{Finding}
 use Rattle.silt_image.specs.declared.finding.Finding.TheVariants as finding
 use Rattle.silt_image.specs.declared.finding.Place.TheVariants.{NoSlot}
-use Rattle.silt_manifest.specs.declared.body.Body.{Body}
-use Rattle.silt_stores.specs.Calls.{AreLogsAlone}
 use Rattle.silt_recovery.specs.declared.fault.OpenError.{OpenError}
 use Rattle.silt_recovery.specs.declared.fault.OpenError.TheVariants.{NotFormatted, Damaged, Crowded, Device, NoMemory}
 
--- a body names logs alone: no hash stores, and no sorted entries
-abbrev pub names_logs_alone : Body → Bool
-names_logs_alone body = (length body.hashed == 0) && (body.sorted_count == 0)
-
--- the manifest that rules an image names hash stores or sorted entries, which no store has yet
-pub record NamesOtherStores (image : List ℕ) : Type 0 where
+-- the manifest that rules an image names sorted entries, which no store has yet
+pub record NamesEntries (image : List ℕ) : Type 0 where
   pub named : Stores
   pub are : image_stores image ≡ Ok named
-  pub others : ¬ AreLogsAlone (image_stores image)
+  pub some : 0 < named.body.sorted_count
 
--- an image is refused for this finding, which is the verdict; a manifest that names other stores than logs counts as none
+-- an image is refused for this finding, which is the verdict; a manifest that names sorted entries counts as none
 abbrev pub IsFound : List ℕ → Finding → Type 0
-IsFound image (finding.Damaged NoSlot) = (image_verdict image ≡ Some (finding.Damaged NoSlot)) ⊎ NamesOtherStores image
+IsFound image (finding.Damaged NoSlot) = (image_verdict image ≡ Some (finding.Damaged NoSlot)) ⊎ NamesEntries image
 IsFound image other = image_verdict image ≡ Some other
 
 -- the refusal that tells a finding

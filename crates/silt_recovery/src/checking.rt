@@ -2,7 +2,7 @@
 ghost use Rattle.std.specs.Prelude.{◌≡◌, ◌≤◌, All, IsTrue, IfOk, IfErr, length, sum_by};
 ghost use Rattle.silt_device.specs.Disk.{GaveAny};
 ghost use Rattle.silt_image.specs.Meaning.{report_of};
-ghost use Rattle.silt_recovery.specs.Opening.{Holds, IsReported};
+ghost use Rattle.silt_recovery.specs.Opening.{CountsHashRows, Holds, IsReported, held_stores};
 ghost use Rattle.silt_recovery.specs.Refusals.{IsFound, IsRefusedLook};
 ghost use Rattle.silt_stores.specs.Standing.{shown_stores};
 
@@ -30,7 +30,8 @@ pub fn check<D: Disk>(alloc: Global, disk: &D) -> Result<Report, OpenError<D::Fa
 
 // The numbers of what is held of a device.
 fn report_of<D: Disk>(disk: &D, held: &Holding) -> Report
-    requires { Holds (D.content disk.now) (record { manifest = held.now.manifest; active = held.now.active; frozen = held.now.frozen.items; charge = held.now.charge }) }
+    requires holds { Holds (D.content disk.now) (held_stores held.now) }
+    requires hash_rows { CountsHashRows (D.content disk.now) (held_stores held.now) held.now.hash_rows }
     ensures { IsTrue (D.content disk.now).honest → IsReported (D.content disk.now).shown result }
 {
     let body = held.manifest.ruling();
@@ -41,7 +42,7 @@ fn report_of<D: Disk>(disk: &D, held: &Holding) -> Report
         frozen: body.frozen.len() as u32,
         frozen_rows: row_count(&held.frozen),
         hashes: body.hashed.len() as u32,
-        hash_rows: 0,
+        hash_rows: held.hash_rows,
         entries: body.sorted_count,
         charge: held.charge,
     }

@@ -35,7 +35,7 @@ pub enum OpenError<F> {
     Crowded,
     /// A read, a write or a sync failed with this fault.
     Device(F),
-    /// A log or its table found no memory.
+    /// A log or a hash store found no memory.
     NoMemory,
 }
 

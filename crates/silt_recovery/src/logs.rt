@@ -10,7 +10,7 @@ ghost use Rattle.silt_recovery.specs.Refusals.{IsRefusedLook};
 use crate::fault::OpenError;
 use silt_device::{Disk, Geometry};
 use silt_image::Place;
-use silt_log_store::{LogStore, RebuildError, Rebuilt};
+use silt_log_store::{LogStore, RebuildError};
 use std::alloc::Global;
 
 // As many frozen logs as a device can have.
@@ -34,22 +34,22 @@ pub fn read_log<D: Disk>(
     disk: &D,
     geometry: Geometry,
     region: u32,
-) -> Result<Rebuilt, OpenError<D::Fault>>
+) -> Result<LogStore, OpenError<D::Fault>>
     requires region { region < geometry.logs }
     requires size { size (D.content disk.now) ≡ device_size geometry }
-    ensures region { IfOk result (λ rebuilt. rebuilt.store.log.region ≡ region) }
-    ensures read { IfOk result (λ rebuilt. IsReadLog (D.content disk.now) geometry rebuilt.store) }
+    ensures region { IfOk result (λ store. store.log.region ≡ region) }
+    ensures read { IfOk result (IsReadLog (D.content disk.now) geometry) }
     ensures sound { IsTrue (D.content disk.now).honest → OnOk result (AreSoundLogs geometry (D.content disk.now).shown (region ∷ [])) }
-    ensures counted { IsTrue (D.content disk.now).honest → IfOk result (λ rebuilt. rebuilt.puts ≡ charge_of_rows (log_rows geometry region (D.content disk.now).shown)) }
-    ensures most { IfOk result (λ rebuilt. rebuilt.puts < 2 ^ 32) }
+    ensures counted { IsTrue (D.content disk.now).honest → IfOk result (λ store. store.puts ≡ charge_of_rows (log_rows geometry region (D.content disk.now).shown)) }
+    ensures most { IfOk result (λ store. store.puts < 2 ^ 32) }
     ensures cause { IfErr result (IsRefusedLook
         (λ finding. IsTrue (D.content disk.now).honest → HasFirstFinding geometry (D.content disk.now).shown (region ∷ []) finding)
         (GaveAny D.gave disk.now)) }
 {
     match LogStore::rebuild(alloc, disk, geometry, region) {
-        Ok(rebuilt) => {
-            let _rows = rebuilt.store.len(); // at most as many as the log has room for
-            Ok(rebuilt)
+        Ok(store) => {
+            let _puts = store.puts(); // at most as many as rows, which the log has room for
+            Ok(store)
         }
         Err(RebuildError::Damaged(row)) => Err(OpenError::Damaged(Place::Log { region, row })),
         Err(RebuildError::Crowded) => Err(OpenError::Crowded),
@@ -84,9 +84,9 @@ pub fn read_frozen<D: Disk>(
     };
     let mut puts = 0;
     for region in regions {
-        let rebuilt = read_log(alloc, disk, geometry, *region)?;
-        puts += u64::from(rebuilt.puts);
-        let Ok(()) = stores.push(rebuilt.store) else {
+        let store = read_log(alloc, disk, geometry, *region)?;
+        puts += u64::from(store.puts());
+        let Ok(()) = stores.push(store) else {
             return Err(OpenError::NoMemory);
         };
     }

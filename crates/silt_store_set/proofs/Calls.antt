@@ -3,7 +3,7 @@ use Rattle.std.proofs.Common.{◌≡◌, ℕ, Bool, true, false, IsTrue, List, [
 use Rattle.silt_device.specs.Disk.{Content, LeavesOnly}
 use Rattle.silt_image.specs.Commands.{Command, Map, map_after}
 use Rattle.silt_image.specs.Meaning.{image_map}
-use Rattle.silt_stores.specs.Calls.{Advances, Breaks, HasBegun, SameDisk, StandsOnLogs}
+use Rattle.silt_stores.specs.Calls.{Advances, Breaks, HasBegun, SameDisk, StandsUnsorted}
 use Rattle.silt_stores.specs.Laws.{IsGoodWith}
 use Rattle.silt_stores.specs.Standing.{Stands, base_map, full_image, waiting_commands}
 use Rattle.silt_stores.specs.State.{StoresState}
@@ -15,7 +15,7 @@ use Rattle.silt_store_set.specs.declared.event.Refusal.TheVariants.{Device, Fail
 use Rattle.silt_store_set.specs.declared.event.Reply.{Reply}
 use Rattle.silt_store_set.specs.declared.event.Reply.TheVariants.{Refused}
 use Rattle.silt_store_set.specs.Events.{Step, Counts, accepted_command, is_failed}
-use Rattle.silt_store_set.specs.CoreState.{CoreState, map_of, Cause, Settles, Does, is_refused}
+use Rattle.silt_store_set.specs.CoreState.{CoreState, map_of, Cause, Settles, Does, is_convert, is_finished, is_refused, work_of}
 use Rattle.silt_store_set.proofs.Maps.{append_nil, map_after-append}
 
 -- what contracts see of a store with these fields
@@ -27,6 +27,7 @@ seen content disk stores count failed = record {
   full = full_image (content disk) stores;
   base = image_map (content disk).shown;
   waiting = waiting_commands (content disk) stores;
+  work = work_of stores.converting;
   charge = stores.charge;
   count = count;
   failed = failed;
@@ -36,7 +37,7 @@ seen content disk stores count failed = record {
 pub record Standing {D : Type 0} (content : D → Content) (core : CoreState D) : Type 0 where
   pub numbers : IsTrue (content core.disk).honest → IsGoodWith core.shape core.body core.charge core.full
   pub joins : IsTrue (content core.disk).honest → map_of core ≡ map_after core.base core.waiting
-  pub safe : LeavesOnly (content core.disk) (StandsOnLogs core.shape core.base)
+  pub safe : LeavesOnly (content core.disk) (StandsUnsorted core.shape core.base)
 
 -- a store that is not failed stands
 pub stands_seen : {D : Type 0} (content : D → Content) (disk : D) (stores : StoresState) (count : ℕ) (failed : Bool) → Stands (content disk) stores → Standing content (seen content disk stores count failed)
@@ -44,7 +45,7 @@ stands_seen content disk stores count failed stands = record {
   numbers = (meaning (content disk) stores stands).numbers;
   joins = λ h. (meaning (content disk) stores stands).full h ∙ ap (λ m. map_after m (waiting_commands (content disk) stores)) (sym ((meaning (content disk) stores stands).shown h));
   safe = record {
-    each = λ h image left. subst (λ m. StandsOnLogs stores.manifest.shape m image) (sym ((meaning (content disk) stores stands).shown h)) ((meaning (content disk) stores stands).safe.each h image left);
+    each = λ h image left. subst (λ m. StandsUnsorted stores.manifest.shape m image) (sym ((meaning (content disk) stores stands).shown h)) ((meaning (content disk) stores stands).safe.each h image left);
   };
 }
 
@@ -82,7 +83,8 @@ module _ {D F : Type 0} (content : D → Content) (failures : D → ℕ) (gave :
     failed = λ e. (refl, failed e);
     told = told;
     faulted = λ a b. absurd (let no : false ≡ true = sym a ∙ b in cc);
-    names = λ _ _. refl;
+    names = λ _ _ _. refl;
+    works = λ _ _. refl;
     step = step;
     joins = λ f h. (stands f).joins h;
     numbers = λ f h. (stands f).numbers h;
@@ -143,10 +145,11 @@ module _ {D F : Type 0} (content : D → Content) (failures : D → ℕ) (gave :
         → Counts count reply next → accepted_command event reply ≡ adds → is_refused reply ≡ false → is_failed reply ≡ false
         → Cause content failures gave (seen content disk stores count false) (seen content new after next false) event reply
         → ((m to : Map) → to ≡ map_after m adds → Step m event reply to)
-        → (adds ≡ [] → after.manifest.ruling ≡ stores.manifest.ruling)
+        → (adds ≡ [] → is_finished reply ≡ false → after.manifest.ruling ≡ stores.manifest.ruling)
+        → (is_convert event ≡ false → after.converting ≡ stores.converting)
         → (IsTrue (content disk).honest → Settles (seen content new after next false) reply)
         → Does content failures gave (seen content disk stores count false) (seen content new after next false) event reply
-    advanced adds count next event reply goes counts own answers tells cause step named settles =
+    advanced adds count next event reply goes counts own answers tells cause step named works settles =
         let standing = stands_seen content new after next false goes.stands in
         record {
           disk = same;
@@ -157,7 +160,8 @@ module _ {D F : Type 0} (content : D → Content) (failures : D → ℕ) (gave :
           failed = λ f. absurd (cc);
           told = λ t. absurd (let no : false ≡ true = sym tells ∙ t in cc);
           faulted = λ _ f. absurd (cc);
-          names = λ _ none. named (sym own ∙ none);
+          names = λ _ none unfinished. named (sym own ∙ none) unfinished;
+          works = λ _ other. ap work_of (works other);
           step = λ _ h. step _ _ (advanced_map adds goes h);
           joins = λ _ h. standing.joins (there h);
           numbers = λ _ h. standing.numbers (there h);
@@ -188,6 +192,7 @@ module _ {D F : Type 0} (content : D → Content) (failures : D → ℕ) (gave :
       told = λ t. absurd (cc);
       faulted = λ _ _. refl;
       names = λ f. absurd (cc);
+      works = λ f. absurd (cc);
       step = λ _ h. subst (Step (image_map (full_image (content disk) stores)) event (Refused (Device fault))) (sym (maps h)) (step_refused (image_map (full_image (content disk) stores)) event (Device fault));
       joins = λ f. absurd (cc);
       numbers = λ f. absurd (cc);

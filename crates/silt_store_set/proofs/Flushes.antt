@@ -24,11 +24,11 @@ module _ {D F : Type 0} (content : D → Content) (failures : D → ℕ) (gave :
 
   -- the waiting rows are settled
   pub flushed : (new : D) (after : StoresState) → SameDisk (content disk) (content new) → Advances [] (content disk) (content new) stores after → IsQuiet (content new) after
-      → after.manifest ≡ stores.manifest → failures new ≡ failures disk
+      → after.manifest ≡ stores.manifest → after.converting ≡ stores.converting → failures new ≡ failures disk
       → Does content failures gave (seen content disk stores count false) (seen content new after count false) Flush (Acknowledged count)
-  flushed new after same goes quiet manifest counted =
+  flushed new after same goes quiet manifest work counted =
       advanced content failures gave disk new stores after same stands [] count count Flush (Acknowledged count) goes (refl, refl) refl refl refl (refl, counted) (λ m to e. e)
-      (λ _. ap (λ m. m.ruling) manifest) (λ _. quiet.none_wait)
+      (λ _ _. ap (λ m. m.ruling) manifest) (λ _. work) (λ _. quiet.none_wait)
 
   -- a sync or the write of the gates failed
   pub flush_broke : (new : D) (after : StoresState) (fault : F) → SameDisk (content disk) (content new) → Breaks (content disk) (content new) stores → Remaps [] (content disk) (content new) stores after

@@ -3,6 +3,7 @@ pub mod Calls
 pub mod Runs
 pub mod Keeps
 pub mod Openings
+pub mod Converts
 pub mod Flushes
 pub mod Gets
 pub mod Rows

@@ -1,5 +1,5 @@
 -- What an opening answers, from what recovery finds.
-use Rattle.std.proofs.Common.{◌≡◌, ◌-◌, ℕ, inl, inr, false, IsTrue, List, [], Option, Some, None, refl, ap, sym, ◌∙◌, arith}
+use Rattle.std.proofs.Common.{◌≡◌, ◌-◌, ℕ, inl, inr, false, IsTrue, List, [], Option, Some, None, refl, ap, sym, ◌∙◌, subst, arith}
 use Rattle.silt_device.specs.Disk.{Content}
 use Rattle.silt_image.specs.Commands.{map_after}
 use Rattle.silt_image.specs.Meaning.{IsGood}
@@ -13,11 +13,11 @@ use Rattle.silt_recovery.specs.Opening.{IsUnwrittenUnlessFailed, TakesUp}
 use Rattle.silt_recovery.specs.Refusals.{IsFound, IsRefusedLook}
 use Rattle.silt_recovery.specs.declared.fault.OpenError.{OpenError}
 use Rattle.silt_recovery.specs.declared.fault.OpenError.TheVariants.{NotFormatted, Damaged, Crowded, Device, NoMemory}
-use Rattle.silt_stores.specs.Calls.{AreLogsAlone}
+use Rattle.silt_stores.specs.Calls.{HaveNoEntries}
 use Rattle.silt_stores.specs.Standing.{waiting_commands}
 use Rattle.silt_stores.specs.State.{StoresState}
 use Rattle.silt_stores.proofs.Facts.{meaning}
-use Rattle.silt_store_set.specs.CoreState.{Opens}
+use Rattle.silt_store_set.specs.CoreState.{Opens, work_of}
 use Rattle.silt_store_set.specs.Events.{IsOpeningRefusal}
 use Rattle.silt_store_set.specs.Opening.{OpeningCause}
 use Rattle.silt_store_set.specs.Replies.{refusal_of_opening}
@@ -40,10 +40,12 @@ opening_cause content gave old disk NoMemory none unwritten = unwritten
 never : {A : Type 0} (found : Option A) (x : A) → found ≡ None → found ≡ Some x → ⊥
 never found x none some = absurd (let no : None ≡ Some x = sym none ∙ some in cc)
 
--- nothing is found in a good image of logs alone
-none_found : (image : List ℕ) (place : Place) → IsGood image → AreLogsAlone (image_stores image) → IsFound image (finding.Damaged place) → ⊥
+-- nothing is found in a good image with no sorted entries
+none_found : (image : List ℕ) (place : Place) → IsGood image → HaveNoEntries (image_stores image) → IsFound image (finding.Damaged place) → ⊥
 none_found image NoSlot good alone (inl verdict) = never _ _ good (verdict)
-none_found image NoSlot good alone (inr other) = other.others alone
+none_found image NoSlot good alone (inr other) =
+    let none : other.named.body.sorted_count ≡ 0 = subst HaveNoEntries other.are alone in
+    absurd (omega (arith, none, other.some))
 none_found image Header good alone verdict = never _ _ good (verdict)
 none_found image Length good alone verdict = never _ _ good (verdict)
 none_found image (Slot slot) good alone verdict = never _ _ good (verdict)
@@ -54,7 +56,7 @@ none_found image Charge good alone verdict = never _ _ good (verdict)
 
 -- an opening of such an image is refused by its device or for want of memory alone
 pub opening_refused : {D F : Type 0} (content : D → Content) (gave : D → F → Type 0) (old : Content) (disk : D) (r : Refusal F)
-    → IsTrue old.honest → IsGood old.shown → AreLogsAlone (image_stores old.shown) → OpeningCause content gave old disk r → IsOpeningRefusal r
+    → IsTrue old.honest → IsGood old.shown → HaveNoEntries (image_stores old.shown) → OpeningCause content gave old disk r → IsOpeningRefusal r
 opening_refused content gave old disk refusal.NotFormatted h good alone cause = absurd (never _ _ good (cause.0 h))
 opening_refused content gave old disk (refusal.Damaged place) h good alone cause = absurd (none_found old.shown place good alone (cause.0 h))
 opening_refused content gave old disk refusal.Crowded h good alone cause = absurd (never _ _ good (cause.0 h))
@@ -84,6 +86,7 @@ opened content old disk stores takes =
       good = takes.good;
       has_shape = takes.has_shape;
       waiting = λ h. waits;
+      work = ap work_of takes.none_converted;
       base = λ h. means.shown (there h) ∙ takes.has_map h;
       has_map = λ h. means.full (there h) ∙ ap (map_after _) waits ∙ takes.has_map h;
       numbers = λ h. means.numbers (there h);

@@ -10,7 +10,7 @@ use Rattle.silt_image.specs.Commands.{Map}
 use Rattle.silt_image.specs.Header.{shape_of}
 use Rattle.silt_image.specs.Meaning.{image_map, IsGood}
 use Rattle.silt_image.specs.Stores.{image_stores}
-use Rattle.silt_stores.specs.Calls.{AreLogsAlone}
+use Rattle.silt_stores.specs.Calls.{HaveNoEntries}
 use Rattle.silt_stores.specs.Standing.{Stands}
 use Rattle.silt_stores.specs.State.{StoresState}
 
@@ -24,9 +24,9 @@ pub record IsCore (content : Content) (stores : StoresState) (count : ℕ) (fail
   pub count_most : count < 2 ^ 63
   pub stands : failed ≡ false → Stands content stores
 
--- a good image of logs alone, with values of this length, stands for this map
+-- a good image with no sorted entries, with values of this length, stands for this map
 pub record IsSafe (value_len : ℕ) (map : Map) (image : List ℕ) : Type 0 where
   pub good : IsGood image
   pub has_len : (shape_of image).value_len ≡ value_len
   pub has_map : image_map image ≡ map
-  pub logs_alone : AreLogsAlone (image_stores image)
+  pub no_entries : HaveNoEntries (image_stores image)

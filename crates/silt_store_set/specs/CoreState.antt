@@ -1,5 +1,5 @@
 -- What contracts see of a store, and what its calls do.
-use Rattle.std.specs.Prelude.{◌≡◌, ◌≢◌, ◌≤◌, ◌<◌, ◌-◌, ◌^◌, ◌%◌, ◌⊎◌, ℕ, ◌+◌, Bool, true, false, IsTrue, List, [], ◌∷◌, ◌++◌, length}
+use Rattle.std.specs.Prelude.{◌≡◌, ◌≢◌, ◌≤◌, ◌<◌, ◌-◌, ◌*◌, ◌^◌, ◌%◌, ◌⊎◌, ℕ, ◌+◌, Option, Some, None, Bool, true, false, IsTrue, List, [], ◌∷◌, ◌++◌, length}
 use Rattle.silt_device.specs.Disk.{Content, LeavesOnly}
 use Rattle.silt_device.specs.Layout.{Shape}
 use Rattle.silt_frame.specs.declared.key.Key.{Key}
@@ -10,17 +10,30 @@ use Rattle.silt_image.specs.Header.{shape_of}
 use Rattle.silt_image.specs.Meaning.{image_map, IsGood}
 use Rattle.silt_log.specs.Rows.{StoredRow, log_rows}
 use Rattle.silt_manifest.specs.declared.body.Body.{Body}
-use Rattle.silt_stores.specs.Calls.{CannotTake, HasBegun, SameDisk, StandsOnLogs}
+use Rattle.silt_stores.specs.Calls.{CannotTake, HasBegun, SameDisk, StandsUnsorted}
+use Rattle.silt_stores.specs.Converting.{IsLowestFreeHash, converted_body, is_work, progress_due}
 use Rattle.silt_stores.specs.Freezing.{IsLowestFree, next_body}
 use Rattle.silt_stores.specs.Laws.{IsGoodWith}
 use Rattle.silt_store_set.specs.declared.event.Event.{Event}
 use Rattle.silt_store_set.specs.declared.event.Event.TheVariants.{Put, Delete, Flush, Get, Convert, Merge}
-use Rattle.silt_store_set.specs.declared.event.Progress.TheVariants.{Idle}
+use Rattle.silt_stores.specs.declared.converting.Progress.{Progress as ProgressOf}
+use Rattle.silt_stores.specs.declared.converting.Progress.TheVariants.{Idle, Waiting, Moved, Finished}
+use Rattle.silt_hash_store.specs.Converting.{ConversionState}
 use Rattle.silt_store_set.specs.declared.event.Refusal.{Refusal}
 use Rattle.silt_store_set.specs.declared.event.Refusal.TheVariants.{Device, NoMemory, StoreFull, NoRoom, Failed, Spent}
 use Rattle.silt_store_set.specs.declared.event.Reply.{Reply}
 use Rattle.silt_store_set.specs.declared.event.Reply.TheVariants.{Accepted, Acknowledged, Found, Absent, Progress, Refused}
 use Rattle.silt_store_set.specs.Events.{Step, Counts, accepted_command, accepted_commands, acknowledged_after, is_fault, is_failed}
+
+-- a conversion under way: the hash region that it writes, and how many of the region's slots are written
+pub record Work : Type 0 where
+  pub region : ℕ
+  pub written : ℕ
+
+-- of a conversion in memory
+abbrev pub work_of : Option ConversionState → Option Work
+work_of None = None
+work_of (Some conversion) = Some (record { region = conversion.region; written = conversion.next })
 
 pub record CoreState (D : Type 0) : Type 0 where
   pub disk : D
@@ -33,6 +46,8 @@ pub record CoreState (D : Type 0) : Type 0 where
   pub base : Map
   -- the commands of the waiting rows
   pub waiting : List Command
+  -- the conversion under way
+  pub work : Option Work
   -- how many put rows there are
   pub charge : ℕ
   -- how many commands this life has accepted
@@ -84,6 +99,28 @@ AreAllInUse core = length core.body.frozen + 1 ≡ core.shape.logs
 -- a log region is free
 abbrev pub HasFreeLog : {D : Type 0} → CoreState D → Type 0
 HasFreeLog core = ¬ AreAllInUse core
+
+-- how many slots a conversion has written
+abbrev pub written_of : Option Work → Option ℕ
+written_of None = None
+written_of (Some work) = Some work.written
+
+-- the progress of the next step of conversion
+abbrev pub convert_due : {D : Type 0} → CoreState D → ProgressOf
+convert_due core = progress_due (length core.body.frozen) (length core.body.hashed) core.shape.hashes (4 * core.shape.buckets) (written_of core.work)
+
+-- one more slot is written than before, or the first slot of the lowest free region
+abbrev pub GoesOn : ℕ → Body → Option Work → Option Work → Type 0
+GoesOn hashes body (Some before) (Some after) = (after.region ≡ before.region) × (after.written ≡ before.written + 1)
+GoesOn hashes body None (Some after) = IsLowestFreeHash hashes body after.region × (after.written ≡ 1)
+GoesOn hashes body before None = ⊥
+
+-- a conversion is finished: the hash store stands in front of the others, and the oldest log is no longer named
+pub record IsFinished (old_work new_work : Option Work) (old new : Body) : Type 0 where
+  pub work : Work
+  pub was : old_work ≡ Some work
+  pub none : new_work ≡ None
+  pub body : new ≡ converted_body old work.region
 
 -- The write or sync that failed gave this fault in this very call, and the store is failed from now on.
 pub record FailsBy {D F : Type 0} (failures : D → ℕ) (gave : D → F → Type 0) (old new : CoreState D) (fault : F) : Type 0 where
@@ -155,11 +192,28 @@ module _ {D F : Type 0} (content : D → Content) (failures : D → ℕ) (gave :
   GetCause (Refused NoMemory) = old.failed ≡ false
   GetCause reply = ⊥
 
-  -- nothing is converted or merged in this stage
-  abbrev pub BackgroundCause : Reply F → Type 0
-  BackgroundCause (Progress progress) = (old.failed ≡ false) × (progress ≡ Idle)
-  BackgroundCause (Refused Failed) = old.failed ≡ true
-  BackgroundCause reply = ⊥
+  -- what an answered step of conversion does
+  abbrev pub ConvertsTo : ProgressOf → Type 0
+  ConvertsTo Idle = new ≡ old
+  ConvertsTo Waiting = new ≡ old
+  ConvertsTo Moved = (new.body ≡ old.body) × GoesOn old.shape.hashes old.body old.work new.work
+  ConvertsTo Finished = IsFinished old.work new.work old.body new.body
+
+  -- a step of conversion: what is due is done; only a first step takes memory, and only the last one writes the manifest
+  abbrev pub ConvertCause : Reply F → Type 0
+  ConvertCause (Progress progress) = (old.failed ≡ false) × (progress ≡ convert_due old) × ConvertsTo progress × (failures new.disk ≡ failures old.disk)
+  ConvertCause (Refused Failed) = old.failed ≡ true
+  ConvertCause (Refused Spent) = (old.failed ≡ false) × (convert_due old ≡ Finished) × (old.body.generation ≡ last_generation)
+  ConvertCause (Refused NoMemory) = (old.failed ≡ false) × (convert_due old ≡ Moved) × (old.work ≡ None)
+  ConvertCause (Refused (Device fault)) =
+      ((convert_due old ≡ Moved) × FailsRead gave old new fault) ⊎ ((is_work (convert_due old) ≡ true) × FailsBy failures gave old new fault)
+  ConvertCause reply = ⊥
+
+  -- nothing is merged in this stage
+  abbrev pub MergeCause : Reply F → Type 0
+  MergeCause (Progress progress) = (old.failed ≡ false) × (progress ≡ Idle)
+  MergeCause (Refused Failed) = old.failed ≡ true
+  MergeCause reply = ⊥
 
   -- what stands where an event is given this reply
   abbrev pub Cause : Event → Reply F → Type 0
@@ -167,8 +221,8 @@ module _ {D F : Type 0} (content : D → Content) (failures : D → ℕ) (gave :
   Cause (Delete key) = DeleteCause key.0
   Cause Flush = FlushCause
   Cause (Get key) = GetCause
-  Cause Convert = BackgroundCause
-  Cause Merge = BackgroundCause
+  Cause Convert = ConvertCause
+  Cause Merge = MergeCause
 
 -- ---- what a call leaves
 
@@ -188,6 +242,16 @@ abbrev pub is_refused : {F : Type 0} → Reply F → Bool
 is_refused (Refused refusal) = true
 is_refused reply = false
 
+-- a step of background work is finished
+abbrev pub is_finished : {F : Type 0} → Reply F → Bool
+is_finished (Progress Finished) = true
+is_finished reply = false
+
+-- the event is a step of conversion
+abbrev pub is_convert : Event → Bool
+is_convert Convert = true
+is_convert event = false
+
 -- What one call does, whatever it answers.
 pub record Does {D F : Type 0} (content : D → Content) (failures : D → ℕ) (gave : D → F → Type 0) (old new : CoreState D) (event : Event) (reply : Reply F) : Type 0 where
   pub disk : SameDisk (content old.disk) (content new.disk)
@@ -200,8 +264,10 @@ pub record Does {D F : Type 0} (content : D → Content) (failures : D → ℕ) 
   pub failed : old.failed ≡ true → (new ≡ old) × (reply ≡ Refused Failed)
   pub told : IsTrue (is_failed reply) → old.failed ≡ true
   pub faulted : old.failed ≡ false → new.failed ≡ true → IsTrue (is_fault reply)
-  -- a call that accepts nothing leaves the named regions as they are
-  pub names : new.failed ≡ false → accepted_command event reply ≡ [] → new.body ≡ old.body
+  -- a call that accepts nothing and finishes nothing leaves the named regions as they are
+  pub names : new.failed ≡ false → accepted_command event reply ≡ [] → is_finished reply ≡ false → new.body ≡ old.body
+  -- only steps of conversion touch the conversion under way
+  pub works : new.failed ≡ false → is_convert event ≡ false → new.work ≡ old.work
   -- the reply is that of a map
   pub step : old.failed ≡ false → IsTrue (content old.disk).honest → Step (map_of old) event reply (map_of new)
   pub joins : new.failed ≡ false → IsTrue (content old.disk).honest → map_of new ≡ map_after new.base new.waiting
@@ -210,7 +276,7 @@ pub record Does {D F : Type 0} (content : D → Content) (failures : D → ℕ) 
   pub moves : new.failed ≡ false → IsTrue (content old.disk).honest → Moves old new (accepted_command event reply)
   pub settles : IsTrue (content old.disk).honest → Settles new reply
   -- each image stands for the base, or, where the call failed, for the base as it was after a beginning of what waited
-  pub safe : new.failed ≡ false → LeavesOnly (content new.disk) (StandsOnLogs new.shape new.base)
+  pub safe : new.failed ≡ false → LeavesOnly (content new.disk) (StandsUnsorted new.shape new.base)
   pub crash : old.failed ≡ false → new.failed ≡ true → LeavesOnly (content new.disk) (HasBegun old.shape old.base old.waiting)
 
 -- a put's value is as long as the store's values
@@ -242,11 +308,11 @@ pub record KeepsFrom {D F : Type 0} (old : CoreState D) (events : List Event) (r
 
 -- an image stands for the base after what a stop may keep of the run
 abbrev pub StandsKept : {D F : Type 0} → CoreState D → List Event → List (Reply F) → List ℕ → Type 0
-StandsKept old events replies image = (kept : List Command) × KeepsFrom old events replies kept × StandsOnLogs old.shape (map_after old.base kept) image
+StandsKept old events replies image = (kept : List Command) × KeepsFrom old events replies kept × StandsUnsorted old.shape (map_after old.base kept) image
 
 -- ---- opening
 
--- a store that was taken up from a device: as the device stood, with nothing waiting
+-- a store that was taken up from a device: as the device stood, with nothing waiting, and no conversion under way
 pub record Opens {D : Type 0} (content : D → Content) (old : Content) (core : CoreState D) : Type 0 where
   pub disk : SameDisk old (content core.disk)
   pub count : core.count ≡ 0
@@ -254,7 +320,8 @@ pub record Opens {D : Type 0} (content : D → Content) (old : Content) (core : 
   pub good : IsTrue old.honest → IsGood old.shown
   pub has_shape : IsTrue old.honest → core.shape ≡ shape_of old.shown
   pub waiting : IsTrue old.honest → core.waiting ≡ []
+  pub work : core.work ≡ None
   pub base : IsTrue old.honest → core.base ≡ image_map old.shown
   pub has_map : IsTrue old.honest → map_of core ≡ image_map old.shown
   pub numbers : IsTrue old.honest → IsGoodWith core.shape core.body core.charge core.full
-  pub safe : LeavesOnly (content core.disk) (StandsOnLogs core.shape core.base)
+  pub safe : LeavesOnly (content core.disk) (StandsUnsorted core.shape core.base)

@@ -1,6 +1,6 @@
 -- Results of calls as replies.
 use Rattle.std.specs.Prelude.{Bool, true, false, List, ℕ, Option, Some, None, Result, Ok, Err}
-use Rattle.silt_store_set.specs.declared.event.Progress.{Progress as ProgressOf}
+use Rattle.silt_stores.specs.declared.converting.Progress.{Progress as ProgressOf}
 use Rattle.silt_store_set.specs.declared.event.Refusal.{Refusal}
 use Rattle.silt_store_set.specs.declared.event.Refusal.TheVariants.{NotFormatted, BadGeometry, Damaged, Crowded, Device, NoMemory}
 use Rattle.silt_recovery.specs.declared.fault.FormatError.{FormatError}

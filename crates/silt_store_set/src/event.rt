@@ -2,6 +2,7 @@
 
 use silt_frame::{Key, Value};
 use silt_image::Place;
+use silt_stores::Progress;
 
 /// What a caller asks of a store.
 #[derive(Debug, Drop)]
@@ -18,19 +19,6 @@ pub enum Event {
     Convert,
     /// One step of the merge of the hash stores into the sorted store.
     Merge,
-}
-
-/// How far a step of conversion or merging came.
-#[derive(Clone, Copy, Debug, PartialEq, Eq)]
-pub enum Progress {
-    /// There is nothing to do.
-    Idle,
-    /// There is work, and no region is free for it.
-    Waiting,
-    /// The work went one step on.
-    Moved,
-    /// The work was finished.
-    Finished,
 }
 
 /// Why a call is refused. `Device` holds the fault that the device gave.

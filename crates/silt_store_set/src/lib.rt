@@ -10,7 +10,8 @@
 //! ended by a stop before or within any device call.
 //!
 //! A row goes to the active log. Where that cannot take it, being full or by the placing rule of its table, it is frozen and
-//! another one is started. In this stage nothing is converted or merged: all rows stand in logs.
+//! another one is started. [`Core::convert`] rewrites the oldest frozen log as a hash store, one slot a call, and its region then is
+//! free again. A conversion under way is not kept over a stop; it begins anew. In this stage nothing is merged.
 #![tactic(auto)]
 
 mod event;
@@ -21,6 +22,7 @@ mod store;
 mod tests;
 
 pub use crate::store::{Core, OpenFault};
-pub use event::{Event, LifeReply, Progress, Refusal, Reply};
+pub use event::{Event, LifeReply, Refusal, Reply};
 pub use life::lives;
 pub use silt_image::Place;
+pub use silt_stores::Progress;

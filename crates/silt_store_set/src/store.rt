@@ -7,7 +7,7 @@ use crate::replies::{accepted, copied, progressed, zeros};
 use crate::{Event, Progress, Refusal, Reply};
 use silt_device::{Disk, Geometry};
 use silt_frame::{Key, Kind, Value};
-use silt_stores::{EntriesError, Stores, TakeError};
+use silt_stores::{ConvertError, EntriesError, Stores, TakeError};
 use std::alloc::{AllocError, Global};
 use std::collections::BTreeMap;
 use std::marker::Model;
@@ -37,14 +37,14 @@ impl<D: Disk> Model for Core<D> {
     ghost use Rattle.silt_image.specs.Commands.{map_code};
     ghost use Rattle.silt_image.specs.Meaning.{image_map};
     ghost use Rattle.silt_stores.specs.Standing.{full_image, waiting_commands};
-    ghost use Rattle.silt_store_set.specs.CoreState.{CoreState};
+    ghost use Rattle.silt_store_set.specs.CoreState.{CoreState, work_of};
     ghost use Rattle.silt_store_set.specs.CoreInvariant.{IsCore};
 
     ghost Value = { CoreState D };
 
     ghost coded = { Prim.hlevel (codes, map_code) };
 
-    ghost view = { λ a. record { disk = a.disk; shape = a.stores.manifest.shape; body = a.stores.manifest.ruling; full = full_image (D.content a.disk) a.stores; base = image_map (D.content a.disk).shown; waiting = waiting_commands (D.content a.disk) a.stores; charge = a.stores.charge; count = a.count; failed = a.failed } };
+    ghost view = { λ a. record { disk = a.disk; shape = a.stores.manifest.shape; body = a.stores.manifest.ruling; full = full_image (D.content a.disk) a.stores; base = image_map (D.content a.disk).shown; waiting = waiting_commands (D.content a.disk) a.stores; work = work_of a.stores.converting; charge = a.stores.charge; count = a.count; failed = a.failed } };
 
     ghost invariant = { λ a. IsCore (D.content a.disk) a.stores a.count a.failed };
 }
@@ -212,17 +212,31 @@ impl<D: Disk> Core<D> {
         }
     }
 
-    /// One step of conversion. Nothing is converted in this stage.
-    pub fn convert(&mut self) -> Result<Progress, Refusal<D::Fault>>
+    /// One step of the conversion of the oldest frozen log into a hash store. Where none is under way: `Idle` where no log is frozen,
+    /// `Waiting` where no hash region is free, else the conversion begins. Each step writes one slot and answers `Moved`; the one after
+    /// the last slot syncs, writes the manifest and answers `Finished`.
+    ///
+    /// It is decided in this order: `Failed`, `Spent` (the generation, where the manifest is to be written), the read of a row
+    /// (`Device`) and `NoMemory` (in a first step alone), its write or syncs (`Device`).
+    pub fn convert(&mut self, alloc: Global) -> Result<Progress, Refusal<D::Fault>>
         ensures { Does D.content D.failures (GaveAny D.gave) self.old self.new Convert (progress_reply result) }
     {
         if self.failed {
             return Err(Refusal::Failed);
         }
-        Ok(Progress::Idle)
+        match self.stores.convert(alloc, &mut self.disk) {
+            Ok(progress) => Ok(progress),
+            Err(ConvertError::Write(fault)) => {
+                self.failed = true; // a slot or the manifest may stand in part
+                Err(Refusal::Device(fault))
+            }
+            Err(ConvertError::Read(fault)) => Err(Refusal::Device(fault)),
+            Err(ConvertError::Spent) => Err(Refusal::Spent),
+            Err(ConvertError::NoMemory) => Err(Refusal::NoMemory),
+        }
     }
 
-    /// One step of merging. There is never a hash store in this stage.
+    /// One step of merging. Nothing is merged in this stage.
     pub fn merge(&mut self) -> Result<Progress, Refusal<D::Fault>>
         ensures { Does D.content D.failures (GaveAny D.gave) self.old self.new Merge (progress_reply result) }
     {
@@ -249,7 +263,7 @@ impl<D: Disk> Core<D> {
                 Ok(None) => Reply::Absent,
                 Err(refusal) => Reply::Refused(refusal),
             },
-            Event::Convert => progressed(self.convert()),
+            Event::Convert => progressed(self.convert(alloc)),
             Event::Merge => progressed(self.merge()),
         }
     }

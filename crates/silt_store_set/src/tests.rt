@@ -1,5 +1,6 @@
 // What no contract says: that each call that takes memory succeeds where there is enough, and the bytes on the device.
 
+mod converting;
 mod damage;
 mod faults;
 mod reports;

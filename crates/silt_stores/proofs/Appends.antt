@@ -23,7 +23,8 @@ use Rattle.silt_stores.specs.Calls.{Advances, Breaks, Remaps, SameDisk, puts_of}
 use Rattle.silt_stores.proofs.Named.{named_body, named_shape, own_rows, rows_with_more}
 use Rattle.silt_stores.proofs.Facts.{active_is, base_is, has_active, rows_split}
 use Rattle.silt_stores.proofs.Chains.{advances_break, advances_remap}
-use Rattle.silt_stores.proofs.Standing.{Fits, after_same, fits_stand, frozen_stay, named_with, rules_stay, shown_are}
+use Rattle.silt_stores.proofs.Standing.{Fits, after_same, fits_stand, frozen_stay, hashed_stay, named_with, rules_stay, shown_are, written_stays}
+use Rattle.silt_stores.proofs.Wholes.{whole_with_active, written_with_active}
 
 -- the stores with another active log and another charge
 abbrev pub with_active : StoresState → LogStoreState → ℕ → StoresState
@@ -61,13 +62,7 @@ module _ (old new : Content) (s : StoresState) (after : LogStoreState) (more : L
   }
 
   whole : AreWhole (with_active s after charge)
-  whole = record {
-    has_shape = same_shape ∙ stands.whole.has_shape;
-    active_region = same_region ∙ stands.whole.active_region;
-    frozen_regions = stands.whole.frozen_regions;
-    settled = stands.whole.settled;
-    most = most;
-  }
+  whole = whole_with_active s after charge stands.whole same_shape same_region most
 
   pub fits_extended : Fits new (with_active s after charge) (shown_stores old s)
   fits_extended = record {
@@ -77,6 +72,8 @@ module _ (old new : Content) (s : StoresState) (after : LogStoreState) (more : L
     rules = rules_stay old new s stands sizes changes;
     active = is;
     frozen = frozen_stay old new s stands sizes changes;
+    hashed = hashed_stay old new s stands sizes changes;
+    written = written_with_active new s after charge stands.whole (written_stays old new s stands sizes changes);
     same_shape = named_shape s.manifest.shape s.manifest.ruling old.shown;
     same_body = named_body s.manifest.shape s.manifest.ruling old.shown;
     named = named;
@@ -85,7 +82,7 @@ module _ (old new : Content) (s : StoresState) (after : LogStoreState) (more : L
         counted ∙ ap (λ (n : ℕ). n + charge_of_rows more) (stands.counted (was h))
         ∙ sym (count_law (rows_of (shown_stores old s) ++ waiting_rows old s.active.log) more)
         ∙ ap charge_of_rows (append_assoc (rows_of (shown_stores old s)) (waiting_rows old s.active.log) more ∙ ap (λ (rows : List StoredRow). rows_of (shown_stores old s) ++ rows) (sym (waits (was h))));
-    logs_alone = stands.logs_alone;
+    no_entries = stands.no_entries;
   }
 
   -- the stores advance by the commands of the rows

@@ -1,10 +1,9 @@
 -- The gate of the next body, opened.
-use Rattle.std.proofs.Common.{◌≡◌, ◌≤◌, ◌<◌, ◌⊎◌, ℕ, ◌+◌, IsTrue, List, [], ◌∷◌, ◌++◌, length, map, Option, Some, None, Ok, inl, inr, refl, ap, sym, ◌∙◌, subst, arith}
-use Rattle.std.specs.Prelude.{All}
+use Rattle.std.proofs.Common.{◌≡◌, ◌≤◌, ◌<◌, ℕ, ◌+◌, IsTrue, List, [], ◌∷◌, ◌++◌, length, map, Option, Some, None, refl, ap, sym, ◌∙◌, subst, arith}
+use Rattle.std.specs.Prelude.{All, IfSome}
 use Rattle.std.specs.List.{insert}
-use Rattle.std.proofs.lemmas.List.{append-nil}
 use Rattle.std.proofs.lemmas.List.Elements.{All-cons}
-use Rattle.silt_device.specs.Disk.{ChangesWithin, Content, LeavesOnly, Torn, size}
+use Rattle.silt_device.specs.Disk.{ChangesWithin, Content, LeavesOnly, size}
 use Rattle.silt_device.specs.Layout.{Shape, device_size, slot_at}
 use Rattle.silt_device.proofs.Images.{shown_left, within_wider}
 use Rattle.silt_log.specs.Rows.{StoredRow, first_rows, log_rows, rows_from}
@@ -12,29 +11,31 @@ use Rattle.silt_log.specs.State.{all_rows, waiting_rows}
 use Rattle.silt_log.proofs.Elsewhere.{all_count}
 use Rattle.silt_log.proofs.Waiting.{none_waiting}
 use Rattle.silt_log_store.specs.State.{IsLogStore, LogStoreState}
-use Rattle.silt_manifest.specs.Ruling.{ruling_manifest}
+use Rattle.silt_hash_store.specs.Converting.{HasWritten}
+use Rattle.silt_hash_store.specs.State.{IsHashStore}
 use Rattle.silt_manifest.specs.Standing.{ManifestState, Rules, RulesOldOrNew, spare_slot}
 use Rattle.silt_manifest.specs.declared.body.Body.{Body}
-use Rattle.silt_image.specs.Stores.{Stores, image_stores, stores_named}
-use Rattle.silt_image.specs.Meaning.{HasActive, IsSound, charge_of_rows, command_of, image_map, map_of_rows, rows_of, with_log_rows, with_new_log}
+use Rattle.silt_image.specs.Stores.{Stores, stores_named}
+use Rattle.silt_image.specs.Meaning.{HasActive, IsSound, charge_of_rows, command_of, map_of_rows, rows_of, with_log_rows, with_new_log}
 use Rattle.silt_image.specs.Laws.{Freezes}
 use Rattle.silt_image.proofs.Frame.{freeze_law}
 use Rattle.silt_image.proofs.Named.{whole_law}
 use Rattle.silt_image.proofs.Rows.{new_active_law, new_log_law}
 use Rattle.silt_image.proofs.Sound.{frozen_law}
 use Rattle.silt_stores.specs.declared.freezing.NextLog.{NextLog}
-use Rattle.silt_stores.specs.State.{IsSettled, StoresState, region_of}
-use Rattle.silt_stores.specs.Standing.{IsFrozen, base_map, shown_stores, waiting_commands}
-use Rattle.silt_stores.specs.Calls.{Advances, Breaks, IsQuiet, Remaps, SameDisk, StandsOnLogs}
+use Rattle.silt_stores.specs.State.{IsHashOf, IsSettled, StoresState, oldest_log, region_of}
+use Rattle.silt_stores.specs.Standing.{IsFrozen, base_map, shown_stores}
+use Rattle.silt_stores.specs.Calls.{Advances, Breaks, IsQuiet, Remaps, SameDisk}
 use Rattle.silt_stores.specs.Freezing.{HasFrozen, MayTurn, names_region, next_body, unprepared}
-use Rattle.silt_stores.proofs.Named.{named_body, named_shape, own_rows, stands_on_logs, stores_map}
-use Rattle.silt_stores.proofs.Facts.{base_is, base_stands, shown_named, shown_sound}
-use Rattle.silt_stores.proofs.Elsewhere.{all_frozen_elsewhere, length-log_rows, outside_slot}
+use Rattle.silt_stores.proofs.Named.{named_body, named_shape, own_rows}
+use Rattle.silt_stores.proofs.Facts.{base_is, shown_named, shown_sound}
+use Rattle.silt_stores.proofs.Elsewhere.{all_frozen_elsewhere, all_hashed_elsewhere, length-log_rows, outside_slot, written_all_elsewhere}
 use Rattle.silt_stores.proofs.Chains.{advances_remap}
-use Rattle.silt_stores.proofs.Standing.{Fits, fits_stand, shown_are}
+use Rattle.silt_stores.proofs.Standing.{Fits}
+use Rattle.silt_stores.proofs.Wholes.{oldest_behind, under_way_in, written_in}
+use Rattle.silt_stores.proofs.NextBodies.{gate_breaks, now_named, quiet_gate_map, turned_with}
 use Rattle.silt_stores.proofs.Flushes.{quiet}
-use Rattle.silt_stores.proofs.Freezes.{below_two, slot_apart, store_elsewhere}
-use Rattle.silt_stores.proofs.Turns.{begun_none, quiet_remap, ruled_named, same_named}
+use Rattle.silt_stores.proofs.Freezes.{below_two, slot_apart, slot_before_conversion, store_elsewhere}
 
 -- the stores with a new log have the next body
 new_shape : (body : Body) (t : Stores) → (with_new_log body t).shape ≡ t.shape
@@ -65,9 +66,6 @@ module _ (old new : Content) (s : StoresState) (next : NextLog) (turn : MayTurn 
   back : IsTrue new.honest → IsTrue old.honest
   back h = subst IsTrue gate.honest h
 
-  there : IsTrue old.honest → IsTrue new.honest
-  there h = subst IsTrue (sym gate.honest) h
-
   quiet_before : IsQuiet old (unprepared s)
   quiet_before = quiet old (unprepared s) turn.quiet.settled
 
@@ -81,8 +79,8 @@ module _ (old new : Content) (s : StoresState) (next : NextLog) (turn : MayTurn 
   store_region : next.store.log.region ≡ next.body.active
   store_region = ap (λ (t : LogStoreState). t.log.region) turn.emptied.follows.store ∙ ap (λ (b : Body). b.active) (sym body_is)
 
-  alone : (next.body.hashed ≡ []) × (next.body.sorted_count ≡ 0)
-  alone = (ap (λ (b : Body). b.hashed) body_is ∙ turn.stands.logs_alone.0, ap (λ (b : Body). b.sorted_count) body_is ∙ turn.stands.logs_alone.1)
+  none_sorted : next.body.sorted_count ≡ 0
+  none_sorted = ap (λ (b : Body). b.sorted_count) body_is ∙ turn.stands.no_entries
 
   t_shape : (shown_stores old s).shape ≡ s.manifest.shape
   t_shape = named_shape s.manifest.shape s.manifest.ruling old.shown
@@ -108,67 +106,39 @@ module _ (old new : Content) (s : StoresState) (next : NextLog) (turn : MayTurn 
   now_rows : rows_of now ≡ rows_of (shown_stores old s)
   now_rows = new_log_law (shown_stores old s) next.body
 
-  now_map : map_of_rows (rows_of now) ≡ base_map old (unprepared s)
-  now_map = ap map_of_rows now_rows ∙ sym (base_is old (unprepared s))
+  now_map : IsTrue old.honest → map_of_rows (rows_of now) ≡ base_map old (unprepared s)
+  now_map h = ap map_of_rows now_rows ∙ sym (base_is old (unprepared s))
 
-  -- an image in which the next body rules has them
-  turned_named : (h : IsTrue new.honest) (before image : List ℕ) → image_stores before ≡ Ok (shown_stores old s) → Torn (slot_at (spare_slot s.manifest)) 4096 before image
-      → log_rows s.manifest.shape next.store.log.region before ≡ [] → ruling_manifest s.manifest.shape image ≡ Some next.body → image_stores image ≡ Ok now
-  turned_named h before image named torn none rules =
-      ruled_named old new (unprepared s) (spare_slot s.manifest) slot_below turn.stands quiet_before sizes changed h before image next.body named torn rules
-      ∙ ap (λ (sh : Shape). Ok (stores_named sh next.body before)) (sym t_shape)
-      ∙ ap Ok (freeze_law before (shown_stores old s) next.body named freezes
-      (ap (λ (sh : Shape). log_rows sh next.body.active before) t_shape ∙ ap (λ (n : ℕ). log_rows s.manifest.shape n before) (sym store_region) ∙ none))
+  now_shape : now.shape ≡ s.manifest.shape
+  now_shape = new_shape next.body (shown_stores old s) ∙ t_shape
 
-  -- each image has the stores that were or these
-  old_or_new : LeavesOnly new (RulesOldOrNew s.manifest) → LeavesOnly new (λ image. (image_stores image ≡ Ok (shown_stores old s)) ⊎ (image_stores image ≡ Ok now))
-  old_or_new each = record {
+  now_body : now.body ≡ next.body
+  now_body = new_body next.body (shown_stores old s)
+
+  -- the next body names them in each image
+  names : LeavesOnly old (λ image. stores_named s.manifest.shape next.body image ≡ now)
+  names = record {
     each = λ h image left.
-        let from = changed.left (back h) image left in
-        let named : image_stores from.0 ≡ Ok (shown_stores old s) = turn.stands.named.each (back h) from.0 from.1 in
-        elim (each.each h image left) [
-          | inl stays ↦ inl (same_named old new (unprepared s) (spare_slot s.manifest) slot_below turn.stands quiet_before sizes changed h from.0 image named from.2 stays)
-          | inr turns ↦ inr (turned_named h from.0 image named from.2 (turn.emptied.images.each (back h) from.0 from.1) (turns ∙ turn.prepared))
-        ];
+        ap (λ (sh : Shape). stores_named sh next.body image) (sym t_shape)
+        ∙ freeze_law image (shown_stores old s) next.body (turn.stands.named.each h image left) freezes
+        (ap (λ (sh : Shape). log_rows sh next.body.active image) t_shape ∙ ap (λ (n : ℕ). log_rows s.manifest.shape n image) (sym store_region) ∙ turn.emptied.images.each h image left);
   }
-
-  now_stands : IsTrue old.honest → (image : List ℕ) → image_stores image ≡ Ok now → StandsOnLogs s.manifest.shape (base_map old (unprepared s)) image
-  now_stands h image is = stands_on_logs s.manifest.shape next.body now (base_map old (unprepared s)) image is (new_shape next.body (shown_stores old s) ∙ t_shape) (new_body next.body (shown_stores old s)) (now_sound h) now_map alone
 
   -- ---- at every exit
 
   module _ (each : LeavesOnly new (RulesOldOrNew s.manifest)) where
     pub commit_breaks : Breaks old new (unprepared s)
-    commit_breaks = record {
-      each = λ h image left. elim ((old_or_new each).each h image left) [
-        | inl stays ↦ begun_none old (unprepared s) image (base_stands old (unprepared s) turn.stands (back h) image stays)
-        | inr turns ↦ begun_none old (unprepared s) image (now_stands (back h) image turns)
-      ];
-    }
-
-    pub shown_base : IsTrue old.honest → image_map new.shown ≡ base_map old (unprepared s)
-    shown_base h = elim ((old_or_new each).each (there h) new.shown (shown_left new)) [
-      | inl stays ↦ stores_map (shown_stores old s) new.shown stays ∙ sym (base_is old (unprepared s))
-      | inr turns ↦ stores_map now new.shown turns ∙ now_map
-    ]
+    commit_breaks = gate_breaks old new s next.body now turn.stands turn.prepared sizes gate names now_shape now_body now_sound now_map none_sorted each
 
     pub commit_map : (after : StoresState) → after.active.log.settled ≡ after.active.log.used → Remaps [] old new s after
-    commit_map after settled h = quiet_remap old new (unprepared s) (spare_slot s.manifest) slot_below turn.stands quiet_before sizes changed after settled h (shown_base h)
+    commit_map after settled = quiet_gate_map old new s next.body now turn.stands turn.prepared sizes gate names now_shape now_body now_sound now_map each quiet_before after settled
 
   -- ---- where it was opened
 
   module _ (m : ManifestState) (rules : Rules m new) (same_shape : m.shape ≡ s.manifest.shape) (ruling : m.ruling ≡ next.body) (idle : m.prepared ≡ None) where
     -- the stores in memory afterwards
     abbrev pub after : StoresState
-    after = record { manifest = m; active = next.store; frozen = s.active ∷ s.frozen; charge = s.charge }
-
-    now_named : LeavesOnly new (λ image. image_stores image ≡ Ok now)
-    now_named = record {
-      each = λ h image left.
-          let from = changed.left (back h) image left in
-          turned_named h from.0 image (turn.stands.named.each (back h) from.0 from.1) from.2 (turn.emptied.images.each (back h) from.0 from.1)
-          (ap (λ (sh : Shape). ruling_manifest sh image) (sym same_shape) ∙ (rules.each h image left).rules ∙ ap Some ruling);
-    }
+    after = record { manifest = m; active = next.store; frozen = s.active ∷ s.frozen; hashes = s.hashes; converting = s.converting; charge = s.charge }
 
     -- the new log has no rows
     none_used : next.store.log.settled ≡ next.store.log.used
@@ -197,6 +167,15 @@ module _ (old new : Content) (s : StoresState) (next : NextLog) (turn : MayTurn 
     frozen_after : All (IsFrozen new) s.frozen
     frozen_after = all_frozen_elsewhere old new (unprepared s) (slot_at (spare_slot s.manifest)) 4096 turn.stands changed (λ h. (slot_apart s.manifest.shape s.manifest.ruling (spare_slot s.manifest) slot_below).frozen)
 
+    hashed_after : All (IsHashStore new) s.hashes
+    hashed_after = all_hashed_elsewhere old new (unprepared s) (slot_at (spare_slot s.manifest)) 4096 turn.stands changed (λ h. (slot_apart s.manifest.shape s.manifest.ruling (spare_slot s.manifest) slot_below).hashed)
+
+    written_after : IfSome s.converting (HasWritten new (oldest_log after))
+    written_after = written_in new (unprepared s) (oldest_log after) s.converting (oldest_behind s.active s.frozen next.store s.active) turn.stands.whole.under_way
+        (written_all_elsewhere old new (unprepared s) (slot_at (spare_slot s.manifest)) 4096 s.converting turn.stands changed
+        (λ h. (slot_apart s.manifest.shape s.manifest.ruling (spare_slot s.manifest) slot_below).frozen)
+        (λ h. slot_before_conversion (unprepared s) (spare_slot s.manifest) slot_below) turn.stands.whole.under_way turn.stands.written)
+
     fits : Fits new after now
     fits = record {
       has_size = sizes ∙ turn.stands.has_size ∙ ap device_size (sym same_shape);
@@ -209,38 +188,33 @@ module _ (old new : Content) (s : StoresState) (next : NextLog) (turn : MayTurn 
             ∙ ap (λ (b : Body). b.frozen) (sym body_is) ∙ ap (λ (b : Body). b.frozen) (sym ruling);
         settled = subst (λ (sh : Shape). All (IsSettled sh) (s.active ∷ s.frozen)) (sym same_shape)
             (All-cons (IsSettled s.manifest.shape) s.active s.frozen (record { has_shape = turn.stands.whole.has_shape; settled = turn.quiet.settled }) turn.stands.whole.settled);
+        hash_regions = turn.stands.whole.hash_regions ∙ ap (λ (b : Body). b.hashed) (sym body_is) ∙ ap (λ (b : Body). b.hashed) (sym ruling);
+        hashed = subst (λ (sh : Shape). All (IsHashOf sh) s.hashes) (sym same_shape) turn.stands.whole.hashed;
+        under_way = under_way_in (unprepared s) after s.converting same_shape (ap (λ (b : Body). b.hashed) ruling ∙ ap (λ (b : Body). b.hashed) body_is) (omega arith) turn.stands.whole.under_way;
         most = subst (λ (sh : Shape). s.charge ≤ sh.sorted_capacity) (sym same_shape) turn.stands.whole.most;
       };
       idle = idle;
       rules = rules;
       active = next_active;
       frozen = All-cons (IsFrozen new) s.active s.frozen (settled_frozen new s.active old_active turn.quiet.settled) frozen_after;
-      same_shape = new_shape next.body (shown_stores old s) ∙ t_shape ∙ sym same_shape;
-      same_body = new_body next.body (shown_stores old s) ∙ sym ruling;
-      named = now_named;
+      hashed = hashed_after;
+      written = written_after;
+      same_shape = now_shape ∙ sym same_shape;
+      same_body = now_body ∙ sym ruling;
+      named = now_named old new s next.body now turn.stands turn.prepared sizes gate names m rules same_shape ruling;
       sound = λ h.
-          let own : with_log_rows m.ruling.active [] now ≡ now = own_rows now m.ruling.active [] [] (ap (λ (b : Body). b.active) (new_body next.body (shown_stores old s) ∙ sym ruling)) (now_active (back h)) in
+          let own : with_log_rows m.ruling.active [] now ≡ now = own_rows now m.ruling.active [] [] (ap (λ (b : Body). b.active) (now_body ∙ sym ruling)) (now_active (back h)) in
           subst (λ (rows : List StoredRow). IsSound (with_log_rows m.ruling.active rows now)) (sym new_rows) (subst IsSound (sym own) (now_sound (back h)));
       counted = λ h.
           turn.stands.counted (back h)
           ∙ ap (λ (rows : List StoredRow). charge_of_rows (rows_of (shown_stores old s) ++ rows)) (none_waiting old s.active.log turn.quiet.settled ∙ sym (none_waiting new next.store.log none_used))
           ∙ ap (λ (rows : List StoredRow). charge_of_rows (rows ++ waiting_rows new next.store.log)) (sym now_rows);
-      logs_alone = (ap (λ (b : Body). b.hashed) ruling ∙ alone.0, ap (λ (b : Body). b.sorted_count) ruling ∙ alone.1);
+      no_entries = ap (λ (b : Body). b.sorted_count) ruling ∙ none_sorted;
     }
 
     pub turned : Advances [] old new (unprepared s) after
-    turned = record {
-      stands = fits_stand new after now fits;
-      shape = same_shape;
-      moves = λ h. record {
-        moved = [];
-        rest = ap (map command_of) (none_waiting new next.store.log none_used) ∙ ap (map command_of) (sym (none_waiting old s.active.log turn.quiet.settled)) ∙ sym (append-nil (waiting_commands old (unprepared s)));
-        base =
-            base_is new after
-            ∙ ap (λ (t : Stores). map_of_rows (rows_of t)) (shown_are new after now (new_shape next.body (shown_stores old s) ∙ t_shape ∙ sym same_shape) (new_body next.body (shown_stores old s) ∙ sym ruling) now_named (there h))
-            ∙ now_map;
-      };
-    }
+    turned = turned_with old new s next.body now turn.stands turn.prepared sizes gate names now_shape now_body now_sound now_map after fits same_shape
+        (λ h. ap (map command_of) (none_waiting new next.store.log none_used) ∙ ap (map command_of) (sym (none_waiting old s.active.log turn.quiet.settled)))
 
     pub commit_disk : SameDisk old new
     commit_disk = record { size = sizes; honest = gate.honest }
@@ -254,24 +228,26 @@ module _ (old new : Content) (s : StoresState) (next : NextLog) (turn : MayTurn 
       active = refl;
       ruling = ruling;
       frozen = omega arith;
+      hashes = refl;
+      converting = refl;
       charge = refl;
     }
 
     -- the stores with these parts in memory
     module _ (active : LogStoreState) (frozen : List LogStoreState) (active_is : active ≡ next.store) (frozen_is : frozen ≡ s.active ∷ s.frozen) where
-      parts_are : after ≡ record { manifest = m; active = active; frozen = frozen; charge = s.charge }
+      parts_are : after ≡ record { manifest = m; active = active; frozen = frozen; hashes = s.hashes; converting = s.converting; charge = s.charge }
       parts_are =
-          let one : StoresState = record { manifest = m; active = active; frozen = s.active ∷ s.frozen; charge = s.charge } in
-          let step : after ≡ one = ap (λ (t : LogStoreState). let r : StoresState = record { manifest = m; active = t; frozen = s.active ∷ s.frozen; charge = s.charge } in r) (sym active_is) in
-          step ∙ ap (λ (l : List LogStoreState). let r : StoresState = record { manifest = m; active = active; frozen = l; charge = s.charge } in r) (sym frozen_is)
+          let one : StoresState = record { manifest = m; active = active; frozen = s.active ∷ s.frozen; hashes = s.hashes; converting = s.converting; charge = s.charge } in
+          let step : after ≡ one = ap (λ (t : LogStoreState). let r : StoresState = record { manifest = m; active = t; frozen = s.active ∷ s.frozen; hashes = s.hashes; converting = s.converting; charge = s.charge } in r) (sym active_is) in
+          step ∙ ap (λ (l : List LogStoreState). let r : StoresState = record { manifest = m; active = active; frozen = l; hashes = s.hashes; converting = s.converting; charge = s.charge } in r) (sym frozen_is)
 
-      pub turned_parts : Advances [] old new (unprepared s) (record { manifest = m; active = active; frozen = frozen; charge = s.charge })
+      pub turned_parts : Advances [] old new (unprepared s) (record { manifest = m; active = active; frozen = frozen; hashes = s.hashes; converting = s.converting; charge = s.charge })
       turned_parts = subst (λ (st : StoresState). Advances [] old new (unprepared s) st) parts_are turned
 
-      pub turned_parts_map : Remaps [] old new s (record { manifest = m; active = active; frozen = frozen; charge = s.charge })
+      pub turned_parts_map : Remaps [] old new s (record { manifest = m; active = active; frozen = frozen; hashes = s.hashes; converting = s.converting; charge = s.charge })
       turned_parts_map = subst (λ (st : StoresState). Remaps [] old new s st) parts_are turned_map
 
-      pub parts_have_frozen : HasFrozen next new s (record { manifest = m; active = active; frozen = frozen; charge = s.charge })
+      pub parts_have_frozen : HasFrozen next new s (record { manifest = m; active = active; frozen = frozen; hashes = s.hashes; converting = s.converting; charge = s.charge })
       parts_have_frozen = subst (λ (st : StoresState). HasFrozen next new s st) parts_are has_frozen
 
 -- the body that was prepared

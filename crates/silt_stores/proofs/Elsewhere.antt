@@ -1,25 +1,31 @@
--- What a change in one place of the disk leaves of the logs in other places.
-use Rattle.std.proofs.Common.{◌≡◌, ◌≢◌, ◌<◌, ℕ, ◌*◌, ◌%◌, ◌==◌, true, false, IsTrue, List, suc, length, map, get_or, inl, inr, ap, sym, ◌∙◌, subst, arith}
-use Rattle.std.specs.Prelude.{All, Contains}
+-- What a change in one place of the disk leaves of the logs, the hash stores and the conversion in other places.
+use Rattle.std.proofs.Common.{◌≡◌, ◌≢◌, ◌≤◌, ◌<◌, ℕ, ◌+◌, ◌*◌, ◌-◌, ◌%◌, ◌==◌, true, false, IsTrue, List, suc, length, map, get_or, Option, Some, None, inl, inr, ap, sym, ◌∙◌, subst, arith}
+use Rattle.std.specs.Prelude.{All, Contains, IfSome}
 use Rattle.std.specs.List.{list_any, list_all}
 use Rattle.std.proofs.lemmas.List.{get_or-map, length-map}
 use Rattle.std.proofs.lemmas.List.Folds.{list_any_at}
 use Rattle.std.proofs.lemmas.List.FromFn.{length-map-range_with_len}
 use Rattle.std.proofs.lemmas.Bool.Decides.{nat_tests}
 use Rattle.silt_device.specs.Disk.{Content, ChangesWithin, size}
-use Rattle.silt_device.specs.Layout.{Shape, device_size, gates_at, log_size, row_len, slot_at}
-use Rattle.silt_device.proofs.Regions.{up_least}
+use Rattle.silt_device.specs.Layout.{Shape, device_size, gates_at, hash_size, log_size, row_len, slot_at}
+use Rattle.silt_device.proofs.Regions.{next_region, regions_apart, up_least}
 use Rattle.silt_log.specs.Rows.{StoredRow, first_rows, has_known_kind, log_rows, open_count, row_at, rows_from}
-use Rattle.silt_log.specs.State.{LogState, all_rows}
+use Rattle.silt_log.specs.State.{InBounds, LogState, all_rows}
+use Rattle.silt_log.proofs.Counts.{count_most}
+use Rattle.silt_log.proofs.Exits.{log_inside}
 use Rattle.silt_log.proofs.Elsewhere.{IsOutside, log_rows_elsewhere}
-use Rattle.silt_log_store.specs.State.{IsIndexed, LogStoreState, keys_of}
+use Rattle.silt_log_store.specs.State.{IsIndexed, LogStoreState, keys_of, put_count}
 use Rattle.silt_cuckoo.specs.Index.{index_of_keys}
+use Rattle.silt_hash_store.specs.Converting.{ConversionState, HasWritten}
+use Rattle.silt_hash_store.specs.Laws.{IsOutsideSlots}
+use Rattle.silt_hash_store.specs.State.{HashState, IsHashStore}
+use Rattle.silt_hash_store.proofs.Elsewhere.{hash_elsewhere, written_elsewhere}
 use Rattle.silt_image.specs.Laws.{IsWhole}
 use Rattle.silt_image.proofs.Frame.{names_regions, pieces_apart}
 use Rattle.silt_image.proofs.Named.{apart_of, whole_law}
 use Rattle.silt_manifest.specs.Body.{is_well_formed}
 use Rattle.silt_manifest.specs.declared.body.Body.{Body}
-use Rattle.silt_stores.specs.State.{StoresState, region_of}
+use Rattle.silt_stores.specs.State.{IsHashOf, IsUnderWay, StoresState, hash_region_of, oldest_log, region_of}
 use Rattle.silt_stores.specs.Standing.{IsFrozen, Stands, shown_stores}
 use Rattle.silt_stores.proofs.Facts.{shown_named}
 use Rattle.silt_stores.proofs.Named.{named_body, named_shape}
@@ -39,6 +45,17 @@ outside_other shape region other differ =
 pub outside_slot : (shape : Shape) (region slot : ℕ) → slot < 2 → IsOutside shape region (slot_at slot) 4096
 outside_slot shape region slot below = inl (omega (arith, below))
 
+-- a log region lies before the slots of each hash store
+log_ends : (size logs region rest : ℕ) → region < logs → 12288 + region * size + size ≤ 12288 + logs * size + rest
+log_ends size logs region rest below = omega (arith, next_region region logs size below)
+
+pub slots_behind_log : (shape : Shape) (region hash : ℕ) → region < shape.logs → IsOutsideSlots shape hash (gates_at shape region) (log_size shape)
+slots_behind_log shape region hash below = inl (log_ends (log_size shape) shape.logs region (hash * hash_size shape) below)
+
+-- and so does a manifest slot
+pub slots_behind_manifest : (shape : Shape) (hash slot : ℕ) → slot < 2 → IsOutsideSlots shape hash (slot_at slot) 4096
+slots_behind_manifest shape hash slot below = inl (omega (arith, below))
+
 -- ---- frozen logs
 
 -- there are as many rows as gates before the first closed one
@@ -51,11 +68,12 @@ pub scanned_all : (content : Content) (log : LogState) → log.used ≡ open_cou
 unfolding log_rows
 scanned_all content log counted = ap (λ (n : ℕ). first_rows log.shape log.region content.shown n) counted
 
--- the table of a log's keys depends on its rows alone
+-- the table of a log's keys and the number of its puts depend on its rows alone
 pub indexed_same : (old new : Content) (store : LogStoreState) → (IsTrue new.honest → IsTrue old.honest) → (IsTrue new.honest → all_rows new store.log ≡ all_rows old store.log) → IsIndexed old store → IsIndexed new store
 indexed_same old new store back same indexed = record {
   known = λ h. ap (list_all has_known_kind) (same h) ∙ indexed.known (back h);
   indexed = λ h. ap (λ (rows : List StoredRow). index_of_keys store.log.shape.buckets (keys_of rows)) (same h) ∙ indexed.indexed (back h);
+  counted = λ h. indexed.counted (back h) ∙ ap put_count (sym (same h));
 }
 
 -- a change outside a frozen log's region leaves the log
@@ -122,3 +140,83 @@ all_frozen_elsewhere old new s at count stands changes outside k d inside =
       subst (λ (sh : Shape). IsOutside sh store.log.region at count) (sym is_shape) (outside h store.log.region (frozen_named s stands.whole.frozen_regions k d inside)),
     ))
     (stands.frozen k d inside)
+
+-- ---- hash stores
+
+-- the body names the region of each hash store
+pub hash_named : (s : StoresState) → map hash_region_of s.hashes ≡ s.manifest.ruling.hashed → (k : ℕ) (d : HashState) → k < length s.hashes → Contains s.manifest.ruling.hashed (hash_region_of (get_or s.hashes k d))
+hash_named s are k d inside = (
+  k,
+  omega (arith, inside, length-map s.hashes hash_region_of, ap length are),
+  ap (λ (ids : List ℕ). get_or ids k (hash_region_of (get_or s.hashes k d))) (sym are) ∙ get_or-map hash_region_of s.hashes k d (hash_region_of (get_or s.hashes k d)) inside,
+)
+
+-- a change outside the slots of the hash stores leaves these
+pub all_hashed_elsewhere : (old new : Content) (s : StoresState) (at count : ℕ) → Stands old s → ChangesWithin at count old new
+    → (IsTrue old.honest → (region : ℕ) → Contains s.manifest.ruling.hashed region → IsOutsideSlots s.manifest.shape region at count) → All (IsHashStore new) s.hashes
+all_hashed_elsewhere old new s at count stands changes outside k d inside =
+    let store : HashState = get_or s.hashes k d in
+    let is : IsHashOf s.manifest.shape store = stands.whole.hashed k d inside in
+    let back : IsTrue new.honest → IsTrue old.honest = λ h. subst IsTrue changes.honest h in
+    let fits : device_size store.shape ≤ size old = subst (λ (sh : Shape). device_size sh ≤ size old) (sym is.has_shape) (omega (arith, stands.has_size)) in
+    let stays : IsTrue old.honest → IsHashStore new store =
+    λ h. hash_elsewhere store old new at count is.held fits (subst (λ (sh : Shape). IsOutsideSlots sh store.region at count) (sym is.has_shape) (outside h store.region (hash_named s stands.whole.hash_regions k d inside))) changes (stands.hashed k d inside) in
+    record {
+      sound = λ h. (stays (back h)).sound h;
+      tagged = λ h. (stays (back h)).tagged h;
+    }
+
+-- ---- the conversion
+
+-- no more gates are counted than there are
+pub open_most : (shape : Shape) (region : ℕ) (image : List ℕ) → gates_at shape region + shape.log_capacity ≤ length image → open_count shape region image ≤ shape.log_capacity
+unfolding open_count
+open_most shape region image fits = count_most (gates_at shape region) shape.log_capacity image fits
+
+-- a change outside a frozen log and the slots of its conversion leaves what this has written
+pub log_written_elsewhere : (old new : Content) (store : LogStoreState) (conversion : ConversionState) (at count : ℕ) → device_size store.log.shape ≤ size old → conversion.region < conversion.shape.hashes
+    → conversion.next ≤ 4 * conversion.shape.buckets → IsFrozen old store → ChangesWithin at count old new
+    → (IsTrue old.honest → (store.log.region < store.log.shape.logs) × IsOutside store.log.shape store.log.region at count × IsOutsideSlots conversion.shape conversion.region at count)
+    → HasWritten old store conversion → HasWritten new store conversion
+log_written_elsewhere old new store conversion at count fits there most frozen changes lies is =
+    let plain : LogStoreState = record store { log = record store.log { settled = store.log.used; loose = false } } in
+    let plainly : HasWritten old plain conversion = record { shape = is.shape; due = is.due; tagged = is.tagged; charged = is.charged } in
+    let inside : IsTrue old.honest → gates_at store.log.shape store.log.region + store.log.shape.log_capacity ≤ size old =
+    λ h. let ends = log_inside store.log.shape store.log.region (lies h).0 in let gates = (regions_apart store.log.shape).gates store.log.region in omega (arith, ends, gates, fits) in
+    let bounds : IsTrue old.honest → InBounds plain.log = λ h. record {
+      region = (lies h).0;
+      order = omega arith;
+      room = let few = open_most store.log.shape store.log.region old.shown (inside h) in omega (arith, few, frozen.rows h);
+      gap = λ loose. absurd (let no : false ≡ true = loose in cc);
+    } in
+    let stays : IsTrue old.honest → HasWritten new plain conversion =
+    λ h. written_elsewhere plain conversion old new at count (bounds h) there most (subst (λ (sh : Shape). device_size sh ≤ size old) (sym is.shape) fits) (lies h).1 (lies h).2 changes plainly in
+    record {
+      shape = is.shape;
+      due = λ h. (stays (subst IsTrue changes.honest h)).due h;
+      tagged = is.tagged;
+      charged = λ h. (stays (subst IsTrue changes.honest h)).charged h;
+    }
+
+-- a conversion under way has written what it had after a change outside the frozen logs and its slots
+pub written_all_elsewhere : (old new : Content) (s : StoresState) (at count : ℕ) (o : Option ConversionState) → Stands old s → ChangesWithin at count old new
+    → (IsTrue old.honest → (region : ℕ) → Contains s.manifest.ruling.frozen region → IsOutside s.manifest.shape region at count)
+    → (IsTrue old.honest → IfSome o (λ conversion. IsOutsideSlots s.manifest.shape conversion.region at count))
+    → IfSome o (IsUnderWay s) → IfSome o (HasWritten old (oldest_log s)) → IfSome o (HasWritten new (oldest_log s))
+written_all_elsewhere old new s at count None stands changes outside apart under_way is = tt
+written_all_elsewhere old new s at count (Some conversion) stands changes outside apart under_way is =
+    let way : IsUnderWay s conversion = under_way in
+    let inside : length s.frozen - 1 < length s.frozen = omega (arith, way.some_frozen) in
+    let log : LogStoreState = oldest_log s in
+    let is_shape : log.log.shape ≡ s.manifest.shape = (stands.whole.settled (length s.frozen - 1) s.active inside).has_shape in
+    let named = frozen_named s stands.whole.frozen_regions (length s.frozen - 1) s.active inside in
+    log_written_elsewhere old new log conversion at count (subst (λ (sh : Shape). device_size sh ≤ size old) (sym is_shape) (omega (arith, stands.has_size)))
+    (subst (λ (sh : Shape). conversion.region < sh.hashes) (sym way.has_shape) way.there)
+    (subst (λ (sh : Shape). conversion.next ≤ 4 * sh.buckets) (sym way.has_shape) way.most)
+    (stands.frozen (length s.frozen - 1) s.active inside) changes
+    (λ h. (
+      subst (λ (sh : Shape). log.log.region < sh.logs) (sym is_shape) (named_below old s stands h log.log.region named),
+      subst (λ (sh : Shape). IsOutside sh log.log.region at count) (sym is_shape) (outside h log.log.region named),
+      subst (λ (sh : Shape). IsOutsideSlots sh conversion.region at count) (sym way.has_shape) (apart h),
+    ))
+    is

@@ -44,8 +44,9 @@ module _ (old new : Content) (s : StoresState) (next : NextLog) where
         ap (λ (t : LogStoreState). t.log) is.store
         ∙ ap (λ (t : LogStoreState). record t.log { settled = 0; used = 0; loose = false }) (sym is.store)
         ) in
-        ap (λ (l : LogState). let r : LogStoreState = record { log = l; table = after.table } in r) log
-        ∙ ap (λ t. let r : LogStoreState = record { log = next.store.log; table = t } in r) empties.table
+        ap (λ (l : LogState). let r : LogStoreState = record { log = l; table = after.table; puts = after.puts } in r) log
+        ∙ ap (λ t. let r : LogStoreState = record { log = next.store.log; table = t; puts = after.puts } in r) empties.table
+        ∙ ap (λ (n : ℕ). let r : LogStoreState = record { log = next.store.log; table = next.store.table; puts = n } in r) empties.puts
 
     pub clear_emptied : (now : NextLog) → now ≡ record next { store = after } → IsEmptied new s now
     clear_emptied now now_is =

@@ -16,9 +16,9 @@ use Rattle.silt_image.specs.Meaning.{HasActive, IsSound, charge_of_rows, command
 use Rattle.silt_image.proofs.Verdict.{rows_law, stands_law}
 use Rattle.silt_stores.specs.State.{StoresState}
 use Rattle.silt_stores.specs.Standing.{Stands, base_map, current_map, full_image, shown_stores}
-use Rattle.silt_stores.specs.Calls.{StandsOnLogs}
+use Rattle.silt_stores.specs.Calls.{StandsUnsorted}
 use Rattle.silt_stores.specs.Laws.{IsGoodWith, MeaningLaw}
-use Rattle.silt_stores.proofs.Named.{active_named, map_with_more, named_body, named_here, named_shape, region_torn, rows_with_more, sound_settled, stands_on_logs, stores_map, with_body, with_shape}
+use Rattle.silt_stores.proofs.Named.{active_named, map_with_more, named_body, named_here, named_shape, region_torn, rows_with_more, sound_settled, stands_unsorted, stores_map, with_body, with_shape}
 
 -- the map of the settled rows
 pub base_is : (content : Content) (s : StoresState) → base_map content s ≡ map_of_rows (rows_of (shown_stores content s))
@@ -40,6 +40,19 @@ full_torn content l bounds sized =
     let within : gates_at l.shape l.region + l.settled + length ones ≤ length content.shown = omega (arith, long, inside, gates, bounds.order, bounds.room, sized) in
     torn_wider (gates_at l.shape l.region) (log_size l.shape) (omega arith) (omega (arith, long, bounds.order, bounds.room, up_least l.shape.log_capacity))
     (torn_splice (gates_at l.shape l.region + l.settled) ones content.shown within)
+
+-- with the gates of a log's waiting rows open, the map of the stores that are shown, of which it is the active one, is that after their commands
+pub opened_map : (content : Content) (l : LogState) (t : Stores) → log.IsLog content l → size content ≡ device_size l.shape → t.shape ≡ l.shape → t.body.active ≡ l.region → IsTrue content.honest → image_stores content.shown ≡ Ok t
+    → image_map (log.full_image content l) ≡ map_after (map_of_rows (rows_of t)) (map command_of (waiting_rows content l))
+opened_map content l t is sized same_shape same_region honest named =
+    let settled : List StoredRow = settled_rows content l in
+    let waiting : List StoredRow = waiting_rows content l in
+    let shown : log_rows l.shape l.region content.shown ≡ settled = is.images.each honest content.shown (shown_left content) in
+    let has : HasActive settled t = active_named l.shape t.body t settled content.shown named same_shape refl (ap (λ (n : ℕ). log_rows l.shape n content.shown) same_region ∙ shown) in
+    let all : image_stores (log.full_image content l) ≡ Ok (with_log_rows l.region (settled ++ waiting) t) =
+    region_torn l.shape t l.region (settled ++ waiting) content.shown (log.full_image content l) same_shape named is.bounds.region (full_torn content l is.bounds sized)
+    (is.full honest ∙ all_are_settled_and_waiting content l is.bounds.order) in
+    stores_map (with_log_rows l.region (settled ++ waiting) t) (log.full_image content l) all ∙ map_with_more t l.region settled waiting same_region has waiting
 
 module _ (content : Content) (s : StoresState) (stands : Stands content s) where
   -- the active log's region
@@ -137,27 +150,27 @@ module _ (content : Content) (s : StoresState) (stands : Stands content s) where
   shown_map honest = stores_map (shown_stores content s) content.shown (shown_named honest) ∙ sym (base_is content s)
 
   -- each image stands for the base
-  pub base_stands : IsTrue content.honest → (image : List ℕ) → image_stores image ≡ Ok (shown_stores content s) → StandsOnLogs s.manifest.shape (base_map content s) image
-  base_stands honest image is = stands_on_logs s.manifest.shape s.manifest.ruling (shown_stores content s) (base_map content s) image is
-      (named_shape s.manifest.shape s.manifest.ruling content.shown) (named_body s.manifest.shape s.manifest.ruling content.shown) (shown_sound honest) (sym (base_is content s)) stands.logs_alone
+  pub base_stands : IsTrue content.honest → (image : List ℕ) → image_stores image ≡ Ok (shown_stores content s) → StandsUnsorted s.manifest.shape (base_map content s) image
+  base_stands honest image is = stands_unsorted s.manifest.shape s.manifest.ruling (shown_stores content s) (base_map content s) image is
+      (named_shape s.manifest.shape s.manifest.ruling content.shown) (named_body s.manifest.shape s.manifest.ruling content.shown) (shown_sound honest) (sym (base_is content s)) stands.no_entries
 
-  pub base_safe : LeavesOnly content (StandsOnLogs s.manifest.shape (base_map content s))
+  pub base_safe : LeavesOnly content (StandsUnsorted s.manifest.shape (base_map content s))
   base_safe = record { each = λ honest image left. base_stands honest image (stands.named.each honest image left) }
 
   -- an image with these rows in the active log, in which nothing is found
   pub stands_with_rows : IsTrue content.honest → (image : List ℕ) (more : List StoredRow)
       → image_stores image ≡ Ok (with_log_rows s.manifest.ruling.active (settled_rows content s.active.log ++ more) (shown_stores content s))
       → IsSound (with_log_rows s.manifest.ruling.active (settled_rows content s.active.log ++ more) (shown_stores content s))
-      → StandsOnLogs s.manifest.shape (map_after (base_map content s) (map command_of more)) image
+      → StandsUnsorted s.manifest.shape (map_after (base_map content s) (map command_of more)) image
   stands_with_rows honest image more is sound =
       let t : Stores = with_log_rows s.manifest.ruling.active (settled_rows content s.active.log ++ more) (shown_stores content s) in
-      stands_on_logs s.manifest.shape s.manifest.ruling t (map_after (base_map content s) (map command_of more)) image is
+      stands_unsorted s.manifest.shape s.manifest.ruling t (map_after (base_map content s) (map command_of more)) image is
       (with_shape s.manifest.ruling.active (settled_rows content s.active.log ++ more) (shown_stores content s) ∙ named_shape s.manifest.shape s.manifest.ruling content.shown)
       (with_body s.manifest.ruling.active (settled_rows content s.active.log ++ more) (shown_stores content s) ∙ named_body s.manifest.shape s.manifest.ruling content.shown)
       sound
       (map_with_more (shown_stores content s) s.manifest.ruling.active (settled_rows content s.active.log) (waiting_rows content s.active.log) active_is (has_active honest) more
       ∙ ap (λ (m : Map). map_after m (map command_of more)) (sym (base_is content s)))
-      stands.logs_alone
+      stands.no_entries
 
 -- what all images mean
 pub meaning : MeaningLaw

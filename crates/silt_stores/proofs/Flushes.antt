@@ -21,8 +21,9 @@ use Rattle.silt_stores.specs.Calls.{Advances, Breaks, IsQuiet, Remaps, SameDisk}
 use Rattle.silt_stores.proofs.Named.{map_with_more, named_body, named_shape, rows_with_more, sound_some, with_body, with_shape}
 use Rattle.silt_stores.proofs.Facts.{active_is, all_sound, base_is, full_map, has_active, map_with_rows, rows_split, stands_with_rows, torn_active}
 use Rattle.silt_stores.proofs.Chains.{advances_remap}
-use Rattle.silt_stores.proofs.Standing.{Fits, fits_stand, frozen_stay, full_with, named_with, rules_stay, shown_are}
+use Rattle.silt_stores.proofs.Standing.{Fits, fits_stand, frozen_stay, full_with, hashed_stay, named_with, rules_stay, shown_are, written_stays}
 use Rattle.silt_stores.proofs.Appends.{with_active}
+use Rattle.silt_stores.proofs.Wholes.{whole_with_active, written_with_active}
 
 -- nothing waits where all rows are settled
 pub quiet : (content : Content) (s : StoresState) → s.active.log.settled ≡ s.active.log.used → IsQuiet content s
@@ -91,17 +92,13 @@ module _ (old new : Content) (s : StoresState) (after : LogStoreState) (stands :
     fits : Fits new (with_active s after s.charge) now
     fits = record {
       has_size = sizes ∙ stands.has_size;
-      whole = record {
-        has_shape = shape_same ∙ stands.whole.has_shape;
-        active_region = region_same ∙ stands.whole.active_region;
-        frozen_regions = stands.whole.frozen_regions;
-        settled = stands.whole.settled;
-        most = stands.whole.most;
-      };
+      whole = whole_with_active s after s.charge stands.whole shape_same region_same stands.whole.most;
       idle = stands.idle;
       rules = rules_stay old new s stands sizes changed;
       active = opens.stands;
       frozen = frozen_stay old new s stands sizes changed;
+      hashed = hashed_stay old new s stands sizes changed;
+      written = written_with_active new s after s.charge stands.whole (written_stays old new s stands sizes changed);
       same_shape = same_shape;
       same_body = same_body;
       named = named;
@@ -111,7 +108,7 @@ module _ (old new : Content) (s : StoresState) (after : LogStoreState) (stands :
           (subst (λ (rows : List StoredRow). IsSound (with_log_rows s.manifest.ruling.active rows (shown_stores old s))) (sym (opens.log.all (was h) ∙ rows_split old s stands)) (all_sound old s stands (was h))));
       counted = λ h.
           stands.counted (was h) ∙ ap charge_of_rows (sym (now_rows (was h)) ∙ sym (append-nil (rows_of now)) ∙ ap (λ (rows : List StoredRow). rows_of now ++ rows) (sym none));
-      logs_alone = stands.logs_alone;
+      no_entries = stands.no_entries;
     }
 
     pub flushed : Advances [] old new s (with_active s after s.charge)

@@ -1,5 +1,5 @@
 -- Rows done on a map in memory.
-use Rattle.std.proofs.Common.{◌≡◌, ◌<◌, ℕ, ◌+◌, ◌==◌, Bool, cond, if◌then◌else◌, false, List, [], ◌∷◌, ◌++◌, ◌-◌, length, map, take, drop, get_or, Some, None, ap, sym, ◌∙◌, subst, arith}
+use Rattle.std.proofs.Common.{◌≡◌, ◌<◌, ℕ, ◌+◌, ◌*◌, ◌==◌, Bool, cond, if◌then◌else◌, true, false, List, [], ◌∷◌, ◌++◌, ◌-◌, length, filter, map, take, drop, get_or, Some, None, refl, ap, sym, ◌∙◌, subst, arith}
 use Rattle.std.specs.Ordering.{nat_cmp, eq_by_cmp}
 use Rattle.std.specs.Cmp.Lexicographic.{slice_cmp}
 use Rattle.std.specs.BTreeMap.{BTreeMap}
@@ -8,11 +8,16 @@ use Rattle.std.specs.FinMap.{empty, get, get-empty, get-insert, get-remove}
 use Rattle.std.specs.Map.{lookup}
 use Rattle.std.proofs.lemmas.Cmp.{eq_by_cmp_equiv, nat_list_cmp_total}
 use Rattle.std.proofs.lemmas.List.{drop_more, length-drop, map-append, take_all, take_more}
+use Rattle.std.proofs.lemmas.List.Elements.{filter-append}
+use Rattle.silt_device.specs.Layout.{Shape}
 use Rattle.silt_frame.specs.declared.key.Key.{Key}
+use Rattle.silt_hash_store.specs.Slots.{rows_before, slot_row}
+use Rattle.silt_hash_store.proofs.Slotting.{all_before, before_more}
 use Rattle.silt_image.specs.Commands.{Command, Map, changed, delete, map_after, put}
 use Rattle.silt_image.specs.Meaning.{command_of, oldest_first}
+use Rattle.silt_image.specs.Stores.{hash_rows}
 use Rattle.silt_image.proofs.Rows.{map_after-append}
-use Rattle.silt_log.specs.Rows.{StoredRow}
+use Rattle.silt_log.specs.Rows.{StoredRow, has_known_kind}
 use Rattle.silt_stores.specs.Lookup.{AreEntriesOf, key_cmp}
 use Rattle.silt_stores.specs.Folding.{DoesRows}
 
@@ -54,6 +59,41 @@ does_more rows more a b c first second m are =
 pub does_next : (rows : List StoredRow) (n : ℕ) (row : StoredRow) (a b c : BTreeMap Key (List ℕ)) → n < length rows → get_or rows n row ≡ row → DoesRows (take n rows) a b → DoesRows (row ∷ []) b c → DoesRows (take (n + 1) rows) a c
 does_next rows n row a b c inside is first second =
     subst (λ (l : List StoredRow). DoesRows l a c) (sym (take_more rows n row inside ∙ ap (λ (r : StoredRow). take n rows ++ r ∷ []) is)) (does_more (take n rows) (row ∷ []) a b c first second)
+
+-- ---- rows of hash stores
+
+-- a row of a known kind was done
+pub does_kept : (row : StoredRow) (before after : BTreeMap Key (List ℕ)) → has_known_kind row ≡ true → DoesRows (row ∷ []) before after → DoesRows (filter has_known_kind (row ∷ [])) before after
+does_kept row before after known does =
+    let kept : filter has_known_kind (row ∷ []) ≡ row ∷ [] = rw known refl in
+    subst (λ (l : List StoredRow). DoesRows l before after) (sym kept) does
+
+-- a row of another kind counts for nothing
+pub does_dropped : (row : StoredRow) (entries : BTreeMap Key (List ℕ)) → has_known_kind row ≡ false → DoesRows (filter has_known_kind (row ∷ [])) entries entries
+does_dropped row entries unknown =
+    let none : filter has_known_kind (row ∷ []) ≡ [] = rw unknown refl in
+    subst (λ (l : List StoredRow). DoesRows l entries entries) (sym none) (does_none entries)
+
+module _ (shape : Shape) (region : ℕ) (image : List ℕ) where
+  -- no slot was done
+  pub does_no_slot : (entries : BTreeMap Key (List ℕ)) → DoesRows (filter has_known_kind (rows_before shape region image 0)) entries entries
+  unfolding rows_before
+  does_no_slot entries = does_none entries
+
+  -- one slot more was done
+  pub does_slot : (slot : ℕ) (a b c : BTreeMap Key (List ℕ)) → DoesRows (filter has_known_kind (rows_before shape region image slot)) a b → DoesRows (filter has_known_kind (slot_row shape region image slot ∷ [])) b c
+      → DoesRows (filter has_known_kind (rows_before shape region image (slot + 1))) a c
+  does_slot slot a b c first second =
+      let split : filter has_known_kind (rows_before shape region image (slot + 1)) ≡ filter has_known_kind (rows_before shape region image slot) ++ filter has_known_kind (slot_row shape region image slot ∷ []) =
+      ap (filter has_known_kind) (before_more shape region image slot) ∙ filter-append has_known_kind (rows_before shape region image slot) (slot_row shape region image slot ∷ []) in
+      subst (λ (l : List StoredRow). DoesRows l a c) (sym split) (does_more (filter has_known_kind (rows_before shape region image slot)) (filter has_known_kind (slot_row shape region image slot ∷ [])) a b c first second)
+
+  -- all slots were done
+  pub does_slots : (count : ℕ) (a b : BTreeMap Key (List ℕ)) → count ≡ 4 * shape.buckets → DoesRows (filter has_known_kind (rows_before shape region image count)) a b → DoesRows (filter has_known_kind (hash_rows shape region image)) a b
+  does_slots count a b all does =
+      subst (λ (l : List StoredRow). DoesRows (filter has_known_kind l) a b) (ap (rows_before shape region image) all ∙ sym (all_before shape region image)) does
+
+-- ---- all rows
 
 -- from no entries
 pub does_all : (rows : List StoredRow) (first last : BTreeMap Key (List ℕ)) → tree.IsEmpty first → DoesRows rows first last → AreEntriesOf (map_after empty (map command_of rows)) last

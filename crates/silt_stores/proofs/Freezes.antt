@@ -1,6 +1,6 @@
 -- The steps of freezing.
-use Rattle.std.proofs.Common.{◌≡◌, ◌≢◌, ◌≤◌, ◌<◌, ℕ, ◌+◌, ◌-◌, ◌%◌, false, IsTrue, List, [], ◌∷◌, ◌++◌, suc, length, map, take, drop, replicate, Some, None, Ok, Err, Result, inr, refl, ap, sym, ◌∙◌, subst, arith}
-use Rattle.std.specs.Prelude.{All, Contains}
+use Rattle.std.proofs.Common.{◌≡◌, ◌≢◌, ◌<◌, ℕ, ◌+◌, ◌-◌, ◌%◌, false, IsTrue, List, [], ◌∷◌, ◌++◌, suc, length, map, take, drop, replicate, Option, Some, None, Ok, Err, Result, inr, refl, ap, sym, ◌∙◌, subst, arith}
+use Rattle.std.specs.Prelude.{Contains, IfSome}
 use Rattle.std.proofs.lemmas.List.{append-nil, take-append-drop}
 use Rattle.std.proofs.Math.Nat.{mod-lt}
 use Rattle.silt_device.specs.Disk.{ChangesWithin, Content, LeavesOnly, size}
@@ -13,6 +13,8 @@ use Rattle.silt_log.specs.Calls.{Keeps}
 use Rattle.silt_log.proofs.Elsewhere.{IsOutside, log_elsewhere}
 use Rattle.silt_log.proofs.Waiting.{waiting_kept}
 use Rattle.silt_log_store.specs.State.{IsLogStore, LogStoreState}
+use Rattle.silt_hash_store.specs.Converting.{ConversionState, HasWritten}
+use Rattle.silt_hash_store.specs.Laws.{IsOutsideSlots}
 use Rattle.silt_manifest.specs.Ruling.{where_found}
 use Rattle.silt_manifest.specs.Standing.{ManifestState, Rules}
 use Rattle.silt_manifest.specs.declared.body.Body.{Body}
@@ -23,22 +25,28 @@ use Rattle.silt_image.specs.Stores.{Stores, image_stores}
 use Rattle.silt_image.specs.Meaning.{IsSound, charge_of_rows, command_of, map_of_rows, names_log, rows_of, with_log_rows}
 use Rattle.silt_image.proofs.Named.{whole_law}
 use Rattle.silt_image.proofs.Rows.{unnamed_law}
-use Rattle.silt_stores.specs.State.{IsSettled, StoresState}
+use Rattle.silt_stores.specs.State.{IsUnderWay, StoresState, oldest_log}
 use Rattle.silt_stores.specs.Standing.{Stands, base_map, current_map, full_image, shown_stores, waiting_commands}
 use Rattle.silt_stores.specs.Calls.{Advances, Breaks, IsQuiet, Remaps, SameDisk}
 use Rattle.silt_stores.specs.Freezing.{names_region}
 use Rattle.silt_stores.proofs.Named.{named_body, named_shape, region_torn}
 use Rattle.silt_stores.proofs.Facts.{active_size, base_is, shown_named}
-use Rattle.silt_stores.proofs.Elsewhere.{all_frozen_elsewhere, indexed_same, not_among, outside_other, outside_slot}
+use Rattle.silt_stores.proofs.Elsewhere.{all_frozen_elsewhere, all_hashed_elsewhere, indexed_same, not_among, outside_other, outside_slot, slots_behind_log, slots_behind_manifest, written_all_elsewhere}
 use Rattle.silt_stores.proofs.Chains.{advances_break, advances_remap}
 use Rattle.silt_stores.proofs.Standing.{Fits, fits_stand, shown_are}
+use Rattle.silt_stores.proofs.Wholes.{whole_with}
 
 -- ---- a change that leaves the stores as they are
 
--- outside the regions of all logs
+-- outside the regions of all logs and the slots of all hash stores
 pub record IsApart (shape : Shape) (body : Body) (at count : ℕ) : Type 0 where
   pub active : IsOutside shape body.active at count
   pub frozen : (region : ℕ) → Contains body.frozen region → IsOutside shape region at count
+  pub hashed : (region : ℕ) → Contains body.hashed region → IsOutsideSlots shape region at count
+
+-- outside the slots of a conversion under way
+abbrev pub IsOutsideConversion : StoresState → ℕ → ℕ → Type 0
+IsOutsideConversion s at count = IfSome s.converting (λ conversion. IsOutsideSlots s.manifest.shape conversion.region at count)
 
 -- a log store under a change elsewhere
 pub store_elsewhere : (old new : Content) (store : LogStoreState) (at count : ℕ) → IsLogStore old store → size old ≡ device_size store.log.shape → size new ≡ size old
@@ -55,54 +63,68 @@ module _ (old new : Content) (s : StoresState) (at count : ℕ) (stands : Stands
   pub same_here : SameDisk old new
   same_here = record { size = sizes; honest = changes.honest }
 
-  kept : Keeps old new s.active.log s.active.log
+  pub kept : Keeps old new s.active.log s.active.log
   kept = log_elsewhere old new s.active.log at count stands.active (omega (arith, active_size old s stands)) sizes outside changes
 
-  -- the stores stand on, with the manifest in such a state
-  pub stays_on : (m : ManifestState) → m.shape ≡ s.manifest.shape → m.ruling ≡ s.manifest.ruling → m.prepared ≡ None → Rules m new
+  -- the stores that stand in this state, with rows that wait as they waited
+  module _ (m : ManifestState) (converting : Option ConversionState) (same_shape : m.shape ≡ s.manifest.shape) (same_ruling : m.ruling ≡ s.manifest.ruling) (idle : m.prepared ≡ None) (rules : Rules m new)
+      (named : LeavesOnly new (λ image. image_stores image ≡ Ok (shown_stores old s)))
+      (under_way : IfSome converting (IsUnderWay s)) (written : IfSome converting (HasWritten new (oldest_log s))) where
+    abbrev after : StoresState
+    after = record s { manifest = m; converting = converting }
+
+    back : IsTrue new.honest → IsTrue old.honest
+    back h = subst IsTrue changes.honest h
+
+    t_shape : (shown_stores old s).shape ≡ m.shape
+    t_shape = named_shape s.manifest.shape s.manifest.ruling old.shown ∙ sym same_shape
+
+    t_body : (shown_stores old s).body ≡ m.ruling
+    t_body = named_body s.manifest.shape s.manifest.ruling old.shown ∙ sym same_ruling
+
+    fits_on : Fits new after (shown_stores old s)
+    fits_on = record {
+      has_size = sizes ∙ stands.has_size ∙ ap device_size (sym same_shape);
+      whole = whole_with s m converting same_shape same_ruling under_way stands.whole;
+      idle = idle;
+      rules = rules;
+      active = record { log = kept.stands; index = indexed_same old new s.active back (λ h. kept.all (back h)) stands.indexed };
+      frozen = all_frozen_elsewhere old new s at count stands changes (λ h. (apart h).frozen);
+      hashed = all_hashed_elsewhere old new s at count stands changes (λ h. (apart h).hashed);
+      written = written;
+      same_shape = t_shape;
+      same_body = t_body;
+      named = named;
+      sound = λ h.
+          let active_of : s.active.log.region ≡ m.ruling.active = stands.whole.active_region ∙ ap (λ (b : Body). b.active) (sym same_ruling) in
+          subst (λ (rows : List StoredRow). IsSound (with_log_rows m.ruling.active rows (shown_stores old s))) (sym (kept.all (back h)))
+          (subst (λ (n : ℕ). IsSound (with_log_rows n (all_rows old s.active.log) (shown_stores old s))) active_of (stands.sound (back h)));
+      counted = λ h.
+          stands.counted (back h) ∙ ap (λ (rows : List StoredRow). charge_of_rows (rows_of (shown_stores old s) ++ rows)) (sym (waiting_kept old new s.active.log s.active.log stands.active (back h) kept));
+      no_entries = ap (λ (b : Body). b.sorted_count) same_ruling ∙ stands.no_entries;
+    }
+
+    -- they stand on
+    pub stays_with : Advances [] old new s after
+    stays_with = record {
+      stands = fits_stand new after (shown_stores old s) fits_on;
+      shape = same_shape;
+      moves = λ h. record {
+        moved = [];
+        rest = ap (map command_of) (waiting_kept old new s.active.log s.active.log stands.active h kept) ∙ sym (append-nil (waiting_commands old s));
+        base =
+            base_is new after
+            ∙ ap (λ (u : Stores). map_of_rows (rows_of u)) (shown_are new after (shown_stores old s) t_shape t_body named (subst IsTrue (sym changes.honest) h))
+            ∙ sym (base_is old s);
+      };
+    }
+
+  -- so do the stores with their conversion as it is, after a change outside its slots
+  pub stays_on : (IsTrue old.honest → IsOutsideConversion s at count) → (m : ManifestState) → m.shape ≡ s.manifest.shape → m.ruling ≡ s.manifest.ruling → m.prepared ≡ None → Rules m new
       → LeavesOnly new (λ image. image_stores image ≡ Ok (shown_stores old s)) → Advances [] old new s (record s { manifest = m })
-  stays_on m same_shape same_ruling idle rules named =
-      let t : Stores = shown_stores old s in
-      let back : IsTrue new.honest → IsTrue old.honest = λ h. subst IsTrue changes.honest h in
-      let t_shape : t.shape ≡ m.shape = named_shape s.manifest.shape s.manifest.ruling old.shown ∙ sym same_shape in
-      let t_body : t.body ≡ m.ruling = named_body s.manifest.shape s.manifest.ruling old.shown ∙ sym same_ruling in
-      let active_of : s.manifest.ruling.active ≡ m.ruling.active = ap (λ (b : Body). b.active) (sym same_ruling) in
-      let all : IsTrue old.honest → all_rows new s.active.log ≡ all_rows old s.active.log = kept.all in
-      let fits : Fits new (record s { manifest = m }) t = record {
-        has_size = sizes ∙ stands.has_size ∙ ap device_size (sym same_shape);
-        whole = record {
-          has_shape = stands.whole.has_shape ∙ sym same_shape;
-          active_region = stands.whole.active_region ∙ active_of;
-          frozen_regions = stands.whole.frozen_regions ∙ ap (λ (b : Body). b.frozen) (sym same_ruling);
-          settled = subst (λ (sh : Shape). All (IsSettled sh) s.frozen) (sym same_shape) stands.whole.settled;
-          most = subst (λ (sh : Shape). s.charge ≤ sh.sorted_capacity) (sym same_shape) stands.whole.most;
-        };
-        idle = idle;
-        rules = rules;
-        active = record { log = kept.stands; index = indexed_same old new s.active back (λ h. all (back h)) stands.indexed };
-        frozen = all_frozen_elsewhere old new s at count stands changes (λ h. (apart h).frozen);
-        same_shape = t_shape;
-        same_body = t_body;
-        named = named;
-        sound = λ h.
-            subst (λ (rows : List StoredRow). IsSound (with_log_rows m.ruling.active rows t)) (sym (all (back h)))
-            (subst (λ (n : ℕ). IsSound (with_log_rows n (all_rows old s.active.log) t)) (stands.whole.active_region ∙ active_of) (stands.sound (back h)));
-        counted = λ h.
-            stands.counted (back h) ∙ ap (λ (rows : List StoredRow). charge_of_rows (rows_of t ++ rows)) (sym (waiting_kept old new s.active.log s.active.log stands.active (back h) kept));
-        logs_alone = (ap (λ (b : Body). b.hashed) same_ruling ∙ stands.logs_alone.0, ap (λ (b : Body). b.sorted_count) same_ruling ∙ stands.logs_alone.1);
-      } in
-      record {
-        stands = fits_stand new (record s { manifest = m }) t fits;
-        shape = same_shape;
-        moves = λ h. record {
-          moved = [];
-          rest = ap (map command_of) (waiting_kept old new s.active.log s.active.log stands.active h kept) ∙ sym (append-nil (waiting_commands old s));
-          base =
-              base_is new (record s { manifest = m })
-              ∙ ap (λ (u : Stores). map_of_rows (rows_of u)) (shown_are new (record s { manifest = m }) t t_shape t_body named (subst IsTrue (sym changes.honest) h))
-              ∙ sym (base_is old s);
-        };
-      }
+  stays_on apart_too m same_shape same_ruling idle rules named =
+      stays_with m s.converting same_shape same_ruling idle rules named stands.whole.under_way
+      (written_all_elsewhere old new s at count s.converting stands changes (λ h. (apart h).frozen) apart_too stands.whole.under_way stands.written)
 
 -- ---- the region of the new log
 
@@ -113,12 +135,21 @@ not_named body region free id there = not_among (body.active ∷ body.frozen) re
 pub later_contains : (first : ℕ) (ids : List ℕ) (id : ℕ) → Contains ids id → Contains (first ∷ ids) id
 later_contains first ids id (k, inside, here) = (suc k, omega (arith, inside), here)
 
--- it lies apart from the logs
-pub region_apart : (shape : Shape) (body : Body) (region : ℕ) → names_region body region ≡ false → IsApart shape body (gates_at shape region) (log_size shape)
-region_apart shape body region free = record {
+-- it lies apart from the logs and the hash stores
+pub region_apart : (shape : Shape) (body : Body) (region : ℕ) → region < shape.logs → names_region body region ≡ false → IsApart shape body (gates_at shape region) (log_size shape)
+region_apart shape body region below free = record {
   active = outside_other shape body.active region (not_named body region free body.active (0, omega arith, refl));
   frozen = λ id there. outside_other shape id region (not_named body region free id (later_contains body.active body.frozen id there));
+  hashed = λ id there. slots_behind_log shape region id below;
 }
+
+-- and apart from the slots of a conversion
+pub region_before_conversion : (s : StoresState) (region : ℕ) → region < s.manifest.shape.logs → IsOutsideConversion s (gates_at s.manifest.shape region) (log_size s.manifest.shape)
+region_before_conversion s region below = behind s.converting
+  where
+    behind : (o : Option ConversionState) → IfSome o (λ conversion. IsOutsideSlots s.manifest.shape conversion.region (gates_at s.manifest.shape region) (log_size s.manifest.shape))
+    behind None = tt
+    behind (Some conversion) = slots_behind_log s.manifest.shape region conversion.region below
 
 module _ (old new : Content) (s : StoresState) (region : ℕ) (stands : Stands old s) (below : region < s.manifest.shape.logs) (free : names_region s.manifest.ruling region ≡ false)
     (sizes : size new ≡ size old) (gates : ChangesWithin (gates_at s.manifest.shape region) s.manifest.shape.log_capacity old new) where
@@ -140,12 +171,12 @@ module _ (old new : Content) (s : StoresState) (region : ℕ) (stands : Stands o
   outside_active : IsOutside s.active.log.shape s.active.log.region (gates_at s.manifest.shape region) (log_size s.manifest.shape)
   outside_active =
       subst (λ (sh : Shape). IsOutside sh s.active.log.region (gates_at s.manifest.shape region) (log_size s.manifest.shape)) (sym stands.whole.has_shape)
-      (subst (λ (n : ℕ). IsOutside s.manifest.shape n (gates_at s.manifest.shape region) (log_size s.manifest.shape)) (sym stands.whole.active_region) (region_apart s.manifest.shape s.manifest.ruling region free).active)
+      (subst (λ (n : ℕ). IsOutside s.manifest.shape n (gates_at s.manifest.shape region) (log_size s.manifest.shape)) (sym stands.whole.active_region) (region_apart s.manifest.shape s.manifest.ruling region below free).active)
 
   -- the stores stand on
   pub cleared : Advances [] old new s s
-  cleared = stays_on old new s (gates_at s.manifest.shape region) (log_size s.manifest.shape) stands sizes in_region (λ h. region_apart s.manifest.shape s.manifest.ruling region free) outside_active
-      s.manifest refl refl stands.idle
+  cleared = stays_on old new s (gates_at s.manifest.shape region) (log_size s.manifest.shape) stands sizes in_region (λ h. region_apart s.manifest.shape s.manifest.ruling region below free) outside_active
+      (λ h. region_before_conversion s region below) s.manifest refl refl stands.idle
       (rules_elsewhere s.manifest (gates_at s.manifest.shape region) (log_size s.manifest.shape) old new (omega (arith, stands.has_size)) (inr (omega arith)) in_region stands.rules)
       free_named
 
@@ -182,12 +213,21 @@ full_quiet content s settled =
 pub quiet_map : (content : Content) (s : StoresState) → IsQuiet content s → current_map content s ≡ base_map content s
 quiet_map content s is = ap (map_after (base_map content s)) is.none_wait
 
--- a slot of the manifest lies apart from the logs
+-- a slot of the manifest lies apart from the logs and the hash stores
 pub slot_apart : (shape : Shape) (body : Body) (slot : ℕ) → slot < 2 → IsApart shape body (slot_at slot) 4096
 slot_apart shape body slot below = record {
   active = outside_slot shape body.active slot below;
   frozen = λ region there. outside_slot shape region slot below;
+  hashed = λ region there. slots_behind_manifest shape region slot below;
 }
+
+-- and apart from the slots of a conversion
+pub slot_before_conversion : (s : StoresState) (slot : ℕ) → slot < 2 → IsOutsideConversion s (slot_at slot) 4096
+slot_before_conversion s slot below = behind s.converting
+  where
+    behind : (o : Option ConversionState) → IfSome o (λ conversion. IsOutsideSlots s.manifest.shape conversion.region (slot_at slot) 4096)
+    behind None = tt
+    behind (Some conversion) = slots_behind_manifest s.manifest.shape conversion.region slot below
 
 pub below_two : (n : ℕ) → n % 2 < 2
 below_two n = mod-lt n (omega arith)

@@ -1,28 +1,23 @@
 -- What holds of the stores in memory at the exits of the calls.
 use Rattle.std.proofs.Common.{◌≡◌, ◌≢◌, ◌≤◌, ◌<◌, ℕ, ◌+◌, ◌-◌, ◌^◌, true, length, ap, sym, ◌∙◌, subst, arith}
-use Rattle.std.specs.Prelude.{All}
 use Rattle.std.proofs.lemmas.List.{length-map}
 use Rattle.silt_device.specs.Layout.{Shape}
 use Rattle.silt_manifest.specs.Body.{is_well_formed}
 use Rattle.silt_manifest.specs.Standing.{IsNext, ManifestState, ruling_slot, spare_slot}
 use Rattle.silt_manifest.specs.declared.body.Body.{Body}
 use Rattle.silt_stores.specs.declared.freezing.NextLog.{NextLog}
-use Rattle.silt_stores.specs.State.{AreHeld, AreWhole, IsSettled, StoresState, region_of}
+use Rattle.silt_stores.specs.State.{AreHeld, AreWhole, StoresState, region_of}
 use Rattle.silt_stores.specs.Freezing.{AreAllNamed, IsLowestFree, IsNextLog, empty_store, next_body}
 use Rattle.silt_stores.specs.Calls.{AreAllInUse}
+use Rattle.silt_stores.proofs.Wholes.{whole_with}
 use Rattle.silt_stores.proofs.Counting.{all_in_use, next_sound, one_to_spare, sound_logs}
 
 -- with another manifest of the same shape and the same ruling body
-pub held_with : (s : StoresState) (m : ManifestState) (room : ℕ) → m.shape ≡ s.manifest.shape → m.ruling ≡ s.manifest.ruling → AreHeld s room → AreHeld (record s { manifest = m }) room
-held_with s m room same_shape same_ruling held = record {
-  whole = record {
-    has_shape = held.whole.has_shape ∙ sym same_shape;
-    active_region = held.whole.active_region ∙ ap (λ (b : Body). b.active) (sym same_ruling);
-    frozen_regions = held.whole.frozen_regions ∙ ap (λ (b : Body). b.frozen) (sym same_ruling);
-    settled = subst (λ (sh : Shape). All (IsSettled sh) s.frozen) (sym same_shape) held.whole.settled;
-    most = subst (λ (sh : Shape). s.charge ≤ sh.sorted_capacity) (sym same_shape) held.whole.most;
-  };
+pub held_with : (s : StoresState) (m : ManifestState) (room hash_room : ℕ) → m.shape ≡ s.manifest.shape → m.ruling ≡ s.manifest.ruling → AreHeld s room hash_room → AreHeld (record s { manifest = m }) room hash_room
+held_with s m room hash_room same_shape same_ruling held = record {
+  whole = whole_with s m s.converting same_shape same_ruling held.whole.under_way held.whole;
   enough = held.enough;
+  enough_hashes = held.enough_hashes;
 }
 
 -- the next log's body may follow the one that rules

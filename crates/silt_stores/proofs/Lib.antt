@@ -1,6 +1,7 @@
 pub mod Named
 pub mod Facts
 pub mod Elsewhere
+pub mod Wholes
 pub mod Chains
 pub mod Standing
 pub mod Appends
@@ -10,6 +11,7 @@ pub mod Lookups
 pub mod Walks
 pub mod Freezes
 pub mod Turns
+pub mod NextBodies
 pub mod Commits
 pub mod Counting
 pub mod Holdings
@@ -17,3 +19,9 @@ pub mod Emptied
 pub mod Folds
 pub mod Steps
 pub mod Takes
+pub mod ConvertCounting
+pub mod ConvertStores
+pub mod ConvertDone
+pub mod ConvertSlots
+pub mod ConvertTurns
+pub mod ConvertSteps

@@ -1,6 +1,6 @@
 -- When stores stand on a disk, from the stores that its images have.
-use Rattle.std.proofs.Common.{◌≡◌, ℕ, IsTrue, List, [], ◌∷◌, ◌++◌, None, Ok, inr, ap, sym, ◌∙◌, subst, arith}
-use Rattle.std.specs.Prelude.{All}
+use Rattle.std.proofs.Common.{◌≡◌, ℕ, IsTrue, List, [], ◌∷◌, ◌++◌, Option, Some, None, Ok, inr, ap, sym, ◌∙◌, subst, arith}
+use Rattle.std.specs.Prelude.{All, IfSome}
 use Rattle.silt_device.specs.Disk.{ChangesWithin, Content, LeavesOnly, Torn, size}
 use Rattle.silt_device.specs.Layout.{Shape, device_size, gates_at, log_size}
 use Rattle.silt_device.proofs.Images.{shown_left, torn_trans}
@@ -8,15 +8,18 @@ use Rattle.silt_log.specs.Rows.{StoredRow, log_rows}
 use Rattle.silt_log.specs.State.{LogState, all_rows, settled_rows, waiting_rows}
 use Rattle.silt_log.specs.State as log
 use Rattle.silt_log_store.specs.State.{IsLogStore}
+use Rattle.silt_hash_store.specs.Converting.{ConversionState, HasWritten}
+use Rattle.silt_hash_store.specs.Laws.{IsOutsideSlots}
+use Rattle.silt_hash_store.specs.State.{IsHashStore}
 use Rattle.silt_image.specs.Stores.{Stores, image_stores}
 use Rattle.silt_image.specs.Meaning.{IsSound, charge_of_rows, rows_of, with_log_rows}
 use Rattle.silt_manifest.specs.Standing.{Rules}
 use Rattle.silt_manifest.proofs.Laws.{rules_elsewhere}
-use Rattle.silt_stores.specs.State.{AreWhole, StoresState}
+use Rattle.silt_stores.specs.State.{AreWhole, StoresState, oldest_log}
 use Rattle.silt_stores.specs.Standing.{IsFrozen, Stands, shown_stores}
 use Rattle.silt_stores.proofs.Named.{named_here}
-use Rattle.silt_stores.proofs.Facts.{full_torn, torn_active}
-use Rattle.silt_stores.proofs.Elsewhere.{all_frozen_elsewhere, not_active, outside_other}
+use Rattle.silt_stores.proofs.Facts.{active_below, full_torn, torn_active}
+use Rattle.silt_stores.proofs.Elsewhere.{all_frozen_elsewhere, all_hashed_elsewhere, not_active, outside_other, slots_behind_log, written_all_elsewhere}
 
 -- the stores that are shown are those that all images have
 pub shown_are : (content : Content) (s : StoresState) (t : Stores) → t.shape ≡ s.manifest.shape → t.body ≡ s.manifest.ruling → LeavesOnly content (λ image. image_stores image ≡ Ok t) → IsTrue content.honest → shown_stores content s ≡ t
@@ -30,12 +33,14 @@ pub record Fits (content : Content) (s : StoresState) (t : Stores) : Type 0 wher
   pub rules : Rules s.manifest content
   pub active : IsLogStore content s.active
   pub frozen : All (IsFrozen content) s.frozen
+  pub hashed : All (IsHashStore content) s.hashes
+  pub written : IfSome s.converting (HasWritten content (oldest_log s))
   pub same_shape : t.shape ≡ s.manifest.shape
   pub same_body : t.body ≡ s.manifest.ruling
   pub named : LeavesOnly content (λ image. image_stores image ≡ Ok t)
   pub sound : IsTrue content.honest → IsSound (with_log_rows s.manifest.ruling.active (all_rows content s.active.log) t)
   pub counted : IsTrue content.honest → s.charge ≡ charge_of_rows (rows_of t ++ waiting_rows content s.active.log)
-  pub logs_alone : (s.manifest.ruling.hashed ≡ []) × (s.manifest.ruling.sorted_count ≡ 0)
+  pub no_entries : s.manifest.ruling.sorted_count ≡ 0
 
 pub fits_stand : (content : Content) (s : StoresState) (t : Stores) → Fits content s t → Stands content s
 fits_stand content s t fits =
@@ -48,11 +53,13 @@ fits_stand content s t fits =
       active = fits.active.log;
       indexed = fits.active.index;
       frozen = fits.frozen;
+      hashed = fits.hashed;
+      written = fits.written;
       named = record { each = λ h image left. fits.named.each h image left ∙ ap Ok (sym (is h)) };
       sound = λ h. subst (λ (u : Stores). IsSound (with_log_rows s.active.log.region (all_rows content s.active.log) u)) (sym (is h))
           (subst (λ (n : ℕ). IsSound (with_log_rows n (all_rows content s.active.log) t)) (sym fits.whole.active_region) (fits.sound h));
       counted = λ h. fits.counted h ∙ ap (λ (u : Stores). charge_of_rows (rows_of u ++ waiting_rows content s.active.log)) (sym (is h));
-      logs_alone = fits.logs_alone;
+      no_entries = fits.no_entries;
     }
 
 -- what stands before both of two lists can be left out
@@ -80,6 +87,22 @@ module _ (old new : Content) (s : StoresState) (stands : Stands old s) (sizes : 
   pub frozen_stay : All (IsFrozen new) s.frozen
   frozen_stay = all_frozen_elsewhere old new s (gates_at s.manifest.shape s.manifest.ruling.active) (log_size s.manifest.shape) stands changes_active
       (λ h region there. outside_other s.manifest.shape region s.manifest.ruling.active (not_active old s stands h region there))
+
+  -- the hash stores stand as before
+  pub hashed_stay : All (IsHashStore new) s.hashes
+  hashed_stay = all_hashed_elsewhere old new s (gates_at s.manifest.shape s.manifest.ruling.active) (log_size s.manifest.shape) stands changes_active
+      (λ h region there. slots_behind_log s.manifest.shape s.manifest.ruling.active region (active_below old s stands))
+
+  -- and a conversion has written what it had
+  pub written_stays : IfSome s.converting (HasWritten new (oldest_log s))
+  written_stays = written_all_elsewhere old new s (gates_at s.manifest.shape s.manifest.ruling.active) (log_size s.manifest.shape) s.converting stands changes_active
+      (λ h region there. outside_other s.manifest.shape region s.manifest.ruling.active (not_active old s stands h region there))
+      (λ h. behind s.converting)
+      stands.whole.under_way stands.written
+    where
+      behind : (o : Option ConversionState) → IfSome o (λ conversion. IsOutsideSlots s.manifest.shape conversion.region (gates_at s.manifest.shape s.manifest.ruling.active) (log_size s.manifest.shape))
+      behind None = tt
+      behind (Some conversion) = slots_behind_log s.manifest.shape s.manifest.ruling.active conversion.region (active_below old s stands)
 
   -- with these rows of the log in each image, each has the stores with them
   pub named_with : (rows : List StoredRow) → LeavesOnly new (λ image. log_rows s.active.log.shape s.active.log.region image ≡ rows)

@@ -19,11 +19,13 @@ next_for s t next manifest frozen is = record {
 }
 
 -- the first log of later stores
-pub frozen_from : (next : NextLog) (content : Content) (first before after : StoresState) → before.frozen ≡ first.frozen → before.charge ≡ first.charge → HasFrozen next content before after → HasFrozen next content first after
-frozen_from next content first before after frozen charge has = record {
+pub frozen_from : (next : NextLog) (content : Content) (first before after : StoresState) → before.frozen ≡ first.frozen → before.hashes ≡ first.hashes → before.converting ≡ first.converting → before.charge ≡ first.charge → HasFrozen next content before after → HasFrozen next content first after
+frozen_from next content first before after frozen hashes converting charge has = record {
   quiet = has.quiet;
   active = has.active;
   ruling = has.ruling;
   frozen = has.frozen ∙ ap (λ (l : List LogStoreState). length l + 1) frozen;
+  hashes = has.hashes ∙ hashes;
+  converting = has.converting ∙ converting;
   charge = has.charge ∙ charge;
 }

@@ -1,30 +1,35 @@
 -- The manifest's next body, written and opened.
-use Rattle.std.proofs.Common.{◌≡◌, ◌<◌, ℕ, ◌+◌, ◌-◌, ◌^◌, true, not, IsTrue, List, [], length, Some, None, Ok, refl, ap, sym, ◌∙◌, subst, arith}
+use Rattle.std.proofs.Common.{◌≡◌, ◌<◌, ℕ, ◌+◌, ◌-◌, ◌^◌, true, not, IsTrue, List, [], length, map, Some, None, Ok, refl, ap, sym, ◌∙◌, subst, arith}
 use Rattle.silt_device.specs.Disk.{ChangesWithin, Content, LeavesOnly, Torn, size}
 use Rattle.silt_device.specs.Layout.{Shape, device_size, slot_at}
 use Rattle.silt_device.proofs.Images.{shown_left}
-use Rattle.silt_log.specs.Rows.{log_rows}
+use Rattle.silt_log.specs.Rows.{StoredRow, log_rows}
+use Rattle.silt_log.specs.Calls.{Keeps}
+use Rattle.silt_log.specs.State.{LogState, waiting_rows}
+use Rattle.silt_log.specs.State as log
 use Rattle.silt_log.proofs.Elsewhere.{IsOutside, log_rows_elsewhere}
+use Rattle.silt_log.proofs.Waiting.{waiting_kept}
 use Rattle.silt_log_store.specs.State.{LogStoreState}
 use Rattle.silt_manifest.specs.Ruling.{manifest_found, ruling_manifest}
 use Rattle.silt_manifest.specs.Standing.{CanCommit, IsReady, ManifestState, Rules}
 use Rattle.silt_manifest.specs.declared.body.Body.{Body}
 use Rattle.silt_image.specs.Stores.{Stores, image_stores, stores_named}
-use Rattle.silt_image.specs.Meaning.{image_map, map_of_rows, rows_of}
+use Rattle.silt_image.specs.Commands.{Map, map_after}
+use Rattle.silt_image.specs.Meaning.{command_of, image_map, map_of_rows, rows_of}
 use Rattle.silt_image.proofs.Frame.{manifest_law}
 use Rattle.silt_stores.specs.declared.freezing.NextLog.{NextLog}
 use Rattle.silt_stores.specs.State.{StoresState}
 use Rattle.silt_stores.specs.Standing.{Stands, base_map, full_image, shown_stores, waiting_commands}
-use Rattle.silt_stores.specs.Calls.{Advances, Breaks, HasBegun, IsQuiet, Remaps, SameDisk, StandsOnLogs}
+use Rattle.silt_stores.specs.Calls.{Advances, Breaks, HasBegun, IsQuiet, Remaps, SameDisk, StandsUnsorted}
 use Rattle.silt_stores.specs.Freezing.{IsEmptied, IsLowestFree, MayTurn, empty_store, next_body, unprepared}
-use Rattle.silt_stores.proofs.Named.{named_body, named_here, named_shape, stores_map}
-use Rattle.silt_stores.proofs.Facts.{base_is, base_stands, full_map}
+use Rattle.silt_stores.proofs.Named.{named_body, named_here, named_shape}
+use Rattle.silt_stores.proofs.Facts.{active_is, base_is, base_stands, full_map, opened_map}
 use Rattle.silt_stores.proofs.Elsewhere.{outside_slot}
 use Rattle.silt_stores.proofs.Flushes.{quiet}
-use Rattle.silt_stores.proofs.Freezes.{found_ruling, full_quiet, quiet_map, slot_apart, stays_on, store_elsewhere}
+use Rattle.silt_stores.proofs.Freezes.{IsApart, found_ruling, full_quiet, kept, quiet_map, slot_apart, slot_before_conversion, stays_on, store_elsewhere}
 
 -- an image that stands for the base stands for it after none of what waited
-pub begun_none : (content : Content) (s : StoresState) (image : List ℕ) → StandsOnLogs s.manifest.shape (base_map content s) image → HasBegun s.manifest.shape (base_map content s) (waiting_commands content s) image
+pub begun_none : (content : Content) (s : StoresState) (image : List ℕ) → StandsUnsorted s.manifest.shape (base_map content s) image → HasBegun s.manifest.shape (base_map content s) (waiting_commands content s) image
 begun_none content s image stands = record { kept = []; begins = record { rest = waiting_commands content s; is = refl }; stands = stands }
 
 -- the stores depend on the body that rules, and on no other part of the manifest
@@ -38,15 +43,22 @@ same_base content s m same_shape same_ruling =
 active_outside : (s : StoresState) (slot : ℕ) → slot < 2 → IsOutside s.active.log.shape s.active.log.region (slot_at slot) 4096
 active_outside s slot below = outside_slot s.active.log.shape s.active.log.region slot below
 
-module _ (old new : Content) (s : StoresState) (slot : ℕ) (below : slot < 2) (stands : Stands old s) (is_quiet : IsQuiet old s) (sizes : size new ≡ size old) (changes : ChangesWithin (slot_at slot) 4096 old new) where
+module _ (old new : Content) (s : StoresState) (slot : ℕ) (below : slot < 2) (stands : Stands old s) (sizes : size new ≡ size old) (changes : ChangesWithin (slot_at slot) 4096 old new) where
   back : IsTrue new.honest → IsTrue old.honest
   back h = subst IsTrue changes.honest h
 
   there : IsTrue old.honest → IsTrue new.honest
   there h = subst IsTrue (sym changes.honest) h
 
+  apart : IsTrue old.honest → IsApart s.manifest.shape s.manifest.ruling (slot_at slot) 4096
+  apart h = slot_apart s.manifest.shape s.manifest.ruling slot below
+
   pub slot_disk : SameDisk old new
   slot_disk = record { size = sizes; honest = changes.honest }
+
+  -- the active log stands as before
+  pub active_kept : Keeps old new s.active.log s.active.log
+  active_kept = kept old new s (slot_at slot) 4096 stands sizes changes apart (active_outside s slot below)
 
   -- an image in which this body rules has the stores that it names in an earlier image
   pub ruled_named : (h : IsTrue new.honest) (before image : List ℕ) (body : Body) → image_stores before ≡ Ok (shown_stores old s) → Torn (slot_at slot) 4096 before image
@@ -64,9 +76,20 @@ module _ (old new : Content) (s : StoresState) (slot : ℕ) (below : slot < 2) (
       ruled_named h before image s.manifest.ruling named torn rules
       ∙ ap Ok (named_here s.manifest.shape s.manifest.ruling (shown_stores old s) before named (named_shape s.manifest.shape s.manifest.ruling old.shown) (named_body s.manifest.shape s.manifest.ruling old.shown))
 
-  -- the map of the full image, where nothing waits in a log of this kind
-  pub quiet_remap : (after : StoresState) → after.active.log.settled ≡ after.active.log.used → IsTrue old.honest → image_map new.shown ≡ base_map old s → image_map (full_image new after) ≡ image_map (full_image old s)
-  quiet_remap after settled h same = ap image_map (full_quiet new after settled) ∙ same ∙ sym (quiet_map old s is_quiet) ∙ sym (full_map old s stands h)
+  -- the map of the full image, where nothing waited and nothing waits
+  pub quiet_remap : IsQuiet old s → (after : StoresState) → after.active.log.settled ≡ after.active.log.used → IsTrue old.honest → image_map new.shown ≡ base_map old s → image_map (full_image new after) ≡ image_map (full_image old s)
+  quiet_remap is_quiet after settled h same = ap image_map (full_quiet new after settled) ∙ same ∙ sym (quiet_map old s is_quiet) ∙ sym (full_map old s stands h)
+
+  -- and where the same rows wait in the same log, with stores that have it and the same map
+  pub waiting_remap : (after : StoresState) (t : Stores) → after.active.log ≡ s.active.log → t.shape ≡ s.manifest.shape → t.body.active ≡ s.manifest.ruling.active → IsTrue old.honest
+      → image_stores new.shown ≡ Ok t → map_of_rows (rows_of t) ≡ base_map old s → image_map (full_image new after) ≡ image_map (full_image old s)
+  waiting_remap after t same_log same_shape same_active h named same_map =
+      let l : LogState = s.active.log in
+      ap (λ (other : LogState). image_map (log.full_image new other)) same_log
+      ∙ opened_map new l t active_kept.stands (sizes ∙ stands.has_size ∙ ap device_size (sym stands.whole.has_shape)) (same_shape ∙ sym stands.whole.has_shape) (same_active ∙ sym stands.whole.active_region) (there h) named
+      ∙ ap (λ (m : Map). map_after m (map command_of (waiting_rows new l))) same_map
+      ∙ ap (λ (rows : List StoredRow). map_after (base_map old s) (map command_of rows)) (waiting_kept old new l l stands.active h active_kept)
+      ∙ sym (full_map old s stands h)
 
   -- ---- the body is written
 
@@ -82,12 +105,12 @@ module _ (old new : Content) (s : StoresState) (slot : ℕ) (below : slot < 2) (
     write_breaks = record { each = λ h image left. begun_none old s image (base_stands old s stands (back h) image (written_named.each h image left)) }
 
     pub write_map : (m : ManifestState) → Remaps [] old new s (record s { manifest = m })
-    write_map m h = quiet_remap (record s { manifest = m }) is_quiet.settled h
-        (stores_map (shown_stores old s) new.shown (written_named.each (there h) new.shown (shown_left new)) ∙ sym (base_is old s))
+    write_map m h = waiting_remap (record s { manifest = m }) (shown_stores old s) refl (named_shape s.manifest.shape s.manifest.ruling old.shown) (active_is old s stands) h
+        (written_named.each (there h) new.shown (shown_left new)) (sym (base_is old s))
 
     -- the stores stand but for the prepared body
-    module _ (m : ManifestState) (next : NextLog) (is : m ≡ record s.manifest { spare_closed = true; prepared = Some next.body }) (can : CanCommit m new) (emptied : IsEmptied old s next) where
-      ready_rules : (m' : ManifestState) → m' ≡ record s.manifest { spare_closed = true; prepared = Some next.body } → CanCommit m' new → Rules (record m' { prepared = None }) new
+    module _ (m : ManifestState) (next : Body) (is : m ≡ record s.manifest { spare_closed = true; prepared = Some next }) (can : CanCommit m new) where
+      ready_rules : (m' : ManifestState) → m' ≡ record s.manifest { spare_closed = true; prepared = Some next } → CanCommit m' new → Rules (record m' { prepared = None }) new
       ready_rules m' e can' = record {
         each = λ h image left.
             let ready : IsReady m' can'.next image = can'.prepared.leaves.each h image left in
@@ -95,9 +118,11 @@ module _ (old new : Content) (s : StoresState) (slot : ℕ) (below : slot < 2) (
       }
 
       pub written : Advances [] old new s (unprepared (record s { manifest = m }))
-      written = stays_on old new s (slot_at slot) 4096 stands sizes changes (λ h. slot_apart s.manifest.shape s.manifest.ruling slot below) (active_outside s slot below)
+      written = stays_on old new s (slot_at slot) 4096 stands sizes changes apart (active_outside s slot below) (λ h. slot_before_conversion s slot below)
           (record m { prepared = None }) (ap (λ (n : ManifestState). n.shape) is) (ap (λ (n : ManifestState). n.ruling) is) refl (ready_rules m is can) written_named
 
+    -- so do they before a freeze
+    module _ (m : ManifestState) (next : NextLog) (is : m ≡ record s.manifest { spare_closed = true; prepared = Some next.body }) (can : CanCommit m new) (is_quiet : IsQuiet old s) (emptied : IsEmptied old s next) where
       pub may_turn : MayTurn new (record s { manifest = m }) next
       may_turn =
           let same_shape : m.shape ≡ s.manifest.shape = ap (λ (n : ManifestState). n.shape) is in
@@ -107,7 +132,7 @@ module _ (old new : Content) (s : StoresState) (slot : ℕ) (below : slot < 2) (
           let store_region : next.store.log.region ≡ emptied.follows.region = ap (λ (t : LogStoreState). t.log.region) emptied.follows.store in
           let inside : region < s.manifest.shape.logs = subst (λ (n : ℕ). n < s.manifest.shape.logs) (sym store_region) emptied.follows.lowest.below in
           record {
-            stands = written.stands;
+            stands = (written m next.body is can).stands;
             quiet = quiet new (record s { manifest = m }) is_quiet.settled;
             commit = can;
             prepared = ap (λ (n : ManifestState). n.prepared) is;

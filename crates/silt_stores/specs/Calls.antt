@@ -31,21 +31,21 @@ pub record Advances (adds : List Command) (old new : Content) (before after : St
   pub shape : after.manifest.shape ≡ before.manifest.shape
   pub moves : IsTrue old.honest → Moves adds old new before after
 
--- the stores of an image are logs alone
-abbrev pub AreLogsAlone : Result Stores Finding → Type 0
-AreLogsAlone (Ok s) = (s.body.hashed ≡ []) × (s.body.sorted_count ≡ 0)
-AreLogsAlone (Err finding) = ⊥
+-- the stores of an image have no sorted entries
+abbrev pub HaveNoEntries : Result Stores Finding → Type 0
+HaveNoEntries (Ok s) = s.body.sorted_count ≡ 0
+HaveNoEntries (Err finding) = ⊥
 
--- an image of logs alone, as all are in this stage, stands for this map
-pub record StandsOnLogs (shape : Shape) (map : Map) (image : List ℕ) : Type 0 where
+-- an image with no sorted entries, as all are in this stage, stands for this map
+pub record StandsUnsorted (shape : Shape) (map : Map) (image : List ℕ) : Type 0 where
   pub stands : StandsFor shape map image
-  pub logs_alone : AreLogsAlone (image_stores image)
+  pub no_entries : HaveNoEntries (image_stores image)
 
 -- an image stands for the base after a beginning of the commands that waited
 pub record HasBegun (shape : Shape) (base : Map) (waiting : List Command) (image : List ℕ) : Type 0 where
   pub kept : List Command
   pub begins : Begins kept waiting
-  pub stands : StandsOnLogs shape (map_after base kept) image
+  pub stands : StandsUnsorted shape (map_after base kept) image
 
 -- whatever a stop leaves stands for the base after a beginning of what waited
 abbrev pub Breaks : Content → Content → StoresState → Type 0

@@ -33,11 +33,12 @@ pub record IsLowestFree (logs : ℕ) (body : Body) (region : ℕ) : Type 0 where
 abbrev pub next_body : Body → ℕ → Body
 next_body body region = record body { generation = body.generation + 1; active = region; frozen = body.active ∷ body.frozen }
 
--- a log of this region with no rows and an empty table
+-- a log of this region with no rows, an empty table and no puts
 abbrev pub empty_store : Shape → ℕ → LogStoreState
 empty_store shape region = record {
   log = record { shape = shape; region = region; settled = 0; used = 0; loose = false };
   table = empty_slots shape.buckets;
+  puts = 0;
 }
 
 -- a new log in the lowest free region, with the body that puts it in front of the others
@@ -61,6 +62,8 @@ pub record HasFrozen (next : NextLog) (content : Content) (before after : Stores
   pub active : after.active ≡ next.store
   pub ruling : after.manifest.ruling ≡ next.body
   pub frozen : length after.frozen ≡ length before.frozen + 1
+  pub hashes : after.hashes ≡ before.hashes
+  pub converting : after.converting ≡ before.converting
   pub charge : after.charge ≡ before.charge
 
 -- ---- between the steps

@@ -9,7 +9,7 @@ use Rattle.silt_log.specs.State.{all_rows}
 use Rattle.silt_manifest.specs.declared.body.Body.{Body}
 use Rattle.silt_stores.specs.State.{StoresState}
 use Rattle.silt_stores.specs.Standing.{Stands, base_map, current_map, full_image}
-use Rattle.silt_stores.specs.Calls.{StandsOnLogs}
+use Rattle.silt_stores.specs.Calls.{StandsUnsorted}
 
 -- a good image of this shape, in which this body rules, with so many puts
 pub record IsGoodWith (shape : Shape) (body : Body) (charge : ℕ) (image : List ℕ) : Type 0 where
@@ -22,7 +22,7 @@ pub record IsGoodWith (shape : Shape) (body : Body) (charge : ℕ) (image : List
 pub record Means (content : Content) (s : StoresState) : Type 0 where
   pub full : IsTrue content.honest → image_map (full_image content s) ≡ current_map content s
   pub shown : IsTrue content.honest → image_map content.shown ≡ base_map content s
-  pub safe : LeavesOnly content (StandsOnLogs s.manifest.shape (base_map content s))
+  pub safe : LeavesOnly content (StandsUnsorted s.manifest.shape (base_map content s))
   pub numbers : IsTrue content.honest → IsGoodWith s.manifest.shape s.manifest.ruling s.charge (full_image content s)
   pub rows : IsTrue content.honest → log_rows s.manifest.shape s.manifest.ruling.active (full_image content s) ≡ all_rows content s.active.log
 

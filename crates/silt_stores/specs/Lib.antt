@@ -4,5 +4,6 @@ pub mod Calls
 pub mod Lookup
 pub mod Folding
 pub mod Freezing
+pub mod Converting
 pub mod Taking
 pub mod Laws

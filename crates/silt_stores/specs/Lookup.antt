@@ -1,5 +1,5 @@
 -- Where the rows of the stores stand, and what lookups answer.
-use Rattle.std.specs.Prelude.{◌≡◌, ◌<◌, ℕ, Bool, true, false, if◌then◌else◌, IsTrue, List, length, get_or, Option, Some, None}
+use Rattle.std.specs.Prelude.{◌≡◌, ◌<◌, ◌*◌, ℕ, Bool, true, false, if◌then◌else◌, IsTrue, List, [], length, get_or, Option, Some, None}
 use Rattle.std.specs.Option.{option_map}
 use Rattle.std.specs.Ordering.{nat_cmp}
 use Rattle.std.specs.declared.cmp.Ordering.{Ordering}
@@ -9,36 +9,48 @@ use Rattle.std.specs.BTreeMap as tree
 use Rattle.std.specs.FinMap.{get}
 use Rattle.silt_device.specs.Disk.{Content}
 use Rattle.silt_frame.specs.declared.key.Key.{Key}
+use Rattle.silt_hash_store.specs.Lookup.{FindsRow}
+use Rattle.silt_hash_store.specs.Slots.{slot_row}
+use Rattle.silt_hash_store.specs.State.{HashState}
 use Rattle.silt_image.specs.Commands.{Map}
+use Rattle.silt_image.specs.Meaning.{holds_key}
+use Rattle.silt_image.specs.Stores.{hash_rows}
 use Rattle.silt_frame.specs.declared.key.Kind.{Kind}
 use Rattle.silt_frame.specs.declared.key.Kind.TheVariants.{Put, Delete}
-use Rattle.silt_log.specs.Rows.{row_at}
+use Rattle.silt_log.specs.Rows.{StoredRow, row_at}
 use Rattle.silt_log.specs.State.{all_rows}
 use Rattle.silt_log_store.specs.declared.store.Found.{Found}
 use Rattle.silt_log_store.specs.Finding.{FindsLast, HasNoRow}
 use Rattle.silt_log_store.specs.State.{LogStoreState}
 use Rattle.silt_stores.specs.declared.lookup.Holder.{Holder}
-use Rattle.silt_stores.specs.declared.lookup.Holder.TheVariants.{Active, Frozen}
+use Rattle.silt_stores.specs.declared.lookup.Holder.TheVariants.{Active, Frozen, Hashed}
 use Rattle.silt_stores.specs.declared.lookup.Location.{Location}
 use Rattle.silt_stores.specs.declared.entries.EntriesError.{EntriesError}
 use Rattle.silt_stores.specs.declared.entries.EntriesError.TheVariants.{Device, NoMemory}
 use Rattle.silt_stores.specs.State.{StoresState}
 use Rattle.silt_stores.specs.Standing.{current_map}
 
--- the log of the active log or of a frozen one
-abbrev pub store_at : StoresState → Holder → LogStoreState
-store_at s Active = s.active
-store_at s (Frozen index) = get_or s.frozen index s.active
+-- the frozen log of this number, the newest first
+abbrev pub frozen_at : StoresState → ℕ → LogStoreState
+frozen_at s index = get_or s.frozen index s.active
 
--- there is such a log
-abbrev pub IsHolder : StoresState → Holder → Type 0
-IsHolder s Active = Unit {0}
-IsHolder s (Frozen index) = index < length s.frozen
+-- the hash store of this number, the newest first
+abbrev pub hash_at : StoresState → ℕ → HashState
+hash_at s index = get_or s.hashes index (record { shape = s.manifest.shape; region = 0; tags = [] })
+
+-- the rows that a hash store shows, slot by slot
+abbrev pub hash_rows_of : Content → HashState → List StoredRow
+hash_rows_of content store = hash_rows store.shape store.region content.shown
+
+-- there is a row of this place in the active log, in a frozen log, or a slot of this number in a hash store
+abbrev pub IsPlace : StoresState → Holder → ℕ → Type 0
+IsPlace s Active place = place < s.active.log.used
+IsPlace s (Frozen index) place = (index < length s.frozen) × (place < (frozen_at s index).log.used)
+IsPlace s (Hashed index) place = (index < length s.hashes) × (place < 4 * s.manifest.shape.buckets)
 
 -- the row at a location is there
-pub record IsLocation (s : StoresState) (location : Location) : Type 0 where
-  pub holder : IsHolder s location.holder
-  pub place : location.place < (store_at s location.holder).log.used
+abbrev pub IsLocation : StoresState → Location → Type 0
+IsLocation s location = IsPlace s location.holder location.place
 
 -- a row of this kind is a put
 abbrev pub is_put : Kind → Bool
@@ -49,17 +61,29 @@ is_put Delete = false
 abbrev pub located : Holder → Found → Option Location
 located holder found = if is_put found.kind then Some (record { holder = holder; place = found.place }) else None
 
+-- the row at a place of a holder
+abbrev pub row_in : Content → StoresState → Holder → ℕ → StoredRow
+row_in content s Active place = row_at s.active.log.shape s.active.log.region content.shown place
+row_in content s (Frozen index) place = row_at (frozen_at s index).log.shape (frozen_at s index).log.region content.shown place
+row_in content s (Hashed index) place = slot_row (hash_at s index).shape (hash_at s index).region content.shown place
+
 -- the value of the row at a location
 abbrev pub value_at : Content → StoresState → Location → List ℕ
-value_at content s location =
-    (row_at (store_at s location.holder).log.shape (store_at s location.holder).log.region content.shown location.place).value
+value_at content s location = (row_in content s location.holder location.place).value
 
 -- of the frozen logs this is the newest that has a row of the key, and there its last one; none where none has one
 abbrev pub FindsFrozen : Content → StoresState → List ℕ → Option (ℕ × Found) → Type 0
-FindsFrozen content s key None = (index : ℕ) → index < length s.frozen → HasNoRow (all_rows content (store_at s (Frozen index)).log) key
+FindsFrozen content s key None = (index : ℕ) → index < length s.frozen → HasNoRow (all_rows content (frozen_at s index).log) key
 FindsFrozen content s key (Some (number, found)) =
-    ((index : ℕ) → index < number → HasNoRow (all_rows content (store_at s (Frozen index)).log) key)
-    × FindsLast (all_rows content (store_at s (Frozen number)).log) key (Some found)
+    ((index : ℕ) → index < number → HasNoRow (all_rows content (frozen_at s index).log) key)
+    × FindsLast (all_rows content (frozen_at s number).log) key (Some found)
+
+-- of the hash stores this is the newest that has a row of the key, with that row; none where none has one
+abbrev pub FindsHashed : Content → StoresState → List ℕ → Option (ℕ × Found) → Type 0
+FindsHashed content s key None = (index : ℕ) → index < length s.hashes → holds_key key (hash_rows_of content (hash_at s index)) ≡ false
+FindsHashed content s key (Some (number, found)) =
+    ((index : ℕ) → index < number → holds_key key (hash_rows_of content (hash_at s index)) ≡ false)
+    × FindsRow (hash_rows_of content (hash_at s number)) key (Some found)
 
 -- the row at the location has the value that the map has for the key, and there is none where the map has none
 abbrev pub Locates : Content → StoresState → List ℕ → Option Location → Type 0

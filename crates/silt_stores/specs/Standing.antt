@@ -1,7 +1,9 @@
 -- How the stores in memory stand on a disk.
-use Rattle.std.specs.Prelude.{◌≡◌, ℕ, IsTrue, List, [], ◌++◌, All, map, None, Ok}
+use Rattle.std.specs.Prelude.{◌≡◌, ℕ, IsTrue, List, ◌++◌, All, map, IfSome, None, Ok}
 use Rattle.silt_device.specs.Disk.{Content, LeavesOnly, size}
 use Rattle.silt_device.specs.Layout.{device_size}
+use Rattle.silt_hash_store.specs.Converting.{HasWritten}
+use Rattle.silt_hash_store.specs.State.{IsHashStore}
 use Rattle.silt_image.specs.Commands.{Command, Map, map_after}
 use Rattle.silt_image.specs.Stores.{Stores, image_stores, stores_named}
 use Rattle.silt_image.specs.Meaning.{IsSound, charge_of_rows, command_of, map_of_rows, rows_of, with_log_rows}
@@ -10,7 +12,7 @@ use Rattle.silt_log.specs.State.{IsLog, all_rows, waiting_rows}
 use Rattle.silt_log.specs.State as log
 use Rattle.silt_log_store.specs.State.{LogStoreState, IsIndexed}
 use Rattle.silt_manifest.specs.Standing.{Rules}
-use Rattle.silt_stores.specs.State.{StoresState, AreWhole}
+use Rattle.silt_stores.specs.State.{StoresState, AreWhole, oldest_log}
 
 -- ---- what they mean
 
@@ -42,7 +44,7 @@ pub record IsFrozen (content : Content) (store : LogStoreState) : Type 0 where
   pub indexed : IsIndexed content store
 
 -- The stores fit their disk: whatever a stop leaves has the stores that are shown, and nothing is found in these, also once the
--- waiting rows are settled. In this stage there are logs alone.
+-- waiting rows are settled. A conversion has written what is due so far. In this stage there are no sorted entries.
 pub record Stands (content : Content) (s : StoresState) : Type 0 where
   pub has_size : size content ≡ device_size s.manifest.shape
   pub whole : AreWhole s
@@ -51,7 +53,9 @@ pub record Stands (content : Content) (s : StoresState) : Type 0 where
   pub active : IsLog content s.active.log
   pub indexed : IsIndexed content s.active
   pub frozen : All (IsFrozen content) s.frozen
+  pub hashed : All (IsHashStore content) s.hashes
+  pub written : IfSome s.converting (HasWritten content (oldest_log s))
   pub named : LeavesOnly content (λ image. image_stores image ≡ Ok (shown_stores content s))
   pub sound : IsTrue content.honest → IsSound (with_log_rows s.active.log.region (all_rows content s.active.log) (shown_stores content s))
   pub counted : IsTrue content.honest → s.charge ≡ charge_of_rows (rows_of (shown_stores content s) ++ waiting_rows content s.active.log)
-  pub logs_alone : (s.manifest.ruling.hashed ≡ []) × (s.manifest.ruling.sorted_count ≡ 0)
+  pub no_entries : s.manifest.ruling.sorted_count ≡ 0

@@ -1,35 +1,71 @@
 -- The stores of a device as they are held in memory.
-use Rattle.std.specs.Prelude.{◌≡◌, ◌≤◌, ℕ, List, All, map}
+use Rattle.std.specs.Prelude.{◌≡◌, ◌≤◌, ◌<◌, ◌-◌, ◌*◌, ◌==◌, ℕ, Bool, false, List, All, length, map, get_or, Option, IfSome}
+use Rattle.std.specs.List.{list_any}
 use Rattle.silt_device.specs.Layout.{Shape}
+use Rattle.silt_hash_store.specs.Converting.{ConversionState}
+use Rattle.silt_hash_store.specs.State.{HashState, IsHeldHash}
 use Rattle.silt_log_store.specs.State.{LogStoreState}
 use Rattle.silt_manifest.specs.Standing.{ManifestState}
+use Rattle.silt_manifest.specs.declared.body.Body.{Body}
 
--- The manifest; the log that takes writes; the full logs behind it, the newest first; and how many put rows there are, those that
--- wait included.
+-- The manifest; the log that takes writes; the full logs behind it, the newest first; the hash stores behind these, the newest
+-- first; the oldest log's conversion, where one is under way; and how many put rows there are, those that wait included.
 pub record StoresState : Type 0 where
   pub manifest : ManifestState
   pub active : LogStoreState
   pub frozen : List LogStoreState
+  pub hashes : List HashState
+  pub converting : Option ConversionState
   pub charge : ℕ
 
 -- the region of a log
 abbrev pub region_of : LogStoreState → ℕ
 region_of store = store.log.region
 
+-- the region of a hash store
+abbrev pub hash_region_of : HashState → ℕ
+hash_region_of store = store.region
+
+-- the oldest of the frozen logs, which is the next one to be converted
+abbrev pub oldest_log : StoresState → LogStoreState
+oldest_log s = get_or s.frozen (length s.frozen - 1) s.active
+
+-- a hash store of the body has this region
+abbrev pub names_hash : Body → ℕ → Bool
+names_hash body region = list_any (λ id. id == region) body.hashed
+
 -- a log of this shape in which no row waits
 pub record IsSettled (shape : Shape) (store : LogStoreState) : Type 0 where
   pub has_shape : store.log.shape ≡ shape
   pub settled : store.log.settled ≡ store.log.used
 
--- the logs are those that the ruling body names, and no more rows are puts than the store may hold
+-- a hash store of this shape
+pub record IsHashOf (shape : Shape) (store : HashState) : Type 0 where
+  pub has_shape : store.shape ≡ shape
+  pub held : IsHeldHash store
+
+-- a conversion of a frozen log into a hash region that is free
+pub record IsUnderWay (s : StoresState) (conversion : ConversionState) : Type 0 where
+  pub has_shape : conversion.shape ≡ s.manifest.shape
+  pub some_frozen : 0 < length s.frozen
+  pub there : conversion.region < s.manifest.shape.hashes
+  pub free : names_hash s.manifest.ruling conversion.region ≡ false
+  pub most : conversion.next ≤ 4 * s.manifest.shape.buckets
+
+-- the logs and the hash stores are those that the ruling body names, a conversion writes a free region, and no more rows are puts
+-- than the store may hold
 pub record AreWhole (s : StoresState) : Type 0 where
   pub has_shape : s.active.log.shape ≡ s.manifest.shape
   pub active_region : s.active.log.region ≡ s.manifest.ruling.active
   pub frozen_regions : map region_of s.frozen ≡ s.manifest.ruling.frozen
   pub settled : All (IsSettled s.manifest.shape) s.frozen
+  pub hash_regions : map hash_region_of s.hashes ≡ s.manifest.ruling.hashed
+  pub hashed : All (IsHashOf s.manifest.shape) s.hashes
+  pub under_way : IfSome s.converting (IsUnderWay s)
   pub most : s.charge ≤ s.manifest.shape.sorted_capacity
 
--- what holds of the stores on any device: there is room in memory for as many frozen logs as a device can have
-pub record AreHeld (s : StoresState) (room : ℕ) : Type 0 where
+-- what holds of the stores on any device: there is room in memory for as many frozen logs and hash stores as a device can have
+pub record AreHeld (s : StoresState) (log_room hash_room : ℕ) : Type 0 where
   pub whole : AreWhole s
-  pub enough : 7 ≤ room
+  pub enough : 7 ≤ log_room
+  pub enough_hashes : 16 ≤ hash_room

@@ -1,14 +1,18 @@
-// All keys with their values, from the rows of the logs.
-ghost use Rattle.std.specs.Prelude.{◌≡◌, ◌<◌, ◌≤◌, [], ◌∷◌, length, IsTrue, IfErr, OnOk};
+// All keys with their values, from the rows of the hash stores and of the logs.
+ghost use Rattle.std.specs.Prelude.{◌≡◌, ◌<◌, ◌≤◌, ◌*◌, [], ◌∷◌, length, filter, IsTrue, IfErr, IfOk, OnOk};
 ghost use Rattle.silt_device.specs.Disk.{GaveAny, size};
 ghost use Rattle.silt_device.specs.Layout.{device_size, row_len};
-ghost use Rattle.silt_log.specs.Rows.{row_of};
+ghost use Rattle.silt_hash_store.specs.Slots.{slot_row};
+ghost use Rattle.silt_image.specs.Stores.{hash_rows};
+ghost use Rattle.silt_log.specs.Rows.{has_known_kind, row_of};
 ghost use Rattle.silt_log.specs.State.{all_rows};
-ghost use Rattle.silt_stores.specs.Folding.{DoesRows};
+ghost use Rattle.silt_stores.specs.Folding.{DoesRows, IsPutOf, hashed_rows};
 ghost use Rattle.silt_stores.specs.Lookup.{EntriesCause};
 
+use crate::stores::Stores;
 use silt_device::Disk;
-use silt_frame::{HEAD_LEN, KEY_LEN, Key, Value};
+use silt_frame::{HEAD_LEN, KEY_LEN, Key, Kind, Value};
+use silt_hash_store::HashStore;
 use silt_log_store::LogStore;
 use std::alloc::{AllocError, Global};
 use std::collections::BTreeMap;
@@ -81,4 +85,120 @@ pub fn do_log<D: Disk>(
         return Err(EntriesError::NoMemory);
     };
     do_rows(alloc, disk, store, &mut bytes, entries)
+}
+
+// Does the put in a slot of a hash store: its key has its value.
+fn put_slot<D: Disk>(
+    alloc: Global,
+    disk: &D,
+    store: &HashStore,
+    slot: u32,
+    key: Key,
+    entries: &mut BTreeMap<Key, Value>,
+) -> Result<(), EntriesError<D::Fault>>
+    requires slot { slot < 4 * store.now.shape.buckets }
+    requires size { device_size store.now.shape ≤ size (D.content disk.now) }
+    ensures ok { IsTrue (D.content disk.now).honest → IsPutOf (slot_row store.now.shape store.now.region (D.content disk.now).shown slot) key.0
+        → OnOk result (DoesRows (slot_row store.now.shape store.now.region (D.content disk.now).shown slot ∷ []) entries.old entries.new) }
+    ensures cause { IfErr result (EntriesCause (GaveAny D.gave disk.now)) }
+{
+    let Ok(mut value) = vec![in alloc; 0u8; store.geometry().value_len() as usize] else {
+        return Err(EntriesError::NoMemory);
+    };
+    if let Err(fault) = store.read_value(disk, slot, &mut value) {
+        return Err(EntriesError::Device(fault));
+    }
+    let Ok(_older) = entries.insert(key, Value::new(value)) else {
+        return Err(EntriesError::NoMemory);
+    };
+    Ok(())
+}
+
+// Does the row in a slot of a hash store, where there is one of a known kind.
+fn do_slot<D: Disk>(
+    alloc: Global,
+    disk: &D,
+    store: &HashStore,
+    slot: u32,
+    entries: &mut BTreeMap<Key, Value>,
+) -> Result<(), EntriesError<D::Fault>>
+    requires slot { slot < 4 * store.now.shape.buckets }
+    requires size { device_size store.now.shape ≤ size (D.content disk.now) }
+    ensures ok { IsTrue (D.content disk.now).honest → OnOk result (DoesRows (filter has_known_kind (slot_row store.now.shape store.now.region (D.content disk.now).shown slot ∷ [])) entries.old entries.new) }
+    ensures cause { IfErr result (EntriesCause (GaveAny D.gave disk.now)) }
+{
+    let row = match store.row_at(disk, slot) {
+        Ok(Some(row)) => row,
+        Ok(None) => return Ok(()),
+        Err(fault) => return Err(EntriesError::Device(fault)),
+    };
+    match row.kind {
+        Kind::Put => put_slot(alloc, disk, store, slot, row.key, entries),
+        Kind::Delete => {
+            let _older = entries.remove(&row.key);
+            Ok(())
+        }
+    }
+}
+
+// Does all rows of a hash store, slot by slot.
+pub fn do_hash<D: Disk>(
+    alloc: Global,
+    disk: &D,
+    store: &HashStore,
+    entries: &mut BTreeMap<Key, Value>,
+) -> Result<(), EntriesError<D::Fault>>
+    requires { device_size store.now.shape ≤ size (D.content disk.now) }
+    ensures ok { IsTrue (D.content disk.now).honest → OnOk result (DoesRows (filter has_known_kind (hash_rows store.now.shape store.now.region (D.content disk.now).shown)) entries.old entries.new) }
+    ensures cause { IfErr result (EntriesCause (GaveAny D.gave disk.now)) }
+{
+    for slot in 0..4 * store.geometry().buckets() {
+        do_slot(alloc, disk, store, slot, entries)?;
+    }
+    Ok(())
+}
+
+impl Stores {
+    ghost use Rattle.silt_stores.specs.Lookup.{AreEntriesOf};
+    ghost use Rattle.silt_stores.specs.Standing.{Stands, current_map};
+
+    // Does all rows of the hash stores, the oldest store first.
+    fn do_hashes<D: Disk>(
+        &self,
+        alloc: Global,
+        disk: &D,
+        entries: &mut BTreeMap<Key, Value>,
+    ) -> Result<(), EntriesError<D::Fault>>
+        requires size { device_size self.now.manifest.shape ≤ size (D.content disk.now) }
+        ensures ok { IsTrue (D.content disk.now).honest → OnOk result (DoesRows (hashed_rows (D.content disk.now) self.now) entries.old entries.new) }
+        ensures cause { IfErr result (EntriesCause (GaveAny D.gave disk.now)) }
+    {
+        for index in (0..self.hashes.len()).rev() {
+            do_hash(alloc, disk, &self.hashes[index], entries)?;
+        }
+        Ok(())
+    }
+
+    /// All keys with their values: the rows are done one after the other from the oldest, each read once.
+    ///
+    /// # Errors
+    ///
+    /// `Device` with the fault of a read, and `NoMemory`.
+    pub fn entries<D: Disk>(
+        &self,
+        alloc: Global,
+        disk: &D,
+    ) -> Result<BTreeMap<Key, Value>, EntriesError<D::Fault>>
+        requires size { device_size self.now.manifest.shape ≤ size (D.content disk.now) }
+        ensures entries { Stands (D.content disk.now) self.now → IsTrue (D.content disk.now).honest → IfOk result (AreEntriesOf (current_map (D.content disk.now) self.now)) }
+        ensures cause { IfErr result (EntriesCause (GaveAny D.gave disk.now)) }
+    {
+        let mut entries = BTreeMap::new(alloc);
+        self.do_hashes(alloc, disk, &mut entries)?;
+        for index in (0..self.frozen.len()).rev() {
+            do_log(alloc, disk, &self.frozen[index], &mut entries)?;
+        }
+        do_log(alloc, disk, &self.active, &mut entries)?;
+        Ok(entries)
+    }
 }

@@ -1,17 +1,24 @@
-//! The stores of a device as they are held in memory: the manifest, the active log, the frozen logs behind it, and the charge.
+//! The stores of a device as they are held in memory: the manifest, the active log, the frozen logs behind it, the hash stores
+//! behind these, a conversion under way, and the charge.
 //!
 //! A put or a delete is a row behind the rows of the **active log**. It waits there, behind a closed gate, until a flush settles it.
 //! A log that cannot take a further row is **frozen**: what waits in it is settled, a log with no rows in a region that was free
 //! takes its place, and the manifest's next body names that one first. So no row moves, and no gate that rules is ever closed.
 //!
-//! A lookup goes through the active log and then the frozen ones, the newest first, and the first row of the key that it finds
-//! decides: a delete ends it as well as a put.
+//! The oldest frozen log is **converted** into a hash store, one slot a step, in a hash region that the manifest does not name. The
+//! last step syncs the slots, and then writes the manifest's next body, which names the hash store in front of the others and the log
+//! no longer. So work under way is lost by a stop and begun anew, and no answer depends on it.
+//!
+//! A lookup goes through the active log, the frozen ones and the hash stores, each the newest first, and the first row of the key
+//! that it finds decides: a delete ends it as well as a put.
 //!
 //! Each call that writes says what a stop may leave of the device at each of its exits: an image that stands for the map of the
 //! settled rows, after a beginning of those that waited.
 #![tactic(auto)]
 
+mod converting;
 mod entries;
+mod finding;
 mod freezing;
 mod laws;
 mod lookup;
@@ -19,6 +26,7 @@ mod stores;
 mod taking;
 
 pub use crate::stores::Stores;
+pub use converting::{ConvertError, Progress};
 pub use entries::EntriesError;
 pub use freezing::{NextLog, NoNextLog};
 pub use laws::meaning_law;

@@ -1,6 +1,5 @@
 // The stores of a device in memory, and their calls.
 ghost use Rattle.std.specs.Prelude.{vec_capacity, ◌≡◌, ◌+◌, ◌<◌, ◌≤◌, [], ◌∷◌, ◌++◌, ◌↔◌, ℕ, length, nat_lt, true, false, None, Some, Ok, IsTrue, IfOk, IfErr, IfSome, IfNone, OnOk, OnErr, MatchResult, if◌then◌else◌};
-ghost use Rattle.std.specs.BTreeMap as tree;
 ghost use Rattle.silt_device.specs.Disk.{Content, CountsFault, GaveAny, LeavesOnly, size};
 ghost use Rattle.silt_device.specs.Layout.{device_size};
 ghost use Rattle.silt_frame.specs.declared.key.Kind.{Kind};
@@ -9,28 +8,31 @@ ghost use Rattle.silt_log.specs.Rows.{stored_row};
 ghost use Rattle.silt_log.specs.State.{all_rows};
 ghost use Rattle.silt_stores.specs.Calls.{puts_of};
 
-use crate::entries::{EntriesError, do_log};
 use crate::freezing::{NextLog, NoNextLog, lowest_free, next_body};
-use crate::lookup::{Holder, Location, located};
 use silt_device::{Disk, Geometry};
-use silt_frame::{Key, Kind, Value};
-use silt_log_store::{Found, LogStore, Placing};
+use silt_frame::{Key, Kind};
+use silt_hash_store::{Conversion, HashStore};
+use silt_log_store::{LogStore, Placing};
 use silt_manifest::Manifest;
 use std::alloc::Global;
-use std::collections::BTreeMap;
 use std::marker::Model;
 use std::mem;
 
 // The generation after which there is none.
-const LAST_GENERATION: u64 = (1 << 63) - 1;
+pub(crate) const LAST_GENERATION: u64 = (1 << 63) - 1;
 
-/// The stores of a device: the manifest, the active log, the frozen logs, and how many put rows there are.
+/// The stores of a device: the manifest, the active log, the frozen logs, the hash stores, the conversion under way, and how many
+/// put rows there are.
 #[derive(Drop)]
 pub struct Stores {
     pub(crate) manifest: Manifest,
     pub(crate) active: LogStore,
     // The full logs, the newest first.
     pub(crate) frozen: Vec<LogStore>,
+    // The newest first.
+    pub(crate) hashes: Vec<HashStore>,
+    // Of the oldest frozen log.
+    pub(crate) converting: Option<Conversion>,
     // How many put rows there are, those that wait included.
     pub(crate) charge: u32,
 }
@@ -41,9 +43,9 @@ impl Model for Stores {
 
     ghost Value = { StoresState };
 
-    ghost view = { λ a. record { manifest = a.manifest; active = a.active; frozen = a.frozen.items; charge = a.charge } };
+    ghost view = { λ a. record { manifest = a.manifest; active = a.active; frozen = a.frozen.items; hashes = a.hashes.items; converting = a.converting; charge = a.charge } };
 
-    ghost invariant = { λ a. AreHeld (record { manifest = a.manifest; active = a.active; frozen = a.frozen.items; charge = a.charge }) (vec_capacity a.frozen) };
+    ghost invariant = { λ a. AreHeld (record { manifest = a.manifest; active = a.active; frozen = a.frozen.items; hashes = a.hashes.items; converting = a.converting; charge = a.charge }) (vec_capacity a.frozen) (vec_capacity a.hashes) };
 }
 
 // How many puts a row of this kind is.
@@ -60,21 +62,30 @@ impl Stores {
     ghost use Rattle.silt_cuckoo.specs.Slots.{empty_slots};
     ghost use Rattle.silt_log_store.specs.Calls.{IsPlacingFor};
     ghost use Rattle.silt_stores.specs.State.{StoresState, AreHeld, AreWhole};
-    ghost use Rattle.silt_stores.specs.Standing.{Stands, current_map, waiting_commands};
-    ghost use Rattle.silt_stores.specs.Calls.{Advances, Breaks, CannotTake, Finds, FindsNone, IsQuiet, Remaps, SameDisk};
-    ghost use Rattle.silt_stores.specs.Lookup.{AreEntriesOf, EntriesCause, FindsFrozen, IsHolder, IsLocation, Locates, store_at, value_at};
+    ghost use Rattle.silt_stores.specs.Standing.{Stands, waiting_commands};
+    ghost use Rattle.silt_stores.specs.Calls.{Advances, Breaks, CannotTake, IsQuiet, Remaps, SameDisk};
     ghost use Rattle.silt_stores.specs.Freezing.{HasFrozen, IsEmptied, IsNextLog, MayTurn, NoNextCause, empty_store, unprepared};
 
-    /// The stores with these parts, where the frozen logs stand the newest first, in a `Vec` with room for seven.
-    pub fn new(manifest: Manifest, active: LogStore, frozen: Vec<LogStore>, charge: u32) -> Self
-        requires whole { AreWhole (record { manifest = manifest; active = active; frozen = frozen.items; charge = charge }) }
+    /// The stores with these parts, where the frozen logs and the hash stores stand the newest first, in `Vec`s with room for seven
+    /// and for sixteen. No conversion is under way.
+    pub fn new(
+        manifest: Manifest,
+        active: LogStore,
+        frozen: Vec<LogStore>,
+        hashes: Vec<HashStore>,
+        charge: u32,
+    ) -> Self
+        requires whole { AreWhole (record { manifest = manifest; active = active; frozen = frozen.items; hashes = hashes.items; converting = None; charge = charge }) }
         requires room { 7 ≤ vec_capacity frozen }
-        ensures { result ≡ record { manifest = manifest; active = active; frozen = frozen.items; charge = charge } }
+        requires hash_room { 16 ≤ vec_capacity hashes }
+        ensures { result ≡ record { manifest = manifest; active = active; frozen = frozen.items; hashes = hashes.items; converting = None; charge = charge } }
     {
         Stores {
             manifest,
             active,
             frozen,
+            hashes,
+            converting: None,
             charge,
         }
     }
@@ -100,99 +111,6 @@ impl Stores {
         ensures { result ≡ nat_lt self.now.active.log.settled self.now.active.log.used }
     {
         self.active.has_waiting()
-    }
-
-    // The log of a holder.
-    fn store_at(&self, holder: Holder) -> &LogStore
-        requires { IsHolder self.now holder }
-        ensures value { result.now ≡ store_at self.now holder }
-        ensures has_shape { (store_at self.now holder).log.shape ≡ self.now.manifest.shape }
-    {
-        match holder {
-            Holder::Active => &self.active,
-            Holder::Frozen(index) => &self.frozen[index],
-        }
-    }
-
-    // The last row of a key among the rows of the newest frozen log that has one, with the number of that log.
-    fn find_frozen<D: Disk>(&self, disk: &D, key: &Key) -> Result<Option<(usize, Found)>, D::Fault>
-        requires size { device_size self.now.manifest.shape ≤ size (D.content disk.now) }
-        ensures found { Stands (D.content disk.now) self.now → IsTrue (D.content disk.now).honest → IfOk result (FindsFrozen (D.content disk.now) self.now key.now.0) }
-        ensures there { IfOk result (λ found. IfSome found (λ row. (row.0 < length self.now.frozen) × (row.1.place < (store_at self.now (Holder.Frozen row.0)).log.used))) }
-        ensures fault { IfErr result (GaveAny D.gave disk.now) }
-    {
-        for (index, store) in self.frozen.iter().enumerate() {
-            if let Some(found) = store.find(disk, key)? {
-                return Ok(Some((index, found)));
-            }
-        }
-        Ok(None)
-    }
-
-    /// Where the row stands that has a key's value: the active log and then the frozen ones are gone through, the newest first,
-    /// and the first row of the key that is found decides. A delete ends the lookup with none.
-    ///
-    /// # Errors
-    ///
-    /// The fault of a read.
-    pub fn find<D: Disk>(&self, disk: &D, key: &Key) -> Result<Option<Location>, D::Fault>
-        requires size { device_size self.now.manifest.shape ≤ size (D.content disk.now) }
-        ensures located { Stands (D.content disk.now) self.now → IfOk result (Locates (D.content disk.now) self.now key.now.0) }
-        ensures there { IfOk result (λ location. IfSome location (IsLocation self.now)) }
-        ensures fault { IfErr result (GaveAny D.gave disk.now) }
-    {
-        match self.active.find(disk, key)? {
-            Some(found) => Ok(located(Holder::Active, found)),
-            None => match self.find_frozen(disk, key)? {
-                Some((index, found)) => Ok(located(Holder::Frozen(index), found)),
-                None => Ok(None),
-            },
-        }
-    }
-
-    /// Reads the value of the row at a location.
-    ///
-    /// # Errors
-    ///
-    /// The fault of the read. The bytes of `out` are then open.
-    pub fn read_value<D: Disk>(
-        &self,
-        disk: &D,
-        location: Location,
-        out: &mut [u8],
-    ) -> Result<(), D::Fault>
-        requires location { IsLocation self.now location }
-        requires out { length out.old ≡ self.now.manifest.shape.value_len }
-        requires size { device_size self.now.manifest.shape ≤ size (D.content disk.now) }
-        ensures value { IsTrue (D.content disk.now).honest → OnOk result (out.new ≡ value_at (D.content disk.now) self.now location) }
-        ensures fault { IfErr result (GaveAny D.gave disk.now) }
-    {
-        let store = self.store_at(location.holder);
-        let _held = store.len(); // at most as many as the log has room for
-        store.read_value(disk, location.place, out)
-    }
-
-    /// Writes a key's value over `out`, and answers whether there is one. Where there is none `out` stays as it was. It takes no
-    /// memory.
-    ///
-    /// # Errors
-    ///
-    /// The fault of a read. The bytes of `out` are then open.
-    pub fn get<D: Disk>(&self, disk: &D, key: &Key, out: &mut [u8]) -> Result<bool, D::Fault>
-        requires out { length out.old ≡ self.now.manifest.shape.value_len }
-        requires size { device_size self.now.manifest.shape ≤ size (D.content disk.now) }
-        ensures found { Stands (D.content disk.now) self.now → result ≡ Ok true → Finds (D.content disk.now) self.now key.now.0 out.new }
-        ensures none { Stands (D.content disk.now) self.now → result ≡ Ok false → FindsNone (D.content disk.now) self.now key.now.0 }
-        ensures absent { result ≡ Ok false → out.new ≡ out.old }
-        ensures fault { IfErr result (GaveAny D.gave disk.now) }
-    {
-        match self.find(disk, key)? {
-            Some(location) => {
-                self.read_value(disk, location, out)?;
-                Ok(true)
-            }
-            None => Ok(false),
-        }
     }
 
     /// Where a row of this key goes in the table of the active log, none where that log cannot take it.
@@ -241,7 +159,7 @@ impl Stores {
         ensures ok { OnOk result (Advances (command_of (stored_row kind key.now value.now) ∷ []) (D.content disk.old) (D.content disk.new) self.old self.new) }
         ensures map { OnOk result (Remaps (command_of (stored_row kind key.now value.now) ∷ []) (D.content disk.old) (D.content disk.new) self.old self.new) }
         ensures waits { IsTrue (D.content disk.old).honest → OnOk result (waiting_commands (D.content disk.new) self.new ≡ waiting_commands (D.content disk.old) self.old ++ command_of (stored_row kind key.now value.now) ∷ []) }
-        ensures state { OnOk result ((self.new.manifest ≡ self.old.manifest) × (self.new.frozen ≡ self.old.frozen) × (self.new.charge ≡ self.old.charge + puts_of kind)) }
+        ensures state { OnOk result ((self.new.manifest ≡ self.old.manifest) × (self.new.frozen ≡ self.old.frozen) × (self.new.hashes ≡ self.old.hashes) × (self.new.converting ≡ self.old.converting) × (self.new.charge ≡ self.old.charge + puts_of kind)) }
         ensures err { OnErr result (Breaks (D.content disk.old) (D.content disk.new) self.old) }
         ensures unmapped { OnErr result (Remaps [] (D.content disk.old) (D.content disk.new) self.old self.new) }
         ensures unchanged { OnErr result (self.new ≡ self.old) }
@@ -265,7 +183,7 @@ impl Stores {
         ensures ok { OnOk result (Advances [] (D.content disk.old) (D.content disk.new) self.old self.new) }
         ensures map { Remaps [] (D.content disk.old) (D.content disk.new) self.old self.new }
         ensures quiet { OnOk result (IsQuiet (D.content disk.new) self.new) }
-        ensures state { (self.new.manifest ≡ self.old.manifest) × (self.new.frozen ≡ self.old.frozen) × (self.new.charge ≡ self.old.charge) }
+        ensures state { (self.new.manifest ≡ self.old.manifest) × (self.new.frozen ≡ self.old.frozen) × (self.new.hashes ≡ self.old.hashes) × (self.new.converting ≡ self.old.converting) × (self.new.charge ≡ self.old.charge) }
         ensures err { OnErr result (Breaks (D.content disk.old) (D.content disk.new) self.old) }
     {
         self.active.open_gates(disk)?;
@@ -306,7 +224,7 @@ impl Stores {
         ensures ok { OnOk result (Advances [] (D.content disk.old) (D.content disk.new) self.old self.new) }
         ensures map { Remaps [] (D.content disk.old) (D.content disk.new) self.old self.new }
         ensures quiet { OnOk result (IsQuiet (D.content disk.new) self.new) }
-        ensures state { (self.new.manifest ≡ self.old.manifest) × (self.new.frozen ≡ self.old.frozen) × (self.new.charge ≡ self.old.charge) }
+        ensures state { (self.new.manifest ≡ self.old.manifest) × (self.new.frozen ≡ self.old.frozen) × (self.new.hashes ≡ self.old.hashes) × (self.new.converting ≡ self.old.converting) × (self.new.charge ≡ self.old.charge) }
         ensures err { OnErr result (Breaks (D.content disk.old) (D.content disk.new) self.old) }
     {
         if !self.has_waiting() {
@@ -343,7 +261,7 @@ impl Stores {
         ensures ok { OnOk result (Advances [] (D.content disk.old) (D.content disk.new) self.old (unprepared self.new)) }
         ensures turn { OnOk result (MayTurn (D.content disk.new) self.new next.now) }
         ensures map { Remaps [] (D.content disk.old) (D.content disk.new) self.old self.new }
-        ensures state { (self.new.active ≡ self.old.active) × (self.new.frozen ≡ self.old.frozen) × (self.new.charge ≡ self.old.charge) × (self.new.manifest.shape ≡ self.old.manifest.shape) × (self.new.manifest.ruling ≡ self.old.manifest.ruling) }
+        ensures state { (self.new.active ≡ self.old.active) × (self.new.frozen ≡ self.old.frozen) × (self.new.hashes ≡ self.old.hashes) × (self.new.converting ≡ self.old.converting) × (self.new.charge ≡ self.old.charge) × (self.new.manifest.shape ≡ self.old.manifest.shape) × (self.new.manifest.ruling ≡ self.old.manifest.ruling) }
         ensures err { OnErr result (Breaks (D.content disk.old) (D.content disk.new) self.old) }
     {
         let _sound = self.manifest.ruling(); // the next body is well formed as it is
@@ -392,27 +310,5 @@ impl Stores {
         self.write_body(disk, &next)?;
         self.turn(disk, next)?;
         Ok(())
-    }
-
-    /// All keys with their values: the rows are done one after the other from the oldest, each read once.
-    ///
-    /// # Errors
-    ///
-    /// `Device` with the fault of a read, and `NoMemory`.
-    pub fn entries<D: Disk>(
-        &self,
-        alloc: Global,
-        disk: &D,
-    ) -> Result<BTreeMap<Key, Value>, EntriesError<D::Fault>>
-        requires size { device_size self.now.manifest.shape ≤ size (D.content disk.now) }
-        ensures entries { Stands (D.content disk.now) self.now → IsTrue (D.content disk.now).honest → IfOk result (AreEntriesOf (current_map (D.content disk.now) self.now)) }
-        ensures cause { IfErr result (EntriesCause (GaveAny D.gave disk.now)) }
-    {
-        let mut entries = BTreeMap::new(alloc);
-        for index in (0..self.frozen.len()).rev() {
-            do_log(alloc, disk, &self.frozen[index], &mut entries)?;
-        }
-        do_log(alloc, disk, &self.active, &mut entries)?;
-        Ok(entries)
     }
 }

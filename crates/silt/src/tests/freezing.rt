@@ -4,7 +4,7 @@ use crate::tests::{SMALL, answers};
 use std::test::Fail;
 
 // Five puts, of which the last finds the log full and freezes it.
-const FIVE_PUTS: &str =
+pub(crate) const FIVE_PUTS: &str =
     "put 01.. 0001\nput 02.. 0002\nput 03.. 0003\nput 04.. 0004\nput 05.. 0005\n";
 
 // A script in which each dot stands for nineteen zeros: two of them end a key of which two digits are written.
@@ -21,7 +21,7 @@ fn with_keys<S: AllocGlobal>(rt: &S, text: &str) -> Result<Vec<u8>, Fail> {
 }
 
 // The text of some parts, one after the other.
-fn joined<S: AllocGlobal>(rt: &S, parts: &[&str]) -> Result<Vec<u8>, Fail> {
+pub(crate) fn joined<S: AllocGlobal>(rt: &S, parts: &[&str]) -> Result<Vec<u8>, Fail> {
     let mut text = Vec::new(rt.alloc());
     for part in parts {
         text.extend_from_slice(&with_keys(rt, part)?)?;
@@ -104,6 +104,6 @@ fn a_delete_hides_a_frozen_value(rt: HostRuntime) -> Result<(), Fail> {
         ],
     )?;
     let output =
-        b"opened\naccepted 1\naccepted 2\naccepted 3\naccepted 4\naccepted 5\naccepted 6\nabsent\nacknowledged 6\nstopped\nopened\nabsent\nvalue 0002\nidle\n";
+        b"opened\naccepted 1\naccepted 2\naccepted 3\naccepted 4\naccepted 5\naccepted 6\nabsent\nacknowledged 6\nstopped\nopened\nabsent\nvalue 0002\nmoved\n";
     answers(&rt, SMALL, &text, 0, output)
 }

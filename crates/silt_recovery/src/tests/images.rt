@@ -1,4 +1,5 @@
 // Crafted images, and what is found in each.
+ghost use Rattle.std.specs.Prelude.{◌<◌, ◌≤◌, length};
 
 use crate::tests::{EMPTY, formatted, looked_at, small};
 use silt_device::Geometry;
@@ -41,6 +42,11 @@ const fn row(region: u32, row: u32) -> Finding {
     Finding::Damaged(Place::Log { region, row })
 }
 
+// A slot of the hash store in a region.
+const fn slot(region: u32, slot: u32) -> Finding {
+    Finding::Damaged(Place::Hash { region, slot })
+}
+
 // One byte of an empty store is changed: in the header, then in manifest slot 0, then the gate of slot 1.
 #[test]
 fn finds_each_damaged_byte(rt: HostRuntime) -> Result<(), Fail> {
@@ -60,8 +66,9 @@ fn finds_each_damaged_byte(rt: HostRuntime) -> Result<(), Fail> {
         (4112, 1, Finding::Damaged(Place::Slot(0))),
         (4212, 2, Finding::Damaged(Place::Slot(0))),
         (8192, 0xA7, Finding::Damaged(Place::Slot(1))),
-        // a hash store and a sorted entry, which no store has yet
-        (4144, 1, NO_SLOT),
+        // hash region 0 is named twice
+        (4144, 2, Finding::Damaged(Place::Slot(0))),
+        // a sorted entry, which no store has yet
         (4216, 1, NO_SLOT),
         (4216, 8, NO_SLOT),
     ];
@@ -208,5 +215,115 @@ fn finds_a_crowded_log(rt: HostRuntime) -> Result<(), Fail> {
         ..EMPTY
     };
     assert_eq!(rt; looked_at(&rt, alloc, &four)?, Ok(rows));
+    Ok(())
+}
+
+// Hash store 0 has its slots at 28,672, of 23 bytes each, the first four of them in bucket 0. Here it has two puts in that bucket,
+// and in slot 4 a delete of a key that belongs into bucket 1.
+const HASHED_ROWS: [(usize, u8); 6] = [
+    (4144, 1),
+    (28_672, 1),
+    (28_695, 1),
+    (28_696, 1),
+    (28_764, 2),
+    (28_766, 1),
+];
+
+#[test]
+fn counts_the_rows_of_a_hash_store(rt: HostRuntime) -> Result<(), Fail> {
+    let alloc = rt.alloc();
+    let logged = changed(&rt, alloc, &whole(alloc)?, &THREE_ROWS)?;
+    let bytes = changed(&rt, alloc, &logged, &HASHED_ROWS)?;
+    let rows = Report {
+        active_rows: 2,
+        frozen: 1,
+        frozen_rows: 1,
+        hashes: 1,
+        hash_rows: 3,
+        charge: 4,
+        ..EMPTY
+    };
+    assert_eq!(rt; looked_at(&rt, alloc, &bytes)?, Ok(rows));
+    Ok(())
+}
+
+// Each change is made to what the earlier ones left: what is found first decides. A row is of an unknown kind, then one stands in
+// another bucket than its key's, then one has the key of an earlier slot; and the logs are looked at before.
+#[test]
+fn finds_the_first_damaged_slot(rt: HostRuntime) -> Result<(), Fail> {
+    let alloc = rt.alloc();
+    let mut bytes = changed(&rt, alloc, &whole(alloc)?, &HASHED_ROWS)?;
+    let cases: [(usize, u8, Finding); 7] = [
+        (36, 1, CHARGE),
+        (28_833, 3, slot(0, 7)),
+        (28_811, 2, slot(0, 7)),
+        (28_810, 1, slot(0, 6)),
+        (28_789, 1, slot(0, 6)),
+        (28_787, 1, slot(0, 5)),
+        (12_288, 0xA7, row(0, 0)),
+    ];
+    for (place, byte, found) in cases {
+        assert!(rt; place < bytes.len());
+        bytes[place] = byte;
+        assert_eq!(rt;
+            looked_at(&rt, alloc, &bytes)?,
+            Err(found),
+            "{byte} at {place}"
+        );
+    }
+    Ok(())
+}
+
+// Hash store 1, which has its slots at 32,768, is the newest, and hash store 0 the one behind it.
+const TWO_HASHED: [(usize, u8); 2] = [(4144, 2), (4148, 1)];
+
+#[test]
+fn looks_at_the_newest_hash_store_first(rt: HostRuntime) -> Result<(), Fail> {
+    let alloc = rt.alloc();
+    let named = changed(&rt, alloc, &whole(alloc)?, &TWO_HASHED)?;
+    let damaged = changed(&rt, alloc, &named, &[(28_672, 3), (32_929, 3)])?;
+    assert_eq!(rt; looked_at(&rt, alloc, &damaged)?, Err(slot(1, 7)));
+    let turned = changed(&rt, alloc, &damaged, &[(4148, 0), (4152, 1)])?;
+    assert_eq!(rt; looked_at(&rt, alloc, &turned)?, Err(slot(0, 0)));
+    Ok(())
+}
+
+// Writes a put into a slot of a hash region. Its key begins with the number of the slot, and belongs into the slot's bucket.
+fn fill_slot(bytes: &mut [u8], region: usize, slot: usize)
+    requires region { region < 2 }
+    requires slot { slot < 8 }
+    requires len { 45056 ≤ length bytes.old }
+{
+    let at = 28_672 + region * 4096 + slot * 23;
+    bytes[at] = 1;
+    bytes[at + 1] = slot as u8;
+    bytes[at + 2] = (slot / 4) as u8;
+}
+
+// Eight puts in the newest hash store are as many as the store may hold. One in the older one is too many, a delete is not.
+#[test]
+fn counts_the_puts_of_hash_stores(rt: HostRuntime) -> Result<(), Fail> {
+    let alloc = rt.alloc();
+    let mut bytes = changed(&rt, alloc, &whole(alloc)?, &TWO_HASHED)?;
+    for slot in 0..8usize {
+        assert!(rt; bytes.len() == 45_056);
+        fill_slot(&mut bytes, 1, slot);
+    }
+    let full = Report {
+        hashes: 2,
+        hash_rows: 8,
+        charge: 8,
+        ..EMPTY
+    };
+    assert_eq!(rt; looked_at(&rt, alloc, &bytes)?, Ok(full));
+    assert!(rt; bytes.len() == 45_056);
+    fill_slot(&mut bytes, 0, 3);
+    assert_eq!(rt; looked_at(&rt, alloc, &bytes)?, Err(CHARGE));
+    let deleted = changed(&rt, alloc, &bytes, &[(28_741, 2)])?;
+    let nine = Report {
+        hash_rows: 9,
+        ..full
+    };
+    assert_eq!(rt; looked_at(&rt, alloc, &deleted)?, Ok(nine));
     Ok(())
 }

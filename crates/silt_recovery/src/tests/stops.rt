@@ -132,3 +132,20 @@ fn hands_on_each_fault_of_a_read(rt: HostRuntime) -> Result<(), Fail> {
     }
     Ok(())
 }
+
+// A hash store of eight slots is read in eight reads more.
+#[test]
+fn hands_on_each_fault_of_a_hash_slot(rt: HostRuntime) -> Result<(), Fail> {
+    let alloc = rt.alloc();
+    let mut bytes = formatted(alloc, small()?)?.shown().to_vec(alloc)?;
+    assert!(rt; bytes.len() == 45_056);
+    bytes[4144] = 1;
+    for number in 1..14u64 {
+        let disk = FaultDisk::new(MemDisk::with_bytes(alloc, &bytes)?, Call::Read, number);
+        let answer = check(alloc, &disk);
+        let is_fault = matches!(&answer, Err(OpenError::Device(_)));
+        assert_eq!(rt; is_fault, number < 13, "{number}");
+        assert_eq!(rt; answer.is_ok(), number == 13, "{number}");
+    }
+    Ok(())
+}

@@ -51,7 +51,7 @@ const BYTES: [(usize, u8, Finding); 44] = [
     (4108, 1, Finding::Keys(0)),
     (4108, 2, Finding::Damaged(Place::Slot(0))),
     (4112, 1, Finding::Damaged(Place::Slot(0))),
-    (4144, 1, Finding::Damaged(Place::NoSlot)),
+    (4144, 1, Finding::Keys(2)),
     (4144, 3, Finding::Damaged(Place::Slot(0))),
     (4212, 1, Finding::Keys(2)),
     (4212, 2, Finding::Damaged(Place::Slot(0))),

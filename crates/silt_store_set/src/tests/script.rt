@@ -15,6 +15,7 @@ pub(crate) enum Line {
     Delete(u8),
     Get(u8),
     Flush,
+    Convert,
 }
 
 /// What is told of an opening or a reply. A refusal is told by its number.
@@ -27,8 +28,7 @@ pub(crate) enum Told {
     Value(u8, u8),
     LongValue,
     Absent,
-    Idle,
-    Busy,
+    Progress(Progress),
     Refused(u32),
 }
 
@@ -41,6 +41,7 @@ fn event(alloc: Global, line: Line) -> Result<Event, AllocError>
         Line::Delete(first) => Ok(Event::Delete(key(first))),
         Line::Get(first) => Ok(Event::Get(key(first))),
         Line::Flush => Ok(Event::Flush),
+        Line::Convert => Ok(Event::Convert),
     }
 }
 
@@ -81,8 +82,7 @@ fn tell_reply(reply: &Reply<MemFault>) -> Told {
         Reply::Acknowledged(n) => Told::Acknowledged(*n),
         Reply::Found(value) => told_value(value.as_slice()),
         Reply::Absent => Told::Absent,
-        Reply::Progress(Progress::Idle) => Told::Idle,
-        Reply::Progress(_) => Told::Busy,
+        Reply::Progress(progress) => Told::Progress(*progress),
         Reply::Refused(refusal) => Told::Refused(refusal.number()),
     }
 }

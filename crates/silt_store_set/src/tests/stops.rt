@@ -42,6 +42,26 @@ const FIVE_PUTS: [Line; 6] = [
     Line::Flush,
 ];
 
+// The five puts, and then the conversion of the log that they froze: forty calls. Each of the eight slots is one write; the last step
+// makes a sync and the six calls of the manifest.
+const CONVERTED: [Line; 15] = [
+    Line::Put(1, 1),
+    Line::Put(2, 2),
+    Line::Put(3, 3),
+    Line::Put(4, 4),
+    Line::Put(5, 5),
+    Line::Flush,
+    Line::Convert,
+    Line::Convert,
+    Line::Convert,
+    Line::Convert,
+    Line::Convert,
+    Line::Convert,
+    Line::Convert,
+    Line::Convert,
+    Line::Convert,
+];
+
 // The values of the keys 0 to 7 after a beginning of the commands, 0 for none.
 fn after(lines: &[Line], mut commands: u64) -> [u8; 8] {
     let mut values = [0; 8];
@@ -158,6 +178,11 @@ fn two_unflushed_puts_stopped_anywhere(rt: HostRuntime) -> Result<(), Fail> {
 #[test]
 fn five_puts_stopped_anywhere(rt: HostRuntime) -> Result<(), Fail> {
     sweep(&rt, rt.alloc(), &FIVE_PUTS, 25)
+}
+
+#[test]
+fn conversion_stopped_anywhere(rt: HostRuntime) -> Result<(), Fail> {
+    sweep(&rt, rt.alloc(), &CONVERTED, 40)
 }
 
 // A disk of zeros that was being formatted when it was stopped so, and whether the formatting was answered.

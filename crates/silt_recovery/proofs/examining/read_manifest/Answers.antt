@@ -1,10 +1,12 @@
-use Rattle.std.proofs.Common.{◌≡◌, IsTrue, false, true, inr, sym, ap, ◌∙◌, subst}
+use Rattle.std.proofs.Common.{◌≡◌, ◌<◌, nat_lt, true, IsTrue, inr, sym, ap, ◌∙◌, subst}
+use Rattle.std.proofs.lemmas.Bool.{ltb-true}
 use Rattle.silt_device.specs.Disk.{GaveAny}
 use Rattle.silt_image.specs.Stores.{damage_finding}
 use Rattle.silt_manifest.specs.Faults.{IsNotRead}
-use Rattle.silt_recovery.specs.Refusals.{IsFound, IsRefusedLook, names_logs_alone, refusal_of}
+use Rattle.silt_manifest.specs.declared.body.Body.{Body}
+use Rattle.silt_recovery.specs.Refusals.{IsFound, IsRefusedLook, refusal_of}
 use Rattle.silt_recovery.proofs.Manifests.{damage_verdict, ruled_stores}
-use Rattle.silt_recovery.proofs.Refusals.{look_refused, names_logs, names_others}
+use Rattle.silt_recovery.proofs.Refusals.{look_refused, names_entries}
 use Rattle.silt_recovery.proofs.examining.read_manifest.Goals as goal
 
 pub returns-in-Err-Damaged-clause-cause : goal.returns-in-Err-Damaged-clause-cause
@@ -17,17 +19,13 @@ returns-in-Err-Damaged-clause-cause g c =
     (ap refusal_of (sym c.from.ensures) ∙ sym c.from-in-Err-Damaged.ensures)
     (look_refused (λ finding. IsTrue content.honest → IsFound content.shown finding) gave (damage_finding c.in-Err-Damaged.damage) found)
 
-pub returns-then-not-names_logs_alone-clause-cause : goal.returns-then-not-names_logs_alone-clause-cause
-returns-then-not-names_logs_alone-clause-cause g c = λ h.
+pub returns-then-names_entries-clause-cause : goal.returns-then-names_entries-clause-cause
+returns-then-names_entries-clause-cause g c = λ h.
     let content = g.D.Disk.content c.args.disk.now in
-    let others : names_logs_alone c.in-Ok.manifest.ruling ≡ false = ap names_logs_alone (sym c.ruling.ensures.value) ∙ sym c.names_logs_alone.ensures ∙ c.if-not-names_logs_alone.true in
-    inr (names_others c.args.geometry c.in-Ok.manifest.ruling content.shown (ruled_stores c.args.geometry content.shown c.in-Ok.manifest (c.requires.shape h) c.in-Ok.ensures.shape.0 (c.in-Ok.ensures.ruled.holds h)) others)
+    let is : nat_lt 0 c.in-Ok.manifest.ruling.sorted_count ≡ true = ap (λ (b : Body). nat_lt 0 b.sorted_count) (sym c.ruling.ensures.value) ∙ sym c.names_entries.ensures ∙ c.if-names_entries.true in
+    let some : 0 < c.in-Ok.manifest.ruling.sorted_count = ltb-true 0 c.in-Ok.manifest.ruling.sorted_count is in
+    inr (names_entries c.args.geometry c.in-Ok.manifest.ruling content.shown (ruled_stores c.args.geometry content.shown c.in-Ok.manifest (c.requires.shape h) c.in-Ok.ensures.shape.0 (c.in-Ok.ensures.ruled.holds h)) some)
 
 pub returns-clause-named : goal.returns-clause-named
 returns-clause-named g c = λ h.
     ruled_stores c.args.geometry (g.D.Disk.content c.args.disk.now).shown c.in-Ok.manifest (c.requires.shape h) c.in-Ok.ensures.shape.0 (c.in-Ok.ensures.ruled.holds h)
-
-pub returns-clause-logs_alone : goal.returns-clause-logs_alone
-returns-clause-logs_alone g c =
-    let alone : names_logs_alone c.in-Ok.manifest.ruling ≡ true = ap names_logs_alone (sym c.ruling.ensures.value) ∙ sym c.names_logs_alone.ensures ∙ c.if-not-names_logs_alone.false in
-    names_logs c.in-Ok.manifest.ruling alone

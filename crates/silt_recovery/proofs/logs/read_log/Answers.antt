@@ -4,7 +4,7 @@ use Rattle.silt_recovery.proofs.logs.read_log.Goals as goal
 pub returns-in-Ok-clause-sound : goal.returns-in-Ok-clause-sound
 returns-in-Ok-clause-sound g c = λ h.
     let region = c.in-Ok.ensures.region in
-    rebuilt_sound (g.D.Disk.content c.args.disk.now) c.args.geometry c.args.region c.in-Ok.rebuilt.store c.in-Ok.rebuilt.puts region.0 region.1 (c.in-Ok.ensures.rebuilt h)
+    rebuilt_sound (g.D.Disk.content c.args.disk.now) c.args.geometry c.args.region c.in-Ok.store region.0 region.1 (c.in-Ok.ensures.rebuilt h)
 
 pub returns-in-Err-Damaged-clause-cause : goal.returns-in-Err-Damaged-clause-cause
 returns-in-Err-Damaged-clause-cause g c = λ h.

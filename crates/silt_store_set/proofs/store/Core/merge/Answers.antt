@@ -1,7 +1,7 @@
 use Rattle.std.proofs.Common.{refl}
 use Rattle.silt_device.specs.Disk.{GaveAny}
 use Rattle.silt_store_set.specs.declared.event.Event.TheVariants.{Merge}
-use Rattle.silt_store_set.specs.declared.event.Progress.TheVariants.{Idle}
+use Rattle.silt_stores.specs.declared.converting.Progress.TheVariants.{Idle}
 use Rattle.silt_store_set.specs.declared.event.Reply.TheVariants.{Progress}
 use Rattle.silt_store_set.proofs.Calls.{answered}
 use Rattle.silt_store_set.proofs.store.Core.merge.Goals as goal

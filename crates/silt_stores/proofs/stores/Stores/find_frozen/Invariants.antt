@@ -1,13 +1,12 @@
 use Rattle.std.proofs.Common.{◌<◌, ℕ, IsTrue}
 use Rattle.silt_log.specs.State.{all_rows}
 use Rattle.silt_log_store.specs.Finding.{HasNoRow}
-use Rattle.silt_stores.specs.declared.lookup.Holder.TheVariants.{Frozen}
 use Rattle.silt_stores.specs.Standing.{Stands}
-use Rattle.silt_stores.specs.Lookup.{store_at}
+use Rattle.silt_stores.specs.Lookup.{frozen_at}
 use Rattle.silt_stores.proofs.stores.Stores.find_frozen.Given as goal
 
 -- the logs that were passed have no row of the key
 abbrev pub invariant-loop-index : goal.invariant-loop-index
 invariant-loop-index g l =
     Stands (g.D.Disk.content l.disk) l.self → IsTrue (g.D.Disk.content l.disk).honest
-    → (index : ℕ) → index < l.index → HasNoRow (all_rows (g.D.Disk.content l.disk) (store_at l.self (Frozen index)).log) l.key.0
+    → (index : ℕ) → index < l.index → HasNoRow (all_rows (g.D.Disk.content l.disk) (frozen_at l.self index).log) l.key.0

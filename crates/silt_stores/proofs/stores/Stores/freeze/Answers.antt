@@ -56,6 +56,8 @@ returns-clause-map g c =
 pub returns-clause-frozen : goal.returns-clause-frozen
 returns-clause-frozen g c =
     let frozen = c.write_body.ensures.state.1 ∙ c.settle.ensures.state.1 in
-    let charge = c.write_body.ensures.state.2 ∙ c.settle.ensures.state.2 in
+    let hashes = c.write_body.ensures.state.2 ∙ c.settle.ensures.state.2 in
+    let converting = c.write_body.ensures.state.3 ∙ c.settle.ensures.state.3 in
+    let charge = c.write_body.ensures.state.4 ∙ c.settle.ensures.state.4 in
     subst (λ (n : NextLog). HasFrozen n (g.D.Disk.content c.turn.new.disk) c.args.self.now c.turn.new.self) c.clear_region.ensures.next
-    (frozen_from c.clear_region.new.next _ c.args.self.now c.write_body.new.self c.turn.new.self frozen charge c.in_ok-turn.ensures.frozen)
+    (frozen_from c.clear_region.new.next _ c.args.self.now c.write_body.new.self c.turn.new.self frozen hashes converting charge c.in_ok-turn.ensures.frozen)

@@ -9,7 +9,7 @@ use Rattle.silt_stores.proofs.stores.Stores.turn.Goals as goal
 pub returns-in_err-commit_next-clause-map : goal.returns-in_err-commit_next-clause-map
 returns-in_err-commit_next-clause-map g c =
     let turn = subst (λ (v : StoresState). MayTurn (g.D.Disk.content c.args.disk.now) v c.args.next) (sym c.self.view_is) c.requires in
-    rw (← c.self.view_is) (commit_map _ _ _ c.args.next turn c.commit_next.ensures.size c.commit_next.ensures.changes c.commit_next.ensures.each (record { manifest = c.commit_next.new.self; active = c.self.inside.active; frozen = c.self.inside.frozen.items; charge = c.self.inside.charge }) turn.quiet.settled)
+    rw (← c.self.view_is) (commit_map _ _ _ c.args.next turn c.commit_next.ensures.size c.commit_next.ensures.changes c.commit_next.ensures.each (record { manifest = c.commit_next.new.self; active = c.self.inside.active; frozen = c.self.inside.frozen.items; hashes = c.self.inside.hashes.items; converting = c.self.inside.converting; charge = c.self.inside.charge }) turn.quiet.settled)
 
 pub returns-in_err-commit_next-clause-err : goal.returns-in_err-commit_next-clause-err
 returns-in_err-commit_next-clause-err g c =
@@ -23,7 +23,7 @@ invariant_of-self-2 g c =
     let ruling = same_some c.commit_next.new.self.ruling c.args.next.body _ c.in_ok-commit_next.ensures.new turn.prepared in
     let items = c.in-Ok.ensures.items ∙ in_front c.self.inside.frozen.items c.replace-full.result ∙ ap (λ (t : LogStoreState). t ∷ c.self.inside.frozen.items) c.replace-full.ensures.value in
     let goes = turned_parts _ _ _ c.args.next turn c.commit_next.ensures.size c.commit_next.ensures.changes c.commit_next.new.self c.in_ok-commit_next.ensures.rules state.0 ruling state.2 c.replace-full.new.dest c.insert.new.self.items c.replace-full.ensures.after items in
-    record { whole = goes.stands.whole; enough = omega (arith, c.self.invariant.enough, c.in-Ok.ensures.capacity) }
+    record { whole = goes.stands.whole; enough = omega (arith, c.self.invariant.enough, c.in-Ok.ensures.capacity); enough_hashes = c.self.invariant.enough_hashes }
 
 pub returns-clause-ok : goal.returns-clause-ok
 returns-clause-ok g c =

@@ -1,0 +1,134 @@
+// What no clause says of a disk in a file: the bytes that the file holds, and which errors it gives. Each test has a folder or a
+// file of its own, in the folder that it runs in, and takes it away at its end.
+use super::*;
+use std::fs::{self, File};
+use std::io::{self, ErrorKind};
+use std::test::Fail;
+
+const FIRST: [u8; 4] = [0x11, 0x12, 0x13, 0x14];
+
+const SECOND: [u8; 3] = [0x23, 0x24, 0x25];
+
+// Makes a folder, without what an earlier run left in it.
+fn make_folder(runtime: &HostRuntime, name: &str) -> io::Result<()> {
+    if fs::exists(runtime, name)? {
+        fs::remove_dir_all(runtime, name)?;
+    }
+    fs::create_dir(runtime, name)
+}
+
+// The kind of the error, where there is one.
+fn kind_of(answer: io::Result<FileDisk>) -> Option<ErrorKind> {
+    answer.err().map(|error| error.kind())
+}
+
+// What was written stands there on a second disk in the same file, and places that were never written hold zeros.
+#[test]
+fn a_file_keeps_what_was_written(rt: HostRuntime) -> Result<(), Fail> {
+    make_folder(&rt, "kept")?;
+    let mut disk = FileDisk::create(&rt, "kept/disk", 9)?;
+    assert_eq!(rt; disk.len(), 9);
+    write_synced(&mut disk, 1, &FIRST)?;
+    disk.write(3, &SECOND)?;
+    disk.write(8, &[0x31])?;
+    disk.sync()?;
+    let written = [0, 0x11, 0x12, 0x23, 0x24, 0x25, 0, 0, 0x31];
+    let mut read = [0xFF; 9];
+    disk.read(0, &mut read)?;
+    assert_eq!(rt; read, written);
+    drop(disk);
+    let disk = FileDisk::open(&rt, "kept/disk")?;
+    assert_eq!(rt; disk.len(), 9);
+    let mut part = [0xFF; 4];
+    disk.read(5, &mut part)?;
+    assert_eq!(rt; part, [0x25, 0, 0, 0x31]);
+    assert_eq!(rt; fs::read(&rt, "kept/disk")?.as_slice(), written.as_slice());
+    fs::remove_dir_all(&rt, "kept")?;
+    Ok(())
+}
+
+// A file that is there keeps its bytes up to the length asked for, and grows by zeros.
+#[test]
+fn create_gives_the_length(rt: HostRuntime) -> Result<(), Fail> {
+    make_folder(&rt, "sized")?;
+    fs::write(&rt, "sized/disk", FIRST.as_slice())?;
+    let table = [
+        (4, FIRST.as_slice()),
+        (6, &[0x11, 0x12, 0x13, 0x14, 0, 0]),
+        (3, &[0x11, 0x12, 0x13]),
+        (5, &[0x11, 0x12, 0x13, 0, 0]),
+        (0, &[]),
+    ];
+    for (len, held) in table {
+        let disk = FileDisk::create(&rt, "sized/disk", len)?;
+        assert_eq!(rt; disk.len(), len);
+        let bytes = fs::read(&rt, "sized/disk")?;
+        assert_eq!(rt; bytes.as_slice(), held, "at {len}");
+        assert_eq!(rt; FileDisk::open(&rt, "sized/disk")?.len(), len);
+    }
+    fs::remove_dir_all(&rt, "sized")?;
+    Ok(())
+}
+
+// The folder of a bare name is the one that the test runs in.
+#[test]
+fn a_bare_name_is_a_path(rt: HostRuntime) -> Result<(), Fail> {
+    let disk = FileDisk::create(&rt, "bare_name_disk", 1)?;
+    assert_eq!(rt; disk.len(), 1);
+    fs::remove_file(&rt, "bare_name_disk")?;
+    Ok(())
+}
+
+#[test]
+fn a_path_with_no_file_is_an_error(rt: HostRuntime) -> Result<(), Fail> {
+    make_folder(&rt, "wrong")?;
+    let missing = Some(ErrorKind::NotFound);
+    assert_eq!(rt; kind_of(FileDisk::open(&rt, "wrong/disk")), missing);
+    assert!(rt; !fs::exists(&rt, "wrong/disk")?);
+    assert_eq!(rt;
+        kind_of(FileDisk::create(&rt, "wrong/folder/disk", 8)),
+        missing
+    );
+    assert_eq!(rt; kind_of(FileDisk::create(&rt, "", 8)), missing);
+    let folder = Some(ErrorKind::IsADirectory);
+    assert_eq!(rt; kind_of(FileDisk::open(&rt, "wrong")), folder);
+    assert_eq!(rt; kind_of(FileDisk::create(&rt, "wrong", 8)), folder);
+    let too_long = kind_of(FileDisk::create(&rt, "wrong/disk", 1 << 63));
+    assert_eq!(rt; too_long, Some(ErrorKind::InvalidInput));
+    fs::remove_dir_all(&rt, "wrong")?;
+    Ok(())
+}
+
+// A read fails where another hand cut the file short, a write where the file was opened for reading, and a sync where there is
+// nothing to sync.
+#[test]
+fn each_call_hands_out_its_error(rt: HostRuntime) -> Result<(), Fail> {
+    make_folder(&rt, "failing")?;
+    let disk = FileDisk::create(&rt, "failing/disk", 8)?;
+    fs::write(&rt, "failing/disk", FIRST.as_slice())?;
+    let mut read = [0; 4];
+    disk.read(0, &mut read)?;
+    assert_eq!(rt; read, FIRST);
+    let cut = disk.read(1, &mut read).err();
+    assert_eq!(rt;
+        cut.map(|fault| fault.error().kind()),
+        Some(ErrorKind::UnexpectedEof)
+    );
+    let mut disk = FileDisk::of_len(File::open(&rt, "failing/disk")?, 4);
+    let refused = disk.write(0, &SECOND).err();
+    assert_eq!(rt;
+        refused.and_then(|fault| fault.error().raw_os_error()),
+        Some(9)
+    );
+    disk.sync()?;
+    disk.read(0, &mut read)?;
+    assert_eq!(rt; read, FIRST);
+    let mut disk = FileDisk::of_len(File::open(&rt, "/dev/null")?, 4);
+    let refused = disk.sync().err();
+    assert_eq!(rt;
+        refused.map(|fault| fault.error().kind()),
+        Some(ErrorKind::InvalidInput)
+    );
+    fs::remove_dir_all(&rt, "failing")?;
+    Ok(())
+}

@@ -1,0 +1,160 @@
+-- The rows that a conversion writes have no more puts than the log's rows.
+use Rattle.std.proofs.Common.{◌≡◌, ◌≢◌, ℕ, zero, suc, ◌+◌, ◌*◌, ◌≤◌, ◌<◌, ◌==◌, eqb, nat_lt, true, false, cond, List, [], ◌∷◌, filter, length, map, take, get_or, Option, Some, None, inl, inr, option_map, refl, sym, ap, ◌∙◌, arith}
+use Rattle.std.specs.List.{range_with_len}
+use Rattle.std.specs.Option.{is_some}
+use Rattle.std.proofs.lemmas.Bool.{cases_Bool, cases_eq, cases_lt, cond-false, cond-true, eqb-true, le-ltb, lt-ltb}
+use Rattle.std.proofs.lemmas.List.{take_all}
+use Rattle.std.proofs.lemmas.List.FromFn.{sum_by-map-range_with_len_more}
+use Rattle.std.proofs.lemmas.List.Sums.{sum_by-cons, sum_by_more}
+use Rattle.silt_cuckoo.specs.Slots.{Entry, Slots, entry_at, place_at}
+use Rattle.silt_device.specs.Layout.{Shape}
+use Rattle.silt_frame.specs.Frame.{kind_of}
+use Rattle.silt_image.specs.Meaning.{charge_of_rows, keys_of}
+use Rattle.silt_log.specs.Rows.{StoredRow, has_known_kind}
+use Rattle.silt_log_store.proofs.Entries.{entry_law}
+use Rattle.silt_hash_store.specs.Converting.{converted_before, converted_row, converted_rows, empty_row}
+use Rattle.silt_hash_store.specs.Laws.{ConvertedChargeLaw, IsTableOf}
+use Rattle.silt_hash_store.proofs.Soundness.{empty_kind, place_inside, row_of_entry, row_of_none}
+
+-- how many puts a row is
+abbrev weight : StoredRow → ℕ
+weight row = cond (row.kind == 1) 1 0
+
+-- ---- rows of unknown kinds
+
+-- a row of an unknown kind is no put
+unknown_weight : (row : StoredRow) → has_known_kind row ≡ false → weight row ≡ 0
+unknown_weight row unknown = elim (cases_Bool (eqb row.kind 1)) [
+  | inr other ↦ cond-false _ _ _ other
+  | inl put ↦
+      let known : has_known_kind row ≡ true = ap (λ n. is_some (kind_of n)) (eqb-true row.kind 1 put) in
+      absurd (cc)
+]
+
+-- so rows have the puts of those of known kinds
+pub known_charge : (rows : List StoredRow) → charge_of_rows (filter has_known_kind rows) ≡ charge_of_rows rows
+known_charge [] = refl
+known_charge (row ∷ rows) = elim (cases_Bool (has_known_kind row)) [
+  | inl known ↦
+      let kept : filter has_known_kind (row ∷ rows) ≡ row ∷ filter has_known_kind rows = rw known refl in
+      ap charge_of_rows kept ∙ sum_by-cons weight row (filter has_known_kind rows) ∙ ap (λ n. weight row + n) (known_charge rows) ∙ sym (sum_by-cons weight row rows)
+  | inr unknown ↦
+      let dropped : filter has_known_kind (row ∷ rows) ≡ filter has_known_kind rows = rw unknown refl in
+      omega (arith, ap charge_of_rows dropped, known_charge rows, unknown_weight row unknown, sum_by-cons weight row rows)
+]
+
+-- ---- sums over slots
+
+-- the sum over the first slots, this many
+abbrev total : (ℕ → ℕ) → ℕ → ℕ
+total f zero = 0
+total f (suc n) = total f n + f n
+
+-- two sums of the same numbers
+total_same : (f g : ℕ → ℕ) (n : ℕ) → ((slot : ℕ) → slot < n → f slot ≡ g slot) → total f n ≡ total g n
+total_same f g zero same = refl
+total_same f g (suc n) same = omega (arith, total_same f g n (λ slot below. same slot (omega arith)), same n (omega arith))
+
+-- a sum of zeros
+total_zero : (f : ℕ → ℕ) (n : ℕ) → ((slot : ℕ) → f slot ≡ 0) → total f n ≡ 0
+total_zero f zero zeros = refl
+total_zero f (suc n) zeros = omega (arith, total_zero f n zeros, zeros n)
+
+-- the puts of a row a slot
+slots_charge : (row : ℕ → StoredRow) (n : ℕ) → charge_of_rows (map row (range_with_len 0 n)) ≡ total (λ slot. weight (row slot)) n
+slots_charge row zero = refl
+slots_charge row (suc n) =
+    let more : suc n ≡ n + 1 = omega arith in
+    ap (λ m. charge_of_rows (map row (range_with_len 0 m))) more
+    ∙ sum_by-map-range_with_len_more weight row 0 n n (omega arith)
+    ∙ ap (λ m. m + weight (row n)) (slots_charge row n)
+
+-- ---- slots with the places of rows
+
+module _ (rows : List StoredRow) (d : StoredRow) where
+  -- the puts in a slot with the place of one of the first rows, this many
+  abbrev reach : ℕ → Option ℕ → ℕ
+  reach n None = 0
+  reach n (Some place) = cond (nat_lt place n) (weight (get_or rows place d)) 0
+
+  -- no rows
+  reach_none : (place : Option ℕ) → reach 0 place ≡ 0
+  reach_none None = refl
+  reach_none (Some place) = cond-false _ _ _ (le-ltb place 0 (omega arith))
+
+  -- the place of one of the rows
+  reach_inside : (n place : ℕ) → place < n → reach n (Some place) ≡ weight (get_or rows place d)
+  reach_inside n place below = cond-true _ _ _ (lt-ltb place n below)
+
+  -- one row more, in another slot
+  reach_other : (n place : ℕ) → place ≢ n → reach (n + 1) (Some place) ≡ reach n (Some place)
+  reach_other n place other = elim (cases_lt place n) [
+    | inl below ↦ reach_inside (n + 1) place (omega arith) ∙ sym (reach_inside n place below)
+    | inr past ↦ cond-false _ _ _ (le-ltb place (n + 1) (omega (arith, past, other))) ∙ sym (cond-false _ _ _ (le-ltb place n past))
+  ]
+
+  module _ (place_of : ℕ → Option ℕ) (once : (place slot other : ℕ) → place_of slot ≡ Some place → place_of other ≡ Some place → other ≡ slot) where
+    -- the puts in the first slots with places of the first rows
+    abbrev reached : ℕ → ℕ → ℕ
+    reached n count = total (λ slot. reach n (place_of slot)) count
+
+    same_reach : (n slot : ℕ) → place_of slot ≢ Some n → reach (n + 1) (place_of slot) ≡ reach n (place_of slot)
+    same_reach n slot other = go (place_of slot) refl
+      where
+        go : (e : Option ℕ) → place_of slot ≡ e → reach (n + 1) (place_of slot) ≡ reach n (place_of slot)
+        go None at = ap (reach (n + 1)) at ∙ ap (reach n) (sym at)
+        go (Some place) at = ap (reach (n + 1)) at ∙ reach_other n place (λ same. other (at ∙ ap Some same)) ∙ ap (reach n) (sym at)
+
+    -- where no slot has the place of the next row, that row adds nothing
+    nowhere : (n count : ℕ) → ((slot : ℕ) → slot < count → place_of slot ≢ Some n) → reached (n + 1) count ≡ reached n count
+    nowhere n count none = total_same (λ slot. reach (n + 1) (place_of slot)) (λ slot. reach n (place_of slot)) count (λ slot below. same_reach n slot (none slot below))
+
+    -- in one slot more it adds at most its own puts, where it did so before
+    one_slot_more : (n count : ℕ) → reached (n + 1) count ≤ reached n count + weight (get_or rows n d) → (e : Option ℕ) → place_of count ≡ e
+        → reached (n + 1) (suc count) ≤ reached n (suc count) + weight (get_or rows n d)
+    one_slot_more n count so_far None at = omega (arith, so_far, same_reach n count (λ some. let clash : None ≡ Some n = sym at ∙ some in absurd (cc)))
+    one_slot_more n count so_far (Some place) at = elim (cases_eq place n) [
+      | inr other ↦ omega (arith, so_far, same_reach n count (λ some. let both : Some place ≡ Some n = sym at ∙ some in other (cc)))
+      | inl here ↦
+          let is : place_of count ≡ Some n = at ∙ ap Some here in
+          let before : reached (n + 1) count ≡ reached n count = nowhere n count (λ slot below also. let same : slot ≡ count = once n count slot is also in absurd (omega (arith, same, below))) in
+          let added : reach (n + 1) (place_of count) ≡ weight (get_or rows n d) = ap (reach (n + 1)) is ∙ reach_inside (n + 1) n (omega arith) in
+          omega (arith, before, added)
+    ]
+
+    -- so it adds at most its own puts
+    one_more : (n count : ℕ) → reached (n + 1) count ≤ reached n count + weight (get_or rows n d)
+    one_more n zero = omega arith
+    one_more n (suc count) = one_slot_more n count (one_more n count) (place_of count) refl
+
+    -- the slots have no more puts than the rows whose places they have
+    at_most : (n count : ℕ) → n ≤ length rows → reached n count ≤ charge_of_rows (take n rows)
+    at_most zero count most = omega (arith, total_zero (λ slot. reach 0 (place_of slot)) count (λ slot. reach_none (place_of slot)))
+    at_most (suc n) count most =
+        let more : suc n ≡ n + 1 = omega arith in
+        let rest : charge_of_rows (take (n + 1) rows) ≡ charge_of_rows (take n rows) + weight (get_or rows n d) = sum_by_more weight rows n d (omega arith) in
+        rw more (omega (arith, one_more n count, at_most n count (omega arith), rest))
+
+-- the rows that are due have no more puts than the log's rows
+pub converted_charge : ConvertedChargeLaw
+unfolding converted_before converted_rows
+converted_charge s rows table is =
+    let blank : StoredRow = empty_row s in
+    let slots : ℕ = 4 * s.buckets in
+    let due : charge_of_rows (map (converted_row s table rows) (range_with_len 0 slots)) ≡ total (λ slot. reach rows blank (length rows) (place_at table slot)) slots =
+    slots_charge (converted_row s table rows) slots
+    ∙ total_same (λ slot. weight (converted_row s table rows slot)) (λ slot. reach rows blank (length rows) (place_at table slot)) slots (λ slot below. each slot (entry_at table slot) refl) in
+    let once = (entry_law s.buckets (keys_of rows) table is.count is.indexed).once in
+    let most = at_most rows blank (place_at table) once (length rows) slots (omega arith) in
+    let all : charge_of_rows (take (length rows) rows) ≡ charge_of_rows rows = ap charge_of_rows (take_all (length rows) rows (omega arith)) in
+    omega (arith, known_charge (map (converted_row s table rows) (range_with_len 0 slots)), due, most, all)
+  where
+    each : (slot : ℕ) (e : Option Entry) → entry_at table slot ≡ e → weight (converted_row s table rows slot) ≡ reach rows (empty_row s) (length rows) (place_at table slot)
+    each slot None at =
+        ap weight (row_of_none s rows table is slot at)
+        ∙ cond-false _ _ _ (ap (λ n. n == 1) (empty_kind s))
+        ∙ ap (λ (o : Option Entry). reach rows (empty_row s) (length rows) (option_map (λ (x : Entry). x.1) o)) (sym at)
+    each slot (Some (tag, place)) at =
+        ap weight (row_of_entry s rows table is slot tag place at)
+        ∙ sym (reach_inside rows (empty_row s) (length rows) place (place_inside s rows table is slot tag place at))
+        ∙ ap (λ (o : Option Entry). reach rows (empty_row s) (length rows) (option_map (λ (x : Entry). x.1) o)) (sym at)

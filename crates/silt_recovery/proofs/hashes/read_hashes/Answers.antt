@@ -1,0 +1,31 @@
+use Rattle.std.proofs.Common.{◌+◌, IsTrue, List, [], ◌∷◌, get_or, take, subst, sym, ◌∙◌, arith}
+use Rattle.std.proofs.lemmas.Result.{err_from_is_err_and}
+use Rattle.silt_device.specs.Disk.{GaveAny}
+use Rattle.silt_hash_store.specs.State.{HashState}
+use Rattle.silt_recovery.specs.Hashes.{AreReadHashes, HasFirstSlot}
+use Rattle.silt_recovery.proofs.HashSearches.{next_slot_finding, one_more_hash}
+use Rattle.silt_recovery.proofs.Refusals.{refused_weaker}
+use Rattle.silt_recovery.proofs.hashes.read_hashes.Goals as goal
+
+pub returns-in_err-rebuilt-clause-cause : goal.returns-in_err-rebuilt-clause-cause
+returns-in_err-rebuilt-clause-cause g c =
+    let content = g.D.Disk.content c.args.disk.now in
+    let shape = c.args.geometry in
+    let regions = c.args.regions.now in
+    let refused = err_from_is_err_and c.from_residual.result c.from_residual.ensures.1 in
+    rw (refused.1, refused.2) (refused_weaker (λ finding. IsTrue content.honest → HasFirstSlot shape content.shown (get_or regions c.loop-region.region-index 0 ∷ []) finding)
+    (λ finding. IsTrue content.honest → HasFirstSlot shape content.shown regions finding) (GaveAny g.D.Disk.gave c.args.disk.now) c.in_err-rebuilt.field-0.0
+    (next_slot_finding content shape regions c.loop-region.region-index c.loop-region.stores.items c.loop-region.puts c.loop-region.rows c.loop-region-test.true c.loop-region.invariant.read) c.in_err-rebuilt.ensures.cause)
+
+pub loop-region-preserved : goal.loop-region-preserved
+loop-region-preserved g c =
+    let content = g.D.Disk.content c.args.disk.now in
+    let next = c.in_ok-rebuilt.ensures in
+    let read = one_more_hash content c.args.geometry c.args.regions.now c.loop-region.region-index c.loop-region.stores.items c.loop-region.puts c.loop-region.rows c.loop-region-test.true c.loop-region.invariant.read
+    c.in_ok-rebuilt.rebuilt.store c.from-puts.result c.in_ok-rebuilt.rebuilt.rows next.region next.read next.sound (λ h. c.from-puts.ensures ∙ next.charged h) next.counted in
+    record {
+      read = subst (λ (stores : List HashState). AreReadHashes content c.args.geometry (take (c.loop-region.region-index + 1) c.args.regions.now) stores (c.loop-region.puts + c.from-puts.result) (c.loop-region.rows + c.in_ok-rebuilt.rebuilt.rows)) (sym {A = List HashState} c.in-Ok-push.ensures.items) read;
+      most_puts = omega (arith, next.most.0, c.from-puts.ensures, c.loop-region.invariant.most_puts);
+      most_rows = omega (arith, next.most.1, c.loop-region.invariant.most_rows);
+      room = omega (arith, c.in-Ok-push.ensures.capacity, c.loop-region.invariant.room);
+    }

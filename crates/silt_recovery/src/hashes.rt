@@ -1,0 +1,96 @@
+// Reading the hash stores that a manifest names.
+ghost use Rattle.std.specs.Prelude.{◌≡◌, ◌≤◌, ◌<◌, ◌^◌, [], ◌∷◌, All, IsTrue, IfOk, IfErr, OnOk, length, vec_capacity};
+ghost use Rattle.silt_device.specs.Disk.{GaveAny, size};
+ghost use Rattle.silt_device.specs.Layout.{device_size};
+ghost use Rattle.silt_recovery.specs.Hashes.{AreReadHashes, AreSoundHashes, HasFirstSlot, IsReadHash, region_puts, region_rows};
+ghost use Rattle.silt_recovery.specs.Refusals.{IsRefusedLook};
+
+use crate::fault::OpenError;
+use silt_device::{Disk, Geometry};
+use silt_hash_store::{HashStore, RebuildError, Rebuilt};
+use silt_image::Place;
+use std::alloc::Global;
+
+// As many hash stores as a device can have.
+const HASH_ROOM: usize = 16;
+
+/// Hash stores that were read, in order, how many of their rows are puts, and how many rows of known kinds they have.
+#[derive(Drop)]
+pub struct ReadHashes {
+    pub stores: Vec<HashStore>,
+    pub puts: u64,
+    pub rows: u32,
+}
+
+/// Reads the hash store in a region, and makes the tags of its slots.
+///
+/// # Errors
+///
+/// `Damaged` with the number of the first slot that has an unknown kind, a row that belongs into other buckets, or a row of a key
+/// that an earlier slot has; `Device` with the fault of a read, and `NoMemory`.
+pub fn read_hash<D: Disk>(
+    alloc: Global,
+    disk: &D,
+    geometry: Geometry,
+    region: u32,
+) -> Result<Rebuilt, OpenError<D::Fault>>
+    requires region { region < geometry.hashes }
+    requires size { size (D.content disk.now) ≡ device_size geometry }
+    ensures region { IfOk result (λ rebuilt. rebuilt.store.region ≡ region) }
+    ensures read { IfOk result (λ rebuilt. IsReadHash (D.content disk.now) geometry rebuilt.store) }
+    ensures sound { IsTrue (D.content disk.now).honest → OnOk result (AreSoundHashes geometry (D.content disk.now).shown (region ∷ [])) }
+    ensures charged { IsTrue (D.content disk.now).honest → IfOk result (λ rebuilt. rebuilt.puts ≡ region_puts geometry (D.content disk.now).shown region) }
+    ensures counted { IsTrue (D.content disk.now).honest → IfOk result (λ rebuilt. rebuilt.rows ≡ region_rows geometry (D.content disk.now).shown region) }
+    ensures most { IfOk result (λ rebuilt. (rebuilt.puts ≤ 131072) × (rebuilt.rows ≤ 131072)) }
+    ensures cause { IfErr result (IsRefusedLook
+        (λ finding. IsTrue (D.content disk.now).honest → HasFirstSlot geometry (D.content disk.now).shown (region ∷ []) finding)
+        (GaveAny D.gave disk.now)) }
+{
+    let _buckets = geometry.buckets(); // at most 32,768, of four slots each
+    match HashStore::rebuild(alloc, disk, geometry, region) {
+        Ok(rebuilt) => {
+            let _region = rebuilt.store.region(); // one that the device has
+            Ok(rebuilt)
+        }
+        Err(RebuildError::Damaged(slot)) => Err(OpenError::Damaged(Place::Hash { region, slot })),
+        Err(RebuildError::Device(fault)) => Err(OpenError::Device(fault)),
+        Err(RebuildError::NoMemory) => Err(OpenError::NoMemory),
+    }
+}
+
+/// Reads the hash stores, the newest first. Their list has room for as many as a device can have.
+///
+/// # Errors
+///
+/// Those of `read_hash`, of the first hash store in which something is found.
+pub fn read_hashes<D: Disk>(
+    alloc: Global,
+    disk: &D,
+    geometry: Geometry,
+    regions: &[u32],
+) -> Result<ReadHashes, OpenError<D::Fault>>
+    requires regions { All (λ region. region < geometry.hashes) regions.now }
+    requires few { length regions.now ≤ 16 }
+    requires size { size (D.content disk.now) ≡ device_size geometry }
+    ensures read { IfOk result (λ hashes. AreReadHashes (D.content disk.now) geometry regions.now hashes.stores.items hashes.puts hashes.rows) }
+    ensures most { IfOk result (λ hashes. hashes.puts < 2 ^ 40) }
+    ensures room { IfOk result (λ hashes. 16 ≤ vec_capacity hashes.stores) }
+    ensures cause { IfErr result (IsRefusedLook
+        (λ finding. IsTrue (D.content disk.now).honest → HasFirstSlot geometry (D.content disk.now).shown regions.now finding)
+        (GaveAny D.gave disk.now)) }
+{
+    let Ok(mut stores) = Vec::with_capacity(alloc, HASH_ROOM) else {
+        return Err(OpenError::NoMemory);
+    };
+    let mut puts = 0;
+    let mut rows = 0;
+    for region in regions {
+        let rebuilt = read_hash(alloc, disk, geometry, *region)?;
+        puts += u64::from(rebuilt.puts);
+        rows += rebuilt.rows;
+        let Ok(()) = stores.push(rebuilt.store) else {
+            return Err(OpenError::NoMemory);
+        };
+    }
+    Ok(ReadHashes { stores, puts, rows })
+}

@@ -1,0 +1,92 @@
+-- What a step of conversion does, from what that of the stores in memory does.
+use Rattle.std.proofs.Common.{◌≡◌, ℕ, ◌+◌, ◌*◌, ◌%◌, ◌^◌, inl, inr, false, true, [], length, Option, Some, None, refl, ap, sym, ◌∙◌}
+use Rattle.std.proofs.lemmas.List.{length-map}
+use Rattle.silt_device.specs.Disk.{Content}
+use Rattle.silt_hash_store.specs.Converting.{ConversionState}
+use Rattle.silt_stores.specs.Calls.{Advances, Breaks, IsLastGeneration, Remaps, SameDisk}
+use Rattle.silt_stores.specs.Converting.{Converts, Finishes, IsNextStep, MovesOn, StepsOn, convert_turn, is_work, progress_due, written_by}
+use Rattle.silt_stores.specs.Standing.{Stands}
+use Rattle.silt_stores.specs.State.{StoresState, hash_region_of, region_of}
+use Rattle.silt_stores.specs.declared.converting.Progress.{Progress as ProgressOf}
+use Rattle.silt_stores.specs.declared.converting.Progress.TheVariants.{Idle, Waiting, Moved, Finished}
+use Rattle.silt_store_set.specs.declared.event.Event.TheVariants.{Convert}
+use Rattle.silt_store_set.specs.declared.event.Refusal.TheVariants.{Device, NoMemory, Spent}
+use Rattle.silt_store_set.specs.declared.event.Reply.TheVariants.{Progress, Refused}
+use Rattle.silt_store_set.specs.CoreState.{CoreState, ConvertsTo, Does, GoesOn, convert_due, is_finished, work_of, written_of}
+use Rattle.silt_store_set.proofs.Calls.{seen, advanced, answered, broke, refused}
+
+-- a conversion in memory and as contracts see it have written as many slots
+written_same : (o : Option ConversionState) → written_of (work_of o) ≡ written_by o
+written_same None = refl
+written_same (Some conversion) = refl
+
+-- a step in memory as contracts see it
+goes_on : (s : StoresState) (before : Option ConversionState) (after : ConversionState) → IsNextStep s before after → GoesOn s.manifest.shape.hashes s.manifest.ruling (work_of before) (work_of (Some after))
+goes_on s None after step = step
+goes_on s (Some before) after step = step
+
+module _ {D F : Type 0} (content : D → Content) (failures : D → ℕ) (gave : D → F → Type 0) (disk : D) (stores : StoresState) (count : ℕ) (stands : Stands (content disk) stores) where
+  -- the store before
+  abbrev before : CoreState D
+  before = seen content disk stores count false
+
+  -- what is due is the same in memory and in the body's words
+  due_same : convert_due before ≡ convert_turn stores
+  due_same =
+      let frozen : length stores.manifest.ruling.frozen ≡ length stores.frozen = ap length (sym stands.whole.frozen_regions) ∙ length-map stores.frozen region_of in
+      let hashed : length stores.manifest.ruling.hashed ≡ length stores.hashes = ap length (sym stands.whole.hash_regions) ∙ length-map stores.hashes hash_region_of in
+      ap (λ (n : ℕ). progress_due n (length stores.manifest.ruling.hashed) stores.manifest.shape.hashes (4 * stores.manifest.shape.buckets) (written_of (work_of stores.converting))) frozen
+      ∙ ap (λ (n : ℕ). progress_due (length stores.frozen) n stores.manifest.shape.hashes (4 * stores.manifest.shape.buckets) (written_of (work_of stores.converting))) hashed
+      ∙ ap (progress_due (length stores.frozen) (length stores.hashes) stores.manifest.shape.hashes (4 * stores.manifest.shape.buckets)) (written_same stores.converting)
+
+  -- nothing was to be done
+  stood : (progress : ProgressOf) (new : D) (after : StoresState) → progress ≡ convert_turn stores → new ≡ disk → after ≡ stores → failures new ≡ failures disk
+      → ConvertsTo content failures gave before before progress → is_work progress ≡ false → Does content failures gave before (seen content new after count false) Convert (Progress progress)
+  stood progress new after due same_disk same counted does idle =
+      rw (same_disk, same) (answered content failures gave disk stores count false Convert (Progress progress) refl stands refl refl refl (refl, due ∙ sym due_same, does, refl) (λ _. refl) (λ _. tt))
+
+  -- a step was answered
+  pub stepped : (progress : ProgressOf) (new : D) (after : StoresState) → SameDisk (content disk) (content new) → Advances [] (content disk) (content new) stores after
+      → Converts progress stores after → (is_work progress ≡ false → new ≡ disk) → failures new ≡ failures disk
+      → Does content failures gave before (seen content new after count false) Convert (Progress progress)
+  stepped Idle new after same goes converts quiet counted = stood Idle new after converts.due (quiet refl) converts.done counted refl refl
+  stepped Waiting new after same goes converts quiet counted = stood Waiting new after converts.due (quiet refl) converts.done counted refl refl
+  stepped Moved new after same goes converts quiet counted =
+      let moves : MovesOn stores after = converts.done in
+      let ruling : after.manifest.ruling ≡ stores.manifest.ruling = ap (λ (s : StoresState). s.manifest.ruling) moves.is in
+      let work : after.converting ≡ Some moves.conversion = ap (λ (s : StoresState). s.converting) moves.is in
+      let on : GoesOn stores.manifest.shape.hashes stores.manifest.ruling (work_of stores.converting) (work_of after.converting) = rw work (goes_on stores stores.converting moves.conversion moves.step) in
+      advanced content failures gave disk new stores after same stands [] count count Convert (Progress Moved) goes refl refl refl refl
+      (refl, converts.due ∙ sym due_same, (ruling, on), counted) (λ m to e. e) (λ _ _. ruling) (λ other. absurd (cc)) (λ _. tt)
+  stepped Finished new after same goes converts quiet counted =
+      let ends : Finishes stores after = converts.done in
+      advanced content failures gave disk new stores after same stands [] count count Convert (Progress Finished) goes refl refl refl refl (
+        refl,
+        converts.due ∙ sym due_same,
+        record { work = record { region = ends.conversion.region; written = ends.conversion.next }; was = ap work_of ends.was; none = ap work_of ends.none; body = ends.ruling },
+        counted,
+      )
+      (λ m to e. e) (λ _ unfinished. absurd (cc)) (λ other. absurd (cc)) (λ _. tt)
+
+  -- ---- a step was refused
+
+  pub step_unread : (new : D) (after : StoresState) (fault : F) → after ≡ stores → new ≡ disk → convert_turn stores ≡ Moved → gave disk fault
+      → Does content failures gave before (seen content new after count false) Convert (Refused (Device fault))
+  step_unread new after fault same same_disk due given =
+      rw (same_disk, same) (refused content failures gave disk stores count false Convert (Device fault) refl stands refl (inl (due_same ∙ due, record { given = given; working = refl; same = refl })))
+
+  pub step_spent : (new : D) (after : StoresState) → after ≡ stores → new ≡ disk → convert_turn stores ≡ Finished → IsLastGeneration stores
+      → Does content failures gave before (seen content new after count false) Convert (Refused Spent)
+  step_spent new after same same_disk due last = rw (same_disk, same) (refused content failures gave disk stores count false Convert Spent refl stands refl (refl, due_same ∙ due, last))
+
+  pub step_no_memory : (new : D) (after : StoresState) → after ≡ stores → new ≡ disk → convert_turn stores ≡ Moved → stores.converting ≡ None
+      → Does content failures gave before (seen content new after count false) Convert (Refused NoMemory)
+  step_no_memory new after same same_disk due none = rw (same_disk, same) (refused content failures gave disk stores count false Convert NoMemory refl stands refl (refl, due_same ∙ due, ap work_of none))
+
+  -- a write or a sync failed
+  pub step_broke : (new : D) (after : StoresState) (fault : F) → SameDisk (content disk) (content new) → is_work (convert_turn stores) ≡ true → Breaks (content disk) (content new) stores
+      → Remaps [] (content disk) (content new) stores after → after.manifest.shape ≡ stores.manifest.shape → gave new fault → failures new ≡ (failures disk + 1) % 2 ^ 64
+      → Does content failures gave before (seen content new after count true) Convert (Refused (Device fault))
+  step_broke new after fault same work breaks remaps shape given counted =
+      broke content failures gave disk new stores after same stands count Convert fault breaks shape remaps
+      (inr (ap is_work due_same ∙ work, record { given = given; counted = counted; failed = refl }))
