@@ -4,8 +4,8 @@ use Rattle.std.specs.Fmt.{decimal}
 use Rattle.hex.specs.Hex.{encode_lower}
 use Rattle.silt_image.specs.declared.finding.Place.{Place}
 use Rattle.silt_image.specs.declared.finding.Place.TheVariants.{Header, Length, Slot, NoSlot, Log, Hash, Sorted, Charge}
-use Rattle.silt_store_set.specs.declared.event.Progress.{Progress as ProgressOf}
-use Rattle.silt_store_set.specs.declared.event.Progress.TheVariants.{Idle, Waiting, Moved, Finished}
+use Rattle.silt_stores.specs.declared.converting.Progress.{Progress as ProgressOf}
+use Rattle.silt_stores.specs.declared.converting.Progress.TheVariants.{Idle, Waiting, Moved, Finished}
 use Rattle.silt_store_set.specs.declared.event.Refusal.{Refusal}
 use Rattle.silt_store_set.specs.declared.event.Refusal.TheVariants.{Damaged, NoMemory, BadLine}
 use Rattle.silt_store_set.specs.declared.event.Reply.{Reply}
