@@ -1,3 +1,4 @@
+pub mod FileRefusals
 pub mod Fits
 pub mod Lives
 pub mod NewStores

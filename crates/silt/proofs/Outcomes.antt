@@ -1,6 +1,6 @@
 -- How a script may end.
-use Rattle.std.proofs.Common.{◌≡◌, ◌⊎◌, ℕ, List, Option, Result, Ok, Err, inr}
-use Rattle.std.specs.Prelude.{IfOk}
+use Rattle.std.proofs.Common.{◌≡◌, ◌⊎◌, ℕ, List, Option, Result, Ok, Err, inr, subst}
+use Rattle.std.specs.Prelude.{IfOk, OnOk}
 use Rattle.std.specs.Io.KnownBytes.{Appends}
 use Rattle.silt_device.specs.Layout.{Shape}
 use Rattle.silt_device.specs.declared.memory.MemFault.{MemFault}
@@ -21,3 +21,7 @@ pub told_refused : {E : Type 0} (shape : Shape) (result : Result ℕ E) (before 
     → IfOk result (λ status. (status ≡ 1) × Appends before after (reply_line (Refused refusal))) → IfOk result (λ status. (status ≡ 0) ⊎ ((status ≡ 1) × TellsRefusal shape before after))
 told_refused shape (Ok status) before after refusal cause h = inr (h.0, (refusal, cause, h.1))
 told_refused shape (Err error) before after refusal cause h = h
+
+-- what is known at Ok, where it is Ok
+pub on_ok-is : {T E : Type 0} {P : Type 0} (result : Result T E) (value : T) → result ≡ Ok value → OnOk result P → P
+on_ok-is {P = P} result value is h = subst (λ r. OnOk r P) is h

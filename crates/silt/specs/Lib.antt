@@ -1,3 +1,5 @@
+pub mod Files
+pub mod Jobs
 pub mod NewStores
 pub mod Numbers
 pub mod Scripts

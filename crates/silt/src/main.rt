@@ -1,13 +1,24 @@
 //! The program silt.
 //!
-//! `silt script V B CAP NL NH S` makes an empty store of this geometry on a disk in memory, reads lines to the end, and answers
-//! them, one reply line for each. Lines `stop K FILL` divide them into lives: at each such line the store is stopped, at the
-//! K-th write or sync of the life that ends there, and what the stop leaves is opened again.
+//! - `silt format FILE V B CAP NL NH S` makes an empty store of this geometry in a file, and tells the file's length.
+//! - `silt run FILE` is one life of the store in a file: it reads lines to the end, and answers them, one reply line for each. Nothing
+//!   is flushed by itself at the end.
+//! - `silt check FILE` tells what the store in a file consists of, in numbers.
+//! - `silt script V B CAP NL NH S` makes an empty store of this geometry on a disk in memory, reads lines to the end, and answers
+//!   them, one reply line for each. Lines `stop K FILL` divide them into lives: at each such line the store is stopped, at the
+//!   K-th write or sync of the life that ends there, and what the stop leaves is opened again.
+//!
+//! What is done on a file is done by functions over any disk, whose contracts say what is written for what the disk shows. Of a
+//! disk in a file nothing is known but its length.
 #![tactic(auto)]
 
+mod files;
+mod geometry;
+mod jobs;
 mod printing;
 mod program;
 mod reading;
+mod refusing;
 mod script;
 #[cfg(test)]
 mod tests;

@@ -1,27 +1,27 @@
 // A script: lives of a new store in memory.
-ghost use Rattle.std.specs.Prelude.{◌≡◌, ◌⊎◌, All, IfOk, IfErr, MatchResult, codes};
+ghost use Rattle.std.specs.Prelude.{◌≡◌, ◌⊎◌, All, IfOk, IfErr, codes};
 ghost use Rattle.std.specs.FinMap.{empty};
 ghost use Rattle.std.specs.Io.KnownBytes.{Appends};
 ghost use Rattle.silt_device.specs.Disk.{LeavesOnly};
 ghost use Rattle.silt_device.specs.Layout.{InLimits};
 ghost use Rattle.silt_device.specs.Memory.{memory_content};
 ghost use Rattle.silt_device.specs.declared.memory.MemFault.{MemFault as MemFaultOf};
-ghost use Rattle.silt_store_set.specs.declared.event.Reply.TheVariants.{Refused};
 ghost use Rattle.silt_image.specs.Commands.{Map};
 ghost use Rattle.silt_store_set.specs.CoreState.{HasValueOf};
 ghost use Rattle.silt_store_set.specs.Events.{LivesHistory};
 ghost use Rattle.silt_store_set.specs.CoreInvariant.{IsSafe};
 ghost use Rattle.silt.specs.NewStores.{NewStoreCause};
 ghost use Rattle.silt.specs.Numbers.{shape_of};
-ghost use Rattle.silt.specs.Scripts.{EndsScript, TellsRefusal, reply_line};
+ghost use Rattle.silt.specs.Scripts.{EndsScript, TellsRefusal};
 
+use crate::geometry::geometry_of;
 use crate::printing::write_script;
 use crate::reading::read_script;
+use crate::refusing::refuse;
 use crate::words::Numbers;
-use silt_device::{BadGeometry, Geometry, MemDisk, MemFault, Stop};
+use silt_device::{Geometry, MemDisk, MemFault, Stop};
 use silt_recovery::format;
 use silt_store_set::{Event, LifeReply, Refusal, lives};
-use silt_wire::write_refusal;
 use std::alloc::Global;
 use std::io::{self, ErrorKind, Read, Write};
 
@@ -42,12 +42,12 @@ pub fn script<R: Read, W: Write>(
     ensures answered { result ≡ Ok 0 → EndsScript MemFaultOf (shape_of numbers.now).value_len (R.remaining reader.old) (R.remaining reader.new) (W.contents writer.old) (W.contents writer.new) }
 {
     let Ok(geometry) = geometry_of(numbers) else {
-        return refuse(alloc, &Refusal::BadGeometry, writer);
+        return refuse(alloc, &Refusal::<MemFault>::BadGeometry, writer);
     };
     let script = match read_script(alloc, geometry.value_len() as usize, reader) {
         Ok(script) => script,
         Err(error) if error.kind() == ErrorKind::OutOfMemory => {
-            return refuse(alloc, &Refusal::NoMemory, writer);
+            return refuse(alloc, &Refusal::<MemFault>::NoMemory, writer);
         }
         Err(error) => return Err(error),
     };
@@ -58,17 +58,6 @@ pub fn script<R: Read, W: Write>(
         }
         Err(refusal) => refuse(alloc, &refusal, writer),
     }
-}
-
-// Writes that the whole is refused, and answers the status.
-fn refuse<W: Write>(alloc: Global, refusal: &Refusal<MemFault>, writer: &mut W) -> io::Result<u8>
-    ensures { IfOk result (λ status. (status ≡ 1) × Appends (W.contents writer.old) (W.contents writer.new) (reply_line (Refused refusal.now))) }
-{
-    match refusal {
-        Refusal::NoMemory => writer.write_all(b"refused 6 NoMemory\n")?,
-        _ => write_refusal(alloc, refusal, writer)?,
-    }
-    Ok(1)
 }
 
 // Runs lives over a new store, each stopped by its stop and the last one at its end. They are refused as a new store is, or
@@ -102,18 +91,4 @@ fn new_store(alloc: Global, geometry: Geometry) -> Result<MemDisk, Refusal<MemFa
         Ok(disk) => Ok(disk),
         Err(fault) => Err(Refusal::from(fault.error)),
     }
-}
-
-// The geometry of the numbers, which are refused exactly where one of them is out of its limits.
-fn geometry_of(numbers: &Numbers) -> Result<Geometry, BadGeometry>
-    ensures { MatchResult result (λ geometry. (geometry ≡ shape_of numbers.now) × InLimits (shape_of numbers.now)) (λ _. ¬ InLimits (shape_of numbers.now)) }
-{
-    Geometry::new(
-        numbers.value_len,
-        numbers.buckets,
-        numbers.log_capacity,
-        numbers.logs,
-        numbers.hashes,
-        numbers.sorted_capacity,
-    )
 }

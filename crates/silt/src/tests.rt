@@ -1,11 +1,17 @@
 // What no contract says: printed text and statuses, letter for letter, through the program over memory.
 
 mod converting;
+mod files;
 mod freezing;
+mod jobs;
+mod lines;
 
-use crate::program::program;
+use crate::program::{program, refuse_words};
+use crate::words::WordsError;
+use std::fs::File;
 use std::io::{self, Cursor, ErrorKind, Read, Write};
 use std::process::Abort;
+use std::rt::Files;
 use std::test::Fail;
 
 // Values of two bytes, two buckets, four rows a log.
@@ -63,7 +69,7 @@ fn words<S: AllocGlobal>(rt: &S, text: &str) -> Result<Vec<String>, Fail> {
 }
 
 // Runs the program on a text, and compares its status and what it writes.
-pub(crate) fn answers<S: AllocGlobal + Abort>(
+pub(crate) fn answers<S: Files<File = File> + AllocGlobal + Abort>(
     rt: &S,
     call: &str,
     text: &[u8],
@@ -108,66 +114,6 @@ fn divides_lines(rt: HostRuntime) -> Result<(), Fail> {
     let text = b"put =abc 0102\r\n\r\n\nflush\r\r\nget =abc\r\nget =abc";
     let output = b"opened\naccepted 1\nrefused 20 BadLine\nvalue 0102\n";
     answers(&rt, SMALL, text, 0, output)
-}
-
-#[test]
-fn refuses_bad_lines(rt: HostRuntime) -> Result<(), Fail> {
-    for line in [
-        "stop 0 red",
-        "stop +1 old",
-        "stop 4294967296 old",
-        "stop 00000000000 old",
-        "stop 1",
-        "stop 1 old ",
-        "stop  1 old",
-        "stop 1 Old",
-        "STOP 1 old",
-        "stop 1 old old",
-        "stop",
-        "pot 0100000000000000000000000000000000000000",
-        "flush ",
-        " flush",
-        "FLUSH",
-        "get  =abc",
-        "get 000000000000000000000000000000000000001",
-        "get 0g00000000000000000000000000000000000000",
-        "put =abc 010",
-        "put =abc 010203",
-        "put =abc 0102 ",
-        "get =",
-        "get =a\x7F",
-        "get",
-        "put =abc",
-        "get =abc 0102",
-        "\r",
-    ] {
-        let mut text = line.as_bytes().to_vec(rt.alloc())?;
-        text.extend_from_slice(b"\r\nflush\n")?;
-        let output = b"opened\nrefused 20 BadLine\nacknowledged 0\n";
-        answers(&rt, SMALL, &text, 0, output)?;
-    }
-    Ok(())
-}
-
-// A line of 8,300 bytes is read, and one of 8,301 is refused, also where its last byte is a carriage return.
-#[test]
-fn bounds_lines(rt: HostRuntime) -> Result<(), Fail> {
-    let alloc = rt.alloc();
-    let mut text = b"put =".to_vec(alloc)?;
-    text.extend_from_slice(&vec![in alloc; b'x'; 8000]?)?;
-    text.push(b' ')?;
-    text.extend_from_slice(&vec![in alloc; b'0'; 294]?)?;
-    let longest = text.as_slice().to_vec(alloc)?;
-    text.push(b'\n')?;
-    text.extend_from_slice(&longest)?;
-    text.extend_from_slice(b"\r\nget =x")?;
-    text.extend_from_slice(&vec![in alloc; b'x'; 8000]?)?;
-    text.extend_from_slice(b"\nget =abc\n")?;
-    text.extend_from_slice(&vec![in alloc; b'x'; 8301]?)?;
-    text.extend_from_slice(b"\nflush\n")?;
-    let output =
-        b"opened\naccepted 1\nrefused 20 BadLine\nrefused 20 BadLine\nabsent\nrefused 20 BadLine\nacknowledged 1\n";
-    answers(&rt, "silt script 147 2 4 2 2 8", &text, 0, output)
 }
 
 #[test]
@@ -219,6 +165,15 @@ fn ends_by_a_writer_that_fails(rt: HostRuntime) -> Result<(), Fail> {
     Ok(())
 }
 
+// Want of memory for the words is told, and no file is looked at.
+#[test]
+fn tells_want_of_memory_for_the_words(rt: HostRuntime) -> Result<(), Fail> {
+    let mut out = Vec::new(rt.alloc());
+    assert_eq!(rt; refuse_words(WordsError::NoMemory, &mut out), 1);
+    assert_eq!(rt; out.as_slice(), b"refused 6 NoMemory\n".as_slice());
+    Ok(())
+}
+
 #[test]
 fn refuses_bad_words(rt: HostRuntime) -> Result<(), Fail> {
     for call in [
@@ -233,6 +188,16 @@ fn refuses_bad_words(rt: HostRuntime) -> Result<(), Fail> {
         "silt script 2 2 4 2 2 00000000008",
         "silt script 2 2 4 2 2 ",
         "silt scripts 2 2 4 2 2 8",
+        "silt format",
+        "silt format bad_words",
+        "silt format bad_words 2 2 4 2 2",
+        "silt format bad_words 2 2 4 2 2 +8",
+        "silt format bad_words 2 2 4 2 2 8 8",
+        "silt run",
+        "silt run bad_words bad_words",
+        "silt run --help",
+        "silt check",
+        "silt check bad_words 2",
     ] {
         answers(&rt, call, b"flush\n", 2, b"usage\n")?;
     }

@@ -18,10 +18,16 @@ pub struct Numbers {
 }
 
 /// What the words ask for.
-#[derive(Clone, Copy, Debug, PartialEq, Eq)]
-pub enum Job {
+#[derive(Clone, Copy, Debug)]
+pub enum Job<'a> {
+    /// Makes an empty store in a file.
+    Format { file: &'a str, numbers: Numbers },
     /// Answers lines over a new store in memory.
     Script(Numbers),
+    /// Answers lines over the store in a file.
+    Run { file: &'a str },
+    /// Tells what the store in a file consists of.
+    Check { file: &'a str },
 }
 
 /// Why the words name no job.
@@ -43,24 +49,31 @@ impl From<AllocError> for WordsError {
     }
 }
 
-fn number_word<'a>(alloc: Global, name: &'a str) -> Arg<'a> {
+fn word<'a>(alloc: Global, name: &'a str) -> Arg<'a> {
     Arg::new(alloc, name).required(true).action(ArgAction::Set)
+}
+
+fn with_file<'a>(alloc: Global, name: &'a str) -> Result<Command<'a>, AllocError> {
+    Command::new(alloc, name).arg(word(alloc, "FILE"))
 }
 
 fn with_numbers<'a>(alloc: Global, command: Command<'a>) -> Result<Command<'a>, AllocError> {
     command
-        .arg(number_word(alloc, "V"))?
-        .arg(number_word(alloc, "B"))?
-        .arg(number_word(alloc, "CAP"))?
-        .arg(number_word(alloc, "NL"))?
-        .arg(number_word(alloc, "NH"))?
-        .arg(number_word(alloc, "S"))
+        .arg(word(alloc, "V"))?
+        .arg(word(alloc, "B"))?
+        .arg(word(alloc, "CAP"))?
+        .arg(word(alloc, "NL"))?
+        .arg(word(alloc, "NH"))?
+        .arg(word(alloc, "S"))
 }
 
 fn command<'a>(alloc: Global) -> Result<Command<'a>, AllocError> {
     Command::new(alloc, "silt")
         .subcommand_required(true)
-        .subcommand(with_numbers(alloc, Command::new(alloc, "script"))?)
+        .subcommand(with_numbers(alloc, with_file(alloc, "format")?)?)?
+        .subcommand(with_numbers(alloc, Command::new(alloc, "script"))?)?
+        .subcommand(with_file(alloc, "run")?)?
+        .subcommand(with_file(alloc, "check")?)
 }
 
 fn number_at(matches: &ArgMatches<'_>, name: &str) -> Option<u32> {
@@ -78,16 +91,26 @@ fn numbers_of(matches: &ArgMatches<'_>) -> Option<Numbers> {
     })
 }
 
-fn job_of(name: &str, matches: &ArgMatches<'_>) -> Option<Job> {
+fn job_of<'a>(name: &str, matches: &ArgMatches<'a>) -> Option<Job<'a>> {
     match name {
+        "format" => Some(Job::Format {
+            file: matches.get_str("FILE")?,
+            numbers: numbers_of(matches)?,
+        }),
         "script" => Some(Job::Script(numbers_of(matches)?)),
+        "run" => Some(Job::Run {
+            file: matches.get_str("FILE")?,
+        }),
+        "check" => Some(Job::Check {
+            file: matches.get_str("FILE")?,
+        }),
         _ => None,
     }
 }
 
 /// The job that the words name, of which the first is the program's own.
-pub fn read_words(alloc: Global, words: &[String]) -> Result<Job, WordsError> {
-    let matches = match command(alloc)?.try_get_matches_from(words) {
+pub fn read_words<'a>(alloc: Global, words: &'a [String]) -> Result<Job<'a>, WordsError> {
+    let matches = match command::<'a>(alloc)?.try_get_matches_from(words) {
         Ok(matches) => matches,
         Err(error) if error.kind() == ErrorKind::OutOfMemory => return Err(WordsError::NoMemory),
         Err(_) => return Err(WordsError::Usage),

@@ -7,7 +7,7 @@ use Rattle.silt_image.specs.declared.finding.Place.TheVariants.{Header, Length, 
 use Rattle.silt_stores.specs.declared.converting.Progress.{Progress as ProgressOf}
 use Rattle.silt_stores.specs.declared.converting.Progress.TheVariants.{Idle, Waiting, Moved, Finished}
 use Rattle.silt_store_set.specs.declared.event.Refusal.{Refusal}
-use Rattle.silt_store_set.specs.declared.event.Refusal.TheVariants.{Damaged, NoMemory, BadLine}
+use Rattle.silt_store_set.specs.declared.event.Refusal.TheVariants.{Damaged, NoMemory, BadLine, BadKey, BadValue, LineTooLong}
 use Rattle.silt_store_set.specs.declared.event.Reply.{Reply}
 use Rattle.silt_store_set.specs.declared.event.Reply.TheVariants.{Accepted, Acknowledged, Found, Absent, Progress, Refused}
 use Rattle.silt_store_set.specs.Events.{refusal_number, refusal_name}
@@ -49,10 +49,10 @@ reply_text Absent = codes "absent"
 reply_text (Progress progress) = progress_text progress
 reply_text (Refused refusal) = codes "refused " ++ refusal_text refusal
 
--- The refusal of a line that asks for nothing: what is wrong with it is not told apart.
+-- the refusal of a line that asks for nothing, each fault by its own
 abbrev pub fault_refusal : {F : Type 0} → LineFault → Refusal F
 fault_refusal Fault.BadLine = BadLine
-fault_refusal Fault.BadKey = BadLine
-fault_refusal Fault.BadValue = BadLine
-fault_refusal Fault.LineTooLong = BadLine
+fault_refusal Fault.BadKey = BadKey
+fault_refusal Fault.BadValue = BadValue
+fault_refusal Fault.LineTooLong = LineTooLong
 fault_refusal Fault.NoMemory = NoMemory

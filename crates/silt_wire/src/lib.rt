@@ -1,9 +1,9 @@
-//! The texts of a store: lines that ask, and reply lines.
+//! The texts of a store: lines that ask, reply lines, and reports.
 //!
 //! A line ends with a line feed; one carriage return before it is taken off, and a line that is then empty is not answered. Words
 //! stand between single spaces and are in lower case. `parse_line` says what a line asks of a store, `print_reply` what the reply
-//! to it reads as, `stop_of` which stop a line tells. `Pending` keeps what was read of a line that has not ended, and
-//! `answer_lines` answers the lines of any reader by a store to any writer.
+//! to it reads as, `print_report` what a report does, `stop_of` which stop a line tells. `Pending` keeps what was read of a line
+//! that has not ended, and `answer_lines` answers the lines of any reader by a store to any writer.
 #![tactic(auto)]
 
 mod keys;
@@ -11,6 +11,7 @@ mod line;
 mod number;
 mod pending;
 mod reply;
+mod report;
 mod session;
 mod stop;
 #[cfg(test)]
@@ -21,5 +22,6 @@ pub use line::{LONGEST_LINE, LineFault, is_blank, parse_line, without_carriage_r
 pub use number::number_of;
 pub use pending::Pending;
 pub use reply::{print_refusal, print_reply};
+pub use report::{print_report, write_report};
 pub use session::{answer_lines, refusal_of, write_refusal, write_reply};
 pub use stop::stop_of;

@@ -117,14 +117,15 @@ fn reply_to<D: Disk>(
     }
 }
 
-/// The refusal of a line that asks for nothing. What is wrong with such a line is not told apart.
+/// The refusal of a line that asks for nothing, each fault by its own.
 pub fn refusal_of<F: Drop>(fault: LineFault) -> Refusal<F>
     ensures { result ≡ fault_refusal fault }
 {
     match fault {
-        LineFault::BadLine | LineFault::BadKey | LineFault::BadValue | LineFault::LineTooLong => {
-            Refusal::BadLine
-        }
+        LineFault::BadLine => Refusal::BadLine,
+        LineFault::BadKey => Refusal::BadKey,
+        LineFault::BadValue => Refusal::BadValue,
+        LineFault::LineTooLong => Refusal::LineTooLong,
         LineFault::NoMemory => Refusal::NoMemory,
     }
 }

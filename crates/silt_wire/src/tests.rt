@@ -1,6 +1,7 @@
 // What no contract says: texts, letter for letter.
 
-use crate::print_reply;
+use crate::{print_reply, print_report};
+use silt_image::Report;
 use silt_store_set::{Place, Progress, Refusal, Reply};
 use std::process::Abort;
 use std::test::Fail;
@@ -55,5 +56,25 @@ fn prints_progress(rt: HostRuntime) -> Result<(), Fail> {
         let reply: Reply<()> = Reply::Progress(progress);
         assert_eq!(rt; print_reply(rt.alloc(), &reply)?.as_str(), text);
     }
+    Ok(())
+}
+
+// Each number has its own place, also a number of many digits.
+#[test]
+fn prints_reports(rt: HostRuntime) -> Result<(), Fail> {
+    let report = Report {
+        generation: 9_223_372_036_854_775_807,
+        active: 1,
+        active_rows: 131_072,
+        frozen: 7,
+        frozen_rows: 20,
+        hashes: 16,
+        hash_rows: 30,
+        entries: 16_777_216,
+        charge: 50,
+    };
+    let text =
+        "generation 9223372036854775807\nactive log 1 rows 131072\nfrozen logs 7 rows 20\nhash stores 16 rows 30\nsorted entries 16777216\ncharge 50\n";
+    assert_eq!(rt; print_report(rt.alloc(), &report)?.as_str(), text);
     Ok(())
 }

@@ -2,7 +2,9 @@
 
 use crate::tests::freezing::{FIVE_PUTS, joined};
 use crate::tests::{SMALL, answers};
+use std::fs::File;
 use std::process::Abort;
+use std::rt::Files;
 use std::test::Fail;
 
 // A whole conversion where a hash region has eight slots.
@@ -10,7 +12,7 @@ const CONVERSION: &str =
     "convert\nconvert\nconvert\nconvert\nconvert\nconvert\nconvert\nconvert\nconvert\n";
 
 // Compares the answers to a script of these parts with such parts.
-fn converts<S: AllocGlobal + Abort>(
+fn converts<S: Files<File = File> + AllocGlobal + Abort>(
     rt: &S,
     call: &str,
     parts: &[&str],

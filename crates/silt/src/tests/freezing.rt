@@ -8,7 +8,7 @@ pub(crate) const FIVE_PUTS: &str =
     "put 01.. 0001\nput 02.. 0002\nput 03.. 0003\nput 04.. 0004\nput 05.. 0005\n";
 
 // A script in which each dot stands for nineteen zeros: two of them end a key of which two digits are written.
-fn with_keys<S: AllocGlobal>(rt: &S, text: &str) -> Result<Vec<u8>, Fail> {
+pub(crate) fn with_keys<S: AllocGlobal>(rt: &S, text: &str) -> Result<Vec<u8>, Fail> {
     let mut bytes = Vec::new(rt.alloc());
     for byte in text.as_bytes() {
         if *byte == b'.' {

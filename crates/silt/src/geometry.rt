@@ -1,0 +1,21 @@
+// Geometries of six numbers.
+ghost use Rattle.std.specs.Prelude.{◌≡◌, MatchResult};
+ghost use Rattle.silt_device.specs.Layout.{InLimits};
+ghost use Rattle.silt.specs.Numbers.{shape_of};
+
+use crate::words::Numbers;
+use silt_device::{BadGeometry, Geometry};
+
+/// The geometry of the numbers, which are refused exactly where one of them is out of its limits.
+pub fn geometry_of(numbers: &Numbers) -> Result<Geometry, BadGeometry>
+    ensures { MatchResult result (λ geometry. (geometry ≡ shape_of numbers.now) × InLimits (shape_of numbers.now)) (λ _. ¬ InLimits (shape_of numbers.now)) }
+{
+    Geometry::new(
+        numbers.value_len,
+        numbers.buckets,
+        numbers.log_capacity,
+        numbers.logs,
+        numbers.hashes,
+        numbers.sorted_capacity,
+    )
+}

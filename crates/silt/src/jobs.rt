@@ -1,0 +1,110 @@
+// The jobs on a disk of any kind.
+ghost use Rattle.std.specs.Prelude.{◌≡◌, ◌⊎◌, Ok, IfOk, OnOk, codes};
+ghost use Rattle.std.specs.Io.KnownBytes.{Appends};
+ghost use Rattle.silt_device.specs.Disk.{GaveAny};
+ghost use Rattle.silt_device.specs.Layout.{device_size};
+ghost use Rattle.silt.specs.Jobs.{AnswersReader, EndsCheck, EndsFormat, EndsRun, TellsCheck, TellsFormat, TellsOpening, formatted_line};
+
+use crate::refusing::refuse;
+use silt_device::{Disk, Geometry};
+use silt_recovery::{check, format};
+use silt_store_set::{Core, Refusal};
+use silt_wire::{answer_lines, write_report};
+use std::alloc::Global;
+use std::io::{self, Read, Write};
+
+/// One life of the store on a disk: it is taken up, and answers the reader's lines to their end. Nothing is flushed at the end.
+/// Gives the disk back, and the status: 0 at the end of the lines, 1 where the store is not taken up.
+///
+/// # Errors
+///
+/// The reader's or the writer's, and want of memory for a line or for the text of a reply.
+pub fn run_on<D: Disk, R: Read, W: Write>(
+    alloc: Global,
+    disk: D,
+    reader: &mut R,
+    writer: &mut W,
+) -> (D, io::Result<u8>)
+    ensures told { IfOk result.1 (λ status. (status ≡ 0) ⊎ ((status ≡ 1) × TellsOpening D.content (GaveAny D.gave) disk result.0 (W.contents writer.old) (W.contents writer.new))) }
+    ensures answered { result.1 ≡ Ok 0 → EndsRun D.content D.failures (GaveAny D.gave) disk result.0 (R.remaining reader.old) (R.remaining reader.new) (W.contents writer.old) (W.contents writer.new) }
+{
+    match Core::open(alloc, disk) {
+        Ok(mut core) => {
+            let status = answer_reader(alloc, &mut core, reader, writer);
+            (core.close(), status)
+        }
+        Err(fault) => {
+            let status = refuse(alloc, &fault.refusal, writer);
+            (fault.disk, status)
+        }
+    }
+}
+
+// Writes that the store is taken up, answers the reader's lines to their end, and answers the status.
+fn answer_reader<D: Disk, R: Read, W: Write>(
+    alloc: Global,
+    core: &mut Core<D>,
+    reader: &mut R,
+    writer: &mut W,
+) -> io::Result<u8>
+    ensures done { IfOk result (λ status. status ≡ 0) }
+    ensures answered { OnOk result (AnswersReader D.content D.failures (GaveAny D.gave) core.old core.new (R.remaining reader.old) (R.remaining reader.new) (W.contents writer.old) (W.contents writer.new)) }
+{
+    writer.write_all(b"opened\n")?;
+    writer.flush()?;
+    answer_lines(alloc, core, reader, writer)?;
+    Ok(0)
+}
+
+/// Writes what the store on a disk consists of, in numbers. Answers the status: 0 after the report, 1 where the device is refused.
+///
+/// # Errors
+///
+/// The writer's, and want of memory for the text.
+pub fn check_on<D: Disk, W: Write>(alloc: Global, disk: &D, writer: &mut W) -> io::Result<u8>
+    ensures told { IfOk result (λ status. (status ≡ 0) ⊎ ((status ≡ 1) × TellsCheck D.content (GaveAny D.gave) disk.now (W.contents writer.old) (W.contents writer.new))) }
+    ensures reported { result ≡ Ok 0 → EndsCheck D.content disk.now (W.contents writer.old) (W.contents writer.new) }
+{
+    match check(alloc, disk) {
+        Ok(report) => {
+            write_report(alloc, &report, writer)?;
+            writer.flush()?;
+            Ok(0)
+        }
+        Err(error) => refuse(alloc, &Refusal::from(error), writer),
+    }
+}
+
+/// Makes an empty store of this geometry of a disk, and writes the disk's length. Gives the disk back, and the status: 0 after
+/// the length, 1 where the disk is not formatted.
+///
+/// # Errors
+///
+/// The writer's, and want of memory for the text. The disk may be formatted then.
+pub fn format_on<D: Disk, W: Write>(
+    alloc: Global,
+    disk: D,
+    geometry: Geometry,
+    writer: &mut W,
+) -> (D, io::Result<u8>)
+    ensures told { IfOk result.1 (λ status. (status ≡ 0) ⊎ ((status ≡ 1) × TellsFormat D.content (GaveAny D.gave) geometry disk result.0 (W.contents writer.old) (W.contents writer.new))) }
+    ensures formatted { result.1 ≡ Ok 0 → EndsFormat D.content geometry result.0 (W.contents writer.old) (W.contents writer.new) }
+{
+    match format(alloc, disk, geometry) {
+        Ok(disk) => (disk, write_formatted(alloc, geometry.size(), writer)),
+        Err(fault) => {
+            let status = refuse(alloc, &Refusal::from(fault.error), writer);
+            (fault.disk, status)
+        }
+    }
+}
+
+// Writes the length of a device that was formatted, and answers the status.
+fn write_formatted<W: Write>(alloc: Global, bytes: u64, writer: &mut W) -> io::Result<u8>
+    ensures { IfOk result (λ status. (status ≡ 0) × Appends (W.contents writer.old) (W.contents writer.new) (formatted_line bytes)) }
+{
+    let line = format!(in alloc; "formatted {bytes}\n")?;
+    writer.write_all(line.as_bytes())?;
+    writer.flush()?;
+    Ok(0)
+}

@@ -1,0 +1,114 @@
+// The jobs on a disk in memory, letter for letter, as they are done on files.
+
+use crate::jobs::{check_on, format_on, run_on};
+use crate::tests::freezing::{FIVE_PUTS, with_keys};
+use silt_device::{Call, Disk, FaultDisk, Geometry, MemDisk};
+use std::io::Cursor;
+use std::process::Abort;
+use std::test::Fail;
+
+// Formats a disk, and compares the status and what is written.
+fn formats<S: AllocGlobal + Abort, D: Disk>(
+    rt: &S,
+    disk: D,
+    geometry: Geometry,
+    status: u8,
+    output: &[u8],
+) -> Result<D, Fail> {
+    let mut out = Vec::new(rt.alloc());
+    let (disk, code) = format_on(rt.alloc(), disk, geometry, &mut out);
+    assert_eq!(rt; out.as_slice(), output);
+    assert_eq!(rt; code?, status);
+    Ok(disk)
+}
+
+// Runs one life on a disk, and compares the status and what is written.
+fn runs<S: AllocGlobal + Abort, D: Disk>(
+    rt: &S,
+    disk: D,
+    text: &[u8],
+    status: u8,
+    output: &[u8],
+) -> Result<D, Fail> {
+    let mut reader = Cursor::new(text);
+    let mut out = Vec::new(rt.alloc());
+    let (disk, code) = run_on(rt.alloc(), disk, &mut reader, &mut out);
+    assert_eq!(rt; out.as_slice(), output);
+    assert_eq!(rt; code?, status);
+    Ok(disk)
+}
+
+// Checks a disk, and compares the status and what is written.
+fn checks<S: AllocGlobal + Abort, D: Disk>(
+    rt: &S,
+    disk: &D,
+    status: u8,
+    output: &[u8],
+) -> Result<(), Fail> {
+    let mut out = Vec::new(rt.alloc());
+    let code = check_on(rt.alloc(), disk, &mut out);
+    assert_eq!(rt; out.as_slice(), output);
+    assert_eq!(rt; code?, status);
+    Ok(())
+}
+
+// A new disk that was formatted, of 45,056 bytes.
+fn formatted<S: AllocGlobal + Abort>(rt: &S, geometry: Geometry) -> Result<MemDisk, Fail> {
+    let disk = MemDisk::new(rt.alloc(), 45_056)?;
+    formats(rt, disk, geometry, 0, b"formatted 45056\n")
+}
+
+// Two lives on one disk, of which the second finds what was flushed.
+#[test]
+fn runs_on_a_disk(rt: HostRuntime) -> Result<(), Fail> {
+    let disk = formatted(&rt, Geometry::new(2, 2, 4, 2, 2, 8)?)?;
+    let text = b"put =abc 0102\nflush\nget =abc\n";
+    let output = b"opened\naccepted 1\nacknowledged 1\nvalue 0102\n";
+    let disk = runs(&rt, disk, text, 0, output)?;
+    let text = b"get =abc\nstop 0 old\ndelete =abc\nget =abc";
+    let output = b"opened\nvalue 0102\nrefused 20 BadLine\naccepted 1\n";
+    runs(&rt, disk, text, 0, output)?;
+    Ok(())
+}
+
+#[test]
+fn reports_a_disk(rt: HostRuntime) -> Result<(), Fail> {
+    let disk = formatted(&rt, Geometry::new(2, 2, 8, 2, 2, 16)?)?;
+    let mut text = with_keys(&rt, FIVE_PUTS)?;
+    text.extend_from_slice(b"flush\n")?;
+    let output =
+        b"opened\naccepted 1\naccepted 2\naccepted 3\naccepted 4\naccepted 5\nacknowledged 5\n";
+    let disk = runs(&rt, disk, &text, 0, output)?;
+    let output =
+        b"generation 1\nactive log 1 rows 1\nfrozen logs 1 rows 4\nhash stores 0 rows 0\nsorted entries 0\ncharge 5\n";
+    checks(&rt, &disk, 0, output)
+}
+
+// A disk that holds no store is refused and stays, and one of another length is not formatted.
+#[test]
+fn refuses_disks(rt: HostRuntime) -> Result<(), Fail> {
+    let disk = MemDisk::new(rt.alloc(), 45_056)?;
+    let reply = b"refused 1 NotFormatted\n";
+    checks(&rt, &disk, 1, reply)?;
+    let disk = runs(&rt, disk, b"flush\n", 1, reply)?;
+    let geometry = Geometry::new(100, 1024, 3000, 4, 4, 100_000)?;
+    let disk = formats(&rt, disk, geometry, 1, b"refused 2 BadGeometry\n")?;
+    assert_eq!(rt; disk.len(), 45_056);
+    checks(&rt, &disk, 1, reply)
+}
+
+// A disk that fails within a job is told as one: its first call fails, and then it does its work.
+#[test]
+fn tells_device_faults(rt: HostRuntime) -> Result<(), Fail> {
+    let disk = formatted(&rt, Geometry::new(2, 2, 4, 2, 2, 8)?)?;
+    let reply = b"refused 5 Device\n";
+    let disk = runs(
+        &rt,
+        FaultDisk::new(disk, Call::Sync, 1),
+        b"flush\n",
+        1,
+        reply,
+    )?;
+    runs(&rt, disk, b"flush\n", 0, b"opened\nacknowledged 0\n")?;
+    Ok(())
+}

@@ -1,0 +1,176 @@
+-- The key that is decided next is the lowest one, and by what it is decided.
+use Rattle.std.proofs.Common.{◌≡◌, ◌≢◌, ℕ, ◌<◌, nat_lt, Bool, true, false, List, [], length, slice_get, Option, Some, None, option_map, inl, inr, refl, sym, subst, ap, ◌∙◌}
+use Rattle.std.specs.Option.{is_some}
+use Rattle.std.specs.Ordering.{match_ordering, nat_cmp}
+use Rattle.std.specs.Cmp.Lexicographic.{slice_cmp}
+use Rattle.std.specs.declared.cmp.Ordering.{Ordering}
+use Rattle.std.specs.declared.cmp.Ordering.TheVariants.{Less, Equal, Greater}
+use Rattle.std.proofs.lemmas.Bool.{lt-ltb}
+use Rattle.std.proofs.lemmas.Cmp.{nat_list_cmp_total}
+use Rattle.std.proofs.lemmas.Map.Lookups.{exact_bytes}
+use Rattle.std.proofs.lemmas.Option.{slice_get_within}
+use Rattle.silt_frame.specs.declared.key.Key.{Key}
+use Rattle.silt_image.specs.Stores.{entry_row}
+use Rattle.silt_log.specs.Rows.{StoredRow}
+use Rattle.silt_sorted_store.proofs.Entries.{key_of_row}
+use Rattle.silt_sorted_store.proofs.Rising.{key_at, not_below_itself}
+use Rattle.silt_merge.specs.Choosing.{IsFirst, IsNextEntry, choice_of, lower_choice}
+use Rattle.silt_merge.specs.State.{source_at}
+use Rattle.silt_merge.specs.declared.choice.Choice.{Choice}
+use Rattle.silt_merge.specs.declared.source.Source.{Source}
+use Rattle.silt_merge.proofs.Deciding.{IsLowest}
+use Rattle.silt_merge.proofs.Newest.{turned}
+
+-- ---- on any disk
+
+-- a choice is of a row that waits, or of the next entry
+pub record IsOffered (waiting : List (Key × Source)) (next : Option Key) (choice : Choice) : Type 0 where
+  pub source : (source : Source) → choice.source ≡ Some source → source_at waiting choice.key.0 ≡ Some source
+  pub none : choice.source ≡ None → choice.passes ≡ true
+  pub more : choice.passes ≡ true → is_some next ≡ true
+
+-- the choice of a row that waits
+offered_row : (waiting : List (Key × Source)) (key : Key) (source : Source) (next : Option Key) (choice : Choice) → source_at waiting key.0 ≡ Some source → choice.key ≡ key → choice.source ≡ Some source → (choice.passes ≡ true → is_some next ≡ true)
+    → IsOffered waiting next choice
+offered_row waiting key source next choice waits its_key its_source passes = record {
+  source = λ other is. ap (λ (k : Key). source_at waiting k.0) its_key ∙ waits ∙ sym its_source ∙ is;
+  none = λ none. absurd (cc);
+  more = passes;
+}
+
+-- that of the next entry
+offered_entry : (waiting : List (Key × Source)) (next : Key) (choice : Choice) → choice.source ≡ None → choice.passes ≡ true → IsOffered waiting (Some next) choice
+offered_entry waiting next choice none passes = record { source = λ other is. absurd (cc); none = λ same. passes; more = λ same. refl }
+
+-- the choice of the lower of two keys
+lower_is : (key : Key) (source : Source) (next : Key) (o : Ordering) → slice_cmp nat_cmp key.0 next.0 ≡ o
+    → lower_choice key source next ≡ match_ordering o (record { key = key; source = Some source; passes = false }) (record { key = key; source = Some source; passes = true }) (record { key = next; source = None; passes = true })
+lower_is key source next o is =
+    ap (λ (p : Ordering). let it : Choice = match_ordering p (record { key = key; source = Some source; passes = false }) (record { key = key; source = Some source; passes = true }) (record { key = next; source = None; passes = true }) in it) is
+
+pub offered : (waiting : List (Key × Source)) (first : Option (Key × Source)) (next : Option Key) (choice : Choice) → IsFirst waiting first → choice_of first next ≡ Some choice → IsOffered waiting next choice
+offered waiting None None choice is chosen = absurd (cc)
+offered waiting None (Some next) choice is chosen =
+    let it : record { key = next; source = None; passes = true } ≡ choice = cc in
+    subst (IsOffered waiting (Some next)) it (offered_entry waiting next (record { key = next; source = None; passes = true }) refl refl)
+offered waiting (Some (key, source)) None choice is chosen =
+    let it : record { key = key; source = Some source; passes = false } ≡ choice = cc in
+    subst (IsOffered waiting None) it (offered_row waiting key source None (record { key = key; source = Some source; passes = false }) is.0 refl refl (λ same. absurd (cc)))
+offered waiting (Some (key, source)) (Some next) choice is chosen =
+    let it : lower_choice key source next ≡ choice = cc in
+    let go : (o : Ordering) → slice_cmp nat_cmp key.0 next.0 ≡ o → IsOffered waiting (Some next) (lower_choice key source next) = elim [
+      | Less ↦ λ o. subst (IsOffered waiting (Some next)) (sym (lower_is key source next Less o)) (offered_row waiting key source (Some next) (record { key = key; source = Some source; passes = false }) is.0 refl refl (λ same. refl))
+      | Equal ↦ λ o. subst (IsOffered waiting (Some next)) (sym (lower_is key source next Equal o)) (offered_row waiting key source (Some next) (record { key = key; source = Some source; passes = true }) is.0 refl refl (λ same. refl))
+      | Greater ↦ λ o. subst (IsOffered waiting (Some next)) (sym (lower_is key source next Greater o)) (offered_entry waiting next (record { key = next; source = None; passes = true }) refl refl)
+    ] in
+    subst (IsOffered waiting (Some next)) it (go (slice_cmp nat_cmp key.0 next.0) refl)
+
+-- ---- on an honest disk
+
+-- a choice is of the lowest key, whose row waits or is the next entry
+pub record IsChosen (entries : List StoredRow) (passed : ℕ) (bytes : List ℕ) (row_of : Source → StoredRow) (waiting : List (Key × Source)) (choice : Choice) : Type 0 where
+  pub lowest : IsLowest entries passed (λ key. option_map row_of (source_at waiting key)) choice.key.0
+  pub source : source_at waiting choice.key.0 ≡ choice.source
+  pub passes : choice.passes ≡ true → (passed < length entries) × (key_at entries passed ≡ choice.key.0)
+  pub stays : choice.passes ≡ false → passed < length entries → slice_cmp nat_cmp choice.key.0 (key_at entries passed) ≡ Less
+  pub entry : choice.source ≡ None → (slice_get entries passed ≡ Some (entry_row bytes)) × (choice.passes ≡ true)
+
+-- what a choice of a row is of
+map_some : {A B : Type 0} (f : A → B) (o : Option A) (y : B) → option_map f o ≡ Some y → (x : A) × (o ≡ Some x)
+map_some f None y is = absurd (cc)
+map_some f (Some x) y is = (x, refl)
+
+-- of two keys only one is lower
+not_both : (a b : List ℕ) → slice_cmp nat_cmp a b ≡ Less → slice_cmp nat_cmp b a ≢ Less
+not_both a b less other = not_below_itself a a refl (nat_list_cmp_total.trans a b a less other)
+
+module _ (entries : List StoredRow) (passed : ℕ) (bytes : List ℕ) (row_of : Source → StoredRow) (waiting : List (Key × Source)) where
+  abbrev waits : List ℕ → Option StoredRow
+  waits key = option_map row_of (source_at waiting key)
+
+  -- no row waits where none does
+  none_waits : waiting ≡ [] → (key : List ℕ) → source_at waiting key ≡ None
+  none_waits none key = ap (λ l. source_at l key) none
+
+  -- where the next entry stands
+  next_there : (next : Key) → IsNextEntry entries passed bytes (Some next) → (passed < length entries) × (key_at entries passed ≡ next.0)
+  next_there next is = (slice_get_within entries passed (entry_row bytes) is.0, key_of_row entries passed (entry_row bytes) is.0 ∙ sym is.1)
+
+  -- there is none
+  no_next : is_some {T = Key} None ≡ nat_lt passed (length entries) → passed < length entries → ⊥
+  no_next none below = let some = lt-ltb passed (length entries) below in absurd (cc)
+
+  -- no row waits for a key below the first
+  not_before : (key : Key) (source : Source) → IsFirst waiting (Some (key, source)) → (other : List ℕ) (row : StoredRow) → waits other ≡ Some row → slice_cmp nat_cmp other key.0 ≢ Less
+  not_before key source is other row some = let its = map_some row_of (source_at waiting other) row some in is.1 other its.0 its.1
+
+  -- the next entry, where its key is below that of each row
+  chosen_entry : (next : Key) → IsNextEntry entries passed bytes (Some next) → ((other : List ℕ) (source : Source) → source_at waiting other ≡ Some source → slice_cmp nat_cmp next.0 other ≡ Less)
+      → IsChosen entries passed bytes row_of waiting (record { key = next; source = None; passes = true })
+  chosen_entry next is above =
+      let there = next_there next is in
+      record {
+        lowest = record {
+          is = inr there;
+          rows = λ other row some. let its = map_some row_of (source_at waiting other) row some in not_both next.0 other (above other its.0 its.1);
+          entry = λ below less. not_below_itself (key_at entries passed) next.0 there.1 less;
+        };
+        source = nothing (source_at waiting next.0) refl;
+        passes = λ same. there;
+        stays = λ other. absurd (cc);
+        entry = λ same. (is.0, refl);
+      }
+    where
+      nothing : (o : Option Source) → source_at waiting next.0 ≡ o → source_at waiting next.0 ≡ None
+      nothing None none = none
+      nothing (Some source) some = absurd (not_below_itself next.0 next.0 refl (above next.0 source some))
+
+  -- the first row, where the next entry is not below it
+  chosen_row : (key : Key) (source : Source) (passes : Bool) → IsFirst waiting (Some (key, source)) → (passed < length entries → slice_cmp nat_cmp (key_at entries passed) key.0 ≢ Less)
+      → (passes ≡ true → (passed < length entries) × (key_at entries passed ≡ key.0)) → (passes ≡ false → passed < length entries → slice_cmp nat_cmp key.0 (key_at entries passed) ≡ Less)
+      → IsChosen entries passed bytes row_of waiting (record { key = key; source = Some source; passes = passes })
+  chosen_row key source passes is entry with_it without = record {
+    lowest = record { is = inl (row_of source, ap (option_map row_of) is.0); rows = not_before key source is; entry = entry };
+    source = is.0;
+    passes = with_it;
+    stays = without;
+    entry = λ none. absurd (cc);
+  }
+
+  pub chosen : (first : Option (Key × Source)) (next : Option Key) (choice : Choice) → IsFirst waiting first → IsNextEntry entries passed bytes next → is_some next ≡ nat_lt passed (length entries)
+      → choice_of first next ≡ Some choice → IsChosen entries passed bytes row_of waiting choice
+  chosen None None choice is there some made = absurd (cc)
+  chosen None (Some next) choice is there some made =
+      let it : record { key = next; source = None; passes = true } ≡ choice = cc in
+      subst (IsChosen entries passed bytes row_of waiting) it (chosen_entry next there (λ other source waits_for. let none = none_waits is other in absurd (cc)))
+  chosen (Some (key, source)) None choice is there some made =
+      let it : record { key = key; source = Some source; passes = false } ≡ choice = cc in
+      subst (IsChosen entries passed bytes row_of waiting) it
+      (chosen_row key source false is (λ below. absurd (no_next some below)) (λ same. absurd (cc)) (λ same below. absurd (no_next some below)))
+  chosen (Some (key, source)) (Some next) choice is there some made =
+      let it : lower_choice key source next ≡ choice = cc in
+      let at = next_there next there in
+      let go : (o : Ordering) → slice_cmp nat_cmp key.0 next.0 ≡ o → IsChosen entries passed bytes row_of waiting (lower_choice key source next) = elim [
+        | Less ↦ λ o. subst (IsChosen entries passed bytes row_of waiting) (sym (lower_is key source next Less o))
+            (chosen_row key source false is
+            (λ below less. not_both key.0 next.0 o (ap (λ k. slice_cmp nat_cmp k key.0) (sym at.1) ∙ less))
+            (λ same. absurd (cc))
+            (λ same below. ap (slice_cmp nat_cmp key.0) at.1 ∙ o))
+        | Equal ↦ λ o. subst (IsChosen entries passed bytes row_of waiting) (sym (lower_is key source next Equal o))
+            (chosen_row key source true is
+            (λ below less. not_below_itself (key_at entries passed) key.0 (at.1 ∙ sym (exact_bytes key.0 next.0 o)) less)
+            (λ same. (at.0, at.1 ∙ sym (exact_bytes key.0 next.0 o)))
+            (λ same. absurd (cc)))
+        | Greater ↦ λ o. subst (IsChosen entries passed bytes row_of waiting) (sym (lower_is key source next Greater o))
+            (chosen_entry next there (λ other its waits_for. below_all key.0 next.0 other (turned key.0 next.0 o) (is.1 other its waits_for)))
+      ] in
+      subst (IsChosen entries passed bytes row_of waiting) it (go (slice_cmp nat_cmp key.0 next.0) refl)
+    where
+      below_all : (key next other : List ℕ) → slice_cmp nat_cmp next key ≡ Less → slice_cmp nat_cmp other key ≢ Less → slice_cmp nat_cmp next other ≡ Less
+      below_all key next other less least =
+          let go : (o : Ordering) → slice_cmp nat_cmp other key ≡ o → slice_cmp nat_cmp next other ≡ Less = elim [
+            | Less ↦ λ o. absurd (least o)
+            | Equal ↦ λ o. ap (slice_cmp nat_cmp next) (exact_bytes other key o) ∙ less
+            | Greater ↦ λ o. nat_list_cmp_total.trans next key other less (turned other key o)
+          ] in
+          go (slice_cmp nat_cmp other key) refl

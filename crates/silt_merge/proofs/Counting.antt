@@ -1,0 +1,71 @@
+-- There are as many entries as keys with a value.
+use Rattle.std.proofs.Common.{◌≡◌, ℕ, Bool, true, false, cond, T, List, [], ◌∷◌, filter, length, map, Some, option_and_then, option_map, refl, sym, subst, ap, ◌∙◌}
+use Rattle.std.specs.Ordering.{eq_by_cmp, is_lt, nat_cmp}
+use Rattle.std.specs.Cmp.Lexicographic.{slice_cmp}
+use Rattle.std.specs.Str.{bytes_eq}
+use Rattle.std.specs.FinMap.{entries-from_sorted, from_sorted, get-from_sorted, len, len-entries, same_map, slice_cmp-IsAntisymmetric, nat_cmp-IsAntisymmetric}
+use Rattle.std.specs.FinMap.Entries.{below_all, find, is_sorted}
+use Rattle.std.proofs.lemmas.Bool.{and_from, cond-true}
+use Rattle.std.proofs.lemmas.Cmp.{eq_by_cmp_equiv, nat_list_cmp_total}
+use Rattle.std.proofs.lemmas.List.{length-map}
+use Rattle.std.proofs.lemmas.Map.Text.{is_eq-slice_cmp}
+use Rattle.silt_image.specs.Commands.{Map}
+use Rattle.silt_image.specs.Laws.{value_of}
+use Rattle.silt_image.specs.Meaning.{map_of_rows}
+use Rattle.silt_image.proofs.Rows.{newest_law}
+use Rattle.silt_log.specs.Rows.{StoredRow}
+use Rattle.silt_merge.specs.Laws.{MergedCountLaw}
+use Rattle.silt_merge.specs.Rows.{is_put, merged_rows, newest_rows}
+use Rattle.silt_merge.proofs.Newest.{Above, Rises, merged_map, newest_rising, no_put_first, put_first, rises_newest, rises_puts, row_with}
+
+-- the keys of rows with their values
+abbrev pairs : List StoredRow → List (List ℕ × List ℕ)
+pairs rows = map (λ (row : StoredRow). (row.key, row.value)) rows
+
+-- they rise with the rows
+below_pairs : (key : List ℕ) (rows : List StoredRow) → Above key rows → below_all (slice_cmp nat_cmp) key (pairs rows) ≡ true
+below_pairs key [] above = refl
+below_pairs key (row ∷ rows) above = and_from _ _ (ap is_lt above.0) (below_pairs key rows above.1)
+
+sorted_pairs : (rows : List StoredRow) → Rises rows → is_sorted (slice_cmp nat_cmp) (pairs rows) ≡ true
+sorted_pairs [] rises = refl
+sorted_pairs (row ∷ rows) rises = and_from _ _ (below_pairs row.key rows rises.0) (sorted_pairs rows rises.1)
+
+-- the value of a key among them
+find_pairs : (rows : List StoredRow) (key : List ℕ) → find (slice_cmp nat_cmp) key (pairs rows) ≡ option_map (λ (r : StoredRow). r.value) (row_with key rows)
+find_pairs [] key = refl
+find_pairs (row ∷ rows) key =
+    let further = find_pairs rows key in
+    let same : eq_by_cmp (slice_cmp nat_cmp) key row.key ≡ bytes_eq row.key key = (eq_by_cmp_equiv nat_list_cmp_total).symm key row.key ∙ is_eq-slice_cmp row.key key in
+    let go : (b : Bool) → cond b (Some row.value) (find (slice_cmp nat_cmp) key (pairs rows)) ≡ option_map (λ (r : StoredRow). r.value) (cond b (Some row) (row_with key rows)) = elim [
+      | true ↦ refl
+      | false ↦ further
+    ] in
+    ap (λ b. cond b (Some row.value) (find (slice_cmp nat_cmp) key (pairs rows))) same ∙ go (bytes_eq row.key key)
+
+-- which is what a put gives
+put_values : (rows : List StoredRow) (key : List ℕ) → option_and_then value_of (row_with key (filter is_put rows)) ≡ option_map (λ (r : StoredRow). r.value) (row_with key (filter is_put rows))
+put_values [] key = refl
+put_values (row ∷ rows) key =
+    let further = put_values rows key in
+    let here : is_put row ≡ true → (b : Bool) → option_and_then value_of (cond b (Some row) (row_with key (filter is_put rows))) ≡ option_map (λ (r : StoredRow). r.value) (cond b (Some row) (row_with key (filter is_put rows))) = λ put b. elim b as (λ b. option_and_then value_of (cond b (Some row) (row_with key (filter is_put rows))) ≡ option_map (λ (r : StoredRow). r.value) (cond b (Some row) (row_with key (filter is_put rows)))) [
+      | true ↦ cond-true _ _ _ put
+      | false ↦ further
+    ] in
+    let go : (p : Bool) → is_put row ≡ p → option_and_then value_of (row_with key (filter is_put (row ∷ rows))) ≡ option_map (λ (r : StoredRow). r.value) (row_with key (filter is_put (row ∷ rows))) = elim [
+      | true ↦ λ put. subst (λ l. option_and_then value_of (row_with key l) ≡ option_map (λ (r : StoredRow). r.value) (row_with key l)) (sym (put_first row rows put)) (here put (bytes_eq row.key key))
+      | false ↦ λ other. subst (λ l. option_and_then value_of (row_with key l) ≡ option_map (λ (r : StoredRow). r.value) (row_with key l)) (sym (no_put_first row rows other)) further
+    ] in
+    go (is_put row) refl
+
+-- the map of the newest rows that are puts has an entry for each
+pub merged_count : MergedCountLaw
+unfolding merged_rows
+merged_count rows =
+    let puts : List StoredRow = filter is_put (newest_rows rows) in
+    let rises = rises_puts (newest_rows rows) (rises_newest rows) in
+    let sorted : T (is_sorted (slice_cmp nat_cmp) (pairs puts)) = subst T (sym (sorted_pairs puts rises)) tt in
+    let listed : Map = from_sorted (pairs puts) in
+    let same : map_of_rows puts ≡ listed = same_map nat_list_cmp_total (slice_cmp-IsAntisymmetric nat_cmp-IsAntisymmetric) (map_of_rows puts) listed (λ key.
+    newest_law puts key ∙ ap (option_and_then value_of) (newest_rising puts rises key) ∙ put_values (newest_rows rows) key ∙ sym (get-from_sorted (slice_cmp nat_cmp) (pairs puts) key sorted ∙ find_pairs puts key)) in
+    sym (ap len (sym (merged_map rows) ∙ same) ∙ len-entries listed ∙ ap (λ l. length l) (entries-from_sorted (slice_cmp nat_cmp) (pairs puts) sorted) ∙ length-map puts (λ (row : StoredRow). (row.key, row.value)))

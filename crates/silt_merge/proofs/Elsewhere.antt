@@ -1,0 +1,251 @@
+-- What a change on another part of the disk leaves of a merge.
+use Rattle.std.proofs.Common.{◌≡◌, ◌≢◌, ℕ, suc, ◌+◌, ◌*◌, ◌<◌, ◌≤◌, ◌⊎◌, cond, IsTrue, List, [], ◌∷◌, ◌++◌, filter, flat_map, length, map, take, get_or, slice_range, Option, Some, None, option_map, inl, inr, refl, sym, subst, ap, ◌∙◌, arith}
+use Rattle.std.specs.List.{All, range_with_len}
+use Rattle.std.proofs.lemmas.Bool.{cases_lt, cases_order}
+use Rattle.std.proofs.lemmas.List.{get_or-map, length-map, take-map}
+use Rattle.std.proofs.lemmas.List.FromFn.{map-range_with_len_more}
+use Rattle.silt_device.specs.Disk.{Torn, size}
+use Rattle.silt_device.specs.Layout.{Shape, device_size, entry_len, hash_at, row_len, sorted_at}
+use Rattle.silt_device.proofs.Images.{torn_slice_after, torn_slice_before}
+use Rattle.silt_device.proofs.Regions.{next_region, regions_apart}
+use Rattle.silt_frame.specs.Frame.{kind_byte}
+use Rattle.silt_hash_store.specs.Laws.{IsOutsideSlots}
+use Rattle.silt_hash_store.specs.Slots.{rows_before, slot_at, slot_row}
+use Rattle.silt_hash_store.specs.State.{HashState}
+use Rattle.silt_hash_store.proofs.Reading.{slot_inside}
+use Rattle.silt_hash_store.proofs.Slotting.{all_before}
+use Rattle.silt_hash_store.proofs.Writing.{slots_inside}
+use Rattle.silt_image.specs.Laws.{newest_row}
+use Rattle.silt_image.specs.Meaning.{hash_findings, keys_of, known_rows, oldest_first, sorted_findings}
+use Rattle.silt_image.specs.Stores.{Part, entry_row, hash_part, sorted_rows}
+use Rattle.silt_log.specs.Rows.{StoredRow, has_known_kind, row_of}
+use Rattle.silt_log.proofs.Bodies.{map_range_same}
+use Rattle.silt_merge.specs.Laws.{IsOutsideEntries, MergedElsewhereLaw}
+use Rattle.silt_merge.specs.Merging.{AreSound, IsGatheredIn, IsMergedIn, decided_rows, gathered_rows, source_row}
+use Rattle.silt_merge.specs.Rows.{entries_in, has_key, hashed_rows, is_put, key_count, newest_rows, regions_of, sources}
+use Rattle.silt_merge.specs.State.{IsHeldMerge, MergeState, source_at}
+use Rattle.silt_merge.specs.declared.source.Source.{Source}
+use Rattle.silt_sorted_store.specs.State.{IsHeldSorted, SortedState, entry_at}
+use Rattle.silt_sorted_store.proofs.Entries.{part_inside}
+
+-- ---- regions
+
+-- a change outside the slots of a hash region leaves each row
+slot_outside : (s : Shape) (region slot at count : ℕ) (old new : List ℕ) → hash_at s region + 4 * s.buckets * row_len s ≤ length old → slot < 4 * s.buckets → IsOutsideSlots s region at count
+    → Torn at count old new → slot_row s region new slot ≡ slot_row s region old slot
+unfolding slot_row
+slot_outside s region slot at count old new fits below outside torn =
+    let inside = slot_inside s region slot (length old) fits below in
+    elim outside [
+      | inl before ↦ ap row_of (torn_slice_after at count old new torn (slot_at s region slot) (slot_at s region slot + row_len s) (omega (arith, before)) inside)
+      | inr behind ↦
+          let ends = slot_inside s region slot at behind below in
+          ap row_of (torn_slice_before at count old new torn (slot_at s region slot) (slot_at s region slot + row_len s) ends inside)
+    ]
+
+-- the entries of a sorted region lie within the device
+pub entries_inside : (s : Shape) (region : ℕ) → region < 2 → sorted_at s region + s.sorted_capacity * entry_len s ≤ device_size s
+entries_inside s region below = let apart = regions_apart s in omega (arith, apart.sorted region 2 below, apart.device)
+
+-- the bytes of an entry
+abbrev pub entry_bytes : Shape → ℕ → List ℕ → ℕ → List ℕ
+entry_bytes s region image place = slice_range image (entry_at s region place) (entry_at s region place + entry_len s)
+
+-- a change outside the entries of a sorted region leaves each entry
+entries_outside : (s : Shape) (region n at count : ℕ) (old new : List ℕ) → sorted_at s region + s.sorted_capacity * entry_len s ≤ length old → n ≤ s.sorted_capacity → IsOutsideEntries s region at count
+    → Torn at count old new → sorted_rows s region n new ≡ sorted_rows s region n old
+unfolding sorted_rows
+entries_outside s region n at count old new fits most outside torn =
+    map_range_same (λ (p : ℕ). entry_row (entry_bytes s region new p)) (λ (p : ℕ). entry_row (entry_bytes s region old p)) 0 n (λ place low high.
+    let inside = part_inside (sorted_at s region) (entry_len s) s.sorted_capacity place (length old) fits (omega arith) in
+    elim outside [
+      | inl before ↦ ap entry_row (torn_slice_after at count old new torn (entry_at s region place) (entry_at s region place + entry_len s) (omega (arith, before)) inside)
+      | inr behind ↦
+          let ends = part_inside (sorted_at s region) (entry_len s) s.sorted_capacity place at behind (omega arith) in
+          ap entry_row (torn_slice_before at count old new torn (entry_at s region place) (entry_at s region place + entry_len s) ends inside)
+    ])
+
+-- a change of one entry leaves those before it
+pub entries_before : (s : Shape) (region n : ℕ) (old new : List ℕ) → sorted_at s region + s.sorted_capacity * entry_len s ≤ length old → n ≤ s.sorted_capacity
+    → Torn (entry_at s region n) (entry_len s) old new → sorted_rows s region n new ≡ sorted_rows s region n old
+unfolding sorted_rows
+entries_before s region n old new fits most torn =
+    map_range_same (λ (p : ℕ). entry_row (entry_bytes s region new p)) (λ (p : ℕ). entry_row (entry_bytes s region old p)) 0 n (λ place low high.
+    let inside = part_inside (sorted_at s region) (entry_len s) s.sorted_capacity place (length old) fits (omega arith) in
+    let apart = next_region place n (entry_len s) (omega arith) in
+    ap entry_row (torn_slice_before (entry_at s region n) (entry_len s) old new torn (entry_at s region place) (entry_at s region place + entry_len s) (omega (arith, apart)) inside))
+
+-- one entry more
+pub entry_more : (s : Shape) (region n : ℕ) (image : List ℕ) → sorted_rows s region (n + 1) image ≡ sorted_rows s region n image ++ entry_row (entry_bytes s region image n) ∷ []
+unfolding sorted_rows
+entry_more s region n image = map-range_with_len_more (λ (p : ℕ). entry_row (entry_bytes s region image p)) 0 n n (omega arith)
+
+-- ---- all that is merged
+
+-- two images show the same in the hash regions and in the sorted store
+pub record SameSources (s : Shape) (regions : List ℕ) (sorted : SortedState) (old new : List ℕ) : Type 0 where
+  pub rows : (store slot : ℕ) → store < length regions → slot < 4 * s.buckets → slot_row s (get_or regions store 0) new slot ≡ slot_row s (get_or regions store 0) old slot
+  pub entries : entries_in new sorted ≡ entries_in old sorted
+
+module _ (s : Shape) (old new : List ℕ) where
+  -- all rows of each store
+  part_same : (region : ℕ) → ((slot : ℕ) → slot < 4 * s.buckets → slot_row s region new slot ≡ slot_row s region old slot) → hash_part s new region ≡ hash_part s old region
+  unfolding rows_before
+  part_same region rows =
+      ap (λ l. let p : Part = record { region = region; rows = l } in p)
+      (all_before s region new ∙ map_range_same (slot_row s region new) (slot_row s region old) 0 (4 * s.buckets) (λ slot low high. rows slot (omega arith)) ∙ sym (all_before s region old))
+
+  -- those of all stores
+  parts_same : (regions : List ℕ) → ((store slot : ℕ) → store < length regions → slot < 4 * s.buckets → slot_row s (get_or regions store 0) new slot ≡ slot_row s (get_or regions store 0) old slot)
+      → map (hash_part s new) regions ≡ map (hash_part s old) regions
+  parts_same [] rows = refl
+  parts_same (region ∷ regions) rows =
+      let rest = parts_same regions (λ store slot below inside. rows (suc store) slot (omega arith) inside) in
+      let first = part_same region (λ slot inside. rows 0 slot (omega arith) inside) in
+      ap (λ p. p ∷ map (hash_part s new) regions) first ∙ ap (λ ps. hash_part s old region ∷ ps) rest
+
+  -- and those of the first of them
+  first_same : (count : ℕ) (regions : List ℕ) → ((store slot : ℕ) → store < length regions → slot < 4 * s.buckets → slot_row s (get_or regions store 0) new slot ≡ slot_row s (get_or regions store 0) old slot)
+      → map (hash_part s new) (take count regions) ≡ map (hash_part s old) (take count regions)
+  first_same count regions rows = sym (take-map (hash_part s new) count regions) ∙ ap (take count) (parts_same regions rows) ∙ take-map (hash_part s old) count regions
+
+  -- the rows that are gathered
+  gathered_same : (regions : List ℕ) (store slot : ℕ) → ((store slot : ℕ) → store < length regions → slot < 4 * s.buckets → slot_row s (get_or regions store 0) new slot ≡ slot_row s (get_or regions store 0) old slot)
+      → (store < length regions) ⊎ (slot ≡ 0) → slot ≤ 4 * s.buckets → gathered_rows s new regions store slot ≡ gathered_rows s old regions store slot
+  unfolding gathered_rows rows_before
+  gathered_same regions store slot rows some most =
+      let region : ℕ = get_or regions store 0 in
+      let own : map (slot_row s region new) (range_with_len 0 slot) ≡ map (slot_row s region old) (range_with_len 0 slot) =
+      map_range_same (slot_row s region new) (slot_row s region old) 0 slot (λ place low high. elim some [
+        | inl below ↦ rows store place below (omega arith)
+        | inr none ↦ absurd (omega arith)
+      ]) in
+      ap (λ l. filter has_known_kind l ++ hashed_rows s new (take store regions)) own
+      ∙ ap (λ ps. filter has_known_kind (map (slot_row s region old) (range_with_len 0 slot)) ++ oldest_first (map known_rows ps)) (first_same store regions rows)
+
+module _ (old new : List ℕ) (stores : List HashState) (sorted : SortedState) (same : SameSources sorted.shape (regions_of stores) sorted old new) where
+  -- all rows that are merged
+  pub sources_same : sources new stores sorted ≡ sources old stores sorted
+  unfolding sources
+  sources_same =
+      ap (λ l. l ++ hashed_rows sorted.shape new (regions_of stores)) same.entries
+      ∙ ap (λ ps. entries_in old sorted ++ oldest_first (map known_rows ps)) (parts_same sorted.shape old new (regions_of stores) same.rows)
+
+  -- nothing was found where nothing is
+  pub sound_before : AreSound new stores sorted → AreSound old stores sorted
+  sound_before sound = record {
+    there = sound.there;
+    hashes = ap (flat_map (hash_findings sorted.shape)) (sym (parts_same sorted.shape old new (regions_of stores) same.rows)) ∙ sound.hashes;
+    entries = ap sorted_findings (sym same.entries) ∙ sound.entries;
+  }
+
+  -- the row of a source
+  row_same : (source : Source) → source.store < length (regions_of stores) → source.slot < 4 * sorted.shape.buckets → source_row sorted.shape new (regions_of stores) source ≡ source_row sorted.shape old (regions_of stores) source
+  row_same source below inside = ap (λ (r : StoredRow). let q : StoredRow = record r { kind = kind_byte source.kind } in q) (same.rows source.store source.slot below inside)
+
+  -- what was gathered and decided is so still
+  pub merged_same : (merge : MergeState) → ((key : List ℕ) (source : Source) → source_at merge.waiting key ≡ Some source → (source.store < length (regions_of stores)) × (source.slot < 4 * sorted.shape.buckets))
+      → (merge.store < length (regions_of stores)) ⊎ (merge.slot ≡ 0) → merge.slot ≤ 4 * sorted.shape.buckets
+      → IsGatheredIn old stores sorted merge → sorted_rows merge.shape merge.region merge.written new ≡ take merge.shape.sorted_capacity (filter is_put (decided_rows old stores sorted merge.decided))
+      → IsMergedIn new stores sorted merge
+  merged_same merge inside some most is writes =
+      let decided : decided_rows new stores sorted merge.decided ≡ decided_rows old stores sorted merge.decided = ap (λ l. take merge.decided (newest_rows l)) sources_same in
+      record {
+        gathered = record {
+          most = omega (arith, is.most, ap key_count sources_same);
+          waits = λ key.
+              row_of_source key (source_at merge.waiting key) refl
+              ∙ is.waits key
+              ∙ ap (λ l. cond (has_key key (decided_rows old stores sorted merge.decided)) None (newest_row l key)) (sym (gathered_same sorted.shape old new (regions_of stores) merge.store merge.slot same.rows some most))
+              ∙ ap (λ l. cond (has_key key l) None (newest_row (gathered_rows sorted.shape new (regions_of stores) merge.store merge.slot) key)) (sym decided);
+          passes = λ place below.
+              ap (λ l. has_key (get_or (keys_of l) place []) (decided_rows new stores sorted merge.decided)) same.entries
+              ∙ ap (has_key (get_or (keys_of (entries_in old sorted)) place [])) decided
+              ∙ is.passes place below;
+        };
+        writes = writes ∙ ap (λ l. take merge.shape.sorted_capacity (filter is_put l)) (sym decided);
+      }
+    where
+      row_of_source : (key : List ℕ) (o : Option Source) → source_at merge.waiting key ≡ o → option_map (source_row sorted.shape new (regions_of stores)) (source_at merge.waiting key) ≡ option_map (source_row sorted.shape old (regions_of stores)) (source_at merge.waiting key)
+      row_of_source key None is = ap (option_map (source_row sorted.shape new (regions_of stores))) is ∙ sym (ap (option_map (source_row sorted.shape old (regions_of stores))) is)
+      row_of_source key (Some source) is =
+          let where_it_is = inside key source is in
+          ap (option_map (source_row sorted.shape new (regions_of stores))) is ∙ ap Some (row_same source where_it_is.0 where_it_is.1) ∙ sym (ap (option_map (source_row sorted.shape old (regions_of stores))) is)
+
+-- the region of a store
+region_of : (stores : List HashState) (store : ℕ) (blank : HashState) → store < length stores → get_or (regions_of stores) store 0 ≡ (get_or stores store blank).region
+region_of stores store blank below = get_or-map (λ (s : HashState). s.region) stores store blank 0 below
+
+-- there are as many regions as stores
+pub regions_count : (stores : List HashState) → length (regions_of stores) ≡ length stores
+regions_count stores = length-map stores (λ (s : HashState). s.region)
+
+-- a change outside all that is merged
+pub same_outside : (stores : List HashState) (sorted : SortedState) (old new : List ℕ) (at count : ℕ) → device_size sorted.shape ≤ length old → All (λ store. store.region < sorted.shape.hashes) stores → IsHeldSorted sorted
+    → IsOutsideEntries sorted.shape sorted.region at count → All (λ store. IsOutsideSlots sorted.shape store.region at count) stores → Torn at count old new → SameSources sorted.shape (regions_of stores) sorted old new
+same_outside stores sorted old new at count fits there held behind outside torn = record {
+  rows = λ store slot below inside.
+      let blank : HashState = record { shape = sorted.shape; region = 0; tags = [] } in
+      let within : store < length stores = omega (arith, regions_count stores) in
+      let region : ℕ = (get_or stores store blank).region in
+      let its : get_or (regions_of stores) store 0 ≡ region = region_of stores store blank within in
+      let ends = slots_inside sorted.shape region (there store blank within) in
+      ap (λ r. slot_row sorted.shape r new slot) its
+      ∙ slot_outside sorted.shape region slot at count old new (omega (arith, ends)) inside (outside store blank within) torn
+      ∙ ap (λ r. slot_row sorted.shape r old slot) (sym its);
+  entries =
+      let ends = entries_inside sorted.shape sorted.region held.region in
+      entries_outside sorted.shape sorted.region sorted.count at count old new (omega (arith, ends)) held.room behind torn;
+}
+
+-- a change of entries of another sorted region
+pub same_beside : (stores : List HashState) (sorted : SortedState) (region : ℕ) (old new : List ℕ) → device_size sorted.shape ≤ length old → All (λ store. store.region < sorted.shape.hashes) stores → IsHeldSorted sorted
+    → sorted.region ≢ region → region < 2 → Torn (sorted_at sorted.shape region) (sorted.shape.sorted_capacity * entry_len sorted.shape) old new → SameSources sorted.shape (regions_of stores) sorted old new
+same_beside stores sorted region old new fits there held apart below torn =
+    let s : Shape = sorted.shape in
+    let regions = regions_apart s in
+    same_outside stores sorted old new (sorted_at s region) (s.sorted_capacity * entry_len s) fits there held
+    (elim (cases_order sorted.region region) [
+      | inl same ↦ absurd (apart same)
+      | inr (inl lower) ↦ inr (regions.sorted sorted.region region lower)
+      | inr (inr higher) ↦ inl (regions.sorted region sorted.region higher)
+    ])
+    (λ store blank within. inr (
+    let slots = regions.hashes (get_or stores store blank).region s.hashes (there store blank within) in
+    omega (arith, slots, regions.hash_end region)
+    ))
+    torn
+
+-- a source of a merge, as the number of a region and a slot
+pub source_inside : (stores : List HashState) (sorted : SortedState) (merge : MergeState) → IsHeldMerge merge → sorted.shape ≡ merge.shape → length stores ≡ merge.stores
+    → (key : List ℕ) (source : Source) → source_at merge.waiting key ≡ Some source → (source.store < length (regions_of stores)) × (source.slot < 4 * sorted.shape.buckets)
+source_inside stores sorted merge held shape counted key source is =
+    let inside = held.inside key source is in (
+      omega (arith, inside.store, regions_count stores, counted),
+      subst (λ (s : Shape). source.slot < 4 * s.buckets) (sym shape) inside.slot,
+    )
+
+-- the next store of a merge
+pub store_next : (stores : List HashState) (merge : MergeState) → IsHeldMerge merge → length stores ≡ merge.stores → (merge.store < length (regions_of stores)) ⊎ (merge.slot ≡ 0)
+store_next stores merge held counted = elim (cases_lt merge.store merge.stores) [
+  | inl below ↦ inl (omega (arith, regions_count stores))
+  | inr past ↦ inr (held.ended (omega (arith, held.store)))
+]
+
+-- a merge has gathered and written what it had
+pub merged_elsewhere : MergedElsewhereLaw
+merged_elsewhere stores sorted merge old new at count held_sorted held fits own behind outside changes is = record {
+  shape = is.shape;
+  counted = is.counted;
+  apart = is.apart;
+  merged = λ honest sound.
+      let was : IsTrue old.honest = sym changes.honest ∙ honest in
+      let torn = changes.shown was in
+      let same = same_outside stores sorted old.shown new.shown at count fits sound.there held_sorted behind outside torn in
+      let so_far = is.merged was (sound_before old.shown new.shown stores sorted same sound) in
+      let ends = entries_inside sorted.shape merge.region held.there in
+      let kept = entries_outside merge.shape merge.region merge.written at count old.shown new.shown (subst (λ (s : Shape). sorted_at s merge.region + s.sorted_capacity * entry_len s ≤ size old) is.shape (omega (arith, ends))) held.room
+      (subst (λ (s : Shape). IsOutsideEntries s merge.region at count) is.shape own) torn in
+      merged_same old.shown new.shown stores sorted same merge (source_inside stores sorted merge held is.shape is.counted) (store_next stores merge held is.counted)
+      (subst (λ (s : Shape). merge.slot ≤ 4 * s.buckets) (sym is.shape) (omega (arith, held.slot))) so_far.gathered (kept ∙ so_far.writes);
+}

@@ -1,0 +1,374 @@
+-- What the decision of a key leaves, and what a merge that is done has written.
+use Rattle.std.proofs.Common.{◌≡◌, ◌≢◌, ℕ, ◌+◌, ◌*◌, ◌<◌, ◌≤◌, ◌&&◌, ◌==◌, nat_lt, nat_le, Bool, true, false, cond, IsTrue, List, [], ◌∷◌, ◌++◌, filter, length, take, get_or, slice_get, Option, Some, None, option_map, inl, inr, refl, sym, subst, ap, ◌∙◌, arith}
+use Rattle.std.specs.Option.{is_some}
+use Rattle.std.specs.Str.{bytes_eq}
+use Rattle.std.proofs.lemmas.Bool.{and_from, and_parts, cases_lt, cond-true, cond-false, eq-eqb, eqb-true, le-leb, leb-true, ne_eqb}
+use Rattle.std.proofs.lemmas.Map.Text.{is_eq-slice_cmp}
+use Rattle.std.proofs.lemmas.List.{take_all}
+use Rattle.std.proofs.lemmas.Option.{slice_get_within}
+use Rattle.silt_device.specs.Disk.{ChangesWithin, Content, Torn, size}
+use Rattle.silt_device.specs.Layout.{Shape, device_size, entry_len, sorted_at}
+use Rattle.silt_device.proofs.Regions.{next_region}
+use Rattle.silt_frame.specs.Frame.{kind_byte}
+use Rattle.silt_frame.specs.declared.key.Key.{Key}
+use Rattle.silt_frame.specs.declared.key.Kind.{Kind}
+use Rattle.silt_frame.specs.declared.key.Kind.TheVariants.{Put, Delete}
+use Rattle.silt_hash_store.specs.Slots.{slot_row}
+use Rattle.silt_hash_store.specs.State.{HashState}
+use Rattle.std.specs.Ordering.{nat_cmp}
+use Rattle.std.specs.Cmp.Lexicographic.{slice_cmp}
+use Rattle.silt_image.specs.Laws.{newest_row}
+use Rattle.silt_image.specs.Meaning.{sorted_findings}
+use Rattle.silt_image.specs.Stores.{entry_row, sorted_rows}
+use Rattle.silt_log.specs.Rows.{StoredRow}
+use Rattle.silt_merge.specs.Choosing.{IsFirst, IsNextEntry, ReadsRow, choice_of, choice_puts, due_rows, puts}
+use Rattle.silt_merge.specs.Merging.{AreSound, HasMerged, IsGatheredIn, IsMergeOf, source_row}
+use Rattle.silt_merge.specs.Rows.{entries_in, has_key, hashed_rows, is_put, key_count, merged_rows, newest_rows, regions_of, sources}
+use Rattle.silt_merge.specs.State.{IsHeldMerge, IsInside, MergeState, is_done, passed_after, source_at, steps_for, steps_of}
+use Rattle.silt_merge.specs.declared.choice.Choice.{Choice}
+use Rattle.silt_merge.specs.declared.source.Source.{Source}
+use Rattle.silt_merge.proofs.Choosing.{IsChosen, IsOffered, chosen}
+use Rattle.silt_merge.proofs.Deciding.{IsDecided, all_decided, cond_some, decided_with, decided_without, due_more, lowest_next, next_enters, next_waits, none_waits}
+use Rattle.silt_merge.proofs.Elsewhere.{SameSources, merged_same, regions_count, same_beside, sound_before, source_inside, store_next}
+use Rattle.silt_merge.proofs.Gathering.{all_gathered}
+use Rattle.silt_merge.proofs.Newest.{Rises, key_itself, merged_law, rises_from}
+use Rattle.silt_sorted_store.specs.State.{IsHeldSorted, SortedState, entries_of}
+use Rattle.silt_sorted_store.proofs.Entries.{entry_count, key_of_row}
+use Rattle.silt_sorted_store.proofs.Rising.{key_at, lower_below}
+
+-- entries in which nothing is found rise
+rises_of : (rows : List StoredRow) → sorted_findings rows ≡ [] → Rises rows
+rises_of rows none = rises_from rows (λ low high lower inside. lower_below rows low high none lower inside)
+
+-- ---- by rows
+
+module _ (image : List ℕ) (stores : List HashState) (sorted : SortedState) where
+  abbrev entries : List StoredRow
+  entries = entries_in image sorted
+
+  abbrev hashed : List StoredRow
+  hashed = hashed_rows sorted.shape image (regions_of stores)
+
+  -- the row for which a key's source stands
+  abbrev pub waits_in : List (Key × Source) → List ℕ → Option StoredRow
+  waits_in waiting key = option_map (source_row sorted.shape image (regions_of stores)) (source_at waiting key)
+
+  -- where all slots are gathered, what waits is what is not decided
+  pub decided_of : (merge : MergeState) → length (regions_of stores) ≤ merge.store → merge.slot ≡ 0 → IsGatheredIn image stores sorted merge
+      → IsDecided entries hashed merge.decided merge.passed (waits_in merge.waiting)
+  unfolding sources
+  decided_of merge past none is = record {
+    waiting = λ key. is.waits key ∙ ap (λ l. cond (has_key key (take merge.decided (newest_rows (entries ++ hashed)))) None (newest_row l key)) (all_gathered sorted.shape image (regions_of stores) merge.store merge.slot past none);
+    passing = λ place inside. is.passes place (omega (arith, entry_count sorted.shape sorted.region sorted.count image));
+  }
+
+  -- and the other way round
+  pub gathered_of : (merge : MergeState) → length (regions_of stores) ≤ merge.store → merge.slot ≡ 0 → merge.decided ≤ length (newest_rows (entries ++ hashed))
+      → IsDecided entries hashed merge.decided merge.passed (waits_in merge.waiting) → IsGatheredIn image stores sorted merge
+  unfolding sources
+  gathered_of merge past none most is = record {
+    most = most;
+    waits = λ key. is.waiting key
+        ∙ ap (λ l. cond (has_key key (take merge.decided (newest_rows (entries ++ hashed)))) None (newest_row l key)) (sym (all_gathered sorted.shape image (regions_of stores) merge.store merge.slot past none));
+    passes = λ place inside. is.passing place (omega (arith, entry_count sorted.shape sorted.region sorted.count image));
+  }
+
+-- ---- a key that is decided
+
+-- the entry that is due for a row of a source
+due_row : (row shown : StoredRow) (source : Source) (key bytes : List ℕ) → row ≡ (let r : StoredRow = record shown { kind = kind_byte source.kind } in r) → row.key ≡ key
+    → (puts source.kind ≡ true → entry_row bytes ≡ (let r : StoredRow = record { kind = 1; key = key; value = shown.value } in r)) → due_rows (puts source.kind) bytes ≡ filter is_put (row ∷ [])
+due_row row shown source key bytes is same read = go source.kind refl
+  where
+    go : (kind : Kind) → source.kind ≡ kind → due_rows (puts source.kind) bytes ≡ filter is_put (row ∷ [])
+    go Put it =
+        let puts_it : puts source.kind ≡ true = ap puts it in
+        let kind : row.kind ≡ 1 = ap (λ (r : StoredRow). r.kind) is ∙ ap kind_byte it in
+        let value : row.value ≡ shown.value = ap (λ (r : StoredRow). r.value) is in
+        let own : (let r : StoredRow = record { kind = 1; key = key; value = shown.value } in r) ≡ row =
+        ap (λ k. let r : StoredRow = record { kind = 1; key = k; value = shown.value } in r) (sym same)
+        ∙ ap (λ v. let r : StoredRow = record { kind = 1; key = row.key; value = v } in r) (sym value)
+        ∙ ap (λ n. let r : StoredRow = record { kind = n; key = row.key; value = row.value } in r) (sym kind) in
+        ap (λ b. due_rows b bytes) puts_it ∙ ap (λ r. r ∷ []) (read puts_it ∙ own) ∙ sym (cond-true _ _ _ (eq-eqb row.kind 1 kind))
+    go Delete it =
+        let kind : row.kind ≡ 2 = ap (λ (r : StoredRow). r.kind) is ∙ ap kind_byte it in
+        let other : is_put row ≡ false = ap (λ n. n == 1) kind in
+        ap (λ b. due_rows b bytes) (ap puts it) ∙ sym (cond-false _ _ _ other)
+
+module _ (image : List ℕ) (stores : List HashState) (sorted : SortedState) (merge : MergeState) (choice : Choice) (bytes : List ℕ) (rises : Rises (entries_in image sorted))
+    (so_far : IsDecided (entries_in image sorted) (hashed_rows sorted.shape image (regions_of stores)) merge.decided merge.passed (waits_in image stores sorted merge.waiting))
+    (is : IsChosen (entries_in image sorted) merge.passed bytes (source_row sorted.shape image (regions_of stores)) merge.waiting choice) where
+  abbrev old_entries : List StoredRow
+  old_entries = entries_in image sorted
+
+  abbrev old_hashed : List StoredRow
+  old_hashed = hashed_rows sorted.shape image (regions_of stores)
+
+  abbrev all_rows : List StoredRow
+  all_rows = newest_rows (old_entries ++ old_hashed)
+
+  -- the key is that of the next newest row
+  pub decides : (row : StoredRow) × (slice_get all_rows merge.decided ≡ Some row) × (row.key ≡ choice.key.0)
+  decides = lowest_next old_entries old_hashed merge.decided merge.passed (waits_in image stores sorted merge.waiting) rises so_far choice.key.0 is.lowest
+
+  -- whose entry is due, where it is a put
+  pub due_is : (after : List ℕ) → ReadsRow sorted.shape image (regions_of stores) choice.key.0 choice.source bytes after → due_rows (choice_puts choice.source) after ≡ filter is_put (decides.0 ∷ [])
+  due_is after read = go choice.source refl read
+    where
+      row : StoredRow
+      row = decides.0
+
+      go : (o : Option Source) → choice.source ≡ o → ReadsRow sorted.shape image (regions_of stores) choice.key.0 o bytes after → due_rows (choice_puts choice.source) after ≡ filter is_put (row ∷ [])
+      go None none same =
+          let lacks : waits_in image stores sorted merge.waiting row.key ≡ None = ap (waits_in image stores sorted merge.waiting) decides.2 ∙ ap (option_map (source_row sorted.shape image (regions_of stores))) (is.source ∙ none) in
+          let at = (is.entry none).0 in
+          let entry_key : (entry_row bytes).key ≡ row.key = sym (key_of_row old_entries merge.passed (entry_row bytes) at) ∙ (is.passes (is.entry none).1).1 ∙ sym decides.2 in
+          let it : row ≡ entry_row bytes = next_enters old_entries old_hashed merge.decided merge.passed (waits_in image stores sorted merge.waiting) rises so_far row (entry_row bytes) decides.1 lacks at entry_key in
+          ap (λ o. due_rows (choice_puts o) after) none ∙ ap (λ b. entry_row b ∷ []) same
+          ∙ sym (ap (λ r. filter is_put (r ∷ [])) it)
+      go (Some source) some read_it =
+          let shown : StoredRow = slot_row sorted.shape (get_or (regions_of stores) source.store 0) image source.slot in
+          let has : waits_in image stores sorted merge.waiting row.key ≡ Some (source_row sorted.shape image (regions_of stores) source) =
+          ap (waits_in image stores sorted merge.waiting) decides.2 ∙ ap (option_map (source_row sorted.shape image (regions_of stores))) (is.source ∙ some) in
+          let it = next_waits old_entries old_hashed merge.decided merge.passed (waits_in image stores sorted merge.waiting) rises so_far row (source_row sorted.shape image (regions_of stores) source) decides.1 has in
+          ap (λ o. due_rows (choice_puts o) after) some ∙ due_row row shown source choice.key.0 after it decides.2 read_it
+
+  -- one key more is decided
+  pub decided_step : (after : List (Key × Source)) → ((key : List ℕ) → source_at after key ≡ cond (bytes_eq choice.key.0 key) None (source_at merge.waiting key))
+      → IsDecided old_entries old_hashed (merge.decided + 1) (passed_after choice.passes merge.passed) (waits_in image stores sorted after)
+  decided_step after gone = go choice.passes refl
+    where
+      -- the rows that wait
+      let_go_row : (key : List ℕ) → waits_in image stores sorted after key ≡ cond (bytes_eq decides.0.key key) None (waits_in image stores sorted merge.waiting key)
+      let_go_row key =
+          let turn : (b : Bool) (o : Option Source) → option_map (source_row sorted.shape image (regions_of stores)) (cond b None o) ≡ cond b None (option_map (source_row sorted.shape image (regions_of stores)) o) = λ b o. elim b as (λ b. option_map (source_row sorted.shape image (regions_of stores)) (cond b None o) ≡ cond b None (option_map (source_row sorted.shape image (regions_of stores)) o)) [ true ↦ refl | false ↦ refl ] in
+          ap (option_map (source_row sorted.shape image (regions_of stores))) (gone key)
+          ∙ turn (bytes_eq choice.key.0 key) (source_at merge.waiting key)
+          ∙ ap (λ k. cond (bytes_eq k key) None (waits_in image stores sorted merge.waiting key)) (sym decides.2)
+
+      go : (b : Bool) → choice.passes ≡ b → IsDecided old_entries old_hashed (merge.decided + 1) (passed_after choice.passes merge.passed) (waits_in image stores sorted after)
+      go true passes =
+          let it = is.passes passes in
+          subst (λ p. IsDecided old_entries old_hashed (merge.decided + 1) p (waits_in image stores sorted after)) (sym (ap (λ b. passed_after b merge.passed) passes))
+          (decided_with old_entries old_hashed merge.decided merge.passed (waits_in image stores sorted merge.waiting) rises so_far decides.0 (waits_in image stores sorted after) decides.1 it.0 (it.1 ∙ sym decides.2) let_go_row)
+      go false stays =
+          subst (λ p. IsDecided old_entries old_hashed (merge.decided + 1) p (waits_in image stores sorted after)) (sym (ap (λ b. passed_after b merge.passed) stays))
+          (decided_without old_entries old_hashed merge.decided merge.passed (waits_in image stores sorted merge.waiting) rises so_far decides.0 (waits_in image stores sorted after) decides.1
+          (λ below. ap (λ k. slice_cmp nat_cmp k (key_at old_entries merge.passed)) decides.2 ∙ is.stays stays below) let_go_row)
+
+-- ---- on a disk
+
+module _ (old new : Content) (stores : List HashState) (sorted : SortedState) (merge : MergeState) (held : IsHeldMerge merge) (held_sorted : IsHeldSorted sorted) (fits : device_size merge.shape ≤ size old)
+    (changes : ChangesWithin (sorted_at merge.shape merge.region) (merge.shape.sorted_capacity * entry_len merge.shape) old new) where
+  -- all that is merged stays
+  sources_stay : HasMerged old stores sorted merge → AreSound new.shown stores sorted → IsTrue old.honest → SameSources sorted.shape (regions_of stores) sorted old.shown new.shown
+  sources_stay is sound was =
+      same_beside stores sorted merge.region old.shown new.shown (subst (λ (s : Shape). device_size s ≤ size old) (sym is.shape) fits) sound.there held_sorted is.apart held.there
+      (subst (λ (s : Shape). Torn (sorted_at s merge.region) (s.sorted_capacity * entry_len s) old.shown new.shown) (sym is.shape) (changes.shown was))
+
+  -- where the entries stay, all that is due stays written
+  pub merged_stays : (IsTrue old.honest → sorted_rows merge.shape merge.region merge.written new.shown ≡ sorted_rows merge.shape merge.region merge.written old.shown) → HasMerged old stores sorted merge → HasMerged new stores sorted merge
+  merged_stays kept is = record {
+    shape = is.shape;
+    counted = is.counted;
+    apart = is.apart;
+    merged = λ honest sound.
+        let was : IsTrue old.honest = sym changes.honest ∙ honest in
+        let same = sources_stay is sound was in
+        let so_far = is.merged was (sound_before old.shown new.shown stores sorted same sound) in
+        merged_same old.shown new.shown stores sorted same merge (source_inside stores sorted merge held is.shape is.counted) (store_next stores merge held is.counted)
+        (subst (λ (s : Shape). merge.slot ≤ 4 * s.buckets) (sym is.shape) (omega (arith, held.slot))) so_far.gathered (kept was ∙ so_far.writes);
+  }
+
+  -- a source that waits after a key is decided waited before
+  still_inside : (choice : Choice) (after : List (Key × Source)) → ((key : List ℕ) → source_at after key ≡ cond (bytes_eq choice.key.0 key) None (source_at merge.waiting key))
+      → (key : List ℕ) (source : Source) → source_at after key ≡ Some source → source_at merge.waiting key ≡ Some source
+  still_inside choice after gone key source is = (cond_some (bytes_eq choice.key.0 key) (source_at merge.waiting key) source (sym (gone key) ∙ is)).1
+
+  -- a key that is decided, with its entry where one is due
+  pub merged_step : (first : Option (Key × Source)) (next : Option Key) (choice : Choice) (bytes row_bytes : List ℕ) (after : List (Key × Source)) (count : ℕ) → merge.store ≡ merge.stores → IsFirst merge.waiting first
+      → choice_of first next ≡ Some choice → is_some next ≡ nat_lt merge.passed sorted.count → (IsTrue old.honest → IsNextEntry (entries_of old sorted) merge.passed bytes next)
+      → (IsTrue old.honest → ReadsRow merge.shape old.shown (regions_of stores) choice.key.0 choice.source bytes row_bytes)
+      → (IsTrue old.honest → sorted_rows merge.shape merge.region count new.shown ≡ take merge.shape.sorted_capacity (sorted_rows merge.shape merge.region merge.written old.shown ++ due_rows (choice_puts choice.source) row_bytes))
+      → ((key : List ℕ) → source_at after key ≡ cond (bytes_eq choice.key.0 key) None (source_at merge.waiting key))
+      → HasMerged old stores sorted merge
+      → HasMerged new stores sorted (record merge { waiting = after; passed = passed_after choice.passes merge.passed; written = count; decided = merge.decided + 1 })
+  unfolding sources
+  merged_step first next choice bytes row_bytes after count all its_first made some there read written gone is = record {
+    shape = is.shape;
+    counted = is.counted;
+    apart = is.apart;
+    merged = λ honest sound.
+        let was : IsTrue old.honest = sym changes.honest ∙ honest in
+        let image : List ℕ = old.shown in
+        let merge_after : MergeState = record merge { waiting = after; passed = passed_after choice.passes merge.passed; written = count; decided = merge.decided + 1 } in
+        let same = sources_stay is sound was in
+        let sound_old = sound_before old.shown new.shown stores sorted same sound in
+        let so_far = is.merged was sound_old in
+        let past : length (regions_of stores) ≤ merge.store = omega (arith, regions_count stores, is.counted) in
+        let none = held.ended all in
+        let rises = rises_of (entries_in image sorted) sound_old.entries in
+        let decided = decided_of image stores sorted merge past none so_far.gathered in
+        let long = entry_count sorted.shape sorted.region sorted.count image in
+        let choices = chosen (entries_in image sorted) merge.passed bytes (source_row sorted.shape image (regions_of stores)) merge.waiting first next choice its_first (there was) (some ∙ ap (nat_lt merge.passed) (sym long)) made in
+        let next_row = decides image stores sorted merge choice bytes rises decided choices in
+        let reads = subst (λ (s : Shape). ReadsRow s image (regions_of stores) choice.key.0 choice.source bytes row_bytes) (sym is.shape) (read was) in
+        let due = due_is image stores sorted merge choice bytes rises decided choices row_bytes reads in
+        let below = slice_get_within (newest_rows (entries_in image sorted ++ hashed_rows sorted.shape image (regions_of stores))) merge.decided next_row.0 next_row.1 in
+        let after_it = decided_step image stores sorted merge choice bytes rises decided choices after gone in
+        let writes = due_more (newest_rows (entries_in image sorted ++ hashed_rows sorted.shape image (regions_of stores))) merge.decided merge.shape.sorted_capacity next_row.0 (sorted_rows merge.shape merge.region merge.written image)
+        (due_rows (choice_puts choice.source) row_bytes) (sorted_rows merge.shape merge.region count new.shown) next_row.1 so_far.writes due (written was) in
+        merged_same old.shown new.shown stores sorted same merge_after (λ key source found. source_inside stores sorted merge held is.shape is.counted key source (still_inside choice after gone key source found)) (inr none)
+        (omega (arith, none)) (gathered_of image stores sorted merge_after past none (omega (arith, below)) after_it) writes;
+  }
+
+-- ---- on any disk
+
+-- a merge with one key more
+pub decided_held : (merge : MergeState) (choice : Choice) (after : List (Key × Source)) (count : ℕ) → IsHeldMerge merge → merge.store ≡ merge.stores → ((source : Source) → choice.source ≡ Some source → source_at merge.waiting choice.key.0 ≡ Some source)
+    → (choice.source ≡ None → choice.passes ≡ true) → count ≤ merge.shape.sorted_capacity → ((key : List ℕ) → source_at after key ≡ cond (bytes_eq choice.key.0 key) None (source_at merge.waiting key))
+    → length after ≤ length merge.waiting → ((source : Source) → source_at merge.waiting choice.key.0 ≡ Some source → length after + 1 ≡ length merge.waiting)
+    → IsHeldMerge (record merge { waiting = after; passed = passed_after choice.passes merge.passed; written = count; decided = merge.decided + 1 })
+decided_held merge choice after count held all offers none room gone long less = record {
+  there = held.there;
+  store = held.store;
+  slot = held.slot;
+  ended = held.ended;
+  gathers = λ still. absurd (omega (arith, all));
+  inside = λ key source found.
+      let inside = held.inside key source (cond_some (bytes_eq choice.key.0 key) (source_at merge.waiting key) source (sym (gone key) ∙ found)).1 in
+      record { store = inside.store; slot = inside.slot };
+  room = room;
+  few = go choice.source refl;
+}
+  where
+    at_least : (b : Bool) → merge.passed ≤ passed_after b merge.passed
+    at_least true = omega arith
+    at_least false = omega arith
+
+    go : (o : Option Source) → choice.source ≡ o → merge.decided + 1 + length after ≤ merge.store * (4 * merge.shape.buckets) + merge.slot + passed_after choice.passes merge.passed
+    go None is =
+        let one : passed_after choice.passes merge.passed ≡ merge.passed + 1 = ap (λ b. passed_after b merge.passed) (none is) in
+        omega (arith, held.few, long)
+    go (Some source) is = let one = less source (offers source is) in omega (arith, held.few, at_least choice.passes)
+
+-- a source that decides lies in one of the stores
+pub offered_inside : (merge : MergeState) (next : Option Key) (choice : Choice) → IsHeldMerge merge → IsOffered merge.waiting next choice → (source : Source) → choice.source ≡ Some source → IsInside merge source
+offered_inside merge next choice held offers source is = held.inside choice.key.0 source (offers.source source is)
+
+-- ---- done
+
+module _ (merge : MergeState) (sorted : SortedState) where
+  -- a merge in which a row waits is not done
+  pub not_decided : length merge.waiting ≢ 0 → false ≡ is_done merge sorted
+  not_decided some = go (merge.store == merge.stores)
+    where
+      go : (b : Bool) → false ≡ ((b && (length merge.waiting == 0)) && nat_le sorted.count merge.passed)
+      go true = sym (ap (λ b. b && nat_le sorted.count merge.passed) (ne_eqb (length merge.waiting) 0 some))
+      go false = refl
+
+  -- where all slots are gathered and no row waits, the entries decide
+  pub entries_decide : merge.store ≡ merge.stores → length merge.waiting ≡ 0 → nat_le sorted.count merge.passed ≡ is_done merge sorted
+  entries_decide all none =
+      let both : ((merge.store == merge.stores) && (length merge.waiting == 0)) ≡ true = and_from (merge.store == merge.stores) (length merge.waiting == 0) (eq-eqb merge.store merge.stores all) (eq-eqb (length merge.waiting) 0 none) in
+      sym (ap (λ b. b && nat_le sorted.count merge.passed) both)
+
+  -- what a merge that is done has
+  done_parts : is_done merge sorted ≡ true → (merge.store ≡ merge.stores) × (merge.waiting ≡ []) × (sorted.count ≤ merge.passed)
+  done_parts done =
+      let last = and_parts ((merge.store == merge.stores) && (length merge.waiting == 0)) (nat_le sorted.count merge.passed) done in
+      let both = and_parts (merge.store == merge.stores) (length merge.waiting == 0) last.0 in
+      (eqb-true merge.store merge.stores both.0, no_length merge.waiting (eqb-true (length merge.waiting) 0 both.1), leb-true sorted.count merge.passed last.1)
+    where
+      no_length : (l : List (Key × Source)) → length l ≡ 0 → l ≡ []
+      no_length [] none = refl
+      no_length (x ∷ l) none = absurd (omega arith)
+
+  done_from : merge.store ≡ merge.stores → merge.waiting ≡ [] → sorted.count ≤ merge.passed → is_done merge sorted ≡ true
+  done_from all none past =
+      and_from ((merge.store == merge.stores) && (length merge.waiting == 0)) (nat_le sorted.count merge.passed)
+      (and_from (merge.store == merge.stores) (length merge.waiting == 0) (eq-eqb merge.store merge.stores all) (ap (λ (l : List (Key × Source)). length l == 0) none)) (le-leb sorted.count merge.passed past)
+
+  -- a list of rows that wait for no key is empty
+  nothing_waits : (waiting : List (Key × Source)) → ((key : List ℕ) → source_at waiting key ≡ None) → waiting ≡ []
+  nothing_waits [] none = refl
+  nothing_waits ((key, source) ∷ waiting) none =
+      let here : source_at ((key, source) ∷ waiting) key.0 ≡ Some source = cond-true _ _ _ (is_eq-slice_cmp key.0 key.0 ∙ key_itself key.0 key.0 refl) in
+      let nothing = none key.0 in
+      absurd (cc)
+
+  -- a merge that is done has decided each key
+  all_keys : (content : Content) (stores : List HashState) → IsHeldMerge merge → HasMerged content stores sorted merge → IsTrue content.honest → AreSound content.shown stores sorted → is_done merge sorted ≡ true
+      → merge.decided ≡ key_count (sources content.shown stores sorted)
+  unfolding sources
+  all_keys content stores held is honest sound done =
+      let image : List ℕ = content.shown in
+      let parts = done_parts done in
+      let so_far = is.merged honest sound in
+      let past : length (regions_of stores) ≤ merge.store = omega (arith, regions_count stores, is.counted, parts.0) in
+      let decided = decided_of image stores sorted merge past (held.ended parts.0) so_far.gathered in
+      let long = entry_count sorted.shape sorted.region sorted.count image in
+      let all = all_decided (entries_in image sorted) (hashed_rows sorted.shape image (regions_of stores)) merge.decided merge.passed (waits_in image stores sorted merge.waiting) (rises_of (entries_in image sorted) sound.entries) decided
+      (λ key. ap (λ l. waits_in image stores sorted l key) parts.1) (omega (arith, long, parts.2)) in
+      let most = so_far.gathered.most in
+      omega (arith, all, most)
+
+  -- it is done after so many steps
+  pub done_steps : (content : Content) (stores : List HashState) (done : Bool) → done ≡ is_done merge sorted → IsHeldMerge merge → HasMerged content stores sorted merge → IsTrue content.honest → AreSound content.shown stores sorted
+      → (IsTrue done → steps_of merge ≡ steps_for merge (key_count (sources content.shown stores sorted))) × (steps_of merge ≡ steps_for merge (key_count (sources content.shown stores sorted)) → IsTrue done)
+  unfolding sources
+  done_steps content stores done same held is honest sound = (
+    λ it.
+        let is_it : is_done merge sorted ≡ true = sym same ∙ it in
+        let keys = all_keys content stores held is honest sound is_it in
+        let store = (done_parts is_it).0 in
+        let slot = held.ended store in
+        let slots : merge.store * (4 * merge.shape.buckets) ≡ merge.stores * (4 * merge.shape.buckets) = ap (λ n. n * (4 * merge.shape.buckets)) store in
+        omega (arith, keys, slots, slot),
+    λ steps.
+        let image : List ℕ = content.shown in
+        let so_far = is.merged honest sound in
+        let most = so_far.gathered.most in
+        let whole = all_gathered_at most steps in
+        let past : length (regions_of stores) ≤ merge.store = omega (arith, regions_count stores, is.counted, whole.0) in
+        let decided = decided_of image stores sorted merge past (held.ended whole.0) so_far.gathered in
+        let long = entry_count sorted.shape sorted.region sorted.count image in
+        let none = none_waits (entries_in image sorted) (hashed_rows sorted.shape image (regions_of stores)) merge.decided merge.passed (waits_in image stores sorted merge.waiting) (rises_of (entries_in image sorted) sound.entries) decided whole.1 in
+        same ∙ done_from whole.0 (nothing_waits merge.waiting (λ key. no_source (source_at merge.waiting key) (none.0 key))) (omega (arith, long, none.1)),
+  )
+    where
+      no_source : (o : Option Source) → option_map (source_row sorted.shape content.shown (regions_of stores)) o ≡ None → o ≡ None
+      no_source None none = refl
+      no_source (Some source) none = absurd (cc)
+
+      fewer : (store stores slot slots : ℕ) → store < stores → slot < slots → store * slots + slot < stores * slots
+      fewer store stores slot slots below inside = let apart = next_region store stores slots below in omega (arith, apart)
+
+      all_gathered_at : merge.decided ≤ length (newest_rows (entries_in content.shown sorted ++ hashed_rows sorted.shape content.shown (regions_of stores)))
+          → merge.store * (4 * merge.shape.buckets) + merge.slot + merge.decided ≡ merge.stores * (4 * merge.shape.buckets) + length (newest_rows (entries_in content.shown sorted ++ hashed_rows sorted.shape content.shown (regions_of stores)))
+          → (merge.store ≡ merge.stores) × (length (newest_rows (entries_in content.shown sorted ++ hashed_rows sorted.shape content.shown (regions_of stores))) ≤ merge.decided)
+      all_gathered_at most steps = elim (cases_lt merge.store merge.stores) [
+        | inl below ↦ let few = fewer merge.store merge.stores merge.slot (4 * merge.shape.buckets) below held.slot in absurd (omega (arith, few, most, steps))
+        | inr past ↦
+            let store : merge.store ≡ merge.stores = omega (arith, held.store) in
+            let slots : merge.store * (4 * merge.shape.buckets) ≡ merge.stores * (4 * merge.shape.buckets) = ap (λ n. n * (4 * merge.shape.buckets)) store in
+            let slot = held.ended store in
+            (store, omega (arith, slots, slot, steps))
+      ]
+
+  -- and has written all entries
+  pub done_entries : (content : Content) (stores : List HashState) → IsHeldMerge merge → is_done merge sorted ≡ true → HasMerged content stores sorted merge → IsTrue content.honest → AreSound content.shown stores sorted
+      → sorted_rows merge.shape merge.region merge.written content.shown ≡ take merge.shape.sorted_capacity (merged_rows (sources content.shown stores sorted))
+  unfolding merged_rows
+  done_entries content stores held done is honest sound =
+      let so_far = is.merged honest sound in
+      let keys = all_keys content stores held is honest sound done in
+      so_far.writes
+      ∙ ap (λ l. take merge.shape.sorted_capacity (filter is_put l)) (take_all merge.decided (newest_rows (sources content.shown stores sorted)) (omega (arith, keys)))
+
+  -- which are a merge of the rows
+  pub done_merge : (content : Content) (stores : List HashState) → IsHeldMerge merge → is_done merge sorted ≡ true → HasMerged content stores sorted merge → IsTrue content.honest → AreSound content.shown stores sorted
+      → length (merged_rows (sources content.shown stores sorted)) ≤ merge.shape.sorted_capacity → IsMergeOf (sources content.shown stores sorted) (sorted_rows merge.shape merge.region merge.written content.shown)
+  done_merge content stores held done is honest sound room =
+      let all = done_entries content stores held done is honest sound ∙ take_all merge.shape.sorted_capacity (merged_rows (sources content.shown stores sorted)) room in
+      subst (IsMergeOf (sources content.shown stores sorted)) (sym all) (merged_law (sources content.shown stores sorted))

@@ -1,0 +1,179 @@
+-- What waits after one slot more.
+use Rattle.std.proofs.Common.{◌≡◌, ℕ, zero, suc, ◌+◌, ◌*◌, ◌<◌, ◌≤◌, eqb, Bool, true, false, ◌&&◌, cond, List, [], ◌∷◌, ◌++◌, filter, flat_map, length, map, take, get_or, Option, Some, None, option_map, inl, inr, refl, sym, ap, ◌∙◌, arith, append_assoc, append-nil}
+use Rattle.std.specs.Option.{option_or}
+use Rattle.std.specs.Str.{bytes_eq}
+use Rattle.std.proofs.lemmas.Bool.{cases_Bool, cond-true, cond-false, eqb-true, or_parts}
+use Rattle.std.proofs.lemmas.List.{map-append, take_all, take_more}
+use Rattle.std.proofs.lemmas.List.Elements.{filter-append}
+use Rattle.silt_device.specs.Layout.{Shape}
+use Rattle.silt_frame.specs.declared.key.Row.{Row}
+use Rattle.silt_hash_store.specs.Lookup.{IsRowAt}
+use Rattle.silt_hash_store.specs.Slots.{rows_before, slot_row}
+use Rattle.silt_hash_store.proofs.Growing.{all_sound}
+use Rattle.silt_hash_store.proofs.Slotting.{all_before, before_more, before_taken, sound_parts}
+use Rattle.silt_image.specs.Laws.{newest_row}
+use Rattle.silt_image.specs.Meaning.{hash_findings, holds_key, known_rows, oldest_first}
+use Rattle.silt_image.specs.Stores.{hash_part, hash_rows}
+use Rattle.silt_image.proofs.Sound.{nothing_first, nothing_second}
+use Rattle.silt_log.specs.Rows.{StoredRow, has_known_kind}
+use Rattle.silt_merge.specs.Choosing.{Keeps, own_source}
+use Rattle.silt_merge.specs.State.{slot_after, source_at}
+use Rattle.silt_frame.specs.declared.key.Key.{Key}
+use Rattle.silt_merge.specs.Merging.{gathered_rows, source_row}
+use Rattle.silt_merge.specs.Rows.{hashed_rows}
+use Rattle.silt_merge.specs.declared.source.Source.{Source}
+use Rattle.silt_merge.proofs.Newest.{key_is, newest_append, newest_cons, or_none, own}
+
+-- ---- rows
+
+-- one row more, behind which newer rows stand
+row_more : (older newer : List StoredRow) (row : StoredRow) (key : List ℕ) → (bytes_eq row.key key ≡ true → newest_row older key ≡ None)
+    → newest_row ((older ++ row ∷ []) ++ newer) key ≡ option_or (newest_row (older ++ newer) key) (own row key)
+row_more older newer row key alone =
+    newest_append (older ++ row ∷ []) newer key
+    ∙ ap (option_or (newest_row newer key)) (newest_append older (row ∷ []) key ∙ ap (λ o. option_or o (newest_row older key)) (newest_cons row [] key))
+    ∙ turn (bytes_eq row.key key) (newest_row newer key) (newest_row older key) alone
+    ∙ ap (λ o. option_or o (own row key)) (sym (newest_append older newer key))
+  where
+    turn : (b : Bool) (n o : Option StoredRow) → (b ≡ true → o ≡ None) → option_or n (option_or (cond b (Some row) None) o) ≡ option_or (option_or n o) (cond b (Some row) None)
+    turn true n o none = sym (ap (λ p. option_or (option_or n p) (Some row)) (none refl) ∙ ap (λ p. option_or p (Some row)) (or_none n))
+    turn false n o none = sym (or_none (option_or n o))
+
+-- no row of a known kind has a key that no row of a known kind has
+none_known : (key : List ℕ) (rows : List StoredRow) → holds_key key rows ≡ false → newest_row (filter has_known_kind rows) key ≡ None
+none_known key [] none = refl
+none_known key (row ∷ rows) none =
+    let both = or_parts (has_known_kind row && bytes_eq row.key key) (holds_key key rows) none in
+    let further = none_known key rows both.1 in
+    let go : (b : Bool) → has_known_kind row ≡ b → newest_row (filter has_known_kind (row ∷ rows)) key ≡ None = elim [
+      | true ↦ λ known.
+          let lacks : bytes_eq row.key key ≡ false = sym (ap (λ b. b && bytes_eq row.key key) known) ∙ both.0 in
+          ap (λ l. newest_row l key) (cond-true _ _ _ known) ∙ newest_cons row (filter has_known_kind rows) key ∙ ap (λ o. option_or o (own row key)) further ∙ cond-false _ _ _ lacks
+      | false ↦ λ unknown. ap (λ l. newest_row l key) (cond-false _ _ _ unknown) ∙ further
+    ] in
+    go (has_known_kind row) refl
+
+-- a list with one row more at its end, as far as rows are of known kinds
+known_more : (rows : List StoredRow) (row : StoredRow) → has_known_kind row ≡ true → filter has_known_kind (rows ++ row ∷ []) ≡ filter has_known_kind rows ++ row ∷ []
+known_more rows row known = filter-append has_known_kind rows (row ∷ []) ∙ ap (λ l. filter has_known_kind rows ++ l) (cond-true _ _ _ known)
+
+unknown_more : (rows : List StoredRow) (row : StoredRow) → has_known_kind row ≡ false → filter has_known_kind (rows ++ row ∷ []) ≡ filter has_known_kind rows
+unknown_more rows row unknown =
+    filter-append has_known_kind rows (row ∷ []) ∙ ap (λ l. filter has_known_kind rows ++ l) (cond-false _ _ _ unknown) ∙ append-nil (filter has_known_kind rows)
+
+-- ---- stores
+
+-- a store behind others is older than they are
+oldest_behind : (stores : List (List StoredRow)) (last : List StoredRow) → oldest_first (stores ++ last ∷ []) ≡ last ++ oldest_first stores
+oldest_behind [] last = sym (append-nil last)
+oldest_behind (newest ∷ older) last = ap (λ l. l ++ newest) (oldest_behind older last) ∙ append_assoc last (oldest_first older) newest
+
+-- nothing is found in each of the stores
+pub each_sound : (s : Shape) (image regions : List ℕ) (store : ℕ) → flat_map (hash_findings s) (map (hash_part s image) regions) ≡ [] → store < length regions
+    → hash_findings s (hash_part s image (get_or regions store 0)) ≡ []
+each_sound s image [] store none below = absurd (omega arith)
+each_sound s image (region ∷ regions) zero none below = nothing_first (hash_findings s (hash_part s image region)) (flat_map (hash_findings s) (map (hash_part s image) regions)) none
+each_sound s image (region ∷ regions) (suc store) none below =
+    each_sound s image regions store (nothing_second (hash_findings s (hash_part s image region)) (flat_map (hash_findings s) (map (hash_part s image) regions)) none) (omega arith)
+
+module _ (s : Shape) (image regions : List ℕ) (store : ℕ) where
+  abbrev region : ℕ
+  region = get_or regions store 0
+
+  -- one slot more
+  slot_gathered : (slot : ℕ) → gathered_rows s image regions store (slot + 1) ≡ filter has_known_kind (rows_before s region image slot ++ slot_row s region image slot ∷ []) ++ hashed_rows s image (take store regions)
+  unfolding gathered_rows
+  slot_gathered slot = ap (λ l. filter has_known_kind l ++ hashed_rows s image (take store regions)) (before_more s region image slot)
+
+  -- all slots of a store
+  store_gathered : store < length regions → gathered_rows s image regions store (4 * s.buckets) ≡ hashed_rows s image (take (store + 1) regions)
+  unfolding gathered_rows
+  store_gathered below =
+      let more : take (store + 1) regions ≡ take store regions ++ region ∷ [] = take_more regions store 0 below in
+      let parts : map known_rows (map (hash_part s image) (take store regions ++ region ∷ [])) ≡ map known_rows (map (hash_part s image) (take store regions)) ++ known_rows (hash_part s image region) ∷ [] =
+      ap (map known_rows) (map-append (hash_part s image) (take store regions) (region ∷ [])) ∙ map-append known_rows (map (hash_part s image) (take store regions)) (hash_part s image region ∷ []) in
+      ap (λ l. filter has_known_kind l ++ hashed_rows s image (take store regions)) (sym (all_before s region image))
+      ∙ sym (ap (hashed_rows s image) more ∙ ap oldest_first parts ∙ oldest_behind (map known_rows (map (hash_part s image) (take store regions))) (known_rows (hash_part s image region)))
+
+-- no slot of a store
+pub none_gathered : (s : Shape) (image regions : List ℕ) (store : ℕ) → gathered_rows s image regions store 0 ≡ hashed_rows s image (take store regions)
+unfolding gathered_rows rows_before
+none_gathered s image regions store = refl
+
+-- all stores
+pub all_gathered : (s : Shape) (image regions : List ℕ) (store slot : ℕ) → length regions ≤ store → slot ≡ 0 → gathered_rows s image regions store slot ≡ hashed_rows s image regions
+all_gathered s image regions store slot past none = ap (gathered_rows s image regions store) none ∙ none_gathered s image regions store ∙ ap (hashed_rows s image) (take_all store regions past)
+
+-- ---- a slot that is gathered
+
+-- one source or another, as rows
+map_or : {A B : Type 0} (f : A → B) (o p : Option A) → option_map f (option_or o p) ≡ option_or (option_map f o) (option_map f p)
+map_or f None p = refl
+map_or f (Some x) p = refl
+
+module _ (s : Shape) (image regions : List ℕ) (store slot : ℕ) (below : store < length regions) (inside : slot < 4 * s.buckets)
+    (none : flat_map (hash_findings s) (map (hash_part s image) regions) ≡ []) where
+  abbrev shown : StoredRow
+  shown = slot_row s (get_or regions store 0) image slot
+
+  -- a source is the row in its slot
+  own_row : (row : Row) (key : List ℕ) → IsRowAt shown slot (Some row) → option_map (source_row s image regions) (own_source store slot row key) ≡ own shown key
+  own_row row key is =
+      let same : source_row s image regions (record { kind = row.kind; store = store; slot = slot }) ≡ shown = ap (λ n. let r : StoredRow = record shown { kind = n } in r) is.kind in
+      let go : (b : Bool) → option_map (source_row s image regions) (cond b (Some (record { kind = row.kind; store = store; slot = slot })) None) ≡ cond b (Some shown) None = elim [
+        | true ↦ ap Some same
+        | false ↦ refl
+      ] in
+      go (bytes_eq row.key.0 key) ∙ ap (λ k. cond (bytes_eq k key) (Some shown) None) is.key
+
+  -- no earlier slot of the store has the key of a row of a known kind
+  alone : (key : List ℕ) → has_known_kind shown ≡ true → bytes_eq shown.key key ≡ true → newest_row (filter has_known_kind (rows_before s (get_or regions store 0) image slot)) key ≡ None
+  alone key known same =
+      let region : ℕ = get_or regions store 0 in
+      let sound = all_sound s region image (each_sound s image regions store none below) slot inside in
+      let parts = sound_parts s (hash_rows s region image) slot shown known sound in
+      none_known key (rows_before s region image slot)
+      (ap (λ k. holds_key k (rows_before s region image slot)) (sym (key_is shown.key key same)) ∙ ap (holds_key shown.key) (sym (before_taken s region image slot (omega arith))) ∙ parts.1)
+
+  -- the newest row of a key with one slot more, where the slot has a row of a known kind
+  row_gathered : (row : Row) (key : List ℕ) → IsRowAt shown slot (Some row) → newest_row (gathered_rows s image regions store (slot + 1)) key ≡ option_or (newest_row (gathered_rows s image regions store slot) key) (own shown key)
+  unfolding gathered_rows
+  row_gathered row key is =
+      let region : ℕ = get_or regions store 0 in
+      let older : List StoredRow = filter has_known_kind (rows_before s region image slot) in
+      let newer : List StoredRow = hashed_rows s image (take store regions) in
+      ap (λ l. newest_row l key) (slot_gathered s image regions store slot)
+      ∙ ap (λ l. newest_row (l ++ newer) key) (known_more (rows_before s region image slot) shown is.known)
+      ∙ row_more older newer shown key (alone key is.known)
+
+  -- and where it has none
+  none_there : (key : List ℕ) → IsRowAt shown slot None → newest_row (gathered_rows s image regions store (slot + 1)) key ≡ newest_row (gathered_rows s image regions store slot) key
+  unfolding gathered_rows
+  none_there key unknown =
+      let region : ℕ = get_or regions store 0 in
+      ap (λ l. newest_row l key) (slot_gathered s image regions store slot)
+      ∙ ap (λ l. newest_row (l ++ hashed_rows s image (take store regions)) key) (unknown_more (rows_before s region image slot) shown unknown)
+
+-- the rows that are gathered before the next slot
+pub next_gathered : (s : Shape) (image regions : List ℕ) (store slot : ℕ) → store < length regions → gathered_rows s image regions (slot_after store slot (4 * s.buckets)).0 (slot_after store slot (4 * s.buckets)).1 ≡ gathered_rows s image regions store (slot + 1)
+next_gathered s image regions store slot below = elim (cases_Bool (eqb (slot + 1) (4 * s.buckets))) [
+  | inl last ↦
+      ap (λ (p : ℕ × ℕ). gathered_rows s image regions p.0 p.1) (cond-true _ _ _ last)
+      ∙ none_gathered s image regions (store + 1)
+      ∙ sym (ap (gathered_rows s image regions store) (eqb-true (slot + 1) (4 * s.buckets) last) ∙ store_gathered s image regions store below)
+  | inr other ↦ ap (λ (p : ℕ × ℕ). gathered_rows s image regions p.0 p.1) (cond-false _ _ _ other)
+]
+
+-- the rows that wait after a slot was gathered are the newest of those that are gathered
+pub waits_kept : (s : Shape) (image regions : List ℕ) (store slot : ℕ) (row : Option Row) (before after : List (Key × Source)) → store < length regions → slot < 4 * s.buckets
+    → flat_map (hash_findings s) (map (hash_part s image) regions) ≡ [] → IsRowAt (slot_row s (get_or regions store 0) image slot) slot row → Keeps store slot row before after
+    → ((key : List ℕ) → option_map (source_row s image regions) (source_at before key) ≡ newest_row (gathered_rows s image regions store slot) key)
+    → (key : List ℕ) → option_map (source_row s image regions) (source_at after key) ≡ newest_row (gathered_rows s image regions store (slot + 1)) key
+waits_kept s image regions store slot None before after below inside none is keeps waits key =
+    ap (option_map (source_row s image regions)) (keeps key) ∙ waits key ∙ sym (none_there s image regions store slot below inside none key is)
+waits_kept s image regions store slot (Some row) before after below inside none is keeps waits key =
+    ap (option_map (source_row s image regions)) (keeps key)
+    ∙ map_or (source_row s image regions) (source_at before key) (own_source store slot row key)
+    ∙ ap (λ o. option_or o (option_map (source_row s image regions) (own_source store slot row key))) (waits key)
+    ∙ ap (option_or (newest_row (gathered_rows s image regions store slot) key)) (own_row s image regions store slot below inside none row key is)
+    ∙ sym (row_gathered s image regions store slot below inside none row key is)

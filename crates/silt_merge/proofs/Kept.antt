@@ -1,0 +1,47 @@
+-- The map of the rows that wait, by the bytes of keys.
+use Rattle.std.proofs.Common.{◌≡◌, ◌≢◌, ℕ, false, true, cond, List, Option, Some, None, refl, sym, ap, ◌∙◌}
+use Rattle.std.specs.BTreeMap.{BTreeMap}
+use Rattle.std.specs.BTreeMap as tree
+use Rattle.std.specs.Option.{is_some}
+use Rattle.std.specs.Ordering.{is_gt, nat_cmp, ordering_reverse}
+use Rattle.std.specs.Cmp.Lexicographic.{slice_cmp}
+use Rattle.std.specs.Str.{bytes_eq}
+use Rattle.std.specs.declared.cmp.Ordering.{Ordering}
+use Rattle.std.specs.declared.cmp.Ordering.TheVariants.{Less}
+use Rattle.std.proofs.lemmas.Cmp.{nat_list_cmp_total}
+use Rattle.std.proofs.lemmas.Map.Text.{is_eq-slice_cmp}
+use Rattle.silt_frame.specs.declared.key.Key.{Key}
+use Rattle.silt_frame.specs.declared.key.Row.{Row}
+use Rattle.silt_merge.specs.Choosing.{Keeps}
+use Rattle.silt_merge.specs.State.{source_at}
+use Rattle.silt_merge.specs.declared.source.Source.{Source}
+use Rattle.silt_merge.proofs.Newest.{key_is, prefer}
+
+-- the order of keys
+abbrev pub key_cmp : Key → Key → Ordering
+key_cmp a b = slice_cmp nat_cmp a.0 b.0
+
+-- no row waits for a key below the first
+pub first_least : (waiting : BTreeMap Key Source) (key : Key) → tree.IsLowerBound key_cmp waiting key → (other : List ℕ) (its : Source) → source_at waiting.entries other ≡ Some its → slice_cmp nat_cmp other key.0 ≢ Less
+first_least waiting key least other its is less =
+    let not_above : is_gt (slice_cmp nat_cmp key.0 other) ≡ false = least (record { 0 = other }) (ap is_some is) in
+    let above : is_gt (slice_cmp nat_cmp key.0 other) ≡ true = ap is_gt (nat_list_cmp_total.antisymm key.0 other ∙ ap ordering_reverse less) in
+    absurd (cc)
+
+-- a row that is kept
+pub kept_row : (store slot : ℕ) (row : Row) (before after : BTreeMap Key Source) → is_some (source_at before.entries row.key.0) ≡ false
+    → tree.Updates key_cmp before after row.key (Some (record { kind = row.kind; store = store; slot = slot })) → Keeps store slot (Some row) before.entries after.entries
+kept_row store slot row before after lacks updates key =
+    let source : Source = record { kind = row.kind; store = store; slot = slot } in
+    updates.0 (record { 0 = key })
+    ∙ ap (λ b. cond b (Some source) (source_at before.entries key)) (is_eq-slice_cmp row.key.0 key)
+    ∙ prefer (bytes_eq row.key.0 key) source (source_at before.entries key) (λ same. nothing (source_at before.entries key) (ap (λ k. is_some (source_at before.entries k)) (sym (key_is row.key.0 key same)) ∙ lacks))
+  where
+    nothing : (o : Option Source) → is_some o ≡ false → o ≡ None
+    nothing None none = refl
+    nothing (Some source) none = absurd (cc)
+
+-- a row that is let go
+pub let_go : (key : Key) (before after : BTreeMap Key Source) → tree.UpdatesBy key_cmp (key_cmp key) before after None
+    → (other : List ℕ) → source_at after.entries other ≡ cond (bytes_eq key.0 other) None (source_at before.entries other)
+let_go key before after updates other = updates.0 (record { 0 = other }) ∙ ap (λ b. cond b None (source_at before.entries other)) (is_eq-slice_cmp key.0 other)

@@ -1,0 +1,12 @@
+pub mod Choosing
+pub mod Counting
+pub mod Deciding
+pub mod Elsewhere
+pub mod Ending
+pub mod Gathering
+pub mod Newest
+pub mod Reading
+pub mod Sounding
+pub mod Kept
+pub mod Stepping
+pub mod Writing

@@ -1,0 +1,361 @@
+-- The newest rows of keys: how one is looked up, and that they rise.
+use Rattle.std.proofs.Common.{◌≡◌, ℕ, zero, suc, ◌+◌, ◌-◌, ◌==◌, ◌<◌, ◌≤◌, Bool, true, false, cond, List, [], ◌∷◌, ◌++◌, filter, find, length, reverse, Option, Some, None, option_and_then, inl, inr, refl, sym, subst, ap, ◌∙◌, arith}
+use Rattle.std.specs.Option.{option_or}
+use Rattle.std.specs.Ordering.{is_eq, is_lt, match_ordering, nat_cmp, ordering_reverse}
+use Rattle.std.specs.Cmp.Lexicographic.{slice_cmp}
+use Rattle.std.specs.Str.{bytes_eq}
+use Rattle.std.specs.FinMap.{same_map, slice_cmp-IsAntisymmetric, nat_cmp-IsAntisymmetric}
+use Rattle.std.specs.declared.cmp.Ordering.{Ordering}
+use Rattle.std.specs.declared.cmp.Ordering.TheVariants.{Less, Equal, Greater}
+use Rattle.std.proofs.lemmas.Bool.{cases_Bool, cond-true, cond-false}
+use Rattle.std.proofs.lemmas.Cmp.{nat_list_cmp_total}
+use Rattle.std.proofs.lemmas.List.{reverse-append}
+use Rattle.std.proofs.lemmas.List.Folds.{find-append}
+use Rattle.std.proofs.lemmas.List.Sums.{sum_by-cons}
+use Rattle.std.proofs.lemmas.Map.Lookups.{exact_bytes}
+use Rattle.std.proofs.lemmas.Map.Text.{is_eq-slice_cmp}
+use Rattle.std.proofs.lemmas.Slice.Eq.{bytes_eq-Decides}
+use Rattle.silt_image.specs.Laws.{newest_row, value_of}
+use Rattle.silt_image.specs.Meaning.{charge_of_rows, entry_findings, is_key_below, map_of_rows, sorted_findings}
+use Rattle.silt_image.specs.declared.finding.Finding.TheVariants.{Damaged}
+use Rattle.silt_image.specs.declared.finding.Place.TheVariants.{Sorted}
+use Rattle.silt_image.proofs.Rows.{newest_law}
+use Rattle.silt_image.proofs.Sound.{nothing_where_passes}
+use Rattle.silt_log.specs.Rows.{StoredRow}
+use Rattle.silt_sorted_store.proofs.Ranges.{none_of_all}
+use Rattle.silt_sorted_store.proofs.Rising.{key_at, not_below_itself}
+use Rattle.silt_merge.specs.Laws.{KeyCountLaw, MergedLaw}
+use Rattle.silt_merge.specs.Rows.{is_put, merged_rows, newest_rows, with_older}
+
+-- ---- keys
+
+-- keys that are told as equal are equal
+pub key_is : (a b : List ℕ) → bytes_eq a b ≡ true → a ≡ b
+key_is a b same = (bytes_eq-Decides a b).0 same
+
+-- and the other way round
+pub key_itself : (a b : List ℕ) → a ≡ b → bytes_eq a b ≡ true
+key_itself a b same = (bytes_eq-Decides a b).1 same
+
+-- a key below another is not it
+pub key_below : (a b : List ℕ) → slice_cmp nat_cmp a b ≡ Less → bytes_eq a b ≡ false
+key_below a b less = sym (is_eq-slice_cmp a b) ∙ ap is_eq less
+
+-- nor is the other the key
+pub key_above : (a b : List ℕ) → slice_cmp nat_cmp a b ≡ Less → bytes_eq b a ≡ false
+key_above a b less = elim (cases_Bool (bytes_eq b a)) [
+  | inl same ↦ absurd (not_below_itself a b (sym (key_is b a same)) less)
+  | inr other ↦ other
+]
+
+-- the order of two keys, the other way round
+pub turned : (a b : List ℕ) → slice_cmp nat_cmp a b ≡ Greater → slice_cmp nat_cmp b a ≡ Less
+turned a b greater = nat_list_cmp_total.antisymm b a ∙ ap ordering_reverse greater
+
+-- ---- the newest row of a key
+
+-- a row, where it has the key
+abbrev pub own : StoredRow → List ℕ → Option StoredRow
+own row key = cond (bytes_eq row.key key) (Some row) None
+
+-- with one older row
+pub newest_cons : (row : StoredRow) (rows : List StoredRow) (key : List ℕ) → newest_row (row ∷ rows) key ≡ option_or (newest_row rows key) (own row key)
+newest_cons row rows key = ap (find (λ (r : StoredRow). bytes_eq r.key key)) (reverse-append (row ∷ []) rows) ∙ find-append (λ (r : StoredRow). bytes_eq r.key key) (reverse rows) (row ∷ [])
+
+-- of older rows and newer ones
+pub newest_append : (older newer : List StoredRow) (key : List ℕ) → newest_row (older ++ newer) key ≡ option_or (newest_row newer key) (newest_row older key)
+newest_append older newer key = ap (find (λ (r : StoredRow). bytes_eq r.key key)) (reverse-append older newer) ∙ find-append (λ (r : StoredRow). bytes_eq r.key key) (reverse newer) (reverse older)
+
+-- the first row of a key
+abbrev pub row_with : List ℕ → List StoredRow → Option StoredRow
+row_with key rows = find (λ row. bytes_eq row.key key) rows
+
+-- ---- rows that rise
+
+-- the keys of all rows are above a key
+abbrev pub Above : List ℕ → List StoredRow → Type 0
+Above key [] = Unit {0}
+Above key (row ∷ rows) = (slice_cmp nat_cmp key row.key ≡ Less) × Above key rows
+
+-- the keys of rows rise
+abbrev pub Rises : List StoredRow → Type 0
+Rises [] = Unit {0}
+Rises (row ∷ rows) = Above row.key rows × Rises rows
+
+-- above a higher key is above a lower one
+pub above_lower : (low high : List ℕ) (rows : List StoredRow) → slice_cmp nat_cmp low high ≡ Less → Above high rows → Above low rows
+above_lower low high [] less above = tt
+above_lower low high (row ∷ rows) less above = (nat_list_cmp_total.trans low high row.key less above.0, above_lower low high rows less above.1)
+
+-- no row that is above a key has it
+pub none_above : (key : List ℕ) (rows : List StoredRow) → Above key rows → row_with key rows ≡ None
+none_above key [] above = refl
+none_above key (row ∷ rows) above = cond-false _ _ _ (key_above key row.key above.0) ∙ none_above key rows above.1
+
+-- ---- a row among rows that rise
+
+older_less : (row first : StoredRow) (rest : List StoredRow) → slice_cmp nat_cmp row.key first.key ≡ Less → with_older row (first ∷ rest) ≡ row ∷ first ∷ rest
+older_less row first rest is = ap (λ (o : Ordering). match_ordering o (row ∷ first ∷ rest) (first ∷ rest) (first ∷ with_older row rest)) is
+
+older_equal : (row first : StoredRow) (rest : List StoredRow) → slice_cmp nat_cmp row.key first.key ≡ Equal → with_older row (first ∷ rest) ≡ first ∷ rest
+older_equal row first rest is = ap (λ (o : Ordering). match_ordering o (row ∷ first ∷ rest) (first ∷ rest) (first ∷ with_older row rest)) is
+
+older_greater : (row first : StoredRow) (rest : List StoredRow) → slice_cmp nat_cmp row.key first.key ≡ Greater → with_older row (first ∷ rest) ≡ first ∷ with_older row rest
+older_greater row first rest is = ap (λ (o : Ordering). match_ordering o (row ∷ first ∷ rest) (first ∷ rest) (first ∷ with_older row rest)) is
+
+-- is above what both are above
+above_older : (low : List ℕ) (row : StoredRow) (rows : List StoredRow) → slice_cmp nat_cmp low row.key ≡ Less → Above low rows → Above low (with_older row rows)
+above_older low row [] less above = (less, tt)
+above_older low row (first ∷ rest) less above =
+    let further = above_older low row rest less above.1 in
+    let go : (o : Ordering) → slice_cmp nat_cmp row.key first.key ≡ o → Above low (with_older row (first ∷ rest)) = elim [
+      | Less ↦ λ is. subst (Above low) (sym (older_less row first rest is)) (less, above)
+      | Equal ↦ λ is. subst (Above low) (sym (older_equal row first rest is)) above
+      | Greater ↦ λ is. subst (Above low) (sym (older_greater row first rest is)) (above.0, further)
+    ] in
+    go (slice_cmp nat_cmp row.key first.key) refl
+
+-- and they rise with it
+rises_older : (row : StoredRow) (rows : List StoredRow) → Rises rows → Rises (with_older row rows)
+rises_older row [] rises = (tt, tt)
+rises_older row (first ∷ rest) rises =
+    let further = rises_older row rest rises.1 in
+    let go : (o : Ordering) → slice_cmp nat_cmp row.key first.key ≡ o → Rises (with_older row (first ∷ rest)) = elim [
+      | Less ↦ λ is. subst Rises (sym (older_less row first rest is)) ((is, above_lower row.key first.key rest is rises.0), rises)
+      | Equal ↦ λ is. subst Rises (sym (older_equal row first rest is)) rises
+      | Greater ↦ λ is. subst Rises (sym (older_greater row first rest is)) (above_older first.key row rest (turned row.key first.key is) rises.0, further)
+    ] in
+    go (slice_cmp nat_cmp row.key first.key) refl
+
+-- nothing behind a choice
+pub or_none : {A : Type 0} (o : Option A) → option_or o None ≡ o
+or_none None = refl
+or_none (Some x) = refl
+
+-- a choice that comes first, or last where there is no other
+pub prefer : {A : Type 0} (b : Bool) (x : A) (o : Option A) → (b ≡ true → o ≡ None) → cond b (Some x) o ≡ option_or o (cond b (Some x) None)
+prefer true x o none = sym (ap (λ p. option_or p (Some x)) (none refl))
+prefer false x o none = sym (or_none o)
+
+-- a choice behind one that comes first
+behind_first : {A : Type 0} (b : Bool) (x : A) (new old other : Option A) → new ≡ option_or old other → cond b (Some x) new ≡ option_or (cond b (Some x) old) other
+behind_first true x new old other is = refl
+behind_first false x new old other is = is
+
+-- the first row has the key of an older one
+kept_first : (row first : StoredRow) (rest : List StoredRow) (key : List ℕ) (b : Bool) → bytes_eq row.key key ≡ b → row.key ≡ first.key → row_with key (first ∷ rest) ≡ option_or (row_with key (first ∷ rest)) (own row key)
+kept_first row first rest key true has same =
+    let here : row_with key (first ∷ rest) ≡ Some first = cond-true _ _ _ (ap (λ k. bytes_eq k key) (sym same) ∙ has) in
+    here ∙ sym (ap (λ o. option_or o (own row key)) here)
+kept_first row first rest key false other same = sym (ap (option_or (row_with key (first ∷ rest))) (cond-false _ _ _ other) ∙ or_none (row_with key (first ∷ rest)))
+
+-- the row of a key after one older row
+find_older : (row : StoredRow) (rows : List StoredRow) → Rises rows → (key : List ℕ) → row_with key (with_older row rows) ≡ option_or (row_with key rows) (own row key)
+find_older row [] rises key = refl
+find_older row (first ∷ rest) rises key =
+    let further = find_older row rest rises.1 key in
+    let go : (o : Ordering) → slice_cmp nat_cmp row.key first.key ≡ o → row_with key (with_older row (first ∷ rest)) ≡ option_or (row_with key (first ∷ rest)) (own row key) = elim [
+      | Less ↦ λ is.
+          ap (row_with key) (older_less row first rest is)
+          ∙ prefer (bytes_eq row.key key) row (row_with key (first ∷ rest)) (λ same.
+          ap (λ k. row_with k (first ∷ rest)) (sym (key_is row.key key same)) ∙ none_above row.key (first ∷ rest) (is, above_lower row.key first.key rest is rises.0))
+      | Equal ↦ λ is. ap (row_with key) (older_equal row first rest is) ∙ kept_first row first rest key (bytes_eq row.key key) refl (exact_bytes row.key first.key is)
+      | Greater ↦ λ is. ap (row_with key) (older_greater row first rest is) ∙ behind_first (bytes_eq first.key key) first _ _ _ further
+    ] in
+    go (slice_cmp nat_cmp row.key first.key) refl
+
+-- the newest rows rise
+pub rises_newest : (rows : List StoredRow) → Rises (newest_rows rows)
+rises_newest [] = tt
+rises_newest (row ∷ rows) = rises_older row (newest_rows rows) (rises_newest rows)
+
+-- and have the newest row of each key
+pub find_newest : (rows : List StoredRow) (key : List ℕ) → row_with key (newest_rows rows) ≡ newest_row rows key
+find_newest [] key = refl
+find_newest (row ∷ rows) key =
+    find_older row (newest_rows rows) (rises_newest rows) key ∙ ap (λ o. option_or o (own row key)) (find_newest rows key) ∙ sym (newest_cons row rows key)
+
+-- of rows that rise the only row of a key is its newest
+pub newest_rising : (rows : List StoredRow) → Rises rows → (key : List ℕ) → newest_row rows key ≡ row_with key rows
+newest_rising [] rises key = refl
+newest_rising (row ∷ rows) rises key =
+    newest_cons row rows key
+    ∙ ap (λ o. option_or o (own row key)) (newest_rising rows rises.1 key)
+    ∙ sym (prefer (bytes_eq row.key key) row (row_with key rows) (λ same. ap (λ k. row_with k rows) (sym (key_is row.key key same)) ∙ none_above row.key rows rises.0))
+
+-- ---- by places
+
+-- a key lies below each of the keys that are above it
+above_at : (key : List ℕ) (rows : List StoredRow) → Above key rows → (place : ℕ) → place < length rows → slice_cmp nat_cmp key (key_at rows place) ≡ Less
+above_at key [] above place inside = absurd (omega arith)
+above_at key (row ∷ rows) above zero inside = above.0
+above_at key (row ∷ rows) above (suc place) inside = above_at key rows above.1 place (omega arith)
+
+-- a lower place has a lower key
+pub rises_at : (rows : List StoredRow) → Rises rows → (low high : ℕ) → low < high → high < length rows → slice_cmp nat_cmp (key_at rows low) (key_at rows high) ≡ Less
+rises_at [] rises low high lower inside = absurd (omega arith)
+rises_at (row ∷ rows) rises low zero lower inside = absurd (omega arith)
+rises_at (row ∷ rows) rises zero (suc high) lower inside = above_at row.key rows rises.0 high (omega arith)
+rises_at (row ∷ rows) rises (suc low) (suc high) lower inside = rises_at rows rises.1 low high (omega arith) (omega arith)
+
+-- and the other way round
+above_from : (key : List ℕ) (rows : List StoredRow) → ((place : ℕ) → place < length rows → slice_cmp nat_cmp key (key_at rows place) ≡ Less) → Above key rows
+above_from key [] each = tt
+above_from key (row ∷ rows) each = (each 0 (omega arith), above_from key rows (λ place inside. each (suc place) (omega arith)))
+
+pub rises_from : (rows : List StoredRow) → ((low high : ℕ) → low < high → high < length rows → slice_cmp nat_cmp (key_at rows low) (key_at rows high) ≡ Less) → Rises rows
+rises_from [] each = tt
+rises_from (row ∷ rows) each = (
+  above_from row.key rows (λ place inside. each 0 (suc place) (omega arith) (omega arith)),
+  rises_from rows (λ low high lower inside. each (suc low) (suc high) (omega arith) (omega arith)),
+)
+
+-- nothing is found in rows that rise
+pub nothing_rising : (rows : List StoredRow) → Rises rows → sorted_findings rows ≡ []
+unfolding sorted_findings
+nothing_rising rows rises =
+    none_of_all (entry_findings rows) 1 (length rows - 1)
+    (λ place low high. nothing_where_passes (is_key_below (key_at rows (place - 1)) (key_at rows place)) (Damaged (Sorted place)) (ap is_lt (rises_at rows rises (place - 1) place (omega arith) (omega arith))))
+
+-- ---- those that are puts
+
+-- a row that is a put
+abbrev put_of : Option StoredRow → Option StoredRow
+put_of None = None
+put_of (Some row) = cond (is_put row) (Some row) None
+
+-- the first row, where it is a put
+pub put_first : (row : StoredRow) (rows : List StoredRow) → is_put row ≡ true → filter is_put (row ∷ rows) ≡ row ∷ filter is_put rows
+put_first row rows put = cond-true _ _ _ put
+
+pub no_put_first : (row : StoredRow) (rows : List StoredRow) → is_put row ≡ false → filter is_put (row ∷ rows) ≡ filter is_put rows
+no_put_first row rows other = cond-false _ _ _ other
+
+above_puts : (key : List ℕ) (rows : List StoredRow) → Above key rows → Above key (filter is_put rows)
+above_puts key [] above = tt
+above_puts key (row ∷ rows) above =
+    let further = above_puts key rows above.1 in
+    let go : (b : Bool) → is_put row ≡ b → Above key (filter is_put (row ∷ rows)) = elim [
+      | true ↦ λ put. subst (Above key) (sym (put_first row rows put)) (above.0, further)
+      | false ↦ λ other. subst (Above key) (sym (no_put_first row rows other)) further
+    ] in
+    go (is_put row) refl
+
+-- they rise
+pub rises_puts : (rows : List StoredRow) → Rises rows → Rises (filter is_put rows)
+rises_puts [] rises = tt
+rises_puts (row ∷ rows) rises =
+    let further = rises_puts rows rises.1 in
+    let go : (b : Bool) → is_put row ≡ b → Rises (filter is_put (row ∷ rows)) = elim [
+      | true ↦ λ put. subst Rises (sym (put_first row rows put)) (above_puts row.key rows rises.0, further)
+      | false ↦ λ other. subst Rises (sym (no_put_first row rows other)) further
+    ] in
+    go (is_put row) refl
+
+-- the row of a key among them, with one row in front
+puts_more : (row : StoredRow) (rows : List StoredRow) (key : List ℕ) → row_with key (filter is_put rows) ≡ put_of (row_with key rows) → row_with row.key rows ≡ None
+    → (p : Bool) → is_put row ≡ p → (b : Bool) → bytes_eq row.key key ≡ b → row_with key (filter is_put (row ∷ rows)) ≡ put_of (row_with key (row ∷ rows))
+puts_more row rows key further none true put true has = ap (row_with key) (put_first row rows put) ∙ cond-true _ _ _ has ∙ sym (ap put_of (cond-true _ _ _ has) ∙ cond-true _ _ _ put)
+puts_more row rows key further none true put false lacks = ap (row_with key) (put_first row rows put) ∙ cond-false _ _ _ lacks ∙ further ∙ sym (ap put_of (cond-false _ _ _ lacks))
+puts_more row rows key further none false other true has =
+    ap (row_with key) (no_put_first row rows other) ∙ further
+    ∙ ap put_of (ap (λ k. row_with k rows) (sym (key_is row.key key has)) ∙ none)
+    ∙ sym (ap put_of (cond-true _ _ _ has) ∙ cond-false _ _ _ other)
+puts_more row rows key further none false other false lacks = ap (row_with key) (no_put_first row rows other) ∙ further ∙ sym (ap put_of (cond-false _ _ _ lacks))
+
+-- the row of a key among them
+find_puts : (rows : List StoredRow) → Rises rows → (key : List ℕ) → row_with key (filter is_put rows) ≡ put_of (row_with key rows)
+find_puts [] rises key = refl
+find_puts (row ∷ rows) rises key = puts_more row rows key (find_puts rows rises.1 key) (none_above row.key rows rises.0) (is_put row) refl (bytes_eq row.key key) refl
+
+-- a row that is no put gives no value
+put_value : (o : Option StoredRow) → option_and_then value_of (put_of o) ≡ option_and_then value_of o
+put_value None = refl
+put_value (Some row) = go (row.kind == 1) refl
+  where
+    go : (b : Bool) → (row.kind == 1) ≡ b → option_and_then value_of (put_of (Some row)) ≡ value_of row
+    go true put = ap (option_and_then value_of) (cond-true _ _ _ put)
+    go false other = ap (option_and_then value_of) (cond-false _ _ _ other) ∙ sym (cond-false _ _ _ other)
+
+-- the map of the newest rows that are puts is that of all rows
+pub merged_map : (rows : List StoredRow) → map_of_rows (merged_rows rows) ≡ map_of_rows rows
+unfolding merged_rows
+merged_map rows =
+    same_map nat_list_cmp_total (slice_cmp-IsAntisymmetric nat_cmp-IsAntisymmetric) (map_of_rows (filter is_put (newest_rows rows))) (map_of_rows rows)
+    (λ key.
+    newest_law (filter is_put (newest_rows rows)) key
+    ∙ ap (option_and_then value_of) (newest_rising (filter is_put (newest_rows rows)) (rises_puts (newest_rows rows) (rises_newest rows)) key ∙ find_puts (newest_rows rows) (rises_newest rows) key)
+    ∙ put_value (row_with key (newest_rows rows))
+    ∙ ap (option_and_then value_of) (find_newest rows key)
+    ∙ sym (newest_law rows key))
+
+-- ---- how many there are
+
+-- one row more
+charge_more : (row : StoredRow) (rows : List StoredRow) → charge_of_rows (row ∷ rows) ≡ cond {A = ℕ} (row.kind == 1) 1 0 + charge_of_rows rows
+charge_more row rows = sum_by-cons (λ (r : StoredRow). cond (r.kind == 1) 1 0) row rows
+
+charge_older : (row : StoredRow) (rows : List StoredRow) → charge_of_rows (with_older row rows) ≤ charge_of_rows (row ∷ rows)
+charge_older row [] = omega arith
+charge_older row (first ∷ rest) =
+    let further = charge_older row rest in
+    let go : (o : Ordering) → slice_cmp nat_cmp row.key first.key ≡ o → charge_of_rows (with_older row (first ∷ rest)) ≤ charge_of_rows (row ∷ first ∷ rest) = elim [
+      | Less ↦ λ is. omega (arith, ap charge_of_rows (older_less row first rest is))
+      | Equal ↦ λ is. omega (arith, ap charge_of_rows (older_equal row first rest is), charge_more row (first ∷ rest))
+      | Greater ↦ λ is. omega (arith, ap charge_of_rows (older_greater row first rest is), further, charge_more row (first ∷ rest), charge_more first rest, charge_more row rest, charge_more first (with_older row rest))
+    ] in
+    go (slice_cmp nat_cmp row.key first.key) refl
+
+charge_newest : (rows : List StoredRow) → charge_of_rows (newest_rows rows) ≤ charge_of_rows rows
+charge_newest [] = omega arith
+charge_newest (row ∷ rows) = omega (arith, charge_older row (newest_rows rows), charge_newest rows, charge_more row rows, charge_more row (newest_rows rows))
+
+charge_puts : (rows : List StoredRow) → (charge_of_rows (filter is_put rows) ≡ charge_of_rows rows) × (length (filter is_put rows) ≡ charge_of_rows rows)
+charge_puts [] = (refl, refl)
+charge_puts (row ∷ rows) =
+    let rest = charge_puts rows in
+    let go : (b : Bool) → (row.kind == 1) ≡ b → (charge_of_rows (filter is_put (row ∷ rows)) ≡ charge_of_rows (row ∷ rows)) × (length (filter is_put (row ∷ rows)) ≡ charge_of_rows (row ∷ rows)) = elim [
+      | true ↦ λ put.
+          let one : cond {A = ℕ} (row.kind == 1) 1 0 ≡ 1 = cond-true _ _ _ put in (
+            omega (arith, ap charge_of_rows (put_first row rows put), rest.0, charge_more row rows, charge_more row (filter is_put rows)),
+            omega (arith, ap (λ (l : List StoredRow). length l) (put_first row rows put), rest.1, one, charge_more row rows),
+          )
+      | false ↦ λ other.
+          let none : cond {A = ℕ} (row.kind == 1) 1 0 ≡ 0 = cond-false _ _ _ other in (
+            omega (arith, ap charge_of_rows (no_put_first row rows other), rest.0, none, charge_more row rows),
+            omega (arith, ap (λ (l : List StoredRow). length l) (no_put_first row rows other), rest.1, none, charge_more row rows),
+          )
+    ] in
+    go (row.kind == 1) refl
+
+length_older : (row : StoredRow) (rows : List StoredRow) → length (with_older row rows) ≤ length rows + 1
+length_older row [] = omega arith
+length_older row (first ∷ rest) =
+    let further = length_older row rest in
+    let go : (o : Ordering) → slice_cmp nat_cmp row.key first.key ≡ o → length (with_older row (first ∷ rest)) ≤ length (first ∷ rest) + 1 = elim [
+      | Less ↦ λ is. omega (arith, ap (λ (l : List StoredRow). length l) (older_less row first rest is))
+      | Equal ↦ λ is. omega (arith, ap (λ (l : List StoredRow). length l) (older_equal row first rest is))
+      | Greater ↦ λ is. omega (arith, ap (λ (l : List StoredRow). length l) (older_greater row first rest is), further)
+    ] in
+    go (slice_cmp nat_cmp row.key first.key) refl
+
+length_newest : (rows : List StoredRow) → length (newest_rows rows) ≤ length rows
+length_newest [] = omega arith
+length_newest (row ∷ rows) = omega (arith, length_older row (newest_rows rows), length_newest rows)
+
+-- ---- the laws
+
+pub merged_law : MergedLaw
+unfolding merged_rows
+merged_law rows =
+    let counts = charge_puts (newest_rows rows) in
+    record {
+      rising = nothing_rising (filter is_put (newest_rows rows)) (rises_puts (newest_rows rows) (rises_newest rows));
+      same_map = merged_map rows;
+      charge = omega (arith, counts.0, charge_newest rows);
+      counted = counts.1 ∙ sym counts.0;
+    }
+
+pub key_count_law : KeyCountLaw
+unfolding merged_rows
+key_count_law rows = (length_newest rows, omega (arith, (charge_puts (newest_rows rows)).1, charge_newest rows))

@@ -1,0 +1,157 @@
+-- What each step of a merge leaves.
+use Rattle.std.proofs.Common.{◌≡◌, ◌≢◌, ℕ, ◌+◌, ◌*◌, ◌<◌, ◌≤◌, ◌⊎◌, eqb, Bool, true, false, cond, IsTrue, List, [], length, get_or, Option, Some, None, option_map, inl, inr, refl, sym, subst, ap, ◌∙◌, arith}
+use Rattle.std.specs.Option.{option_or}
+use Rattle.std.specs.Str.{bytes_eq}
+use Rattle.std.proofs.lemmas.Bool.{cases_Bool, cond-true, cond-false, eq-eqb, eqb-true, le-ltb}
+use Rattle.std.proofs.lemmas.List.{take_all}
+use Rattle.silt_device.specs.Disk.{Content}
+use Rattle.silt_device.specs.Layout.{Shape}
+use Rattle.silt_frame.specs.declared.key.Key.{Key}
+use Rattle.silt_frame.specs.declared.key.Row.{Row}
+use Rattle.silt_hash_store.specs.Lookup.{IsRowAt}
+use Rattle.silt_hash_store.specs.Slots.{slot_row}
+use Rattle.silt_hash_store.specs.State.{HashState}
+use Rattle.silt_image.specs.Laws.{newest_row}
+use Rattle.silt_image.specs.Stores.{sorted_rows}
+use Rattle.silt_log.specs.Rows.{StoredRow}
+use Rattle.silt_merge.specs.Choosing.{Keeps, own_source}
+use Rattle.silt_merge.specs.Merging.{HasMerged, decided_rows, gathered_rows, source_row}
+use Rattle.silt_merge.specs.Rows.{has_key, regions_of}
+use Rattle.silt_merge.specs.State.{IsHeldMerge, MergeState, slot_after, source_at}
+use Rattle.silt_merge.specs.declared.source.Source.{Source}
+use Rattle.silt_merge.proofs.Elsewhere.{regions_count}
+use Rattle.silt_merge.proofs.Gathering.{next_gathered, none_gathered, waits_kept}
+use Rattle.silt_merge.proofs.Reading.{store_at}
+use Rattle.silt_sorted_store.specs.State.{SortedState}
+
+-- ---- at the start
+
+-- nothing is written
+none_written : (s : Shape) (region : ℕ) (image : List ℕ) → sorted_rows s region 0 image ≡ []
+unfolding sorted_rows
+none_written s region image = refl
+
+-- nothing is gathered, and nothing is due
+pub started : (content : Content) (stores : List HashState) (sorted : SortedState) (shape : Shape) (region : ℕ) (waiting : List (Key × Source)) → shape ≡ sorted.shape → sorted.region ≢ region → waiting ≡ []
+    → HasMerged content stores sorted (record { shape = shape; region = region; stores = length stores; store = 0; slot = 0; waiting = waiting; passed = 0; written = 0; decided = 0 })
+started content stores sorted shape region waiting same apart none = record {
+  shape = sym same;
+  counted = refl;
+  apart = apart;
+  merged = λ honest sound. record {
+    gathered = record {
+      most = omega arith;
+      waits = λ key.
+          ap (λ l. option_map (source_row sorted.shape content.shown (regions_of stores)) (source_at l key)) none
+          ∙ sym (ap (λ l. newest_row l key) (none_gathered sorted.shape content.shown (regions_of stores) 0));
+      passes = λ place below. sym (le-ltb place 0 (omega arith));
+    };
+    writes = none_written shape region content.shown ∙ sym (take_all shape.sorted_capacity [] (omega arith));
+  };
+}
+
+-- ---- a slot that is gathered
+
+-- so many slots and one
+slots_more : (store slot slots : ℕ) → (slot_after store slot slots).0 * slots + (slot_after store slot slots).1 ≡ store * slots + slot + 1
+slots_more store slot slots = elim (cases_Bool (eqb (slot + 1) slots)) [
+  | inl last ↦
+      let all : slot + 1 ≡ slots = eqb-true (slot + 1) slots last in
+      ap (λ (p : ℕ × ℕ). p.0 * slots + p.1) (cond-true _ _ _ last) ∙ more store slots slot all
+  | inr other ↦ ap (λ (p : ℕ × ℕ). p.0 * slots + p.1) (cond-false _ _ _ other) ∙ omega arith
+]
+  where
+    more : (store slots slot : ℕ) → slot + 1 ≡ slots → (store + 1) * slots + 0 ≡ store * slots + slot + 1
+    more store slots slot all = grind arith
+
+-- the slot after one of a store
+after_last : (store slot slots : ℕ) → (slot_after store slot slots ≡ (store + 1, 0)) ⊎ ((slot_after store slot slots ≡ (store, slot + 1)) × (slot + 1 ≢ slots))
+after_last store slot slots = elim (cases_Bool (eqb (slot + 1) slots)) [
+  | inl last ↦ inl (cond-true _ _ _ last)
+  | inr other ↦ inr (cond-false _ _ _ other, λ same. let is : eqb (slot + 1) slots ≡ true = eq-eqb (slot + 1) slots same in absurd (cc))
+]
+
+-- a row that waits names a slot of the stores
+kept_inside : (merge : MergeState) (row : Option Row) (after : List (Key × Source)) → IsHeldMerge merge → merge.store < merge.stores → Keeps merge.store merge.slot row merge.waiting after
+    → (key : List ℕ) (source : Source) → source_at after key ≡ Some source → (source.store < merge.stores) × (source.slot < 4 * merge.shape.buckets)
+kept_inside merge None after held below keeps key source is = let inside = held.inside key source (sym (keeps key) ∙ is) in (inside.store, inside.slot)
+kept_inside merge (Some row) after held below keeps key source is =
+    let go : (o : Option Source) → source_at merge.waiting key ≡ o → option_or o (own_source merge.store merge.slot row key) ≡ Some source → (source.store < merge.stores) × (source.slot < 4 * merge.shape.buckets) = elim [
+      | Some other ↦ λ was found. let same : other ≡ source = cc in let inside = held.inside key source (was ∙ ap Some same) in (inside.store, inside.slot)
+      | None ↦ λ was found. own_inside (bytes_eq row.key.0 key) found
+    ] in
+    go (source_at merge.waiting key) refl (sym (keeps key) ∙ is)
+  where
+    own_inside : (b : Bool) → cond b (Some (record { kind = row.kind; store = merge.store; slot = merge.slot })) None ≡ Some source → (source.store < merge.stores) × (source.slot < 4 * merge.shape.buckets)
+    own_inside true found =
+        let same : record { kind = row.kind; store = merge.store; slot = merge.slot } ≡ source = cc in
+        subst (λ (s : Source). (s.store < merge.stores) × (s.slot < 4 * merge.shape.buckets)) same (below, held.slot)
+    own_inside false found = absurd (cc)
+
+-- a merge with one slot more
+pub gathered_held : (merge : MergeState) (row : Option Row) (after : List (Key × Source)) (next : ℕ × ℕ) → IsHeldMerge merge → merge.store < merge.stores → Keeps merge.store merge.slot row merge.waiting after
+    → length after ≤ length merge.waiting + 1 → next ≡ slot_after merge.store merge.slot (4 * merge.shape.buckets) → IsHeldMerge (record merge { store = next.0; slot = next.1; waiting = after })
+gathered_held merge row after next held below keeps long is =
+    let count : next.0 * (4 * merge.shape.buckets) + next.1 ≡ merge.store * (4 * merge.shape.buckets) + merge.slot + 1 =
+    ap (λ (p : ℕ × ℕ). p.0 * (4 * merge.shape.buckets) + p.1) is ∙ slots_more merge.store merge.slot (4 * merge.shape.buckets) in
+    let place = where_next (after_last merge.store merge.slot (4 * merge.shape.buckets)) in
+    record {
+      there = held.there;
+      store = place.0;
+      slot = place.1;
+      ended = place.2;
+      gathers = λ still. held.gathers below;
+      inside = λ key source found. let inside = kept_inside merge row after held below keeps key source found in record { store = inside.0; slot = inside.1 };
+      room = held.room;
+      few = omega (arith, held.few, count, long);
+    }
+  where
+    where_next : (slot_after merge.store merge.slot (4 * merge.shape.buckets) ≡ (merge.store + 1, 0)) ⊎ ((slot_after merge.store merge.slot (4 * merge.shape.buckets) ≡ (merge.store, merge.slot + 1)) × (merge.slot + 1 ≢ 4 * merge.shape.buckets))
+        → (next.0 ≤ merge.stores) × (next.1 < 4 * merge.shape.buckets) × (next.0 ≡ merge.stores → next.1 ≡ 0)
+    where_next (inl last) =
+        let store : next.0 ≡ merge.store + 1 = ap (λ (p : ℕ × ℕ). p.0) (is ∙ last) in
+        let slot : next.1 ≡ 0 = ap (λ (p : ℕ × ℕ). p.1) (is ∙ last) in
+        (omega (arith, below), omega (arith, held.slot), λ same. slot)
+    where_next (inr further) =
+        let store : next.0 ≡ merge.store = ap (λ (p : ℕ × ℕ). p.0) (is ∙ further.0) in
+        let slot : next.1 ≡ merge.slot + 1 = ap (λ (p : ℕ × ℕ). p.1) (is ∙ further.0) in
+        let apart = further.1 in
+        (omega (arith, below), omega (arith, held.slot), λ same. absurd (omega (arith, below)))
+
+-- has gathered one slot more
+pub gathered_step : (content : Content) (stores : List HashState) (sorted : SortedState) (merge : MergeState) (store : HashState) (row : Option Row) (after : List (Key × Source)) (next : ℕ × ℕ) → IsHeldMerge merge
+    → merge.store < merge.stores → store ≡ get_or stores merge.store store → store.shape ≡ merge.shape → (IsTrue content.honest → IsRowAt (slot_row store.shape store.region content.shown merge.slot) merge.slot row)
+    → Keeps merge.store merge.slot row merge.waiting after → next ≡ slot_after merge.store merge.slot (4 * merge.shape.buckets)
+    → HasMerged content stores sorted merge → HasMerged content stores sorted (record merge { store = next.0; slot = next.1; waiting = after })
+gathered_step content stores sorted merge store row after next held below here shape read keeps is so_far = record {
+  shape = so_far.shape;
+  counted = so_far.counted;
+  apart = so_far.apart;
+  merged = λ honest sound.
+      let s : Shape = sorted.shape in
+      let image : List ℕ = content.shown in
+      let regions : List ℕ = regions_of stores in
+      let was = so_far.merged honest sound in
+      let none : merge.decided ≡ 0 = held.gathers below in
+      let inside : merge.store < length stores = omega (arith, below, so_far.counted) in
+      let within : merge.store < length regions = omega (arith, inside, regions_count stores) in
+      let slot : merge.slot < 4 * s.buckets = subst (λ (t : Shape). merge.slot < 4 * t.buckets) (sym so_far.shape) held.slot in
+      let first : (key : List ℕ) (l : List StoredRow) → cond (has_key key (decided_rows image stores sorted merge.decided)) None (newest_row l key) ≡ newest_row l key =
+      λ key l. ap (λ n. cond (has_key key (decided_rows image stores sorted n)) None (newest_row l key)) none in
+      let shown : IsRowAt (slot_row s (get_or regions merge.store 0) image merge.slot) merge.slot row =
+      subst (λ r. IsRowAt (slot_row s r image merge.slot) merge.slot row) (sym (store_at stores merge.store store inside here))
+      (subst (λ (t : Shape). IsRowAt (slot_row t store.region image merge.slot) merge.slot row) (shape ∙ sym so_far.shape) (read honest)) in
+      let kept = waits_kept s image regions merge.store merge.slot row merge.waiting after within slot sound.hashes shown keeps (λ key. was.gathered.waits key ∙ first key (gathered_rows s image regions merge.store merge.slot)) in
+      let moved : gathered_rows s image regions next.0 next.1 ≡ gathered_rows s image regions merge.store (merge.slot + 1) =
+      ap (λ (p : ℕ × ℕ). gathered_rows s image regions p.0 p.1) is
+      ∙ ap (λ (t : Shape). gathered_rows s image regions (slot_after merge.store merge.slot (4 * t.buckets)).0 (slot_after merge.store merge.slot (4 * t.buckets)).1) (sym so_far.shape)
+      ∙ next_gathered s image regions merge.store merge.slot within in
+      record {
+        gathered = record {
+          most = was.gathered.most;
+          waits = λ key. kept key ∙ ap (λ l. newest_row l key) (sym moved) ∙ sym (first key (gathered_rows s image regions next.0 next.1));
+          passes = was.gathered.passes;
+        };
+        writes = was.writes;
+      };
+}

@@ -1,0 +1,77 @@
+-- What a merge has gathered and written.
+use Rattle.std.specs.Prelude.{◌≡◌, ◌≢◌, ℕ, ◌≤◌, ◌<◌, nat_lt, cond, IsTrue, List, [], ◌++◌, filter, flat_map, get_or, length, map, take, None, option_map}
+use Rattle.std.specs.List.{All}
+use Rattle.silt_device.specs.Disk.{Content}
+use Rattle.silt_device.specs.Layout.{Shape}
+use Rattle.silt_frame.specs.Frame.{kind_byte}
+use Rattle.silt_hash_store.specs.Slots.{rows_before, slot_row}
+use Rattle.silt_hash_store.specs.State.{HashState}
+use Rattle.silt_image.specs.Laws.{newest_row}
+use Rattle.silt_image.specs.Meaning.{charge_of_rows, hash_findings, keys_of, map_of_rows, sorted_findings}
+use Rattle.silt_image.specs.Stores.{hash_part, sorted_rows}
+use Rattle.silt_log.specs.Rows.{StoredRow, has_known_kind}
+use Rattle.silt_merge.specs.Rows.{entries_in, has_key, hashed_rows, is_put, key_count, newest_rows, regions_of, sources}
+use Rattle.silt_merge.specs.State.{MergeState, source_at}
+use Rattle.silt_merge.specs.declared.merge.StepError.{StepError}
+use Rattle.silt_merge.specs.declared.merge.StepError.TheVariants.{Read, Write, NoMemory}
+use Rattle.silt_merge.specs.declared.source.Source.{Source}
+use Rattle.silt_sorted_store.specs.State.{SortedState}
+
+-- the stores that are merged lie in hash regions, and nothing is found in them
+pub record AreSound (image : List ℕ) (stores : List HashState) (sorted : SortedState) : Type 0 where
+  pub there : All (λ store. store.region < sorted.shape.hashes) stores
+  pub hashes : flat_map (hash_findings sorted.shape) (map (hash_part sorted.shape image) (regions_of stores)) ≡ []
+  pub entries : sorted_findings (entries_in image sorted) ≡ []
+
+-- the row that a source stands for
+abbrev pub source_row : Shape → List ℕ → List ℕ → Source → StoredRow
+source_row shape image regions source = record (slot_row shape (get_or regions source.store 0) image source.slot) { kind = kind_byte source.kind }
+
+-- the rows of the slots that are gathered, the oldest first: those of the stores before this one, and those of its slots before this one
+unfoldable pub gathered_rows : Shape → List ℕ → List ℕ → ℕ → ℕ → List StoredRow
+gathered_rows shape image regions store slot =
+    filter has_known_kind (rows_before shape (get_or regions store 0) image slot) ++ hashed_rows shape image (take store regions)
+
+-- the newest rows of the keys that are decided
+abbrev pub decided_rows : List ℕ → List HashState → SortedState → ℕ → List StoredRow
+decided_rows image stores sorted decided = take decided (newest_rows (sources image stores sorted))
+
+-- so far the newest gathered row of each key waits until the key is decided, and the entries of decided keys are passed over
+pub record IsGatheredIn (image : List ℕ) (stores : List HashState) (sorted : SortedState) (merge : MergeState) : Type 0 where
+  pub most : merge.decided ≤ key_count (sources image stores sorted)
+  pub waits : (key : List ℕ) → option_map (source_row sorted.shape image (regions_of stores)) (source_at merge.waiting key)
+      ≡ cond (has_key key (decided_rows image stores sorted merge.decided)) None (newest_row (gathered_rows sorted.shape image (regions_of stores) merge.store merge.slot) key)
+  pub passes : (place : ℕ) → place < sorted.count
+      → has_key (get_or (keys_of (entries_in image sorted)) place []) (decided_rows image stores sorted merge.decided) ≡ nat_lt place merge.passed
+
+-- and what is due for decided keys is written
+pub record IsMergedIn (image : List ℕ) (stores : List HashState) (sorted : SortedState) (merge : MergeState) : Type 0 where
+  pub gathered : IsGatheredIn image stores sorted merge
+  pub writes : sorted_rows merge.shape merge.region merge.written image
+      ≡ take merge.shape.sorted_capacity (filter is_put (decided_rows image stores sorted merge.decided))
+
+-- So far all that is due is gathered and written: on an honest disk, where nothing is found in the stores that are merged.
+pub record HasMerged (content : Content) (stores : List HashState) (sorted : SortedState) (merge : MergeState) : Type 0 where
+  pub shape : sorted.shape ≡ merge.shape
+  pub counted : length stores ≡ merge.stores
+  pub apart : sorted.region ≢ merge.region
+  pub merged : IsTrue content.honest → AreSound content.shown stores sorted → IsMergedIn content.shown stores sorted merge
+
+-- entries are a merge of rows: they rise by key, make the map that the rows make, and are no more than the rows' puts
+pub record IsMergeOf (rows entries : List StoredRow) : Type 0 where
+  pub rising : sorted_findings entries ≡ []
+  pub same_map : map_of_rows entries ≡ map_of_rows rows
+  pub charge : charge_of_rows entries ≤ charge_of_rows rows
+  pub counted : length entries ≡ charge_of_rows entries
+
+-- why a step failed: a read, or want of memory, and nothing is changed, or the write
+abbrev pub FailsMerge : {D F : Type 0} → (D → F → Type 0) → (F → Type 0) → D → D → StepError F → Type 0
+FailsMerge gave_read counts old new (Read fault) = (new ≡ old) × gave_read old fault
+FailsMerge gave_read counts old new (Write fault) = counts fault
+FailsMerge gave_read counts old new NoMemory = new ≡ old
+
+-- the shape, the region and the number of stores of a merge stay
+pub record IsSameMerge (old new : MergeState) : Type 0 where
+  pub shape : new.shape ≡ old.shape
+  pub region : new.region ≡ old.region
+  pub stores : new.stores ≡ old.stores

@@ -1,0 +1,68 @@
+-- A merge in memory.
+use Rattle.std.specs.Prelude.{◌≡◌, ℕ, ◌+◌, ◌*◌, ◌==◌, ◌≤◌, ◌<◌, nat_le, Bool, true, false, ◌&&◌, if◌then◌else◌, List, length, Option, Some}
+use Rattle.std.specs.Map.{lookup}
+use Rattle.std.specs.Ordering.{is_eq, nat_cmp}
+use Rattle.std.specs.Cmp.Lexicographic.{slice_cmp}
+use Rattle.silt_device.specs.Layout.{Shape}
+use Rattle.silt_frame.specs.declared.key.Key.{Key}
+use Rattle.silt_merge.specs.declared.source.Source.{Source}
+use Rattle.silt_sorted_store.specs.State.{SortedState}
+
+-- A merge: the sorted region that is written, how many hash stores there are, the store and the slot that are gathered next, the
+-- rows that wait for their keys to be decided, how many entries of the sorted store are passed over, how many entries are written,
+-- and how many keys are decided.
+pub record MergeState : Type 0 where
+  pub shape : Shape
+  pub region : ℕ
+  pub stores : ℕ
+  pub store : ℕ
+  pub slot : ℕ
+  pub waiting : List (Key × Source)
+  pub passed : ℕ
+  pub written : ℕ
+  pub decided : ℕ
+
+-- the row that waits for a key, none where none does
+abbrev pub source_at : List (Key × Source) → List ℕ → Option Source
+source_at waiting key = lookup (λ other. is_eq (slice_cmp nat_cmp key other.0)) waiting
+
+-- the store and the slot after these, where a store has so many slots
+abbrev pub slot_after : ℕ → ℕ → ℕ → ℕ × ℕ
+slot_after store slot slots = if slot + 1 == slots then (store + 1, 0) else (store, slot + 1)
+
+-- how many entries are passed over after a key, which the next entry has or not
+abbrev pub passed_after : Bool → ℕ → ℕ
+passed_after true passed = passed + 1
+passed_after false passed = passed
+
+-- how many slots are gathered
+abbrev pub gathered_count : MergeState → ℕ
+gathered_count merge = merge.store * (4 * merge.shape.buckets) + merge.slot
+
+-- how many steps are taken: one for each slot that is gathered, and one for each key that is decided
+abbrev pub steps_of : MergeState → ℕ
+steps_of merge = gathered_count merge + merge.decided
+
+-- how many steps a merge of stores with so many keys takes
+abbrev pub steps_for : MergeState → ℕ → ℕ
+steps_for merge keys = merge.stores * (4 * merge.shape.buckets) + keys
+
+-- all slots are gathered, no row waits, and all entries are passed over
+abbrev pub is_done : MergeState → SortedState → Bool
+is_done merge sorted = (merge.store == merge.stores) && (length merge.waiting == 0) && nat_le sorted.count merge.passed
+
+-- a source names a slot of one of the stores
+pub record IsInside (merge : MergeState) (source : Source) : Type 0 where
+  pub store : source.store < merge.stores
+  pub slot : source.slot < 4 * merge.shape.buckets
+
+-- what holds of every merge, on any disk
+pub record IsHeldMerge (merge : MergeState) : Type 0 where
+  pub there : merge.region < 2
+  pub store : merge.store ≤ merge.stores
+  pub slot : merge.slot < 4 * merge.shape.buckets
+  pub ended : merge.store ≡ merge.stores → merge.slot ≡ 0
+  pub gathers : merge.store < merge.stores → merge.decided ≡ 0
+  pub inside : (key : List ℕ) (source : Source) → source_at merge.waiting key ≡ Some source → IsInside merge source
+  pub room : merge.written ≤ merge.shape.sorted_capacity
+  pub few : merge.decided + length merge.waiting ≤ gathered_count merge + merge.passed

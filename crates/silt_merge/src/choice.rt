@@ -1,0 +1,82 @@
+// Which key is decided next, and by what.
+ghost use Rattle.std.specs.Prelude.{◌≡◌};
+ghost use Rattle.silt_merge.specs.Choosing.{choice_of, choice_puts, lower_choice, puts};
+
+use crate::source::Source;
+use silt_frame::{Key, Kind};
+use std::cmp::Ordering;
+
+/// The key that is decided next.
+#[derive(Clone, Copy, Debug, PartialEq, Eq)]
+pub struct Choice {
+    pub key: Key,
+    /// The gathered row that decides, none where the next entry does.
+    pub source: Option<Source>,
+    /// Whether the next entry has the key, so that it is passed over.
+    pub passes: bool,
+}
+
+// The choice of the lower one of a gathered key and the key of the next entry. Where they are equal the row decides.
+fn choose_lower(key: Key, source: Source, next: Key) -> Choice
+    ensures { result ≡ lower_choice key source next }
+{
+    match key.cmp(&next) {
+        Ordering::Less => Choice {
+            key,
+            source: Some(source),
+            passes: false,
+        },
+        Ordering::Equal => Choice {
+            key,
+            source: Some(source),
+            passes: true,
+        },
+        Ordering::Greater => Choice {
+            key: next,
+            source: None,
+            passes: true,
+        },
+    }
+}
+
+/// The choice of the first gathered key with its row and the key of the next entry, none where there is neither.
+pub fn choose(first: Option<(Key, Source)>, next: Option<Key>) -> Option<Choice>
+    ensures { result ≡ choice_of first next }
+{
+    match (first, next) {
+        (None, None) => None,
+        (None, Some(next)) => Some(Choice {
+            key: next,
+            source: None,
+            passes: true,
+        }),
+        (Some((key, source)), None) => Some(Choice {
+            key,
+            source: Some(source),
+            passes: false,
+        }),
+        (Some((key, source)), Some(next)) => Some(choose_lower(key, source, next)),
+    }
+}
+
+/// Whether a kind is that of a put.
+pub fn is_put(kind: Kind) -> bool
+    ensures { result ≡ puts kind }
+{
+    match kind {
+        Kind::Put => true,
+        Kind::Delete => false,
+    }
+}
+
+impl Choice {
+    /// Whether the key has a value: an entry decides, or a row that is a put.
+    pub fn is_put(&self) -> bool
+        ensures { result ≡ choice_puts self.now.source }
+    {
+        match self.source {
+            Some(source) => is_put(source.kind),
+            None => true,
+        }
+    }
+}

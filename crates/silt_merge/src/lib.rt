@@ -1,0 +1,24 @@
+//! Hash stores and a sorted store, merged into a new sorted store.
+//!
+//! A `Merge` goes by steps. It first gathers: it reads the head of each slot of each hash store, from the newest store on, and keeps
+//! for each key where its newest row lies. Then it decides the keys one after the other, from the lowest on: the lower one of the
+//! first gathered key and the key of the next entry. A gathered row decides over the entry of its key. A put is written as the next
+//! entry of the region, and a key whose newest row is a delete is left out.
+//!
+//! It writes nothing but entries of its own region. On a disk that is not honest it is safe and ends.
+#![tactic(auto)]
+
+mod choice;
+mod laws;
+mod merge;
+mod region;
+mod source;
+mod waiting;
+
+pub use laws::{
+    key_count_law, merged_count_law, merged_elsewhere_law, merged_law, sound_stores_law,
+};
+pub use merge::{Merge, StepError};
+
+#[cfg(test)]
+mod tests;

@@ -1,0 +1,356 @@
+// A merge of hash stores and a sorted store, by steps.
+ghost use Rattle.std.specs.Prelude.{◌≡◌, ◌≢◌, ◌==◌, ◌+◌, ◌*◌, ◌<◌, ◌≤◌, ◌^◌, ◌↔◌, ℕ, List, [], true, false, Some, None, cond, length, take, IsTrue, IfOk, IfErr, IfSome, OnOk, OnErr, MatchResult, is_some, nat_lt};
+ghost use Rattle.std.specs.List.{All};
+ghost use Rattle.std.specs.Str.{bytes_eq};
+ghost use Rattle.silt_device.specs.Disk.{Content, ChangesWithin, CountsFault, GaveAny, size};
+ghost use Rattle.silt_device.specs.Layout.{Shape, device_size, entry_len, sorted_at, sorted_size};
+ghost use Rattle.silt_hash_store.specs.State.{HashState};
+ghost use Rattle.silt_merge.specs.Choosing.{IsNextEntry, ReadsRow};
+ghost use Rattle.silt_merge.specs.Rows.{regions_of};
+ghost use Rattle.silt_merge.specs.State.{passed_after, slot_after};
+ghost use Rattle.silt_merge.specs.declared.source.Source.{Source};
+ghost use Rattle.silt_sorted_store.specs.State.{IsHeldSorted, SortedState, entries_of};
+
+use crate::choice::{Choice, choose, is_put};
+use crate::region::SortedRegion;
+use crate::source::Source;
+use crate::waiting::{first, keep, let_go};
+use silt_device::Disk;
+use silt_frame::{KEY_LEN, Key};
+use silt_hash_store::HashStore;
+use silt_sorted_store::SortedStore;
+use std::alloc::{AllocError, Global};
+use std::collections::BTreeMap;
+use std::marker::Model;
+
+/// Why a step of a merge failed.
+#[derive(Debug, Drop)]
+pub enum StepError<F> {
+    /// A read failed with this fault. Nothing is changed.
+    Read(F),
+    /// The write of an entry failed with this fault. What the entry then shows is open.
+    Write(F),
+    /// A row found no memory. Nothing is changed.
+    NoMemory,
+}
+
+/// Hash stores and a sorted store on their way to become a new sorted store.
+///
+/// It keeps the key and the place of each row that waits to be decided, and the bytes of one entry.
+#[derive(Drop)]
+pub struct Merge {
+    target: SortedRegion,
+    stores: u32,
+    store: u32,
+    slot: u32,
+    waiting: BTreeMap<Key, Source>,
+    passed: u32,
+    written: u32,
+    decided: u64,
+    entry: Vec<u8>,
+}
+
+impl Model for Merge {
+    ghost use Rattle.std.specs.Prelude.{◌≡◌, vec_len};
+    ghost use Rattle.silt_device.specs.Layout.{entry_len};
+    ghost use Rattle.silt_merge.specs.State.{MergeState, IsHeldMerge};
+
+    ghost Value = { MergeState };
+
+    ghost view = { λ a. record {
+      shape = a.target.geometry;
+      region = a.target.number;
+      stores = a.stores;
+      store = a.store;
+      slot = a.slot;
+      waiting = a.waiting.entries;
+      passed = a.passed;
+      written = a.written;
+      decided = a.decided;
+    } };
+
+    ghost invariant = { λ a. IsHeldMerge (record {
+      shape = a.target.geometry;
+      region = a.target.number;
+      stores = a.stores;
+      store = a.store;
+      slot = a.slot;
+      waiting = a.waiting.entries;
+      passed = a.passed;
+      written = a.written;
+      decided = a.decided;
+    }) × (vec_len a.entry ≡ entry_len a.target.geometry) };
+}
+
+// Reads the next entry of the sorted store into a buffer, where not all are passed over. Its key.
+fn read_next<D: Disk>(
+    sorted: &SortedStore,
+    disk: &D,
+    passed: u32,
+    out: &mut [u8],
+) -> Result<Option<Key>, D::Fault>
+    requires out { length out.old ≡ entry_len sorted.now.shape }
+    requires size { device_size sorted.now.shape ≤ size (D.content disk.now) }
+    ensures next { IsTrue (D.content disk.now).honest → IfOk result (IsNextEntry (entries_of (D.content disk.now) sorted.now) passed out.new) }
+    ensures is_some { IfOk result (λ next. is_some next ≡ nat_lt passed sorted.now.count) }
+    ensures fault { IfErr result (GaveAny D.gave disk.now) }
+    ensures len { length out.new ≡ length out.old }
+    ensures held { IsHeldSorted sorted.now }
+    ensures small { sorted.now.count < 2 ^ 32 }
+{
+    if passed >= sorted.len() {
+        return Ok(None);
+    }
+    sorted.read_entry(disk, passed, out)?;
+    let mut key = [0; KEY_LEN];
+    key.copy_from_slice(&out[..KEY_LEN]);
+    Ok(Some(Key(key)))
+}
+
+// Reads the value of a row that is a put and decides, behind its key, into a buffer. It leaves the bytes of an entry that decides.
+fn read_row<D: Disk>(
+    stores: &[HashStore],
+    disk: &D,
+    choice: &Choice,
+    out: &mut [u8],
+) -> Result<(), D::Fault>
+    requires shapes { All (λ store. 20 + store.shape.value_len ≡ length out.old) stores.now }
+    requires store { IfSome choice.now.source (λ source. source.store < length stores.now) }
+    requires slot { IfSome choice.now.source (λ source. All (λ store. source.slot < 4 * store.shape.buckets) stores.now) }
+    requires size { All (λ store. device_size store.shape ≤ size (D.content disk.now)) stores.now }
+    ensures row { (shape : Shape) → All (λ store. store.shape ≡ shape) stores.now → IsTrue (D.content disk.now).honest
+        → OnOk result (ReadsRow shape (D.content disk.now).shown (regions_of stores.now) choice.now.key.0 choice.now.source out.old out.new) }
+    ensures fault { IfErr result (GaveAny D.gave disk.now) }
+    ensures len { length out.new ≡ length out.old }
+{
+    let Some(source) = choice.source else {
+        return Ok(());
+    };
+    if !is_put(source.kind) {
+        return Ok(());
+    }
+    let (key, value) = out.split_at_mut(KEY_LEN);
+    key.copy_from_slice(&choice.key.0);
+    stores[source.store as usize].read_value(disk, source.slot, value)
+}
+
+// The store and the slot after these, where a store has so many slots.
+fn slot_after(store: u32, slot: u32, slots: u32) -> (u32, u32)
+    requires store { store + 1 < 2 ^ 32 }
+    requires slot { slot < slots }
+    ensures { result ≡ slot_after store slot slots }
+{
+    if slot + 1 == slots {
+        (store + 1, 0)
+    } else {
+        (store, slot + 1)
+    }
+}
+
+// How many entries are passed over after a key, which the next entry has or not.
+fn passed_after(passes: bool, passed: u32) -> u32
+    requires { passes ≡ true → passed + 1 < 2 ^ 32 }
+    ensures { result ≡ passed_after passes passed }
+{
+    if passes { passed + 1 } else { passed }
+}
+
+impl Merge {
+    ghost use Rattle.silt_merge.specs.Merging.{AreSound, FailsMerge, HasMerged, IsMergeOf, IsSameMerge};
+    ghost use Rattle.silt_merge.specs.Rows.{key_count, merged_rows, sources};
+    ghost use Rattle.silt_merge.specs.State.{IsHeldMerge, MergeState, is_done, source_at, steps_for, steps_of};
+    ghost use Rattle.silt_sorted_store.specs.State.{entry_at};
+
+    /// A merge of these hash stores, the newest first, and the sorted store, into the sorted region of this number, with no slot
+    /// gathered.
+    ///
+    /// # Errors
+    ///
+    /// Where the bytes of one entry find no memory.
+    pub fn start(
+        alloc: Global,
+        stores: &[HashStore],
+        sorted: &SortedStore,
+        region: u32,
+    ) -> Result<Self, AllocError>
+        requires region { region < 2 }
+        requires apart { sorted.now.region ≢ region }
+        requires most { length stores.now < 2 ^ 32 }
+        ensures start { IfOk result (λ merge. merge ≡ record {
+          shape = sorted.now.shape;
+          region = region;
+          stores = length stores.now;
+          store = 0;
+          slot = 0;
+          waiting = [];
+          passed = 0;
+          written = 0;
+          decided = 0;
+        }) }
+        ensures held { IfOk result IsHeldMerge }
+        ensures merged { (content : Content) → IfOk result (HasMerged content stores.now sorted.now) }
+    {
+        let geometry = sorted.geometry();
+        let _buckets = geometry.buckets();
+        Ok(Merge {
+            target: SortedRegion {
+                geometry,
+                number: region,
+            },
+            stores: stores.len() as u32,
+            store: 0,
+            slot: 0,
+            waiting: BTreeMap::new(alloc),
+            passed: 0,
+            written: 0,
+            decided: 0,
+            entry: vec![in alloc; 0; geometry.entry_len()]?,
+        })
+    }
+
+    /// Whether all slots are gathered and all keys are decided: after one step for each slot of each store and one for each key.
+    pub fn is_done(&self, sorted: &SortedStore) -> bool
+        ensures value { result ≡ is_done self.now sorted.now }
+        ensures held { IsHeldMerge self.now }
+        ensures steps { (content : Content) (stores : List HashState) → HasMerged content stores sorted.now self.now → IsTrue content.honest → AreSound content.shown stores sorted.now
+            → IsTrue result ↔ (steps_of self.now ≡ steps_for self.now (key_count (sources content.shown stores sorted.now))) }
+    {
+        if self.store < self.stores {
+            return false;
+        }
+        if !self.waiting.is_empty() {
+            return false;
+        }
+        self.passed >= sorted.len()
+    }
+
+    // Gathers one slot.
+    fn gather<D: Disk>(&mut self, stores: &[HashStore], disk: &D) -> Result<(), StepError<D::Fault>>
+        requires more { self.old.store < self.old.stores }
+        requires count { length stores.now ≡ self.old.stores }
+        requires shapes { All (λ store. store.shape ≡ self.old.shape) stores.now }
+        requires size { device_size self.old.shape ≤ size (D.content disk.now) }
+        ensures ok { OnOk result (steps_of self.new ≡ steps_of self.old + 1) }
+        ensures same { IsSameMerge self.old self.new }
+        ensures held { IsHeldMerge self.new }
+        ensures err { OnErr result (self.new ≡ self.old) }
+        ensures merged { (sorted : SortedState) → HasMerged (D.content disk.now) stores.now sorted self.old → HasMerged (D.content disk.now) stores.now sorted self.new }
+        ensures failures { IfErr result (FailsMerge (GaveAny D.gave) (λ fault. ⊥) disk.now disk.now) }
+    {
+        let row = match stores[self.store as usize].row_at(disk, self.slot) {
+            Ok(row) => row,
+            Err(fault) => return Err(StepError::Read(fault)),
+        };
+        let Ok(()) = keep(&mut self.waiting, self.store, self.slot, row) else {
+            return Err(StepError::NoMemory);
+        };
+        let slots = 4 * self.target.geometry.buckets();
+        (self.store, self.slot) = slot_after(self.store, self.slot, slots);
+        Ok(())
+    }
+
+    // Lets go the row of a key that is decided, and passes over the entry that has it.
+    fn pass_key(&mut self, choice: &Choice, written: u32)
+        requires gathered { self.old.store ≡ self.old.stores }
+        requires source { (source : Source) → choice.now.source ≡ Some source → source_at self.old.waiting choice.now.key.0 ≡ Some source }
+        requires none { choice.now.source ≡ None → choice.now.passes ≡ true }
+        requires passed { choice.now.passes ≡ true → self.old.passed + 1 < 2 ^ 32 }
+        requires room { written ≤ self.old.shape.sorted_capacity }
+        ensures held { IsHeldMerge self.new }
+        ensures gone { (key : List ℕ) → source_at self.new.waiting key ≡ cond (bytes_eq choice.now.key.0 key) None (source_at self.old.waiting key) }
+        ensures state { self.new ≡ record self.old { waiting = self.new.waiting; passed = passed_after choice.now.passes self.old.passed; written = written; decided = self.old.decided + 1 } }
+    {
+        let_go(&mut self.waiting, &choice.key);
+        self.passed = passed_after(choice.passes, self.passed);
+        self.written = written;
+        self.decided += 1;
+    }
+
+    // Decides one key: reads the next entry, and the value of the row that decides, and writes the entry that is due.
+    fn decide<D: Disk>(
+        &mut self,
+        stores: &[HashStore],
+        sorted: &SortedStore,
+        disk: &mut D,
+    ) -> Result<(), StepError<D::Fault>>
+        requires more { is_done self.old sorted.now ≡ false }
+        requires gathered { self.old.store ≡ self.old.stores }
+        requires count { length stores.now ≡ self.old.stores }
+        requires shapes { All (λ store. store.shape ≡ self.old.shape) stores.now }
+        requires shape { sorted.now.shape ≡ self.old.shape }
+        requires size { device_size self.old.shape ≤ size (D.content disk.old) }
+        ensures size { size (D.content disk.new) ≡ size (D.content disk.old) }
+        ensures changes { ChangesWithin (entry_at self.old.shape self.old.region self.old.written) (entry_len self.old.shape) (D.content disk.old) (D.content disk.new) }
+        ensures region { ChangesWithin (sorted_at self.old.shape self.old.region) (self.old.shape.sorted_capacity * entry_len self.old.shape) (D.content disk.old) (D.content disk.new) }
+        ensures ok { OnOk result (steps_of self.new ≡ steps_of self.old + 1) }
+        ensures same { IsSameMerge self.old self.new }
+        ensures held { IsHeldMerge self.new }
+        ensures err { OnErr result (self.new ≡ self.old) }
+        ensures merged { HasMerged (D.content disk.old) stores.now sorted.now self.old → HasMerged (D.content disk.new) stores.now sorted.now self.new }
+        ensures failures { MatchResult result (λ _. D.failures disk.new ≡ D.failures disk.old) (FailsMerge (GaveAny D.gave) (CountsFault D.failures D.gave disk.old disk.new) disk.old disk.new) }
+    {
+        let next = match read_next(sorted, disk, self.passed, &mut self.entry) {
+            Ok(next) => next,
+            Err(fault) => return Err(StepError::Read(fault)),
+        };
+        let Some(choice) = choose(first(&self.waiting), next) else {
+            return Ok(());
+        };
+        if let Err(fault) = read_row(stores, disk, &choice, &mut self.entry) {
+            return Err(StepError::Read(fault));
+        }
+        match self
+            .target
+            .write_due(disk, self.written, choice.is_put(), &self.entry)
+        {
+            Ok(written) => self.pass_key(&choice, written),
+            Err(fault) => return Err(StepError::Write(fault)),
+        }
+        Ok(())
+    }
+
+    /// Takes the next step: gathers one slot, or decides one key. It makes at most two reads and then at most one write, of one
+    /// entry, and takes memory for at most one row.
+    ///
+    /// # Errors
+    ///
+    /// `Read` where a read failed, and `NoMemory`: nothing is changed. `Write` where the write failed: the merge is as it was.
+    pub fn step<D: Disk>(
+        &mut self,
+        stores: &[HashStore],
+        sorted: &SortedStore,
+        disk: &mut D,
+    ) -> Result<(), StepError<D::Fault>>
+        requires more { is_done self.old sorted.now ≡ false }
+        requires count { length stores.now ≡ self.old.stores }
+        requires shapes { All (λ store. store.shape ≡ self.old.shape) stores.now }
+        requires shape { sorted.now.shape ≡ self.old.shape }
+        requires size { device_size self.old.shape ≤ size (D.content disk.old) }
+        ensures size { size (D.content disk.new) ≡ size (D.content disk.old) }
+        ensures changes { ChangesWithin (entry_at self.old.shape self.old.region self.old.written) (entry_len self.old.shape) (D.content disk.old) (D.content disk.new) }
+        ensures region { ChangesWithin (sorted_at self.old.shape self.old.region) (sorted_size self.old.shape) (D.content disk.old) (D.content disk.new) }
+        ensures ok { OnOk result (steps_of self.new ≡ steps_of self.old + 1) }
+        ensures same { IsSameMerge self.old self.new }
+        ensures held { IsHeldMerge self.new }
+        ensures err { OnErr result (self.new ≡ self.old) }
+        ensures merged { HasMerged (D.content disk.old) stores.now sorted.now self.old → HasMerged (D.content disk.new) stores.now sorted.now self.new }
+        ensures failures { MatchResult result (λ _. D.failures disk.new ≡ D.failures disk.old) (FailsMerge (GaveAny D.gave) (CountsFault D.failures D.gave disk.old disk.new) disk.old disk.new) }
+    {
+        if self.store < self.stores {
+            return self.gather(stores, disk);
+        }
+        self.decide(stores, sorted, disk)
+    }
+
+    /// The sorted store of the entries that are written.
+    pub fn finish(&self) -> SortedStore
+        ensures store { result ≡ record { shape = self.now.shape; region = self.now.region; count = self.now.written } }
+        ensures entries { (content : Content) (stores : List HashState) (sorted : SortedState) → is_done self.now sorted ≡ true → HasMerged content stores sorted self.now → IsTrue content.honest
+            → AreSound content.shown stores sorted → entries_of content result ≡ take self.now.shape.sorted_capacity (merged_rows (sources content.shown stores sorted)) }
+        ensures merge { (content : Content) (stores : List HashState) (sorted : SortedState) → is_done self.now sorted ≡ true → HasMerged content stores sorted self.now → IsTrue content.honest
+            → AreSound content.shown stores sorted → length (merged_rows (sources content.shown stores sorted)) ≤ self.now.shape.sorted_capacity
+            → IsMergeOf (sources content.shown stores sorted) (entries_of content result) }
+    {
+        SortedStore::new(self.target.geometry, self.target.number, self.written)
+    }
+}

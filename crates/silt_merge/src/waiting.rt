@@ -1,0 +1,53 @@
+// The rows that wait for their keys to be decided.
+ghost use Rattle.std.specs.Prelude.{◌≡◌, ◌+◌, ◌≤◌, ℕ, Some, None, List, cond, length, IfSome, OnOk, OnErr};
+ghost use Rattle.std.specs.Str.{bytes_eq};
+ghost use Rattle.silt_merge.specs.Choosing.{IsFirst, Keeps};
+ghost use Rattle.silt_merge.specs.State.{source_at};
+
+use crate::source::Source;
+use silt_frame::{Key, Row};
+use std::alloc::AllocError;
+use std::collections::BTreeMap;
+
+/// Keeps the row in a slot of a store, unless a row of its key is kept, which is a newer one.
+pub fn keep(
+    waiting: &mut BTreeMap<Key, Source>,
+    store: u32,
+    slot: u32,
+    row: Option<Row>,
+) -> Result<(), AllocError>
+    ensures ok { OnOk result (Keeps store slot row waiting.old.entries waiting.new.entries) }
+    ensures len { length waiting.new.entries ≤ length waiting.old.entries + 1 }
+    ensures err { OnErr result (waiting.new.entries ≡ waiting.old.entries) }
+{
+    let Some(row) = row else {
+        return Ok(());
+    };
+    if waiting.contains_key(&row.key) {
+        return Ok(());
+    }
+    let source = Source {
+        kind: row.kind,
+        store,
+        slot,
+    };
+    let _none = waiting.insert(row.key, source)?;
+    Ok(())
+}
+
+/// The first key for which a row waits, and the row.
+pub fn first(waiting: &BTreeMap<Key, Source>) -> Option<(Key, Source)>
+    ensures { IsFirst waiting.now.entries result }
+{
+    let (key, source) = waiting.first_key_value()?;
+    Some((*key, *source))
+}
+
+/// Lets the row of a key go, where one waits.
+pub fn let_go(waiting: &mut BTreeMap<Key, Source>, key: &Key)
+    ensures gone { (other : List ℕ) → source_at waiting.new.entries other ≡ cond (bytes_eq key.now.0 other) None (source_at waiting.old.entries other) }
+    ensures len { length waiting.new.entries ≤ length waiting.old.entries }
+    ensures less { (source : Source) → source_at waiting.old.entries key.now.0 ≡ Some source → length waiting.new.entries + 1 ≡ length waiting.old.entries }
+{
+    let _row = waiting.remove(key);
+}
