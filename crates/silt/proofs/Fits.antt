@@ -2,12 +2,12 @@
 use Rattle.std.proofs.Common.{ℕ, Result, Ok, Err, sym, subst}
 use Rattle.std.specs.Prelude.{All, IfOk, OnOk}
 use Rattle.std.proofs.lemmas.List.Elements.{All-push, All-nil}
-use Rattle.silt_store_set.specs.declared.event.Event.{Event}
-use Rattle.silt_store_set.specs.CoreState.{HasValueOf}
+use Rattle.silt_event.specs.declared.event.Event.{Event}
+use Rattle.silt_event.specs.Events.{HasValueOf}
 use Rattle.silt_wire.specs.declared.line.LineFault.{LineFault}
-use Rattle.silt.specs.declared.reading.Reading.{Reading}
-use Rattle.silt.specs.declared.reading.Script.{Script}
-use Rattle.silt.specs.Scripts.{Ends, Fits, IsFirst, TakesAsked}
+use Rattle.silt.specs.declared.script_lines.Reading.{Reading}
+use Rattle.silt.specs.declared.script_lines.Script.{Script}
+use Rattle.silt.specs.Scripts.{EndsReading, Fits, IsUnread, TakesAsked}
 
 -- what a line asks for fits, and so does the script with it
 pub asked_fits : (value_len : ℕ) (asked : Result Event LineFault) (old new : Reading) → IfOk asked (HasValueOf value_len) → TakesAsked asked old new → Fits value_len old → Fits value_len new
@@ -26,13 +26,13 @@ on_ok-weaker (Ok x) h step = step h
 on_ok-weaker (Err e) h step = h
 
 -- no events fit
-pub first_fits : (value_len : ℕ) (first : Reading) → IsFirst first → Fits value_len first
+pub first_fits : (value_len : ℕ) (first : Reading) → IsUnread first → Fits value_len first
 first_fits value_len first none = record {
   lives = subst (λ lives. All (λ life. All (HasValueOf value_len) life.items) lives) (sym none.lives) (All-nil (λ life. All (HasValueOf value_len) life.items));
   life = subst (λ events. All (HasValueOf value_len) events) (sym none.life) (All-nil (HasValueOf value_len));
 }
 
 -- all lives of the script fit
-pub ended_fits : (value_len : ℕ) (reading : Reading) (script : Script) → Ends reading script → Fits value_len reading → All (λ life. All (HasValueOf value_len) life.items) script.lives.items
+pub ended_fits : (value_len : ℕ) (reading : Reading) (script : Script) → EndsReading reading script → Fits value_len reading → All (λ life. All (HasValueOf value_len) life.items) script.lives.items
 ended_fits value_len reading script ends fits =
     subst (λ lives. All (λ life. All (HasValueOf value_len) life.items) lives) (sym ends.lives) (All-push (λ life. All (HasValueOf value_len) life.items) reading.lives.items reading.life fits.lives fits.life)

@@ -1,6 +1,7 @@
 pub mod FileRefusals
 pub mod Fits
 pub mod Lives
+pub mod Endings
 pub mod NewStores
 pub mod Outcomes
 pub mod Readings

@@ -10,7 +10,7 @@ use Rattle.silt_stores.specs.Calls.{SameDisk}
 use Rattle.silt_recovery.specs.Format.{FormatCause}
 use Rattle.silt_recovery.specs.declared.fault.FormatError.{FormatError}
 use Rattle.silt_recovery.specs.declared.fault.FormatError.TheVariants.{BadGeometry, Device, NoMemory}
-use Rattle.silt_store_set.specs.Replies.{refusal_of_formatting}
+use Rattle.silt_recovery.specs.Errors.{refusal_of_formatting}
 use Rattle.silt.specs.NewStores.{NewStoreCause}
 
 -- a new disk of this length, in bytes

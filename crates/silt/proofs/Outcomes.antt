@@ -1,12 +1,18 @@
--- How a script may end.
-use Rattle.std.proofs.Common.{◌≡◌, ◌⊎◌, ℕ, List, Option, Result, Ok, Err, inr, subst}
-use Rattle.std.specs.Prelude.{IfOk, OnOk}
+-- How scripts and lives may end.
+use Rattle.std.proofs.Common.{◌≡◌, ◌≢◌, ◌⊎◌, ◌∙◌, ℕ, List, Option, Result, Ok, Err, inl, inr, refl, sym, subst}
+use Rattle.std.specs.Prelude.{IfOk}
 use Rattle.std.specs.Io.KnownBytes.{Appends}
+use Rattle.silt_device.specs.Disk.{Content}
 use Rattle.silt_device.specs.Layout.{Shape}
 use Rattle.silt_device.specs.declared.memory.MemFault.{MemFault}
-use Rattle.silt_store_set.specs.declared.event.Refusal.{Refusal}
-use Rattle.silt_store_set.specs.declared.event.Refusal.TheVariants.{Device, NoMemory}
-use Rattle.silt_store_set.specs.declared.event.Reply.TheVariants.{Refused}
+use Rattle.silt_event.specs.declared.refusal.Refusal.{Refusal}
+use Rattle.silt_event.specs.declared.refusal.Refusal.TheVariants.{Device, NoMemory}
+use Rattle.silt_event.specs.declared.reply.Reply.TheVariants.{Refused}
+use Rattle.silt_store_set.specs.CoreState.{CoreState, Opens}
+use Rattle.silt_store_set.specs.Opening.{OpeningCause}
+use Rattle.silt_wire.specs.declared.sessions.SessionEnd.{SessionEnd}
+use Rattle.silt_wire.specs.declared.sessions.SessionEnd.TheVariants.{End, ReadFault, WriteFault, NoMemory as WantsMemory}
+use Rattle.silt.specs.Jobs.{AnswersReader, BreaksRun, EndsRun, Tells, TellsOpening, status_of}
 use Rattle.silt.specs.NewStores.{NewStoreCause}
 use Rattle.silt.specs.Scripts.{ScriptCause, TellsRefusal, reply_line}
 
@@ -22,6 +28,54 @@ pub told_refused : {E : Type 0} (shape : Shape) (result : Result ℕ E) (before 
 told_refused shape (Ok status) before after refusal cause h = inr (h.0, (refusal, cause, h.1))
 told_refused shape (Err error) before after refusal cause h = h
 
--- what is known at Ok, where it is Ok
-pub on_ok-is : {T E : Type 0} {P : Type 0} (result : Result T E) (value : T) → result ≡ Ok value → OnOk result P → P
-on_ok-is {P = P} result value is h = subst (λ r. OnOk r P) is h
+-- ---- lives
+
+-- the status of a session that was not at the end of the lines
+status_broken : (end : SessionEnd) → status_of end ≡ 1 → end ≢ End
+status_broken End is e = absurd (cc)
+status_broken ReadFault is e = absurd (cc)
+status_broken WriteFault is e = absurd (cc)
+status_broken WantsMemory is e = absurd (cc)
+
+status_done : (end : SessionEnd) → status_of end ≡ 0 → end ≡ End
+status_done End is = refl
+status_done ReadFault is = absurd (cc)
+status_done WriteFault is = absurd (cc)
+status_done WantsMemory is = absurd (cc)
+
+status_cases : (end : SessionEnd) → (status_of end ≡ 0) ⊎ (status_of end ≡ 1)
+status_cases End = inl refl
+status_cases ReadFault = inr refl
+status_cases WriteFault = inr refl
+status_cases WantsMemory = inr refl
+
+module _ {D F : Type 0} (content : D → Content) (failures : D → ℕ) (gave : D → F → Type 0) where
+  -- what the status says of the session
+  broken_by_status : (end : SessionEnd) (status : ℕ) (old new : D) (remaining left before after : Option (List ℕ)) → status ≡ status_of end → EndsRun content failures gave end old new remaining left before after
+      → (status_of end ≡ 0) ⊎ (status_of end ≡ 1) → (status ≡ 0) ⊎ ((status ≡ 1) × (TellsOpening content gave old new before after ⊎ BreaksRun content failures gave old new remaining left before after))
+  broken_by_status end status old new remaining left before after is h (inl e) = inl (is ∙ e)
+  broken_by_status end status old new remaining left before after is h (inr e) = inr (is ∙ e, inr (end, status_broken end e, h))
+
+  -- the store was taken up, and its session ended in some way
+  pub ran_told : {E : Type 0} (result : Result ℕ E) (old new : D) (first last : CoreState D) (remaining left before after : Option (List ℕ)) → Opens content (content old) first → new ≡ last.disk
+      → IfOk result (λ status. (end : SessionEnd) × (status ≡ status_of end) × AnswersReader content failures gave end first last remaining left before after)
+      → IfOk result (λ status. (status ≡ 0) ⊎ ((status ≡ 1) × (TellsOpening content gave old new before after ⊎ BreaksRun content failures gave old new remaining left before after)))
+  ran_told (Ok status) old new first last remaining left before after opens closed h =
+      broken_by_status h.0 status old new remaining left before after h.1 (first, last, opens, h.2, closed) (status_cases h.0)
+  ran_told (Err error) old new first last remaining left before after opens closed h = h
+
+  -- with status 0 the session was at the end of the lines
+  pub ran_done : {E : Type 0} (result : Result ℕ E) (old new : D) (first last : CoreState D) (remaining left before after : Option (List ℕ)) → Opens content (content old) first → new ≡ last.disk
+      → IfOk result (λ status. (end : SessionEnd) × (status ≡ status_of end) × AnswersReader content failures gave end first last remaining left before after)
+      → result ≡ Ok 0 → EndsRun content failures gave End old new remaining left before after
+  ran_done result old new first last remaining left before after opens closed h is =
+      let told : (end : SessionEnd) × (0 ≡ status_of end) × AnswersReader content failures gave end first last remaining left before after =
+      subst (λ r. IfOk r (λ status. (end : SessionEnd) × (status ≡ status_of end) × AnswersReader content failures gave end first last remaining left before after)) is h in
+      subst (λ e. EndsRun content failures gave e old new remaining left before after) (status_done told.0 (sym told.1)) (first, last, opens, told.2, closed)
+
+  -- the store was not taken up
+  pub unopened_told : {E : Type 0} (result : Result ℕ E) (old new : D) (refusal : Refusal F) (remaining left before after : Option (List ℕ)) → OpeningCause content gave (content old) new refusal
+      → IfOk result (λ status. (status ≡ 1) × Tells refusal before after)
+      → IfOk result (λ status. (status ≡ 0) ⊎ ((status ≡ 1) × (TellsOpening content gave old new before after ⊎ BreaksRun content failures gave old new remaining left before after)))
+  unopened_told (Ok status) old new refusal remaining left before after cause h = inr (h.0, inl (refusal, cause, h.1))
+  unopened_told (Err error) old new refusal remaining left before after cause h = h

@@ -3,9 +3,9 @@ use Rattle.std.proofs.Common.{◌≡◌, [], ◌∷◌, ◌++◌, List, ℕ, Opt
 use Rattle.std.specs.Prelude.{IfOk}
 use Rattle.std.proofs.lemmas.Fmt.{decimal_digit}
 use Rattle.std.specs.Io.KnownBytes.{Appends}
-use Rattle.silt_store_set.specs.declared.event.Refusal.{Refusal}
-use Rattle.silt_store_set.specs.declared.event.Refusal.TheVariants.{BadGeometry, NoMemory}
-use Rattle.silt_store_set.specs.declared.event.Reply.TheVariants.{Refused}
+use Rattle.silt_event.specs.declared.refusal.Refusal.{Refusal}
+use Rattle.silt_event.specs.declared.refusal.Refusal.TheVariants.{BadGeometry, NoMemory}
+use Rattle.silt_event.specs.declared.reply.Reply.TheVariants.{Refused}
 use Rattle.silt.specs.Scripts.{reply_line}
 
 pub no_memory_line : (F : Type 0) → codes "refused 6 NoMemory\n" ≡ reply_line {F = F} (Refused NoMemory)

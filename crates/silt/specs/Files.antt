@@ -1,55 +1,50 @@
--- What the jobs on files do, and what the jobs of the program do.
-use Rattle.std.specs.Prelude.{ℕ, List, Option}
-use Rattle.std.specs.Io.KnownBytes.{Appends}
-use Rattle.silt_device.specs.Disk.{GaveAny}
-use Rattle.silt_device.specs.File.{file_content, file_gave}
+-- What the jobs on the disk of a path do.
+use Rattle.std.specs.Prelude.{◌≡◌, ◌⊎◌, ℕ, List, Option, Some}
+use Rattle.std.specs.Option.{IsSomeAnd}
+use Rattle.silt_device.specs.Disk.{Content, size}
 use Rattle.silt_device.specs.Layout.{InLimits, Shape, device_size}
-use Rattle.silt_device.specs.declared.file.FileDisk.{FileDisk}
-use Rattle.silt_device.specs.declared.memory.MemFault.{MemFault}
-use Rattle.silt_image.specs.declared.finding.Report.{Report}
-use Rattle.silt_store_set.specs.declared.event.Refusal.{Refusal}
-use Rattle.silt_store_set.specs.declared.event.Refusal.TheVariants.{NotFormatted, BadGeometry, Damaged, Crowded, Device, NoMemory}
-use Rattle.silt_wire.specs.Reports.{report_text}
-use Rattle.silt.specs.Jobs.{EndsRun, Tells, formatted_line}
-use Rattle.silt.specs.Numbers.{shape_of}
-use Rattle.silt.specs.Scripts.{EndsScript}
-use Rattle.silt.specs.declared.words.Job.{Job}
-use Rattle.silt.specs.declared.words.Job.TheVariants.{Format, Script, Run, Check}
+use Rattle.silt_event.specs.declared.refusal.Refusal.TheVariants.{BadGeometry, Device}
+use Rattle.silt_wire.specs.declared.sessions.SessionEnd.TheVariants.{End}
+use Rattle.silt.specs.Jobs.{BreaksRun, EndsCheck, EndsFormat, EndsRun, Tells, TellsCheck, TellsFormat, TellsOpening}
 
--- ---- refusals
+-- it was written that the source gave no disk
+abbrev pub TellsNoDisk : {E : Type 0} → (E → Type 0) → Option (List ℕ) → Option (List ℕ) → Type 0
+TellsNoDisk {E} IsCause before after = (error : E) × IsCause error × Tells (Device (tt {0})) before after
 
--- Why a file is not formatted: exactly for numbers out of their limits BadGeometry; else it cannot be made, or a call on it
--- fails, or memory is wanted.
-abbrev pub FormatFileCause : Shape → Refusal (Unit {0}) → Type 0
-FormatFileCause shape BadGeometry = ¬ InLimits shape
-FormatFileCause shape (Device _) = InLimits shape
-FormatFileCause shape NoMemory = InLimits shape
-FormatFileCause shape refusal = ⊥
+module _ {D F : Type 0} (content : D → Content) (failures : D → ℕ) (gave : D → F → Type 0) where
+  -- one life on a disk that the source opened, which is given back as the store left it
+  abbrev pub RunsFile : (D → Type 0) → Option D → Option (List ℕ) → Option (List ℕ) → Option (List ℕ) → Option (List ℕ) → Type 0
+  RunsFile Opened given remaining left before after =
+      (old : D) × Opened old × IsSomeAnd given (λ new. EndsRun content failures gave End old new remaining left before after)
 
--- why the store in a file is not taken up or looked at: for what is found, or it cannot be opened, or a call on it fails, or
--- memory is wanted
-abbrev pub OpenFileCause : Refusal (Unit {0}) → Type 0
-OpenFileCause NotFormatted = Unit {0}
-OpenFileCause (Damaged place) = Unit {0}
-OpenFileCause Crowded = Unit {0}
-OpenFileCause (Device _) = Unit {0}
-OpenFileCause NoMemory = Unit {0}
-OpenFileCause refusal = ⊥
+module _ {D F E : Type 0} (content : D → Content) (failures : D → ℕ) (gave : D → F → Type 0) (Opened : D → Type 0) (NotOpened : E → Type 0) where
+  -- it was written that the source opened no disk, or why the store was not taken up from the one that it opened, or the session on it broke off
+  abbrev pub TellsRunFile : Option D → Option (List ℕ) → Option (List ℕ) → Option (List ℕ) → Option (List ℕ) → Type 0
+  TellsRunFile given remaining left before after =
+      TellsNoDisk NotOpened before after ⊎ ((old : D) × Opened old
+      × IsSomeAnd given (λ new. TellsOpening content gave old new before after ⊎ BreaksRun content failures gave old new remaining left before after))
 
--- it was written that a file is refused, for a refusal with this cause
-abbrev pub TellsFile : (Refusal (Unit {0}) → Type 0) → Option (List ℕ) → Option (List ℕ) → Type 0
-TellsFile Cause before after = (refusal : Refusal (Unit {0})) × Cause refusal × Tells refusal before after
+module _ {D F E : Type 0} (content : D → Content) (gave : D → F → Type 0) (Opened : D → Type 0) (NotOpened : E → Type 0) where
+  -- it was written that the source opened no disk, or what is wrong with the one that it opened, which is given back
+  abbrev pub TellsCheckFile : Option D → Option (List ℕ) → Option (List ℕ) → Type 0
+  TellsCheckFile given before after =
+      TellsNoDisk NotOpened before after ⊎ ((disk : D) × Opened disk × (given ≡ Some disk) × TellsCheck content gave disk before after)
 
--- ---- jobs that ended well
+-- the report of a disk that the source opened was written, and the disk is given back
+abbrev pub ChecksFile : {D : Type 0} → (D → Content) → (D → Type 0) → Option D → Option (List ℕ) → Option (List ℕ) → Type 0
+ChecksFile {D} content Opened given before after = (disk : D) × Opened disk × (given ≡ Some disk) × EndsCheck content disk before after
 
--- one life on the disk in a file
-abbrev pub RunsFile : Option (List ℕ) → Option (List ℕ) → Option (List ℕ) → Option (List ℕ) → Type 0
-RunsFile remaining left before after =
-    (old : FileDisk) × (new : FileDisk) × EndsRun file_content (λ disk. disk.failures) (GaveAny file_gave) old new remaining left before after
+-- a disk that the source made at exactly the length of this shape is an empty store, and is given back
+abbrev pub FormatsFile : {D : Type 0} → (D → Content) → (ℕ → D → Type 0) → Shape → Option D → Option (List ℕ) → Option (List ℕ) → Type 0
+FormatsFile {D} content Created shape given before after =
+    (old : D) × Created (device_size shape) old × IsSomeAnd given (λ new. EndsFormat content shape new before after)
 
--- a job that ended well
-abbrev pub EndsJob : Job → Option (List ℕ) → Option (List ℕ) → Option (List ℕ) → Option (List ℕ) → Type 0
-EndsJob (Format file numbers) remaining left before after = Appends before after (formatted_line (device_size (shape_of numbers)))
-EndsJob (Script numbers) remaining left before after = EndsScript MemFault numbers.value_len remaining left before after
-EndsJob (Run file) remaining left before after = RunsFile remaining left before after
-EndsJob (Check file) remaining left before after = (report : Report) × Appends before after (report_text report)
+module _ {D F E : Type 0} (content : D → Content) (gave : D → F → Type 0) (Created : ℕ → D → Type 0) (NotCreated : ℕ → E → Type 0) (shape : Shape) where
+  -- it was written that a number is out of its limits, that the source made no disk of the length of this shape, or why the one that it made was
+  -- not formatted
+  abbrev pub TellsFormatFile : Option D → Option (List ℕ) → Option (List ℕ) → Type 0
+  TellsFormatFile given before after =
+      ((¬ InLimits shape) × Tells {F = Unit {0}} BadGeometry before after)
+      ⊎ ((InLimits shape × TellsNoDisk (NotCreated (device_size shape)) before after)
+      ⊎ (InLimits shape × ((old : D) × Created (device_size shape) old × (size (content old) ≡ device_size shape)
+      × IsSomeAnd given (λ new. TellsFormat content gave shape old new before after))))

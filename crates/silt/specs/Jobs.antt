@@ -1,24 +1,26 @@
 -- What the jobs on a disk do, and what they write.
-use Rattle.std.specs.Prelude.{◌≡◌, ℕ, IsTrue, List, [], ◌++◌, Option, codes}
+use Rattle.std.specs.Prelude.{◌≡◌, ◌≢◌, ℕ, IsTrue, List, ◌++◌, Option, codes}
 use Rattle.std.specs.FinMap.{empty}
 use Rattle.std.specs.Fmt.{decimal}
-use Rattle.std.specs.Io.KnownBytes.{Appends, Consumes, IsAtEnd}
+use Rattle.std.specs.Io.KnownBytes.{Appends}
 use Rattle.silt_device.specs.Disk.{Content, LeavesOnly, size}
 use Rattle.silt_device.specs.Layout.{Shape, device_size}
-use Rattle.silt_image.specs.declared.finding.Report.{Report}
+use Rattle.silt_event.specs.declared.report.Report.{Report}
 use Rattle.silt_recovery.specs.Format.{FormatCause}
 use Rattle.silt_recovery.specs.Opening.{IsReported}
 use Rattle.silt_recovery.specs.Refusals.{IsFound, IsRefusedLook}
 use Rattle.silt_recovery.specs.declared.fault.FormatError.{FormatError}
 use Rattle.silt_recovery.specs.declared.fault.OpenError.{OpenError}
 use Rattle.silt_stores.specs.Calls.{StandsUnsorted}
-use Rattle.silt_store_set.specs.CoreState.{CoreState, Opens}
+use Rattle.silt_store_set.specs.CoreState.{CoreState, Opens, DoesPlain}
 use Rattle.silt_store_set.specs.Opening.{OpeningCause}
-use Rattle.silt_store_set.specs.Replies.{refusal_of_formatting, refusal_of_opening}
-use Rattle.silt_store_set.specs.declared.event.Refusal.{Refusal}
-use Rattle.silt_store_set.specs.declared.event.Reply.TheVariants.{Refused}
+use Rattle.silt_recovery.specs.Errors.{refusal_of_formatting, refusal_of_opening}
+use Rattle.silt_event.specs.declared.refusal.Refusal.{Refusal}
+use Rattle.silt_event.specs.declared.reply.Reply.TheVariants.{Refused}
 use Rattle.silt_wire.specs.Reports.{report_text}
-use Rattle.silt_wire.specs.Sessions.{AnswersLines, lines_after}
+use Rattle.silt_wire.specs.Sessions.{Ends}
+use Rattle.silt_wire.specs.declared.sessions.SessionEnd.{SessionEnd}
+use Rattle.silt_wire.specs.declared.sessions.SessionEnd.TheVariants.{End}
 use Rattle.silt.specs.Scripts.{reply_line}
 
 -- the length of a device that was formatted, in bytes
@@ -29,17 +31,26 @@ formatted_line bytes = codes "formatted " ++ (decimal bytes ++ codes "\n")
 abbrev pub Tells : {F : Type 0} → Refusal F → Option (List ℕ) → Option (List ℕ) → Type 0
 Tells refusal before after = Appends before after (reply_line (Refused refusal))
 
-module _ {D F : Type 0} (content : D → Content) (failures : D → ℕ) (gave : D → F → Type 0) where
-  -- all that the reader had was read, and `opened` was written, then the answers of the lines that ended, and nothing else
-  abbrev pub AnswersReader : CoreState D → CoreState D → Option (List ℕ) → Option (List ℕ) → Option (List ℕ) → Option (List ℕ) → Type 0
-  AnswersReader old new remaining left before after =
-      (read : List ℕ) × Consumes remaining left read × IsAtEnd left
-      × (out : List ℕ) × AnswersLines content failures gave old (lines_after [] read) out new × Appends before after (codes "opened\n" ++ out)
+-- the status by the end of a session
+abbrev pub status_of : SessionEnd → ℕ
+status_of End = 0
+status_of end = 1
 
-  -- one life on a disk: the store was taken up from it and answered the reader's lines, and the disk is as the store then left it
-  abbrev pub EndsRun : D → D → Option (List ℕ) → Option (List ℕ) → Option (List ℕ) → Option (List ℕ) → Type 0
-  EndsRun old new remaining left before after =
-      (first : CoreState D) × (last : CoreState D) × Opens content (content old) first × AnswersReader first last remaining left before after × (new ≡ last.disk)
+module _ {D F : Type 0} (content : D → Content) (failures : D → ℕ) (gave : D → F → Type 0) where
+  -- `opened` was written, and then the store's session with the reader and the writer ended so
+  abbrev pub AnswersReader : SessionEnd → CoreState D → CoreState D → Option (List ℕ) → Option (List ℕ) → Option (List ℕ) → Option (List ℕ) → Type 0
+  AnswersReader end old new remaining left before after =
+      (opened : Option (List ℕ)) × Appends before opened (codes "opened\n")
+      × Ends (DoesPlain content failures gave) end old.shape.value_len old new remaining left opened after
+
+  -- one life on a disk: the store was taken up from it, its session ended so, and the disk is as the store then left it
+  abbrev pub EndsRun : SessionEnd → D → D → Option (List ℕ) → Option (List ℕ) → Option (List ℕ) → Option (List ℕ) → Type 0
+  EndsRun end old new remaining left before after =
+      (first : CoreState D) × (last : CoreState D) × Opens content (content old) first × AnswersReader end first last remaining left before after × (new ≡ last.disk)
+
+  -- one life whose session did not reach the end of the lines
+  abbrev pub BreaksRun : D → D → Option (List ℕ) → Option (List ℕ) → Option (List ℕ) → Option (List ℕ) → Type 0
+  BreaksRun old new remaining left before after = (end : SessionEnd) × (end ≢ End) × EndsRun end old new remaining left before after
 
 -- the report of what the disk shows was written
 abbrev pub EndsCheck : {D : Type 0} → (D → Content) → D → Option (List ℕ) → Option (List ℕ) → Type 0

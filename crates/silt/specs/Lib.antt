@@ -2,4 +2,5 @@ pub mod Files
 pub mod Jobs
 pub mod NewStores
 pub mod Numbers
+pub mod Programs
 pub mod Scripts

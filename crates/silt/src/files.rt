@@ -1,86 +1,97 @@
-// The jobs on files.
+// The jobs on the disk of a path.
 ghost use Rattle.std.specs.Prelude.{◌≡◌, ◌⊎◌, Ok, IfOk, codes};
 ghost use Rattle.std.specs.Io.KnownBytes.{Appends};
-ghost use Rattle.silt_device.specs.Layout.{InLimits, device_size};
-ghost use Rattle.silt_image.specs.declared.finding.Report.{Report};
-ghost use Rattle.silt_wire.specs.Reports.{report_text};
-ghost use Rattle.silt.specs.Files.{FormatFileCause, OpenFileCause, RunsFile, TellsFile};
-ghost use Rattle.silt.specs.Jobs.{formatted_line};
-ghost use Rattle.silt.specs.Numbers.{shape_of};
+ghost use Rattle.silt_device.specs.Disk.{GaveAny};
+ghost use Rattle.silt_device.specs.Layout.{InLimits};
+ghost use Rattle.silt.specs.Files.{ChecksFile, FormatsFile, RunsFile, TellsCheckFile, TellsFormatFile, TellsRunFile};
+ghost use Rattle.silt.specs.Numbers.{shape_asked};
 
 use crate::geometry::geometry_of;
 use crate::jobs::{check_on, format_on, run_on};
-use crate::refusing::refuse;
-use crate::words::Numbers;
-use silt_device::FileDisk;
-use silt_store_set::Refusal;
-use std::fs::File;
+use crate::refusal::refuse;
+use silt_device::DiskSource;
+use silt_store_set::{Refusal, Served};
+use silt_words::Numbers;
+use std::alloc::Global;
 use std::io::{self, Read, Write};
-use std::rt::Files;
 
-/// Makes the file, or takes the one that is there, at the length that the geometry of these numbers asks for, and formats it.
-/// Answers the status: 0 after the length was written, 1 where it is refused. Numbers out of their limits are refused before
-/// the file is looked at.
+/// Makes the disk of a path, or takes the one that is there, at the length that the geometry of these numbers asks for, and formats
+/// it. Answers the disk and the status: 0 after the length was written, 1 where it is refused. Numbers out of their limits are
+/// refused before the source is asked.
 ///
 /// # Errors
 ///
 /// The writer's, and want of memory for the text.
-pub fn format_file<S: Files<File = File> + AllocGlobal, W: Write>(
-    rt: &S,
+pub fn format_file<S: DiskSource, W: Write>(
+    alloc: Global,
+    source: S,
     path: &str,
     numbers: &Numbers,
     writer: &mut W,
-) -> io::Result<u8>
-    ensures refused { ¬ InLimits (shape_of numbers.now) → IfOk result (λ status. (status ≡ 1) × Appends (W.contents writer.old) (W.contents writer.new) (codes "refused 2 BadGeometry\n")) }
-    ensures told { IfOk result (λ status. (status ≡ 0) ⊎ ((status ≡ 1) × TellsFile (FormatFileCause (shape_of numbers.now)) (W.contents writer.old) (W.contents writer.new))) }
-    ensures formatted { result ≡ Ok 0 → Appends (W.contents writer.old) (W.contents writer.new) (formatted_line (device_size (shape_of numbers.now))) }
+) -> (Option<S::Disk>, io::Result<u8>)
+    ensures refused { ¬ InLimits (shape_asked numbers.now) → IfOk result.1 (λ status. (status ≡ 1) × Appends (W.contents writer.old) (W.contents writer.new) (codes "refused 2 BadGeometry\n")) }
+    ensures told { IfOk result.1 (λ status. (status ≡ 0) ⊎ ((status ≡ 1) × TellsFormatFile S.Disk.Disk.content (GaveAny S.Disk.Disk.gave) (S.created source path.now) (S.not_created source path.now) (shape_asked numbers.now) result.0 (W.contents writer.old) (W.contents writer.new))) }
+    ensures formatted { result.1 ≡ Ok 0 → FormatsFile S.Disk.Disk.content (S.created source path.now) (shape_asked numbers.now) result.0 (W.contents writer.old) (W.contents writer.new) }
 {
     let Ok(geometry) = geometry_of(numbers) else {
-        return refuse(rt.alloc(), &Refusal::<()>::BadGeometry, writer);
+        return (None, refuse(alloc, &Refusal::<()>::BadGeometry, writer));
     };
-    match FileDisk::create(rt, path, geometry.size()) {
-        Ok(disk) => format_on(rt.alloc(), disk, geometry, writer).1,
-        Err(_) => refuse(rt.alloc(), &Refusal::Device(()), writer),
+    match source.create(path, geometry.size()) {
+        Ok(disk) => {
+            let (disk, status) = format_on(alloc, disk, geometry, writer);
+            (Some(disk), status)
+        }
+        Err(_) => (None, refuse(alloc, &Refusal::Device(()), writer)),
     }
 }
 
-/// One life of the store in a file, from the reader's lines. Answers the status: 0 at the end of the lines, 1 where the file is
-/// not opened or the store is not taken up.
+/// One life of the store on the disk of a path, from the reader's lines. Answers the disk and the status: 0 at the end of the lines,
+/// 1 where the disk is not opened, the store is not taken up, or its session ends before.
 ///
 /// # Errors
 ///
-/// The reader's or the writer's, and want of memory for a line or for the text of a reply.
-pub fn run_file<S: Files<File = File> + AllocGlobal, R: Read, W: Write>(
-    rt: &S,
+/// The writer's, before the first line is read, and want of memory for the text of a refusal.
+pub fn run_file<S: DiskSource, R: Read, W: Write>(
+    alloc: Global,
+    source: S,
     path: &str,
     reader: &mut R,
     writer: &mut W,
-) -> io::Result<u8>
-    ensures told { IfOk result (λ status. (status ≡ 0) ⊎ ((status ≡ 1) × TellsFile OpenFileCause (W.contents writer.old) (W.contents writer.new))) }
-    ensures answered { result ≡ Ok 0 → RunsFile (R.remaining reader.old) (R.remaining reader.new) (W.contents writer.old) (W.contents writer.new) }
+) -> (Option<S::Disk>, io::Result<u8>)
+where
+    S::Disk: Served,
+    ensures told { IfOk result.1 (λ status. (status ≡ 0) ⊎ ((status ≡ 1) × TellsRunFile S.Disk.Disk.content S.Disk.Disk.failures (GaveAny S.Disk.Disk.gave) (S.opened source path.now) (S.not_opened source path.now) result.0 (R.remaining reader.old) (R.remaining reader.new) (W.contents writer.old) (W.contents writer.new))) }
+    ensures answered { result.1 ≡ Ok 0 → RunsFile S.Disk.Disk.content S.Disk.Disk.failures (GaveAny S.Disk.Disk.gave) (S.opened source path.now) result.0 (R.remaining reader.old) (R.remaining reader.new) (W.contents writer.old) (W.contents writer.new) }
 {
-    match FileDisk::open(rt, path) {
-        Ok(disk) => run_on(rt.alloc(), disk, reader, writer).1,
-        Err(_) => refuse(rt.alloc(), &Refusal::Device(()), writer),
+    match source.open(path) {
+        Ok(disk) => {
+            let (disk, status) = run_on(alloc, disk, reader, writer);
+            (Some(disk), status)
+        }
+        Err(_) => (None, refuse(alloc, &Refusal::Device(()), writer)),
     }
 }
 
-/// Writes what the store in a file consists of, in numbers. Answers the status: 0 after the report, 1 where the file is not
-/// opened or is refused.
+/// Writes what the store on the disk of a path consists of, in numbers. Answers the disk and the status: 0 after the report, 1
+/// where the disk is not opened or is refused.
 ///
 /// # Errors
 ///
 /// The writer's, and want of memory for the text.
-pub fn check_file<S: Files<File = File> + AllocGlobal, W: Write>(
-    rt: &S,
+pub fn check_file<S: DiskSource, W: Write>(
+    alloc: Global,
+    source: S,
     path: &str,
     writer: &mut W,
-) -> io::Result<u8>
-    ensures told { IfOk result (λ status. (status ≡ 0) ⊎ ((status ≡ 1) × TellsFile OpenFileCause (W.contents writer.old) (W.contents writer.new))) }
-    ensures reported { result ≡ Ok 0 → (report : Report) × Appends (W.contents writer.old) (W.contents writer.new) (report_text report) }
+) -> (Option<S::Disk>, io::Result<u8>)
+    ensures told { IfOk result.1 (λ status. (status ≡ 0) ⊎ ((status ≡ 1) × TellsCheckFile S.Disk.Disk.content (GaveAny S.Disk.Disk.gave) (S.opened source path.now) (S.not_opened source path.now) result.0 (W.contents writer.old) (W.contents writer.new))) }
+    ensures reported { result.1 ≡ Ok 0 → ChecksFile S.Disk.Disk.content (S.opened source path.now) result.0 (W.contents writer.old) (W.contents writer.new) }
 {
-    match FileDisk::open(rt, path) {
-        Ok(disk) => check_on(rt.alloc(), &disk, writer),
-        Err(_) => refuse(rt.alloc(), &Refusal::Device(()), writer),
+    match source.open(path) {
+        Ok(disk) => {
+            let status = check_on(alloc, &disk, writer);
+            (Some(disk), status)
+        }
+        Err(_) => (None, refuse(alloc, &Refusal::Device(()), writer)),
     }
 }

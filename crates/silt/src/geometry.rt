@@ -1,14 +1,14 @@
 // Geometries of six numbers.
 ghost use Rattle.std.specs.Prelude.{◌≡◌, MatchResult};
 ghost use Rattle.silt_device.specs.Layout.{InLimits};
-ghost use Rattle.silt.specs.Numbers.{shape_of};
+ghost use Rattle.silt.specs.Numbers.{shape_asked};
 
-use crate::words::Numbers;
 use silt_device::{BadGeometry, Geometry};
+use silt_words::Numbers;
 
 /// The geometry of the numbers, which are refused exactly where one of them is out of its limits.
 pub fn geometry_of(numbers: &Numbers) -> Result<Geometry, BadGeometry>
-    ensures { MatchResult result (λ geometry. (geometry ≡ shape_of numbers.now) × InLimits (shape_of numbers.now)) (λ _. ¬ InLimits (shape_of numbers.now)) }
+    ensures { MatchResult result (λ geometry. (geometry ≡ shape_asked numbers.now) × InLimits (shape_asked numbers.now)) (λ _. ¬ InLimits (shape_asked numbers.now)) }
 {
     Geometry::new(
         numbers.value_len,

@@ -1,32 +1,37 @@
 // The jobs on a disk of any kind.
-ghost use Rattle.std.specs.Prelude.{◌≡◌, ◌⊎◌, Ok, IfOk, OnOk, codes};
+ghost use Rattle.std.specs.Prelude.{◌≡◌, ◌⊎◌, Ok, IfOk};
 ghost use Rattle.std.specs.Io.KnownBytes.{Appends};
 ghost use Rattle.silt_device.specs.Disk.{GaveAny};
 ghost use Rattle.silt_device.specs.Layout.{device_size};
-ghost use Rattle.silt.specs.Jobs.{AnswersReader, EndsCheck, EndsFormat, EndsRun, TellsCheck, TellsFormat, TellsOpening, formatted_line};
+ghost use Rattle.silt_wire.specs.declared.sessions.SessionEnd.{SessionEnd as SessionEndOf};
+ghost use Rattle.silt_wire.specs.declared.sessions.SessionEnd.TheVariants.{End};
+ghost use Rattle.silt.specs.Jobs.{AnswersReader, BreaksRun, EndsCheck, EndsFormat, EndsRun, TellsCheck, TellsFormat, TellsOpening, formatted_line, status_of};
 
-use crate::refusing::refuse;
+use crate::refusal::refuse;
 use silt_device::{Disk, Geometry};
 use silt_recovery::{check, format};
-use silt_store_set::{Core, Refusal};
-use silt_wire::{answer_lines, write_report};
+use silt_store_set::{Core, Refusal, Served};
+use silt_wire::{SessionEnd, session, write_report};
 use std::alloc::Global;
 use std::io::{self, Read, Write};
 
 /// One life of the store on a disk: it is taken up, and answers the reader's lines to their end. Nothing is flushed at the end.
-/// Gives the disk back, and the status: 0 at the end of the lines, 1 where the store is not taken up.
+/// Gives the disk back, and the status: 0 at the end of the lines, 1 where the store is not taken up, and where its session ends
+/// before: where a read or write fails, or memory is wanted for a line or for the text of a reply.
 ///
 /// # Errors
 ///
-/// The reader's or the writer's, and want of memory for a line or for the text of a reply.
-pub fn run_on<D: Disk, R: Read, W: Write>(
+/// The writer's, before the first line is read, and want of memory for the text of a refusal.
+pub fn run_on<D: Served, R: Read, W: Write>(
     alloc: Global,
     disk: D,
     reader: &mut R,
     writer: &mut W,
 ) -> (D, io::Result<u8>)
-    ensures told { IfOk result.1 (λ status. (status ≡ 0) ⊎ ((status ≡ 1) × TellsOpening D.content (GaveAny D.gave) disk result.0 (W.contents writer.old) (W.contents writer.new))) }
-    ensures answered { result.1 ≡ Ok 0 → EndsRun D.content D.failures (GaveAny D.gave) disk result.0 (R.remaining reader.old) (R.remaining reader.new) (W.contents writer.old) (W.contents writer.new) }
+    ensures told { IfOk result.1 (λ status. (status ≡ 0) ⊎ ((status ≡ 1) × (TellsOpening D.content (GaveAny D.gave) disk result.0 (W.contents writer.old) (W.contents writer.new)
+        ⊎ BreaksRun D.content D.failures (GaveAny D.gave) disk result.0 (R.remaining reader.old) (R.remaining reader.new) (W.contents writer.old) (W.contents writer.new)))) }
+    ensures answered { result.1 ≡ Ok 0 → EndsRun D.content D.failures (GaveAny D.gave) End disk result.0
+        (R.remaining reader.old) (R.remaining reader.new) (W.contents writer.old) (W.contents writer.new) }
 {
     match Core::open(alloc, disk) {
         Ok(mut core) => {
@@ -41,19 +46,30 @@ pub fn run_on<D: Disk, R: Read, W: Write>(
 }
 
 // Writes that the store is taken up, answers the reader's lines to their end, and answers the status.
-fn answer_reader<D: Disk, R: Read, W: Write>(
+fn answer_reader<D: Served, R: Read, W: Write>(
     alloc: Global,
     core: &mut Core<D>,
     reader: &mut R,
     writer: &mut W,
 ) -> io::Result<u8>
-    ensures done { IfOk result (λ status. status ≡ 0) }
-    ensures answered { OnOk result (AnswersReader D.content D.failures (GaveAny D.gave) core.old core.new (R.remaining reader.old) (R.remaining reader.new) (W.contents writer.old) (W.contents writer.new)) }
+    ensures { IfOk result (λ status. (end : SessionEndOf) × (status ≡ status_of end) × AnswersReader D.content D.failures (GaveAny D.gave) end core.old core.new
+        (R.remaining reader.old) (R.remaining reader.new) (W.contents writer.old) (W.contents writer.new)) }
 {
+    let value_len = core.geometry().value_len() as usize;
     writer.write_all(b"opened\n")?;
     writer.flush()?;
-    answer_lines(alloc, core, reader, writer)?;
-    Ok(0)
+    let end = session(alloc, value_len, reader, writer, core);
+    Ok(status_of(end))
+}
+
+// The status of a job by the end of its session.
+fn status_of(end: SessionEnd) -> u8
+    ensures { result ≡ status_of end }
+{
+    match end {
+        SessionEnd::End => 0,
+        _ => 1,
+    }
 }
 
 /// Writes what the store on a disk consists of, in numbers. Answers the status: 0 after the report, 1 where the device is refused.

@@ -8,35 +8,41 @@
 //!   them, one reply line for each. Lines `stop K FILL` divide them into lives: at each such line the store is stopped, at the
 //!   K-th write or sync of the life that ends there, and what the stop leaves is opened again.
 //!
-//! What is done on a file is done by functions over any disk, whose contracts say what is written for what the disk shows. Of a
-//! disk in a file nothing is known but its length.
+//! What is done on a file is done by functions over any source of disks, whose contracts say what is written for what the disk of
+//! the path shows. Of a disk in a file nothing is known but its length.
 #![tactic(auto)]
 
 mod files;
 mod geometry;
 mod jobs;
-mod printing;
 mod program;
-mod reading;
-mod refusing;
+mod refusal;
 mod script;
+mod script_lines;
 #[cfg(test)]
 mod tests;
-mod words;
+mod transcript;
 
-use program::{program, refuse_words};
+use program::{program, refuse_words, status_of};
+use silt_device::FileDisks;
+use silt_words::WordsError;
 use std::env::{self, Env};
 use std::io::{self, ErrorKind};
 use std::process::ExitCode;
-use words::WordsError;
 
 fn main(rt: HostRuntime) -> ExitCode {
     let mut writer = io::writer(&rt);
-    let code = match own_words(&rt) {
-        Ok(words) => program(&rt, words.as_slice(), &mut rt.reader(), &mut writer),
-        Err(error) => refuse_words(error, &mut writer),
+    let status = match own_words(&rt) {
+        Ok(words) => program(
+            rt.alloc(),
+            FileDisks::new(&rt),
+            words.as_slice(),
+            &mut rt.reader(),
+            &mut writer,
+        ),
+        Err(error) => status_of(refuse_words(error, &mut writer)),
     };
-    ExitCode::from(code)
+    ExitCode::from(status)
 }
 
 // The words that the program was called with, the program's own first. A word that is no text is a bad word.

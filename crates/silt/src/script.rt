@@ -2,26 +2,23 @@
 ghost use Rattle.std.specs.Prelude.{◌≡◌, ◌⊎◌, All, IfOk, IfErr, codes};
 ghost use Rattle.std.specs.FinMap.{empty};
 ghost use Rattle.std.specs.Io.KnownBytes.{Appends};
-ghost use Rattle.silt_device.specs.Disk.{LeavesOnly};
-ghost use Rattle.silt_device.specs.Layout.{InLimits};
+ghost use Rattle.silt_device.specs.Disk.{LeavesOnly, size};
+ghost use Rattle.silt_device.specs.Layout.{InLimits, device_size};
 ghost use Rattle.silt_device.specs.Memory.{memory_content};
-ghost use Rattle.silt_device.specs.declared.memory.MemFault.{MemFault as MemFaultOf};
-ghost use Rattle.silt_image.specs.Commands.{Map};
-ghost use Rattle.silt_store_set.specs.CoreState.{HasValueOf};
-ghost use Rattle.silt_store_set.specs.Events.{LivesHistory};
-ghost use Rattle.silt_store_set.specs.CoreInvariant.{IsSafe};
+ghost use Rattle.silt_stores.specs.Calls.{StandsUnsorted};
+ghost use Rattle.silt_event.specs.Events.{HasValueOf};
 ghost use Rattle.silt.specs.NewStores.{NewStoreCause};
-ghost use Rattle.silt.specs.Numbers.{shape_of};
-ghost use Rattle.silt.specs.Scripts.{EndsScript, TellsRefusal};
+ghost use Rattle.silt.specs.Numbers.{shape_asked};
+ghost use Rattle.silt.specs.Scripts.{EndsScript, RunsLives, TellsRefusal};
 
 use crate::geometry::geometry_of;
-use crate::printing::write_script;
-use crate::reading::read_script;
-use crate::refusing::refuse;
-use crate::words::Numbers;
+use crate::refusal::refuse;
+use crate::script_lines::read_script;
+use crate::transcript::write_script;
 use silt_device::{Geometry, MemDisk, MemFault, Stop};
 use silt_recovery::format;
 use silt_store_set::{Event, LifeReply, Refusal, lives};
+use silt_words::Numbers;
 use std::alloc::Global;
 use std::io::{self, ErrorKind, Read, Write};
 
@@ -37,9 +34,9 @@ pub fn script<R: Read, W: Write>(
     reader: &mut R,
     writer: &mut W,
 ) -> io::Result<u8>
-    ensures refused { ¬ InLimits (shape_of numbers.now) → IfOk result (λ status. (status ≡ 1) × Appends (W.contents writer.old) (W.contents writer.new) (codes "refused 2 BadGeometry\n")) }
-    ensures told { IfOk result (λ status. (status ≡ 0) ⊎ ((status ≡ 1) × TellsRefusal (shape_of numbers.now) (W.contents writer.old) (W.contents writer.new))) }
-    ensures answered { result ≡ Ok 0 → EndsScript MemFaultOf (shape_of numbers.now).value_len (R.remaining reader.old) (R.remaining reader.new) (W.contents writer.old) (W.contents writer.new) }
+    ensures refused { ¬ InLimits (shape_asked numbers.now) → IfOk result (λ status. (status ≡ 1) × Appends (W.contents writer.old) (W.contents writer.new) (codes "refused 2 BadGeometry\n")) }
+    ensures told { IfOk result (λ status. (status ≡ 0) ⊎ ((status ≡ 1) × TellsRefusal (shape_asked numbers.now) (W.contents writer.old) (W.contents writer.new))) }
+    ensures answered { result ≡ Ok 0 → EndsScript (shape_asked numbers.now) (R.remaining reader.old) (R.remaining reader.new) (W.contents writer.old) (W.contents writer.new) }
 {
     let Ok(geometry) = geometry_of(numbers) else {
         return refuse(alloc, &Refusal::<MemFault>::BadGeometry, writer);
@@ -69,7 +66,7 @@ fn run_lives(
     events: &[Vec<Event>],
 ) -> Result<Vec<LifeReply<MemFault>>, Refusal<MemFault>>
     requires { All (λ life. All (HasValueOf geometry.value_len) life.items) events.now }
-    ensures history { IfOk result (λ replies. (to : Map) × LivesHistory empty events.now replies.items to) }
+    ensures ran { IfOk result (λ replies. RunsLives geometry stops.items events.now replies.items) }
     ensures cause { IfErr result (NewStoreCause geometry) }
 {
     let disk = new_store(alloc, geometry)?.arm(stops);
@@ -81,7 +78,8 @@ fn run_lives(
 
 // A new disk in memory with an empty store. It is refused for want of memory, or with the fault of a disk of its length.
 fn new_store(alloc: Global, geometry: Geometry) -> Result<MemDisk, Refusal<MemFault>>
-    ensures images { IfOk result (λ disk. LeavesOnly (memory_content disk) (IsSafe geometry.value_len empty)) }
+    ensures size { IfOk result (λ disk. size (memory_content disk) ≡ device_size geometry) }
+    ensures images { IfOk result (λ disk. LeavesOnly (memory_content disk) (StandsUnsorted geometry empty)) }
     ensures cause { IfErr result (NewStoreCause geometry) }
 {
     let Ok(disk) = MemDisk::new(alloc, geometry.size() as usize) else {

@@ -1,13 +1,15 @@
 // What no contract says: printed text and statuses, letter for letter, through the program over memory.
 
-mod converting;
+mod conversion;
 mod files;
-mod freezing;
+mod freeze;
 mod jobs;
 mod lines;
 
 use crate::program::{program, refuse_words};
-use crate::words::WordsError;
+use crate::script_lines::read_script;
+use silt_device::FileDisks;
+use silt_words::WordsError;
 use std::fs::File;
 use std::io::{self, Cursor, ErrorKind, Read, Write};
 use std::process::Abort;
@@ -17,16 +19,21 @@ use std::test::Fail;
 // Values of two bytes, two buckets, four rows a log.
 pub(crate) const SMALL: &str = "silt script 2 2 4 2 2 8";
 
-// A reader that gives a text a few bytes at a time, and then is at its end or fails.
+// A reader that gives a text a few bytes at a time, is interrupted before each read, and then is at its end or fails.
 #[derive(Drop)]
 struct Pieces<'a> {
     text: &'a [u8],
     most: usize,
+    is_interrupted: bool,
     fails: bool,
 }
 
 impl Read for Pieces<'_> {
     fn read(&mut self, buf: &mut [u8]) -> io::Result<usize> {
+        self.is_interrupted = !self.is_interrupted;
+        if self.is_interrupted {
+            return Err(io::Error::from(ErrorKind::Interrupted));
+        }
         let count = self.most.min(buf.len()).min(self.text.len());
         if count == 0 && self.fails {
             return Err(io::Error::from(ErrorKind::ConnectionReset));
@@ -79,7 +86,13 @@ pub(crate) fn answers<S: Files<File = File> + AllocGlobal + Abort>(
     let words = words(rt, call)?;
     let mut reader = Cursor::new(text);
     let mut out = Vec::new(rt.alloc());
-    let code = program(rt, words.as_slice(), &mut reader, &mut out);
+    let code = program(
+        rt.alloc(),
+        FileDisks::new(rt),
+        words.as_slice(),
+        &mut reader,
+        &mut out,
+    );
     assert_eq!(rt; out.as_slice(), output);
     assert_eq!(rt; code, status);
     Ok(())
@@ -123,10 +136,20 @@ fn answers_any_pieces(rt: HostRuntime) -> Result<(), Fail> {
         let mut reader = Pieces {
             text: b"put =abc 0102\r\n\nflush\nget =abc\nget =abc",
             most,
+            is_interrupted: false,
             fails: false,
         };
         let mut out = Vec::new(rt.alloc());
-        assert_eq!(rt; program(&rt, words.as_slice(), &mut reader, &mut out), 0);
+        assert_eq!(rt;
+            program(
+                rt.alloc(),
+                FileDisks::new(&rt),
+                words.as_slice(),
+                &mut reader,
+                &mut out
+            ),
+            0
+        );
         let output = b"opened\naccepted 1\nacknowledged 1\nvalue 0102\n";
         assert_eq!(rt; out.as_slice(), output.as_slice());
     }
@@ -140,11 +163,33 @@ fn ends_by_a_reader_that_fails(rt: HostRuntime) -> Result<(), Fail> {
     let mut reader = Pieces {
         text: b"put =abc 0102\nflush\nget",
         most: 9,
+        is_interrupted: false,
         fails: true,
     };
     let mut out = Vec::new(rt.alloc());
-    assert_eq!(rt; program(&rt, words.as_slice(), &mut reader, &mut out), 1);
+    assert_eq!(rt;
+        program(
+            rt.alloc(),
+            FileDisks::new(&rt),
+            words.as_slice(),
+            &mut reader,
+            &mut out
+        ),
+        1
+    );
     assert_eq!(rt; out.as_slice(), b"".as_slice());
+    Ok(())
+}
+
+// A line for which memory is wanted ends the reading: values of this length fit into no memory.
+#[test]
+fn ends_by_a_line_that_wants_memory(rt: HostRuntime) -> Result<(), Fail> {
+    let mut reader = Cursor::new(b"get =a\nno line\nput =b 00\nget =c\n".as_slice());
+    let kind = match read_script(rt.alloc(), 1 << 62, &mut reader) {
+        Ok(_) => ErrorKind::Other,
+        Err(error) => error.kind(),
+    };
+    assert!(rt; kind == ErrorKind::OutOfMemory);
     Ok(())
 }
 
@@ -159,7 +204,16 @@ fn ends_by_a_writer_that_fails(rt: HostRuntime) -> Result<(), Fail> {
             taken: Vec::new(rt.alloc()),
             room,
         };
-        assert_eq!(rt; program(&rt, words.as_slice(), &mut reader, &mut writer), 1);
+        assert_eq!(rt;
+            program(
+                rt.alloc(),
+                FileDisks::new(&rt),
+                words.as_slice(),
+                &mut reader,
+                &mut writer
+            ),
+            1
+        );
         assert_eq!(rt; writer.taken.as_slice(), &output[..room]);
     }
     Ok(())
@@ -169,7 +223,7 @@ fn ends_by_a_writer_that_fails(rt: HostRuntime) -> Result<(), Fail> {
 #[test]
 fn tells_want_of_memory_for_the_words(rt: HostRuntime) -> Result<(), Fail> {
     let mut out = Vec::new(rt.alloc());
-    assert_eq!(rt; refuse_words(WordsError::NoMemory, &mut out), 1);
+    assert_eq!(rt; refuse_words(WordsError::NoMemory, &mut out)?, 1);
     assert_eq!(rt; out.as_slice(), b"refused 6 NoMemory\n".as_slice());
     Ok(())
 }

@@ -8,7 +8,7 @@ use Rattle.silt_cuckoo.specs.declared.lookup.Candidate.{Candidate}
 use Rattle.silt_cuckoo.specs.Slots.{Slots, Entry, place_at}
 use Rattle.silt_cuckoo.specs.Keys.{first_bucket, second_bucket, key_pair}
 use Rattle.silt_cuckoo.specs.Lookup.{candidates_of, places_of}
-use Rattle.silt_cuckoo.specs.Index.{has_key, slot_of_key, candidate_of_key}
+use Rattle.silt_cuckoo.specs.Index.{is_entry_of, slot_of_key, candidate_of_key}
 use Rattle.silt_cuckoo.specs.Laws.{FindLaw}
 use Rattle.silt_cuckoo.proofs.Search.{found_in_range, none_in_range}
 use Rattle.silt_cuckoo.proofs.Paths.{IsOn, entry_inside}
@@ -52,10 +52,10 @@ find_law buckets keys slots key index =
         let entry = has_entry slots c.slot c.place it.1 in
         let passes = is_has_key keys slots key c.slot entry.0 entry.1 (ap (λ n. get_or keys n []) entry.2 ∙ (bytes_eq-Decides (get_or keys c.place []) key).0 it.0) in
         let there = entry_inside slots c.slot entry.0 entry.1 in
-        let fails = none_in_range (has_key keys slots key) 0 (length slots) none c.slot (omega arith) (omega arith) in
+        let fails = none_in_range (is_entry_of keys slots key) 0 (length slots) none c.slot (omega arith) (omega arith) in
         absurd (cc)
     go (Some slot) is None not_found =
-        let entry = has_key_is keys slots key slot (found_in_range (has_key keys slots key) 0 (length slots) slot is).2 in
+        let entry = has_key_is keys slots key slot (found_in_range (is_entry_of keys slots key) 0 (length slots) slot is).2 in
         let newest = index.no_other entry.0.1 (slot, ap (option_map (λ (e : Entry). e.1)) entry.1) in
         let pair = index.newest entry.0.1 newest ∙ ap (λ k. Some (key_pair buckets k)) entry.2 in
         let on = pair_candidate slots (first_bucket buckets key) (second_bucket buckets key) entry.0.1 index.table.places_apart pair in
@@ -65,7 +65,7 @@ find_law buckets keys slots key index =
     go (Some slot) is (Some c) found =
         let it = found_candidate slots (λ (c : Candidate). test c.place) (candidates_of slots (first_bucket buckets key) (second_bucket buckets key)) c
         (recursion_from_All (Stands slots) (candidates_of slots (first_bucket buckets key) (second_bucket buckets key)) (candidates_standing slots (first_bucket buckets key) (second_bucket buckets key))) found in
-        let entry = has_key_is keys slots key slot (found_in_range (has_key keys slots key) 0 (length slots) slot is).2 in
+        let entry = has_key_is keys slots key slot (found_in_range (is_entry_of keys slots key) 0 (length slots) slot is).2 in
         let held : place_at slots slot ≡ Some entry.0.1 = ap (option_map (λ (e : Entry). e.1)) entry.1 in
         let same = newest_apart keys entry.0.1 c.place (index.no_other entry.0.1 (slot, held)) (index.no_other c.place (c.slot, it.1)) (entry.2 ∙ sym ((bytes_eq-Decides (get_or keys c.place []) key).0 it.0)) in
         ap Some (index.table.places_apart slot c.slot c.place (held ∙ ap Some same) it.1)

@@ -8,7 +8,7 @@ use Rattle.silt_cuckoo.specs.Slots.{Slots, Entry, IsTable, IsBucketCount, HoldsP
 use Rattle.silt_cuckoo.specs.Placing.{placed, replaced}
 use Rattle.silt_cuckoo.specs.Pairs.{has_place, AddsPair, TakesSlot}
 use Rattle.silt_cuckoo.specs.Keys.{first_bucket, second_bucket, key_pair}
-use Rattle.silt_cuckoo.specs.Index.{Index, IsNewest, Indexes, has_key, slot_of_key, placed_or_replaced, added, indexed}
+use Rattle.silt_cuckoo.specs.Index.{Index, IsNewest, Indexes, is_entry_of, slot_of_key, placed_or_replaced, added, indexed}
 use Rattle.silt_cuckoo.specs.Laws.{IndexLaw}
 use Rattle.silt_cuckoo.proofs.Search.{found_in_range, none_in_range}
 use Rattle.silt_cuckoo.proofs.Paths.{entry_inside}
@@ -64,7 +64,7 @@ newest_apart keys p q (p_low, p_none) (q_low, q_none) same = elim (cases_lt p q)
 ]
 
 -- a slot that has the key
-pub has_key_is : (keys : List (List ℕ)) (slots : Slots) (key : List ℕ) (slot : ℕ) → has_key keys slots key slot ≡ true → (e : Entry) × (entry_at slots slot ≡ Some e) × (get_or keys e.1 [] ≡ key)
+pub has_key_is : (keys : List (List ℕ)) (slots : Slots) (key : List ℕ) (slot : ℕ) → is_entry_of keys slots key slot ≡ true → (e : Entry) × (entry_at slots slot ≡ Some e) × (get_or keys e.1 [] ≡ key)
 has_key_is keys slots key slot h = go (entry_at slots slot) refl h
   where
     go : (o : Option Entry) → entry_at slots slot ≡ o → unwrap_or (option_map (λ (e : Entry). bytes_eq (get_or keys e.1 []) key) o) false ≡ true → (e : Entry) × (entry_at slots slot ≡ Some e) × (get_or keys e.1 [] ≡ key)
@@ -72,7 +72,7 @@ has_key_is keys slots key slot h = go (entry_at slots slot) refl h
     go (Some e) is h = (e, is, (bytes_eq-Decides (get_or keys e.1 []) key).0 h)
 
 -- a slot whose entry is that of the key passes the test
-pub is_has_key : (keys : List (List ℕ)) (slots : Slots) (key : List ℕ) (slot : ℕ) (e : Entry) → entry_at slots slot ≡ Some e → get_or keys e.1 [] ≡ key → has_key keys slots key slot ≡ true
+pub is_has_key : (keys : List (List ℕ)) (slots : Slots) (key : List ℕ) (slot : ℕ) (e : Entry) → entry_at slots slot ≡ Some e → get_or keys e.1 [] ≡ key → is_entry_of keys slots key slot ≡ true
 is_has_key keys slots key slot e is same = let test = (bytes_eq-Decides (get_or keys e.1 []) key).1 same in rw (is, test) refl
 
 -- where no slot has the key, no place that is held is that of the key
@@ -80,7 +80,7 @@ no_key : (keys : List (List ℕ)) (slots : Slots) (key : List ℕ) (place : ℕ)
 no_key keys slots key place none (slot, held) same =
     let entry = has_entry slots slot place held in
     let there = entry_inside slots slot entry.0 entry.1 in
-    let fails = none_in_range (has_key keys slots key) 0 (length slots) none slot (omega arith) (omega arith) in
+    let fails = none_in_range (is_entry_of keys slots key) 0 (length slots) none slot (omega arith) (omega arith) in
     let passes = is_has_key keys slots key slot entry.0 entry.1 (ap (λ n. get_or keys n []) entry.2 ∙ same) in
     absurd (cc)
 
@@ -159,7 +159,7 @@ step_replaced slots buckets slot keys key index found = record {
 }
   where
     entry : (e : Entry) × (entry_at slots slot ≡ Some e) × (get_or keys e.1 [] ≡ key)
-    entry = has_key_is keys slots key slot (found_in_range (has_key keys slots key) 0 (length slots) slot found).2
+    entry = has_key_is keys slots key slot (found_in_range (is_entry_of keys slots key) 0 (length slots) slot found).2
 
     held : place_at slots slot ≡ Some entry.0.1
     held = ap (option_map (λ (e : Entry). e.1)) entry.1

@@ -5,7 +5,7 @@ use Rattle.std.proofs.lemmas.Bool.{cases_lt, eq-eqb, not-true, and_parts}
 use Rattle.std.proofs.Math.Bool.{or-true}
 use Rattle.std.proofs.lemmas.List.{get_or_past}
 use Rattle.silt_cuckoo.specs.Slots.{Slots, Entry, IsTable, bucket_count, entry_at, tag_at}
-use Rattle.silt_cuckoo.specs.Placing.{free_slot, victim, can_move, turns, ended_walk, shortest_walk, bucket_after, path_for, first_path, Plan, plan_for, IsPlanFor, placed, put_along, moved_along, other_bucket}
+use Rattle.silt_cuckoo.specs.Placing.{free_slot, victim, can_move, turns, ended_walk, shortest_walk, bucket_after, path_for, first_path, PathPlan, plan_for, IsPlanFor, placed, put_along, moved_along, other_bucket}
 use Rattle.silt_cuckoo.proofs.Search.{found_in_range, none_in_range, found_among, first_is}
 
 -- a slot of the path
@@ -254,24 +254,24 @@ path_begins slots [] leads = absurd leads
 path_begins slots (s ∷ path) leads = omega arith
 
 -- what the path of a plan keeps
-pub plan_displaces : (slots : Slots) (plan : Plan) (path : List ℕ) → IsTable slots → IsPlanFor slots plan → path ≡ plan.slots → Displaces slots plan.first plan.second path
+pub plan_displaces : (slots : Slots) (plan : PathPlan) (path : List ℕ) → IsTable slots → IsPlanFor slots plan → path ≡ plan.slots → Displaces slots plan.first plan.second path
 plan_displaces slots plan path table planned same =
     path_displaces slots plan.first plan.second path table planned.first_there planned.second_there (planned.path ∙ ap Some (sym same))
 
 -- its slots are the table's
-pub plan_inside : (slots : Slots) (plan : Plan) (path : List ℕ) → IsTable slots → IsPlanFor slots plan → path ≡ plan.slots → (k : ℕ) → k < length path → slice_index path k < length slots
+pub plan_inside : (slots : Slots) (plan : PathPlan) (path : List ℕ) → IsTable slots → IsPlanFor slots plan → path ≡ plan.slots → (k : ℕ) → k < length path → slice_index path k < length slots
 plan_inside slots plan path table planned same k low = (plan_displaces slots plan path table planned same).inside (slice_index path k) (on_index path k low)
 
 -- no two of its slots are one
-pub plan_apart : (slots : Slots) (plan : Plan) (path : List ℕ) → IsTable slots → IsPlanFor slots plan → path ≡ plan.slots → (i j : ℕ) → i < j → j < length path → slice_index path j ≢ slice_index path i
+pub plan_apart : (slots : Slots) (plan : PathPlan) (path : List ℕ) → IsTable slots → IsPlanFor slots plan → path ≡ plan.slots → (i j : ℕ) → i < j → j < length path → slice_index path j ≢ slice_index path i
 plan_apart slots plan path table planned same i j low high = index_apart path i j (plan_displaces slots plan path table planned same).twice low high
 
 -- it has a first slot
-pub plan_begins : (slots : Slots) (plan : Plan) (path : List ℕ) → IsTable slots → IsPlanFor slots plan → path ≡ plan.slots → 0 < length path
+pub plan_begins : (slots : Slots) (plan : PathPlan) (path : List ℕ) → IsTable slots → IsPlanFor slots plan → path ≡ plan.slots → 0 < length path
 plan_begins slots plan path table planned same = path_begins slots path (plan_displaces slots plan path table planned same).leads
 
 -- the table of a plan
-pub plan_placed : (slots : Slots) (plan : Plan) (path : List ℕ) (place : ℕ) → IsPlanFor slots plan → path ≡ plan.slots
+pub plan_placed : (slots : Slots) (plan : PathPlan) (path : List ℕ) (place : ℕ) → IsPlanFor slots plan → path ≡ plan.slots
     → placed slots plan.first plan.second place ≡ Some (slice_set (moved_along slots path) (slice_index path 0) (Some (other_bucket plan.first plan.second (slice_index path 0), place)))
 unfolding placed put_along
 plan_placed slots plan path place planned same =
@@ -290,7 +290,7 @@ pub plan_gives_up : (slots : Slots) (first second place : ℕ) → IsNone (plan_
 unfolding placed
 plan_gives_up slots first second place = go (path_for slots first second)
   where
-    go : (o : Option (List ℕ)) → IsNone (option_map {U = Plan} (λ path. record { first = first; second = second; slots = path }) o) ↔ (option_map (put_along slots first second place) o ≡ None)
+    go : (o : Option (List ℕ)) → IsNone (option_map {U = PathPlan} (λ path. record { first = first; second = second; slots = path }) o) ↔ (option_map (put_along slots first second place) o ≡ None)
     go None = (λ none. refl, λ none. refl)
     go (Some path) = (λ none. absurd (cc), λ none. absurd (cc))
 

@@ -1,7 +1,7 @@
 -- Stored slots and what they stand for.
 use Rattle.std.proofs.Common.{◌≡◌, ℕ, zero, suc, ◌<◌, List, ◌∷◌, length, replicate, slice_set, get_or, None, refl, ap}
 use Rattle.std.proofs.lemmas.List.{get_or-map, map-set}
-use Rattle.silt_cuckoo.specs.declared.packed.Slot.{Slot}
+use Rattle.silt_cuckoo.specs.declared.slot.Slot.{Slot}
 use Rattle.silt_cuckoo.specs.Slots.{entry_at}
 use Rattle.silt_cuckoo.specs.Packed.{unpacked, unpacked_all}
 

@@ -10,12 +10,12 @@ use Rattle.silt_cuckoo.specs.Lookup.{candidates_of}
 use Rattle.silt_cuckoo.specs.Placing.{placed, replaced}
 
 -- the entry in this slot is that of this key, where each place is that of a key of the list
-abbrev pub has_key : List (List ℕ) → Slots → List ℕ → ℕ → Bool
-has_key keys slots key slot = unwrap_or (option_map (λ (e : Entry). bytes_eq (get_or keys e.1 []) key) (entry_at slots slot)) false
+abbrev pub is_entry_of : List (List ℕ) → Slots → List ℕ → ℕ → Bool
+is_entry_of keys slots key slot = unwrap_or (option_map (λ (e : Entry). bytes_eq (get_or keys e.1 []) key) (entry_at slots slot)) false
 
 -- the slot whose entry is that of this key
 abbrev pub slot_of_key : List (List ℕ) → Slots → List ℕ → Option ℕ
-slot_of_key keys slots key = find (has_key keys slots key) (range_with_len 0 (length slots))
+slot_of_key keys slots key = find (is_entry_of keys slots key) (range_with_len 0 (length slots))
 
 -- a key that stands in the table takes the new place, and another is placed
 abbrev pub placed_or_replaced : ℕ → Slots → List ℕ → ℕ → Option ℕ → Option Slots

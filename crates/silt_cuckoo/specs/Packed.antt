@@ -1,6 +1,6 @@
 -- How a slot is stored: in three numbers of 16 bits.
 use Rattle.std.specs.Prelude.{◌+◌, ◌-◌, ◌*◌, ◌==◌, if◌then◌else◌, List, map, Option, Some, None}
-use Rattle.silt_cuckoo.specs.declared.packed.Slot.{Slot}
+use Rattle.silt_cuckoo.specs.declared.slot.Slot.{Slot}
 use Rattle.silt_cuckoo.specs.Slots.{Entry, Slots}
 
 -- the entry that a stored slot stands for: none where its mark is 0, else the mark is the tag and 1

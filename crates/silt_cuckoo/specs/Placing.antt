@@ -79,17 +79,17 @@ abbrev pub replaced : Slots → ℕ → ℕ → Slots
 replaced slots slot place = slice_set slots slot (Some (tag_at slots slot, place))
 
 -- what a path says: the two buckets of a new entry, and the slots that the entries move along
-pub record Plan : Type 0 where
+pub record PathPlan : Type 0 where
   pub first : ℕ
   pub second : ℕ
   pub slots : List ℕ
 
 -- the plan for a new entry of these two buckets
-abbrev pub plan_for : Slots → ℕ → ℕ → Option Plan
+abbrev pub plan_for : Slots → ℕ → ℕ → Option PathPlan
 plan_for slots first second = option_map (λ path. record { first = first; second = second; slots = path }) (path_for slots first second)
 
 -- the plan was made for these slots as they stand
-pub record IsPlanFor (slots : Slots) (plan : Plan) : Type 0 where
+pub record IsPlanFor (slots : Slots) (plan : PathPlan) : Type 0 where
   pub first_there : plan.first < bucket_count slots
   pub second_there : plan.second < bucket_count slots
   pub path : path_for slots plan.first plan.second ≡ Some plan.slots

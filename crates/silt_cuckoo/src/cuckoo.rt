@@ -3,13 +3,13 @@
 ghost use Rattle.std.specs.Prelude.{◌≡◌, ◌≢◌, ◌↔◌, ℕ, ◌+◌, ◌*◌, ◌<◌, ◌≤◌, ◌^◌, [], ◌==◌, List, map, All, AllPairs, Contains, length, slice_index, option_map, IsSome, IsNone, IfSome, IfOk, Some, None};
 ghost use Rattle.silt_cuckoo.specs.Packed.{unpacked_all};
 ghost use Rattle.silt_cuckoo.specs.Slots.{Slots, IsBucketCount, IsTable, HoldsPlace, bucket_count, empty_slots, entry_at, place_at, tag_at};
-ghost use Rattle.silt_cuckoo.specs.Placing.{Plan, IsPlanFor, plan_for, placed, free_slot, victim, shortest_walk, moved_along, put_along, replaced};
+ghost use Rattle.silt_cuckoo.specs.Placing.{PathPlan, IsPlanFor, plan_for, placed, free_slot, victim, shortest_walk, moved_along, put_along, replaced};
 ghost use Rattle.silt_cuckoo.specs.Pairs.{AddsPair, TakesSlot, pair_of, table_pairs};
 ghost use Rattle.silt_cuckoo.specs.Lookup.{candidates_of, places_of};
 
 use crate::displacement::Path;
 use crate::lookup::Candidates;
-use crate::packed::{Slot, entry_at, tag_at};
+use crate::slot::{Slot, entry_at, tag_at};
 use std::alloc::{AllocError, Global};
 use std::marker::Model;
 

@@ -2,7 +2,7 @@
 
 ghost use Rattle.std.specs.Prelude.{◌≡◌, ◌==◌, ℕ, ◌+◌, ◌/◌, ◌<◌, ◌≤◌, length, take, slice_index, [], ◌∷◌, ◌++◌, if◌then◌else◌};
 ghost use Rattle.std.specs.List.{list_any};
-ghost use Rattle.silt_cuckoo.specs.Placing.{Plan, other_bucket};
+ghost use Rattle.silt_cuckoo.specs.Placing.{PathPlan, other_bucket};
 ghost use Rattle.silt_cuckoo.specs.declared.displacement.TheConstants.{LONGEST};
 
 use std::marker::Model;
@@ -22,7 +22,7 @@ pub struct Path {
 }
 
 impl Model for Path {
-    ghost Value = { Plan };
+    ghost Value = { PathPlan };
 
     ghost view = { λ p. record { first = p.first; second = p.second; slots = take p.len p.slots } };
 

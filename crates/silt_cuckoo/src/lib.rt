@@ -13,7 +13,7 @@ mod displacement;
 mod keys;
 mod laws;
 mod lookup;
-mod packed;
+mod slot;
 #[cfg(test)]
 mod tests;
 

@@ -5,7 +5,7 @@ ghost use Rattle.silt_cuckoo.specs.Packed.{unpacked_all};
 ghost use Rattle.silt_cuckoo.specs.declared.lookup.Candidate.{Candidate};
 ghost use Rattle.silt_cuckoo.specs.Lookup.{match_at, matches_in, candidates_of};
 
-use crate::packed::{Slot, entry_at};
+use crate::slot::{Slot, entry_at};
 use std::marker::Model;
 
 /// An entry that may be the one that is looked for: its slot and its place.

@@ -66,6 +66,18 @@ gates_at s region = 12288 + region * log_size s
 abbrev pub bodies_at : Shape → ℕ → ℕ
 bodies_at s region = gates_at s region + up s.log_capacity
 
+-- how many bytes of a log region count: its gates to the end of their sector, and its bodies
+abbrev pub log_len : Shape → ℕ
+log_len s = up s.log_capacity + s.log_capacity * row_len s
+
+-- the bytes of a hash region's slots
+abbrev pub slots_len : Shape → ℕ
+slots_len s = 4 * s.buckets * row_len s
+
+-- the bytes of a sorted region's entries
+abbrev pub entries_len : Shape → ℕ
+entries_len s = s.sorted_capacity * entry_len s
+
 -- where a hash region begins
 abbrev pub hash_at : Shape → ℕ → ℕ
 hash_at s region = 12288 + s.logs * log_size s + region * hash_size s

@@ -4,3 +4,4 @@ pub mod File
 pub mod Layout
 pub mod Lives
 pub mod Memory
+pub mod Source

@@ -6,7 +6,11 @@ use crate::{Call, Disk};
 use std::sync::atomic::{AtomicU64, Ordering};
 
 /// A disk in memory on which one call fails, given by its kind and its number among the calls of that kind, counted from 1.
-/// A write that fails so shows nothing new. All other calls are those of the disk in memory.
+/// A write that fails so shows nothing new. All other calls are those of the disk in memory. Each write and sync, the one that fails
+/// among them, is one call of the life of the disk in memory.
+///
+/// Which read fails no contract says: a read takes the disk by `&`, so the count of reads is an atomic, whose value no clause
+/// can name.
 #[derive(Drop)]
 pub struct FaultDisk {
     disk: MemDisk,
@@ -64,7 +68,7 @@ impl Disk for FaultDisk {
     ghost use Rattle.std.specs.Prelude.{MatchResult, OnOk, OnErr, IsErr, IfErr, slice_range, ◌≢◌};
     ghost use Rattle.silt_device.specs.declared.disk.Call.TheVariants.{Read, Write, Sync};
     ghost use Rattle.silt_device.specs.Disk.{Tears, Settles, Stays, splice};
-    ghost use Rattle.silt_device.specs.Lives.{is_stopped};
+    ghost use Rattle.silt_device.specs.Lives.{is_stopped, plan_after_call};
     ghost use Rattle.silt_device.specs.Fault.{fault_content, fault_failures, fault_gave, IsNamed, left_after};
 
     type Fault = MemFault;
@@ -101,6 +105,7 @@ impl Disk for FaultDisk {
         ensures others { ¬ IsNamed Write self.old → (IsErr result ↔ IsTrue (is_stopped self.new.disk.lives.life)) }
         ensures shows_nothing { IsNamed Write self.old → self.new.disk.shown.items ≡ self.old.disk.shown.items }
         ensures counted { self.new.left ≡ left_after Write self.old }
+        ensures lives { self.new.disk.lives ≡ plan_after_call self.old.disk.lives }
         ensures call { self.new.call ≡ self.old.call }
         ensures failures { MatchResult result (λ _. fault_failures self.new ≡ fault_failures self.old)
             (λ fault. (fault_failures self.new ≡ (fault_failures self.old + 1) % 2 ^ 64)
@@ -118,14 +123,14 @@ impl Disk for FaultDisk {
         ensures named { IsNamed Sync self.old → IsErr result }
         ensures others { ¬ IsNamed Sync self.old → (IsErr result ↔ IsTrue (is_stopped self.new.disk.lives.life)) }
         ensures counted { self.new.left ≡ left_after Sync self.old }
+        ensures lives { self.new.disk.lives ≡ plan_after_call self.old.disk.lives }
         ensures call { self.new.call ≡ self.old.call }
         ensures failures { MatchResult result (λ _. fault_failures self.new ≡ fault_failures self.old)
             (λ fault. (fault_failures self.new ≡ (fault_failures self.old + 1) % 2 ^ 64)
             × fault_gave self.new fault Sync 0 (length self.new.disk.shown.items)) }
     {
         if self.is_named(Call::Sync) {
-            let count = self.disk.shown().len();
-            return Err(self.disk.fail(Call::Sync, 0, count));
+            return Err(self.disk.refuse_sync());
         }
         self.disk.sync()
     }

@@ -1,12 +1,10 @@
 // A disk in a file, read and written at offsets.
-ghost use Rattle.std.specs.Prelude.{◌≡◌, ◌≤◌, ◌^◌, ◌+◌, ◌%◌, IfOk, IsErr};
+ghost use Rattle.std.specs.Prelude.{◌≡◌, ◌≤◌, ◌^◌, ◌+◌, ◌%◌, IfOk, OnOk, IsErr};
 
+use crate::system::{FileSystem, RandomAccessFile};
 use crate::{Call, Disk};
-use std::fs::{File, Metadata, OpenOptions};
+use std::fs::{File, Metadata};
 use std::io;
-use std::os::unix::fs::FileExt;
-use std::path::Path;
-use std::rt::Files;
 
 /// The fault of one device call: the call, its range, how many calls had failed then, and the error that the system gave. Only a
 /// disk makes one, and nothing copies it.
@@ -30,29 +28,20 @@ impl FileFault {
 
 /// A disk in a file, whose length never changes.
 ///
-/// It is proved that the length stays, that failed writes and syncs are counted, and that each fault is this disk's own, for the
-/// call that failed. That the file behaves as the crash premise says is assumed: no clause speaks of what the file holds. It is
+/// It is proved that the length stays, which calls of the system were made, at which places and with which bytes, that failed writes
+/// and syncs are counted, and that each fault is this disk's own, for the call that failed. That the file behaves as the crash premise says is assumed: no clause speaks of what the file holds. It is
 /// not so where the system, after a failed sync, goes on to show bytes that it will never write. Nor does anything here keep
 /// another process, or a second disk, from the same file: that is the caller's part.
 #[derive(Drop)]
-pub struct FileDisk {
-    file: File,
+pub struct RandomAccessDisk<F = File> {
+    file: F,
     len: u64,
     failures: u64,
 }
 
-// Syncs the folder in which the file has its name, so that a stop does not take the name away.
-fn sync_folder<R: Files<File = File>>(runtime: &R, path: &str) -> io::Result<()> {
-    let folder = match Path::new(path).parent() {
-        Some(folder) if !folder.as_str().is_empty() => folder,
-        _ => Path::new("."),
-    };
-    File::open(runtime, folder)?.sync_all()
-}
-
-impl FileDisk {
+impl<F: RandomAccessFile> RandomAccessDisk<F> {
     ghost use Rattle.std.specs.Fs.{metadata_len};
-    ghost use Rattle.silt_device.specs.File.{file_gave, IsOpened};
+    ghost use Rattle.silt_device.specs.File.{file_gave, IsOpened, IsOpenedFile, IsMadeFile};
 
     /// Makes the file, or takes the one that is there, at exactly this length in bytes, and syncs it and the folder that it is in.
     /// What a file that is there held up to this length stays, and what is new are zeros. Where the path is a link, the folder
@@ -62,19 +51,20 @@ impl FileDisk {
     ///
     /// The error of the system, where the file or its folder cannot be opened, sized or synced. The file may then be there, at
     /// its old length or at the new one. A length of 2^63 or more is always an error.
-    pub fn create<R: Files<File = File>>(runtime: &R, path: &str, len: u64) -> io::Result<FileDisk>
+    pub fn create<R: FileSystem<File = F>>(
+        system: &R,
+        path: &str,
+        len: u64,
+    ) -> io::Result<RandomAccessDisk<F>>
         ensures opened { IfOk result (IsOpened len) }
+        ensures made { IfOk result (λ disk. IsMadeFile (R.made system.now path.now) F.resized F.synced len disk.file) }
+        ensures folder { OnOk result (R.folder_synced system.now path.now) }
         ensures too_long { 2 ^ 63 ≤ len → IsErr result }
     {
-        let file = OpenOptions::new()
-            .read(true)
-            .write(true)
-            .create(true)
-            .open(runtime, path)?;
-        file.set_len(len)?;
-        file.sync_all()?;
-        sync_folder(runtime, path)?;
-        Ok(FileDisk::of_len(file, len))
+        let file = system.make_file_at(path)?.resize(len)?;
+        file.settle()?;
+        system.sync_folder_of(path)?;
+        Ok(RandomAccessDisk::of_len(file, len))
     }
 
     /// Opens a file that is there, at the length that it has, and syncs it: what an earlier process wrote and did not sync is
@@ -83,30 +73,29 @@ impl FileDisk {
     /// # Errors
     ///
     /// The error of the system, where the file is not there, or cannot be read, written, measured or synced.
-    pub fn open<R: Files<File = File>>(runtime: &R, path: &str) -> io::Result<FileDisk>
-        ensures opened { IfOk result (λ disk. IsOpened disk.len disk) }
+    pub fn open<R: FileSystem<File = F>>(system: &R, path: &str) -> io::Result<RandomAccessDisk<F>>
+        ensures opened { IfOk result (λ disk. R.opened system.now path.now disk.file × IsOpenedFile F.measured F.synced disk) }
     {
-        let file = OpenOptions::new()
-            .read(true)
-            .write(true)
-            .open(runtime, path)?;
-        file.sync_all()?;
-        let metadata = file.metadata()?;
-        Ok(FileDisk::measured(file, &metadata))
+        let found = system.open_file_at(path)?;
+        found.settle()?;
+        let metadata = found.measure()?;
+        Ok(RandomAccessDisk::measured(found, &metadata))
     }
 
-    // The disk in an open file, of the length that the file has.
-    fn measured(file: File, metadata: &Metadata) -> FileDisk
-        ensures { IsOpened (metadata_len metadata.now) result }
+    // The disk in an open file, of the length that the system tells.
+    fn measured(file: F, metadata: &Metadata) -> RandomAccessDisk<F>
+        ensures len { IsOpened (metadata_len metadata.now) result }
+        ensures file { result.file ≡ file }
     {
-        FileDisk::of_len(file, metadata.len())
+        RandomAccessDisk::of_len(file, metadata.len())
     }
 
     // The disk in an open file, of this length.
-    pub(crate) fn of_len(file: File, len: u64) -> FileDisk
-        ensures { IsOpened len result }
+    pub(crate) fn of_len(file: F, len: u64) -> RandomAccessDisk<F>
+        ensures len { IsOpened len result }
+        ensures file { result.file ≡ file }
     {
-        FileDisk {
+        RandomAccessDisk {
             file,
             len,
             failures: 0,
@@ -131,6 +120,7 @@ impl FileDisk {
     fn fail(&mut self, call: Call, at: u64, count: u64, error: io::Error) -> FileFault
         ensures counted { self.new.failures ≡ (self.old.failures + 1) % 2 ^ 64 }
         ensures len { self.new.len ≡ self.old.len }
+        ensures file { self.new.file ≡ self.old.file }
         ensures gave { file_gave self.new result call at count }
         ensures error { result.error ≡ error }
     {
@@ -139,7 +129,9 @@ impl FileDisk {
     }
 }
 
-impl Disk for FileDisk {
+impl<F: RandomAccessFile + Send + Sync> Disk for RandomAccessDisk<F> {
+    ghost use Rattle.std.specs.Prelude.{OnOk, OnErr, IfErr, MatchResult, length};
+    ghost use Rattle.silt_device.specs.declared.disk.Call.TheVariants.{Read, Write, Sync};
     ghost use Rattle.silt_device.specs.File.{file_content, file_gave};
 
     type Fault = FileFault;
@@ -155,23 +147,38 @@ impl Disk for FileDisk {
     }
 
     // It takes no lock, so that several threads may read at once.
-    fn read(&self, at: u64, buf: &mut [u8]) -> Result<(), FileFault> {
+    fn read(&self, at: u64, buf: &mut [u8]) -> Result<(), FileFault>
+        ensures read { OnOk result (F.read_from self.now.file at buf.new) }
+        ensures fault { IfErr result (λ fault. file_gave self.now fault Read at (length buf.old)) }
+    {
         let count = buf.len() as u64;
-        match self.file.read_exact_at(buf, at) {
+        match self.file.read_all_from(buf, at) {
             Ok(()) => Ok(()),
             Err(error) => Err(self.fault(Call::Read, at, count, error)),
         }
     }
 
-    fn write(&mut self, at: u64, buf: &[u8]) -> Result<(), FileFault> {
-        match self.file.write_all_at(buf, at) {
+    fn write(&mut self, at: u64, buf: &[u8]) -> Result<(), FileFault>
+        ensures kept { (self.new.file ≡ self.old.file) × (self.new.len ≡ self.old.len) }
+        ensures written { OnOk result (F.written_at self.new.file at buf.now) }
+        ensures failures { MatchResult result (λ _. self.new.failures ≡ self.old.failures)
+            (λ fault. (self.new.failures ≡ (self.old.failures + 1) % 2 ^ 64)
+            × file_gave self.new fault Write at (length buf.now)) }
+    {
+        match self.file.write_whole_at(buf, at) {
             Ok(()) => Ok(()),
             Err(error) => Err(self.fail(Call::Write, at, buf.len() as u64, error)),
         }
     }
 
-    fn sync(&mut self) -> Result<(), FileFault> {
-        match self.file.sync_data() {
+    fn sync(&mut self) -> Result<(), FileFault>
+        ensures kept { (self.new.file ≡ self.old.file) × (self.new.len ≡ self.old.len) }
+        ensures settled { OnOk result (F.data_synced self.new.file) }
+        ensures failures { MatchResult result (λ _. self.new.failures ≡ self.old.failures)
+            (λ fault. (self.new.failures ≡ (self.old.failures + 1) % 2 ^ 64)
+            × file_gave self.new fault Sync 0 self.new.len) }
+    {
+        match self.file.settle_data() {
             Ok(()) => Ok(()),
             Err(error) => Err(self.fail(Call::Sync, 0, self.len, error)),
         }

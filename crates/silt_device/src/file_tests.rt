@@ -132,3 +132,39 @@ fn each_call_hands_out_its_error(rt: HostRuntime) -> Result<(), Fail> {
     fs::remove_dir_all(&rt, "failing")?;
     Ok(())
 }
+
+// The length of the disk that a source opens, or makes where a length is given. None: it gives none.
+fn len_from<S: DiskSource>(source: S, path: &str, made: Option<u64>) -> Option<u64> {
+    let disk = match made {
+        Some(len) => source.create(path, len),
+        None => source.open(path),
+    };
+    Some(disk.ok()?.len())
+}
+
+// A source of files gives the disk of the path, and one of a named disk gives it under its name and at its length alone.
+#[test]
+fn a_source_gives_the_disk_of_its_path(rt: HostRuntime) -> Result<(), Fail> {
+    make_folder(&rt, "source")?;
+    assert_eq!(rt; len_from(FileDisks::new(&rt), "source/disk", None), None);
+    assert_eq!(rt;
+        len_from(FileDisks::new(&rt), "source/disk", Some(7)),
+        Some(7)
+    );
+    assert_eq!(rt; len_from(FileDisks::new(&rt), "source/disk", None), Some(7));
+    assert_eq!(rt; len_from(FileDisks::new(&rt), "source/other", None), None);
+    fs::remove_dir_all(&rt, "source")?;
+    let table = [
+        ("disk", None, Some(4)),
+        ("disk", Some(4), Some(4)),
+        ("disk", Some(5), None),
+        ("dis", None, None),
+        ("disks", Some(4), None),
+    ];
+    let alloc = rt.alloc();
+    for (path, made, len) in table {
+        let named = NamedDisk::new(String::from_str(alloc, "disk")?, MemDisk::new(alloc, 4)?);
+        assert_eq!(rt; len_from(named, path, made), len, "{path}");
+    }
+    Ok(())
+}

@@ -1,10 +1,15 @@
 // The layout of a device: where each region begins, and how long the device is.
 ghost use Rattle.std.specs.Prelude.{◌≡◌, ◌+◌, ◌*◌, ◌^◌, ◌<◌, ◌≤◌, IsTrue, ◌↔◌, MatchResult};
-ghost use Rattle.silt_device.specs.Layout.{Shape, InLimits, RegionsApart, is_bucket_count, up};
+ghost use Rattle.silt_device.specs.Layout.{Shape, InLimits, RegionsApart, is_bucket_count, slot_at, up};
 
+use silt_frame::{HEAD_LEN, KEY_LEN};
 use std::marker::Model;
 
-const SECTOR: u64 = 4096;
+/// The length of a sector, in bytes. Each part of a device begins with one, and the header and each manifest slot are one.
+pub const SECTOR: u64 = 4096;
+
+/// Where the log regions begin, behind the header and the two manifest slots.
+pub const REGIONS_AT: u64 = 12_288;
 
 /// One of a geometry's numbers is outside its limits.
 #[derive(Clone, Copy, Debug, PartialEq, Eq)]
@@ -74,6 +79,14 @@ fn has_bucket_count(n: u32) -> bool
         n,
         2 | 4 | 8 | 16 | 32 | 64 | 128 | 256 | 512 | 1024 | 2048 | 4096 | 8192 | 16_384 | 32_768
     )
+}
+
+/// Where a manifest slot begins, slot 0 or 1, in every geometry: behind the header, a sector each.
+pub fn slot_start(slot: u32) -> u64
+    requires { slot < 2 }
+    ensures { result ≡ slot_at slot }
+{
+    SECTOR + SECTOR * u64::from(slot)
 }
 
 /// The law of the layout: in every geometry the regions lie apart, and within the device.
@@ -177,7 +190,7 @@ impl Geometry {
         ensures value { result ≡ row_len self.now }
         ensures limits { InLimits self.now }
     {
-        21 + self.value_len as usize
+        HEAD_LEN + self.value_len as usize
     }
 
     /// The length of a sorted entry: key and value.
@@ -185,7 +198,7 @@ impl Geometry {
         ensures value { result ≡ entry_len self.now }
         ensures limits { InLimits self.now }
     {
-        20 + self.value_len as usize
+        KEY_LEN + self.value_len as usize
     }
 
     #[tactic(auto, using(crate::proofs::Products::product_below))]
@@ -195,7 +208,7 @@ impl Geometry {
         ensures limits { InLimits self.now }
     {
         let rows = u64::from(self.log_capacity);
-        round_up(rows) + round_up(rows * (21 + u64::from(self.value_len)))
+        round_up(rows) + round_up(rows * (HEAD_LEN as u64 + u64::from(self.value_len)))
     }
 
     #[tactic(auto, using(crate::proofs::Products::product_below))]
@@ -203,7 +216,7 @@ impl Geometry {
         ensures value { result ≡ hash_size self.now }
         ensures most { result ≤ 2 ^ 30 }
     {
-        round_up(4 * u64::from(self.buckets) * (21 + u64::from(self.value_len)))
+        round_up(4 * u64::from(self.buckets) * (HEAD_LEN as u64 + u64::from(self.value_len)))
     }
 
     #[tactic(auto, using(crate::proofs::Products::product_below))]
@@ -211,7 +224,7 @@ impl Geometry {
         ensures value { result ≡ sorted_size self.now }
         ensures most { result ≤ 2 ^ 37 }
     {
-        round_up(u64::from(self.sorted_capacity) * (20 + u64::from(self.value_len)))
+        round_up(u64::from(self.sorted_capacity) * (KEY_LEN as u64 + u64::from(self.value_len)))
     }
 
     // Where the log regions end, and the hash regions begin.
@@ -221,7 +234,7 @@ impl Geometry {
         ensures most { result ≤ 2 ^ 34 }
         ensures limits { InLimits self.now }
     {
-        12_288 + u64::from(self.logs) * self.log_size()
+        REGIONS_AT + u64::from(self.logs) * self.log_size()
     }
 
     // Where the hash regions end, and the sorted regions begin.
@@ -240,7 +253,7 @@ impl Geometry {
         ensures value { result ≡ slot_at slot }
         ensures fits { slot_at slot + 4096 ≤ device_size self.now }
     {
-        4096 + 4096 * u64::from(slot)
+        slot_start(slot)
     }
 
     /// Where the gates of a log region begin, a byte for each row.
@@ -251,7 +264,7 @@ impl Geometry {
         ensures fits { gates_at self.now region + self.now.log_capacity ≤ device_size self.now }
         ensures most { device_size self.now ≤ 2 ^ 39 }
     {
-        12_288 + u64::from(region) * self.log_size()
+        REGIONS_AT + u64::from(region) * self.log_size()
     }
 
     /// Where the bodies of a log region begin, at the first sector after its gates.

@@ -20,7 +20,9 @@
 //! what its bytes are.
 //!
 //! `MemDisk` is a disk in memory that stops at a chosen write or sync, and is then restarted with what such a stop could leave.
-//! On a `FaultDisk` one chosen call fails. `FileDisk` is a disk in a file. `write_synced` is a write with the sync that settles
+//! On a `FaultDisk` one chosen call fails. `FileDisk` is a disk in a file of the system,
+//! and `RandomAccessDisk` one in any file. A `DiskSource` opens or makes the disk of a path: a file's with
+//! `FileDisks`, or the one of a `NamedDisk`. `write_synced` is a write with the sync that settles
 //! it: on it stands nearly all that changes a device. `Geometry` is the six numbers of a store, with the place of each of its
 //! parts on a device.
 #![tactic(auto)]
@@ -31,13 +33,19 @@ mod file;
 mod geometry;
 mod life;
 mod memory;
+mod source;
+mod system;
+mod system_disk;
 
-pub use disk::{Call, Disk, Stoppable, write_synced};
+pub use disk::{Call, Disk, Stoppable, ranges_outside_stay, write_synced};
 pub use fault::FaultDisk;
-pub use file::{FileDisk, FileFault};
-pub use geometry::{BadGeometry, Geometry, regions_lie_apart};
+pub use file::{FileFault, RandomAccessDisk};
+pub use geometry::{BadGeometry, Geometry, REGIONS_AT, SECTOR, regions_lie_apart, slot_start};
 pub use life::{Fill, Stop};
 pub use memory::{MemDisk, MemFault};
+pub use source::{DiskSource, FileDisks, NamedDisk, NoSuchDisk};
+pub use system::{FileSystem, RandomAccessFile};
+pub use system_disk::FileDisk;
 
 #[cfg(test)]
 mod file_tests;

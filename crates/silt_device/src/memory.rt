@@ -74,7 +74,7 @@ impl MemDisk {
     ghost use Rattle.std.specs.Prelude.{IfOk, replicate};
     ghost use Rattle.silt_device.specs.Disk.{Stays, Restarts, Settles, Tears};
     ghost use Rattle.silt_device.specs.Memory.{memory_content, memory_gave, IsFresh, IsFilled};
-    ghost use Rattle.silt_device.specs.Lives.{next_life};
+    ghost use Rattle.silt_device.specs.Lives.{next_life, plan_after_call};
 
     /// A disk of zeros, of this length in bytes, on which no call fails.
     pub fn new(alloc: Global, len: usize) -> Result<Self, AllocError>
@@ -130,7 +130,7 @@ impl MemDisk {
     }
 
     // Counts a failed write or sync, modulo 2^64, and gives its fault.
-    pub(crate) fn fail(&mut self, call: Call, at: u64, count: usize) -> MemFault
+    fn fail(&mut self, call: Call, at: u64, count: usize) -> MemFault
         ensures counted { self.new ≡ record self.old { failures = (self.old.failures + 1) % 2 ^ 64 } }
         ensures gave { memory_gave self.new result call at count }
     {
@@ -138,16 +138,30 @@ impl MemDisk {
         self.fault(call, at, count)
     }
 
-    // A failed write that shows nothing new.
+    // A write that is refused: it shows nothing new, and is one more call of the life.
     pub(crate) fn refuse_write(&mut self, at: u64, count: usize) -> MemFault
         requires { at + count ≤ length self.old.shown.items }
         ensures shown { self.new.shown.items ≡ self.old.shown.items }
         ensures torn { Tears at count (memory_content self.old) (memory_content self.new) }
+        ensures lives { self.new.lives ≡ plan_after_call self.old.lives }
         ensures failures { self.new.failures ≡ (self.old.failures + 1) % 2 ^ 64 }
         ensures gave { memory_gave self.new result Call.Write at count }
     {
         mark(&mut self.pending, at as usize, count);
+        self.lives.count_call();
         self.fail(Call::Write, at, count)
+    }
+
+    // A sync that is refused: it settles nothing, and is one more call of the life.
+    pub(crate) fn refuse_sync(&mut self) -> MemFault
+        ensures content { Stays (memory_content self.old) (memory_content self.new) }
+        ensures lives { self.new.lives ≡ plan_after_call self.old.lives }
+        ensures failures { self.new.failures ≡ (self.old.failures + 1) % 2 ^ 64 }
+        ensures gave { memory_gave self.new result Call.Sync 0 (length self.new.shown.items) }
+    {
+        self.lives.count_call();
+        let count = self.shown.len();
+        self.fail(Call::Sync, 0, count)
     }
 
     // Settles all that is shown.

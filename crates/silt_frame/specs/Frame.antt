@@ -1,9 +1,14 @@
 -- The bytes of rows and entries, both ways.
-use Rattle.std.specs.Prelude.{◌≡◌, ◌<◌, ℕ, length, ◌==◌, if◌then◌else◌, List, ◌∷◌, ◌++◌, take, drop, slice_index, Option, Some, None}
+use Rattle.std.specs.Prelude.{◌≡◌, ◌<◌, ℕ, length, ◌==◌, if◌then◌else◌, List, ◌∷◌, ◌++◌, take, drop, slice_index, Option, Some, None, Bool, true, false}
 use Rattle.std.specs.Option.{option_map}
 use Rattle.silt_frame.specs.declared.key.Key.{Key}
 use Rattle.silt_frame.specs.declared.key.Kind.{Kind}
 use Rattle.silt_frame.specs.declared.key.Kind.TheVariants.{Put, Delete}
+
+-- whether a kind is a put's
+abbrev pub is_put : Kind → Bool
+is_put Put = true
+is_put Delete = false
 
 -- the byte that stands for a kind
 abbrev pub kind_byte : Kind → ℕ

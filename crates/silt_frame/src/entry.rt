@@ -2,14 +2,14 @@
 ghost use Rattle.std.specs.Prelude.{◌≡◌, ◌+◌, ◌<◌, ◌≤◌, length};
 ghost use Rattle.silt_frame.specs.Frame.{entry_bytes, entry_of, EntryLaw};
 
-use crate::Key;
+use crate::{KEY_LEN, Key};
 
 /// Writes the bytes of an entry, the key and then the value, over a buffer of just that length.
 pub fn write_entry(key: &Key, value: &[u8], out: &mut [u8])
     requires { length out.old ≡ 20 + length value.now }
     ensures { out.new ≡ entry_bytes key.now value.now }
 {
-    let (head, rest) = out.split_at_mut(20);
+    let (head, rest) = out.split_at_mut(KEY_LEN);
     head.copy_from_slice(&key.0);
     rest.copy_from_slice(value);
 }
@@ -19,8 +19,8 @@ pub fn entry_of(bytes: &[u8]) -> (Key, &[u8])
     requires { 20 ≤ length bytes.now }
     ensures { (result.0, result.1.now) ≡ entry_of bytes.now }
 {
-    let (head, value) = bytes.split_at(20);
-    let mut key = [0; 20];
+    let (head, value) = bytes.split_at(KEY_LEN);
+    let mut key = [0; KEY_LEN];
     key.copy_from_slice(head);
     (Key(key), value)
 }

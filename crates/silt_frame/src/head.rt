@@ -1,49 +1,28 @@
 // The head of a row: its kind and its key.
 ghost use Rattle.std.specs.Prelude.{◌≡◌};
-ghost use Rattle.silt_frame.specs.Frame.{head_bytes, head_of, kind_byte, kind_of, HeadLaw};
+ghost use Rattle.silt_frame.specs.Frame.{head_bytes, head_of, HeadLaw};
 
-use crate::{Key, Kind};
+use crate::{KEY_LEN, Key, Kind};
 
 /// How many bytes the head of a row has.
-pub const HEAD_LEN: usize = 21;
-
-// The byte that stands for a kind.
-fn kind_byte(kind: Kind) -> u8
-    ensures { result ≡ kind_byte kind }
-{
-    match kind {
-        Kind::Put => 1,
-        Kind::Delete => 2,
-    }
-}
-
-// The kind that a byte stands for.
-fn kind_of(byte: u8) -> Option<Kind>
-    ensures { result ≡ kind_of byte }
-{
-    match byte {
-        1 => Some(Kind::Put),
-        2 => Some(Kind::Delete),
-        _ => None,
-    }
-}
+pub const HEAD_LEN: usize = 1 + KEY_LEN;
 
 /// The head of a row: the kind in one byte, then the key.
-pub fn head_bytes(kind: Kind, key: &Key) -> [u8; 21]
+pub fn head_bytes(kind: Kind, key: &Key) -> [u8; HEAD_LEN]
     ensures { result ≡ head_bytes kind key.now }
 {
     let mut bytes = [0; HEAD_LEN];
-    bytes[0] = kind_byte(kind);
+    bytes[0] = kind.byte();
     bytes[1..].copy_from_slice(&key.0);
     bytes
 }
 
 /// What the head of a row says: `None` exactly for a kind byte other than 1 and 2.
-pub fn head_of(bytes: &[u8; 21]) -> Option<(Kind, Key)>
+pub fn head_of(bytes: &[u8; HEAD_LEN]) -> Option<(Kind, Key)>
     ensures { result ≡ head_of bytes.now }
 {
-    let kind = kind_of(bytes[0])?;
-    let mut key = [0; 20];
+    let kind = Kind::from_byte(bytes[0])?;
+    let mut key = [0; KEY_LEN];
     key.copy_from_slice(&bytes[1..]);
     Some((kind, Key(key)))
 }
@@ -68,6 +47,7 @@ mod tests {
         assert_eq!(rt; head_bytes(Kind::Put, &key), head);
         assert_eq!(rt; head_of(&head), Some((Kind::Put, key)));
         assert_eq!(rt; head_bytes(Kind::Delete, &key)[0], 2);
+        assert!(rt; Kind::Put.is_put() && !Kind::Delete.is_put());
     }
 
     #[test]
@@ -76,6 +56,7 @@ mod tests {
             let mut head = [7; HEAD_LEN];
             head[0] = kind;
             assert_eq!(rt; head_of(&head), None);
+            assert_eq!(rt; Kind::from_byte(kind), None);
         }
     }
 }

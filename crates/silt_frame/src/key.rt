@@ -1,4 +1,6 @@
 // Keys, and what a row says of one.
+ghost use Rattle.std.specs.Prelude.{◌≡◌};
+ghost use Rattle.silt_frame.specs.Frame.{is_put, kind_byte, kind_of};
 
 /// How many bytes a key has.
 pub const KEY_LEN: usize = 20;
@@ -12,6 +14,50 @@ pub struct Key(pub [u8; 20]);
 pub enum Kind {
     Put,
     Delete,
+}
+
+impl Kind {
+    ghost use Rattle.std.specs.Prelude.{◌≡◌, ◌≤◌};
+    ghost use Rattle.silt_frame.specs.Rows.{puts_of};
+
+    /// Whether it gives its key a value.
+    pub fn is_put(self) -> bool
+        ensures { result ≡ is_put self }
+    {
+        self == Kind::Put
+    }
+
+    /// The byte that stands for it: 1 for a put, 2 for a delete.
+    pub fn byte(self) -> u8
+        ensures { result ≡ kind_byte self }
+    {
+        match self {
+            Kind::Put => 1,
+            Kind::Delete => 2,
+        }
+    }
+
+    /// The kind that a byte stands for: `None` exactly for a byte other than 1 and 2.
+    pub fn from_byte(byte: u8) -> Option<Kind>
+        ensures { result ≡ kind_of byte }
+    {
+        match byte {
+            1 => Some(Kind::Put),
+            2 => Some(Kind::Delete),
+            _ => None,
+        }
+    }
+
+    /// How many puts a row of this kind is: one or none.
+    pub fn puts(self) -> u32
+        ensures value { result ≡ puts_of self }
+        ensures most { result ≤ 1 }
+    {
+        match self {
+            Kind::Put => 1,
+            Kind::Delete => 0,
+        }
+    }
 }
 
 /// A row without its value, and its number in its region.

@@ -1,15 +1,18 @@
-//! The bytes of rows and entries.
+//! The bytes of gates, rows and entries.
 //!
 //! A row of a log or of a hash region is a head and a value. The head is 21 bytes: the kind (1 for a put,
 //! 2 for a delete) and the 20 bytes of the key. An entry of a sorted region is a key and a value.
+//! A gate is one byte, and open exactly where it is 0xA7.
 #![tactic(auto)]
 
 mod entry;
+mod gate;
 mod head;
 mod key;
 mod value;
 
 pub use entry::{entry_of, entry_reads_back, write_entry};
+pub use gate::{GATE_CLOSED, GATE_OPEN, gates_differ, is_open};
 pub use head::{HEAD_LEN, head_bytes, head_of, head_reads_back};
 pub use key::{KEY_LEN, Key, Kind, Row};
 pub use value::Value;

@@ -8,7 +8,7 @@ use Rattle.std.proofs.Math.Pow.{pow_mono}
 use Rattle.std.specs.Int.RustNames.{bit_or}
 use Rattle.std.proofs.lemmas.Nat.{or_shifted, shl_whole, shl-shr, shr_below, shr_split}
 use Rattle.std.specs.Int.{w64, to_be_bytes}
-use Rattle.silt_gamma.specs.Bits.{low_bits, bits_of, IsFilled}
+use Rattle.silt_gamma.specs.Bits.{low_bits, bits_of, HoldsBits}
 use Rattle.silt_gamma.proofs.Gamma.{low_bits_same}
 use Rattle.silt_gamma.proofs.BitLists.{length-bits_of, length-low_bits, low_bits_moved, low_bits_mod, low_bits_split, low_bits_joined, low_bits-zero, bits_of-append, bits_of-take, bits_of_to_be, take_into_zeros}
 
@@ -24,9 +24,9 @@ aligned width value some word small =
     (ap (λ x. x / 2 ^ (64 - width)) fits ∙ shl-shr value (64 - width), ap (low_bits 64) fits ∙ ap (λ w. low_bits w (value * 2 ^ (64 - width))) (sym whole) ∙ low_bits_moved width (64 - width) value)
 
 -- bits of which the last byte is whole take more bytes behind it
-pub append_whole : (width word len k : ℕ) (bytes more new : List ℕ) → IsFilled bytes (take len (bits_of bytes)) → len ≤ 8 * length bytes → len % 8 ≡ 0 → width ≤ 64
+pub append_whole : (width word len k : ℕ) (bytes more new : List ℕ) → HoldsBits bytes (take len (bits_of bytes)) → len ≤ 8 * length bytes → len % 8 ≡ 0 → width ≤ 64
     → low_bits 64 word ≡ low_bits width (word / 2 ^ (64 - width)) ++ replicate (64 - width) 0 → more ≡ to_be_bytes w64 word → width ≤ 8 * k → 8 * k < width + 8 → new ≡ bytes ++ take k more
-    → IsFilled new (take len (bits_of bytes) ++ low_bits width (word / 2 ^ (64 - width)))
+    → HoldsBits new (take len (bits_of bytes) ++ low_bits width (word / 2 ^ (64 - width)))
 append_whole width word len k bytes more new filled within whole small alone made low high is =
     let bits = take len (bits_of bytes) in
     let top = low_bits width (word / 2 ^ (64 - width)) in
@@ -78,7 +78,7 @@ record LastByte (len q u f b : ℕ) (bytes : List ℕ) : Type 0 where
   zeros : low_bits f b ≡ replicate f 0
 
 -- the last byte of bits that do not fill it
-last_byte : (len q u f b : ℕ) (bytes more : List ℕ) → IsFilled bytes (take len (bits_of bytes)) → len ≤ 8 * length bytes → len ≡ 8 * q + u → 0 < u → u + f ≡ 8 → b ≡ get_or (bytes ++ more) q b → LastByte len q u f b bytes
+last_byte : (len q u f b : ℕ) (bytes more : List ℕ) → HoldsBits bytes (take len (bits_of bytes)) → len ≤ 8 * length bytes → len ≡ 8 * q + u → 0 < u → u + f ≡ 8 → b ≡ get_or (bytes ++ more) q b → LastByte len q u f b bytes
 last_byte len q u f b bytes more filled within place some byte read =
     let bits = take len (bits_of bytes) in
     let count = length_front len bytes within in
@@ -106,10 +106,10 @@ last_byte len q u f b bytes more filled within place some byte read =
     }
 
 -- bits of which the last byte has room take the front of the word there, and bytes behind it
-pub append_partly : (width word len k b : ℕ) (bytes more new : List ℕ) → IsFilled bytes (take len (bits_of bytes)) → len ≤ 8 * length bytes → 0 < len % 8 → 1 ≤ width → width ≤ 64 → word < 2 ^ 64
+pub append_partly : (width word len k b : ℕ) (bytes more new : List ℕ) → HoldsBits bytes (take len (bits_of bytes)) → len ≤ 8 * length bytes → 0 < len % 8 → 1 ≤ width → width ≤ 64 → word < 2 ^ 64
     → low_bits 64 word ≡ low_bits width (word / 2 ^ (64 - width)) ++ replicate (64 - width) 0 → more ≡ to_be_bytes w64 (word * 2 ^ (8 - len % 8) % 2 ^ 64) → k ≡ (len % 8 + width - 1) / 8
     → b ≡ get_or (bytes ++ take k more) (len / 8) b → new ≡ set (bytes ++ take k more) (len / 8) (bit_or b (word / 2 ^ (56 + len % 8)))
-    → IsFilled new (take len (bits_of bytes) ++ low_bits width (word / 2 ^ (64 - width)))
+    → HoldsBits new (take len (bits_of bytes) ++ low_bits width (word / 2 ^ (64 - width)))
 append_partly width word len k b bytes more new filled within some one small fits alone made count read is =
     let q = len / 8 in
     let u = len % 8 in
@@ -142,12 +142,12 @@ append_partly width word len k b bytes more new filled within some one small fit
 -- what a writer's fields say
 pub record Holds (len : ℕ) (bytes bits : List ℕ) : Type 0 where
   pub view : take len (bits_of bytes) ≡ bits
-  pub filled : IsFilled bytes (take len (bits_of bytes))
+  pub filled : HoldsBits bytes (take len (bits_of bytes))
   pub within : len ≤ 8 * length bytes
 
 -- the fields after bits were appended
 pub holds_after : (len width value word after : ℕ) (bytes new old : List ℕ) → after ≡ len + width → len ≤ 8 * length bytes → take len (bits_of bytes) ≡ old → word ≡ value
-    → IsFilled new (take len (bits_of bytes) ++ low_bits width word) → Holds after new (old ++ low_bits width value)
+    → HoldsBits new (take len (bits_of bytes) ++ low_bits width word) → Holds after new (old ++ low_bits width value)
 holds_after len width value word after bytes new old sum within view same filled =
     let written = old ++ low_bits width value in
     let is : take len (bits_of bytes) ++ low_bits width word ≡ written = ap (λ xs. xs ++ low_bits width word) view ∙ ap (λ x. old ++ low_bits width x) same in

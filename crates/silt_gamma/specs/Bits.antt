@@ -20,14 +20,14 @@ abbrev pub high_bits : ℕ → ℕ → List ℕ
 high_bits w word = low_bits w (word / 2 ^ (64 - w))
 
 -- the bytes hold exactly these bits: zeros fill up the last byte, and there is no byte more
-pub record IsFilled (bytes bits : List ℕ) : Type 0 where
+pub record HoldsBits (bytes bits : List ℕ) : Type 0 where
   pub spare : ℕ
   pub short : spare < 8
   pub code : bits_of bytes ≡ bits ++ replicate spare 0
 
 -- the bytes hold exactly their first n bits
 pub record IsFilledTo (n : ℕ) (bytes : List ℕ) : Type 0 where
-  pub filled : IsFilled bytes (first_bits n bytes)
+  pub filled : HoldsBits bytes (first_bits n bytes)
   pub within : n ≤ 8 * length bytes
 
 -- a place and an end within some bytes, and a word that begins with so many bits from that place on

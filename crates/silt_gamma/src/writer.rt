@@ -1,6 +1,6 @@
 //! A writer of bits.
 ghost use Rattle.std.specs.Prelude.{◌≡◌, ℕ, ◌+◌, ◌-◌, ◌*◌, ◌/◌, ◌^◌, ◌<◌, ◌≤◌, List, [], ◌++◌, length, take, drop, replicate, OnOk, OnErr};
-ghost use Rattle.silt_gamma.specs.Bits.{low_bits, high_bits, first_bits, IsFilled, IsFilledTo};
+ghost use Rattle.silt_gamma.specs.Bits.{low_bits, high_bits, first_bits, HoldsBits, IsFilledTo};
 ghost use Rattle.silt_gamma.specs.Gamma.{gamma_code};
 
 use super::reader::BitReader;
@@ -43,7 +43,7 @@ impl BitWriter {
 
     /// The bytes that the bits fill; the last one ends in zeros.
     pub fn as_bytes(&self) -> &[u8]
-        ensures { IsFilled result.now self.now }
+        ensures { HoldsBits result.now self.now }
     {
         self.bytes.as_slice()
     }
@@ -89,7 +89,7 @@ fn append(bytes: &mut Vec<u8>, len: usize, word: u64, width: usize) -> Result<()
     requires alone { low_bits 64 word ≡ high_bits width word ++ replicate (64 - width) 0 }
     requires filled { IsFilledTo len bytes.old.items }
     ensures ok { OnOk result
-        (IsFilled bytes.new.items (first_bits len bytes.old.items ++ high_bits width word)) }
+        (HoldsBits bytes.new.items (first_bits len bytes.old.items ++ high_bits width word)) }
     ensures err { OnErr result (bytes.new.items ≡ bytes.old.items) }
 {
     let used = len % 8;

@@ -17,13 +17,13 @@ use Rattle.silt_cuckoo.proofs.Paths.{entry_inside}
 use Rattle.silt_cuckoo.proofs.Placed.{has_entry}
 use Rattle.silt_cuckoo.proofs.Indexing.{index_law, newest_apart}
 use Rattle.silt_device.specs.Layout.{Shape}
-use Rattle.silt_image.specs.Commands.{Map, changed, delete, map_after, put}
-use Rattle.silt_image.specs.Laws.{value_of}
-use Rattle.silt_image.specs.Meaning.{command_of, keys_of}
-use Rattle.silt_log.specs.Rows.{StoredRow, has_known_kind}
+use Rattle.silt_event.specs.Commands.{Map, changed, delete, map_after, put}
+use Rattle.silt_image.specs.Laws.{value_given}
+use Rattle.silt_image.specs.Meaning.{command_of}
+use Rattle.silt_frame.specs.Rows.{keys_of, has_known_kind, StoredRow}
 use Rattle.silt_log_store.proofs.Entries.{entry_law}
 use Rattle.silt_log_store.proofs.Rows.{key_of_row, keys_count}
-use Rattle.silt_hash_store.specs.Converting.{converted_before, converted_row, converted_rows, empty_row}
+use Rattle.silt_hash_store.specs.Conversion.{converted_before, converted_row, converted_rows, empty_row}
 use Rattle.silt_hash_store.specs.Laws.{ConvertedMapLaw, IsTableOf}
 use Rattle.silt_hash_store.specs.Slots.{is_row_of}
 use Rattle.silt_hash_store.proofs.Slotting.{empty_not_known}
@@ -34,10 +34,10 @@ same_key : (key other : List ℕ) → eq_by_cmp (slice_cmp nat_cmp) key other �
 same_key key other = (eq_by_cmp_equiv nat_list_cmp_total).symm key other ∙ is_eq-slice_cmp other key
 
 -- what a map has for a key after one row more
-changed_get : (m : Map) (row : StoredRow) (key : List ℕ) → get (changed m (command_of row)) key ≡ cond (bytes_eq row.key key) (value_of row) (get m key)
+changed_get : (m : Map) (row : StoredRow) (key : List ℕ) → get (changed m (command_of row)) key ≡ cond (bytes_eq row.key key) (value_given row) (get m key)
 changed_get m row key = go (row.kind == 1) refl
   where
-    go : (b : Bool) → (row.kind == 1) ≡ b → get (changed m (command_of row)) key ≡ cond (bytes_eq row.key key) (value_of row) (get m key)
+    go : (b : Bool) → (row.kind == 1) ≡ b → get (changed m (command_of row)) key ≡ cond (bytes_eq row.key key) (value_given row) (get m key)
     go true is =
         ap (λ (b : Bool). get (changed m (if b then put row.key row.value else delete row.key)) key) is
         ∙ get-insert nat_list_cmp_total m row.key row.value key
@@ -50,11 +50,11 @@ changed_get m row key = go (row.kind == 1) refl
         ∙ ap (λ (b : Bool). cond (bytes_eq row.key key) (if b then Some row.value else None) (get m key)) (sym is)
 
 -- a row of the key sets its value, and another row leaves what there is
-set_by : (m : Map) (row : StoredRow) (key : List ℕ) → bytes_eq row.key key ≡ true → get (changed m (command_of row)) key ≡ value_of row
-set_by m row key same = changed_get m row key ∙ ap (λ (b : Bool). cond b (value_of row) (get m key)) same
+set_by : (m : Map) (row : StoredRow) (key : List ℕ) → bytes_eq row.key key ≡ true → get (changed m (command_of row)) key ≡ value_given row
+set_by m row key same = changed_get m row key ∙ ap (λ (b : Bool). cond b (value_given row) (get m key)) same
 
 left_by : (m : Map) (row : StoredRow) (key : List ℕ) → bytes_eq row.key key ≡ false → get (changed m (command_of row)) key ≡ get m key
-left_by m row key other = changed_get m row key ∙ ap (λ (b : Bool). cond b (value_of row) (get m key)) other
+left_by m row key other = changed_get m row key ∙ ap (λ (b : Bool). cond b (value_given row) (get m key)) other
 
 -- some row of a known kind has the key
 abbrev HasRow : List ℕ → List StoredRow → Type 0
@@ -62,7 +62,7 @@ HasRow key rows = (i : ℕ) × (row : StoredRow) × (slice_get rows i ≡ Some r
 
 -- all rows of the key have this value
 abbrev AllHave : Option (List ℕ) → List ℕ → List StoredRow → Type 0
-AllHave v key rows = (i : ℕ) (row : StoredRow) → slice_get rows i ≡ Some row → is_row_of key row ≡ true → value_of row ≡ v
+AllHave v key rows = (i : ℕ) (row : StoredRow) → slice_get rows i ≡ Some row → is_row_of key row ≡ true → value_given row ≡ v
 
 -- a map after the rows of known kinds among some
 abbrev after_known : Map → List StoredRow → Map
@@ -159,12 +159,12 @@ last_row key (first ∷ rows) = elim (last_row key rows) [
 
 -- the last row of a key decides
 decided : (key : List ℕ) (m : Map) (rows : List StoredRow) (last : ℕ) (row : StoredRow) → slice_get rows last ≡ Some row → bytes_eq row.key key ≡ true
-    → ((later : ℕ) (other : StoredRow) → last < later → slice_get rows later ≡ Some other → bytes_eq other.key key ≡ false) → get (map_after m (map command_of rows)) key ≡ value_of row
+    → ((later : ℕ) (other : StoredRow) → last < later → slice_get rows later ≡ Some other → bytes_eq other.key key ≡ false) → get (map_after m (map command_of rows)) key ≡ value_given row
 decided key m [] last row there same none = absurd (cc)
 decided key m (first ∷ rows) zero row there same none =
     let is_first : first ≡ row = cc in
     untouched key (changed m (command_of first)) rows (λ i other at. none (suc i) other (omega arith) at)
-    ∙ set_by m first key (ap (λ (r : StoredRow). bytes_eq r.key key) is_first ∙ same) ∙ ap value_of is_first
+    ∙ set_by m first key (ap (λ (r : StoredRow). bytes_eq r.key key) is_first ∙ same) ∙ ap value_given is_first
 decided key m (first ∷ rows) (suc last) row there same none = decided key (changed m (command_of first)) rows last row there same (λ later other above at. none (suc later) other (omega arith) at)
 
 -- ---- the rows that are due
@@ -233,7 +233,7 @@ module _ (s : Shape) (rows : List StoredRow) (table : Slots) (is : IsTableOf s r
   same_get : (m : Map) (key : List ℕ) → get (after_known m (converted_rows s table rows)) key ≡ get (map_after m (map command_of rows)) key
   same_get m key = elim (last_row key rows) [
     | inl (last, row, it) ↦
-        settled (value_of row) key m (converted_rows s table rows)
+        settled (value_given row) key m (converted_rows s table rows)
         (λ slot other there passes.
         let found = due_newest key slot other there passes in
         let has = (bytes_eq-Decides other.key key).0 (and_parts (has_known_kind other) (bytes_eq other.key key) passes).1 in
@@ -241,7 +241,7 @@ module _ (s : Shape) (rows : List StoredRow) (table : Slots) (is : IsTableOf s r
         let place : found.0 ≡ last = newest_apart (keys_of rows) found.0 last found.1 (last_newest key last row it) same_keys in
         let both : Some other ≡ Some row = sym found.2 ∙ ap (slice_get rows) place ∙ it.there in
         let same : other ≡ row = cc in
-        ap value_of same)
+        ap value_given same)
         (inr (last_due key last row it))
         ∙ sym (decided key m rows last row it.there it.has_key it.none)
     | inr none ↦

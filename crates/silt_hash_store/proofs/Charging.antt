@@ -9,10 +9,9 @@ use Rattle.std.proofs.lemmas.List.Sums.{sum_by-cons, sum_by_more}
 use Rattle.silt_cuckoo.specs.Slots.{Entry, Slots, entry_at, place_at}
 use Rattle.silt_device.specs.Layout.{Shape}
 use Rattle.silt_frame.specs.Frame.{kind_of}
-use Rattle.silt_image.specs.Meaning.{charge_of_rows, keys_of}
-use Rattle.silt_log.specs.Rows.{StoredRow, has_known_kind}
+use Rattle.silt_frame.specs.Rows.{put_count, keys_of, has_known_kind, StoredRow}
 use Rattle.silt_log_store.proofs.Entries.{entry_law}
-use Rattle.silt_hash_store.specs.Converting.{converted_before, converted_row, converted_rows, empty_row}
+use Rattle.silt_hash_store.specs.Conversion.{converted_before, converted_row, converted_rows, empty_row}
 use Rattle.silt_hash_store.specs.Laws.{ConvertedChargeLaw, IsTableOf}
 use Rattle.silt_hash_store.proofs.Soundness.{empty_kind, place_inside, row_of_entry, row_of_none}
 
@@ -32,15 +31,15 @@ unknown_weight row unknown = elim (cases_Bool (eqb row.kind 1)) [
 ]
 
 -- so rows have the puts of those of known kinds
-pub known_charge : (rows : List StoredRow) → charge_of_rows (filter has_known_kind rows) ≡ charge_of_rows rows
+pub known_charge : (rows : List StoredRow) → put_count (filter has_known_kind rows) ≡ put_count rows
 known_charge [] = refl
 known_charge (row ∷ rows) = elim (cases_Bool (has_known_kind row)) [
   | inl known ↦
       let kept : filter has_known_kind (row ∷ rows) ≡ row ∷ filter has_known_kind rows = rw known refl in
-      ap charge_of_rows kept ∙ sum_by-cons weight row (filter has_known_kind rows) ∙ ap (λ n. weight row + n) (known_charge rows) ∙ sym (sum_by-cons weight row rows)
+      ap put_count kept ∙ sum_by-cons weight row (filter has_known_kind rows) ∙ ap (λ n. weight row + n) (known_charge rows) ∙ sym (sum_by-cons weight row rows)
   | inr unknown ↦
       let dropped : filter has_known_kind (row ∷ rows) ≡ filter has_known_kind rows = rw unknown refl in
-      omega (arith, ap charge_of_rows dropped, known_charge rows, unknown_weight row unknown, sum_by-cons weight row rows)
+      omega (arith, ap put_count dropped, known_charge rows, unknown_weight row unknown, sum_by-cons weight row rows)
 ]
 
 -- ---- sums over slots
@@ -61,11 +60,11 @@ total_zero f zero zeros = refl
 total_zero f (suc n) zeros = omega (arith, total_zero f n zeros, zeros n)
 
 -- the puts of a row a slot
-slots_charge : (row : ℕ → StoredRow) (n : ℕ) → charge_of_rows (map row (range_with_len 0 n)) ≡ total (λ slot. weight (row slot)) n
+slots_charge : (row : ℕ → StoredRow) (n : ℕ) → put_count (map row (range_with_len 0 n)) ≡ total (λ slot. weight (row slot)) n
 slots_charge row zero = refl
 slots_charge row (suc n) =
     let more : suc n ≡ n + 1 = omega arith in
-    ap (λ m. charge_of_rows (map row (range_with_len 0 m))) more
+    ap (λ m. put_count (map row (range_with_len 0 m))) more
     ∙ sum_by-map-range_with_len_more weight row 0 n n (omega arith)
     ∙ ap (λ m. m + weight (row n)) (slots_charge row n)
 
@@ -128,11 +127,11 @@ module _ (rows : List StoredRow) (d : StoredRow) where
     one_more n (suc count) = one_slot_more n count (one_more n count) (place_of count) refl
 
     -- the slots have no more puts than the rows whose places they have
-    at_most : (n count : ℕ) → n ≤ length rows → reached n count ≤ charge_of_rows (take n rows)
+    at_most : (n count : ℕ) → n ≤ length rows → reached n count ≤ put_count (take n rows)
     at_most zero count most = omega (arith, total_zero (λ slot. reach 0 (place_of slot)) count (λ slot. reach_none (place_of slot)))
     at_most (suc n) count most =
         let more : suc n ≡ n + 1 = omega arith in
-        let rest : charge_of_rows (take (n + 1) rows) ≡ charge_of_rows (take n rows) + weight (get_or rows n d) = sum_by_more weight rows n d (omega arith) in
+        let rest : put_count (take (n + 1) rows) ≡ put_count (take n rows) + weight (get_or rows n d) = sum_by_more weight rows n d (omega arith) in
         rw more (omega (arith, one_more n count, at_most n count (omega arith), rest))
 
 -- the rows that are due have no more puts than the log's rows
@@ -141,12 +140,12 @@ unfolding converted_before converted_rows
 converted_charge s rows table is =
     let blank : StoredRow = empty_row s in
     let slots : ℕ = 4 * s.buckets in
-    let due : charge_of_rows (map (converted_row s table rows) (range_with_len 0 slots)) ≡ total (λ slot. reach rows blank (length rows) (place_at table slot)) slots =
+    let due : put_count (map (converted_row s table rows) (range_with_len 0 slots)) ≡ total (λ slot. reach rows blank (length rows) (place_at table slot)) slots =
     slots_charge (converted_row s table rows) slots
     ∙ total_same (λ slot. weight (converted_row s table rows slot)) (λ slot. reach rows blank (length rows) (place_at table slot)) slots (λ slot below. each slot (entry_at table slot) refl) in
     let once = (entry_law s.buckets (keys_of rows) table is.count is.indexed).once in
     let most = at_most rows blank (place_at table) once (length rows) slots (omega arith) in
-    let all : charge_of_rows (take (length rows) rows) ≡ charge_of_rows rows = ap charge_of_rows (take_all (length rows) rows (omega arith)) in
+    let all : put_count (take (length rows) rows) ≡ put_count rows = ap put_count (take_all (length rows) rows (omega arith)) in
     omega (arith, known_charge (map (converted_row s table rows) (range_with_len 0 slots)), due, most, all)
   where
     each : (slot : ℕ) (e : Option Entry) → entry_at table slot ≡ e → weight (converted_row s table rows slot) ≡ reach rows (empty_row s) (length rows) (place_at table slot)

@@ -1,35 +1,35 @@
 -- What calls on other parts of the disk leave of a hash store and of a conversion.
 use Rattle.std.proofs.Common.{◌≡◌, ℕ, ◌+◌, ◌*◌, ◌≤◌, ◌<◌, IsTrue, List, filter, length, sym, subst, ap, ◌∙◌, inl, inr, arith}
-use Rattle.silt_device.specs.Disk.{Torn, size}
-use Rattle.silt_device.specs.Layout.{Shape, device_size, hash_at, row_len}
+use Rattle.silt_device.specs.Disk.{LiesOutside, Torn, size}
+use Rattle.silt_device.specs.Layout.{Shape, device_size, hash_at, row_len, slots_len}
 use Rattle.silt_device.proofs.Images.{torn_slice_after, torn_slice_before}
-use Rattle.silt_image.specs.Meaning.{charge_of_rows, hash_findings}
+use Rattle.silt_image.specs.Meaning.{hash_findings}
+use Rattle.silt_frame.specs.Rows.{put_count, has_known_kind, row_of, StoredRow}
 use Rattle.silt_image.specs.Stores.{hash_rows}
-use Rattle.silt_log.specs.Rows.{StoredRow, has_known_kind, row_of}
 use Rattle.silt_log.proofs.Bodies.{map_range_same}
 use Rattle.silt_log_store.proofs.Elsewhere.{rows_outside}
-use Rattle.silt_hash_store.specs.Converting.{converted_before, converted_row}
-use Rattle.silt_hash_store.specs.Laws.{HashElsewhereLaw, IsOutsideSlots, WrittenElsewhereLaw}
-use Rattle.silt_hash_store.specs.Slots.{rows_before, slot_at, slot_row, tag_of}
+use Rattle.silt_hash_store.specs.Conversion.{converted_before, converted_row}
+use Rattle.silt_hash_store.specs.Laws.{HashElsewhereLaw, WrittenElsewhereLaw}
+use Rattle.silt_hash_store.specs.Slots.{rows_before, hash_slot_at, slot_row, tag_of}
 use Rattle.silt_hash_store.proofs.Reading.{slot_inside}
 use Rattle.silt_hash_store.proofs.Slotting.{all_before}
 use Rattle.silt_hash_store.proofs.Writing.{slots_inside}
 
 -- a change outside the slots leaves each row
-slot_outside : (s : Shape) (region slot at count : ℕ) (old new : List ℕ) → hash_at s region + 4 * s.buckets * row_len s ≤ length old → slot < 4 * s.buckets → IsOutsideSlots s region at count
+pub slot_outside : (s : Shape) (region slot at count : ℕ) (old new : List ℕ) → hash_at s region + 4 * s.buckets * row_len s ≤ length old → slot < 4 * s.buckets → LiesOutside (hash_at s region) (slots_len s) at count
     → Torn at count old new → slot_row s region new slot ≡ slot_row s region old slot
 unfolding slot_row
 slot_outside s region slot at count old new fits below outside torn =
     let inside = slot_inside s region slot (length old) fits below in
     elim outside [
-      | inl before ↦ ap row_of (torn_slice_after at count old new torn (slot_at s region slot) (slot_at s region slot + row_len s) (omega (arith, before)) inside)
+      | inl before ↦ ap row_of (torn_slice_after at count old new torn (hash_slot_at s region slot) (hash_slot_at s region slot + row_len s) (omega (arith, before)) inside)
       | inr behind ↦
           let ends = slot_inside s region slot at behind below in
-          ap row_of (torn_slice_before at count old new torn (slot_at s region slot) (slot_at s region slot + row_len s) ends inside)
+          ap row_of (torn_slice_before at count old new torn (hash_slot_at s region slot) (hash_slot_at s region slot + row_len s) ends inside)
     ]
 
 -- and so all rows
-rows_same : (s : Shape) (region at count : ℕ) (old new : List ℕ) → hash_at s region + 4 * s.buckets * row_len s ≤ length old → IsOutsideSlots s region at count → Torn at count old new
+rows_same : (s : Shape) (region at count : ℕ) (old new : List ℕ) → hash_at s region + 4 * s.buckets * row_len s ≤ length old → LiesOutside (hash_at s region) (slots_len s) at count → Torn at count old new
     → hash_rows s region new ≡ hash_rows s region old
 unfolding rows_before
 rows_same s region at count old new fits outside torn =
@@ -65,5 +65,5 @@ written_elsewhere log conversion old new at count bounds there most fits log_out
       charged = λ honest.
           let was : IsTrue old.honest = sym changes.honest ∙ honest in
           is.charged was
-          ∙ ap (λ (rows : List StoredRow). charge_of_rows (filter has_known_kind (converted_before conversion.shape log.table rows conversion.next))) (sym (rows_outside old new log.log at count bounds log_fits log_outside changes was));
+          ∙ ap (λ (rows : List StoredRow). put_count (filter has_known_kind (converted_before conversion.shape log.table rows conversion.next))) (sym (rows_outside old new log.log at count bounds log_fits log_outside changes was));
     }

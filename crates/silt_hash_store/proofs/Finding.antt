@@ -10,10 +10,10 @@ use Rattle.silt_cuckoo.specs.Placing.{other_bucket}
 use Rattle.silt_frame.specs.declared.key.Kind.{Kind}
 use Rattle.silt_image.specs.Meaning.{holds_key, is_in_bucket}
 use Rattle.silt_image.specs.Stores.{hash_rows}
-use Rattle.silt_log.specs.Rows.{StoredRow, has_known_kind}
+use Rattle.silt_frame.specs.Rows.{has_known_kind, StoredRow}
 use Rattle.silt_log_store.specs.declared.store.Found.{Found}
 use Rattle.silt_hash_store.specs.Lookup.{FindsIn, FindsRow, MatchesKey, MatchesTag}
-use Rattle.silt_hash_store.specs.Slots.{is_row_of, rows_before, slot_row, tag_at}
+use Rattle.silt_hash_store.specs.Slots.{is_row_of, rows_before, slot_row, slot_tag}
 use Rattle.silt_hash_store.specs.State.{HashState, IsTagged}
 use Rattle.silt_hash_store.proofs.Slotting.{before_at, before_count, before_there, sound_parts, tag_known}
 
@@ -49,13 +49,13 @@ module _ (store : HashState) (image : List ℕ) (count : ℕ) (is : IsTagged sto
     | inl has ↦
         let parts = and_parts (has_known_kind (row_in slot)) (bytes_eq (row_in slot).key key) has in
         let same : (row_in slot).key ≡ key = (bytes_eq-Decides (row_in slot).key key).0 parts.1 in
-        let tagged : tag_at store.tags slot ≡ Some (other_bucket (first_bucket store.shape.buckets key) (second_bucket store.shape.buckets key) slot) =
+        let tagged : slot_tag store.tags slot ≡ Some (other_bucket (first_bucket store.shape.buckets key) (second_bucket store.shape.buckets key) slot) =
         is.tagged slot below ∙ tag_known store.shape.buckets slot (row_in slot) parts.0 ∙ ap (λ (k : List ℕ). Some (other_bucket (first_bucket store.shape.buckets k) (second_bucket store.shape.buckets k) slot)) same in
         let inside : is_in_bucket store.shape slot key ≡ true = ap (is_in_bucket store.shape slot) (sym same) ∙ (sound_parts store.shape (hash_rows store.shape store.region image) slot (row_in slot) parts.0 (is.sound slot below)).0 in
         elim (cases_Bool (eqb (slot / 4) (first_bucket store.shape.buckets key))) [
           | inl first ↦
               let at : slot / 4 ≡ first_bucket store.shape.buckets key = eqb-true _ _ first in
-              let tag : tag_at store.tags slot ≡ Some (second_bucket store.shape.buckets key) = tagged ∙ ap Some (cond-true _ _ _ first) in
+              let tag : slot_tag store.tags slot ≡ Some (second_bucket store.shape.buckets key) = tagged ∙ ap Some (cond-true _ _ _ first) in
               first_none slot (omega (arith, at)) (omega (arith, at)) tag
           | inr other ↦
               let second : eqb (slot / 4) (second_bucket store.shape.buckets key) ≡ true = elim (or_cases (eqb (slot / 4) (first_bucket store.shape.buckets key)) (eqb (slot / 4) (second_bucket store.shape.buckets key)) inside) [
@@ -63,7 +63,7 @@ module _ (store : HashState) (image : List ℕ) (count : ℕ) (is : IsTagged sto
                 | inr second ↦ second
               ] in
               let at : slot / 4 ≡ second_bucket store.shape.buckets key = eqb-true _ _ second in
-              let tag : tag_at store.tags slot ≡ Some (first_bucket store.shape.buckets key) = tagged ∙ ap Some (cond-false _ _ _ other) in
+              let tag : slot_tag store.tags slot ≡ Some (first_bucket store.shape.buckets key) = tagged ∙ ap Some (cond-false _ _ _ other) in
               second_none slot (omega (arith, at)) (omega (arith, at)) tag
         ]
   ]

@@ -16,23 +16,22 @@ use Rattle.silt_device.specs.Layout.{Shape}
 use Rattle.silt_frame.specs.Frame.{kind_byte, kind_of}
 use Rattle.silt_frame.specs.declared.key.Kind.{Kind}
 use Rattle.silt_frame.specs.declared.key.Kind.TheVariants.{Put, Delete}
-use Rattle.silt_image.specs.Meaning.{charge_of_rows, finding_if, hash_findings, holds_key, is_in_bucket, is_sound_hash_slot, slot_findings}
+use Rattle.silt_image.specs.Meaning.{finding_if, hash_findings, holds_key, is_in_bucket, is_sound_hash_slot, slot_findings}
+use Rattle.silt_frame.specs.Rows.{put_count, has_known_kind, StoredRow, puts_of}
 use Rattle.silt_image.specs.Stores.{Part, hash_part, hash_rows}
-use Rattle.silt_image.specs.declared.finding.Finding.{Finding}
-use Rattle.silt_image.specs.declared.finding.Finding.TheVariants as finding
-use Rattle.silt_image.specs.declared.finding.Place.TheVariants.{Hash}
+use Rattle.silt_image.specs.declared.damage.Finding.{Finding}
+use Rattle.silt_image.specs.declared.damage.Finding.TheVariants as finding
+use Rattle.silt_event.specs.declared.place.Place.TheVariants.{Hash}
 use Rattle.silt_image.proofs.Sound.{nothing_both, nothing_first, nothing_second, nothing_where_passes, passes_where_nothing}
-use Rattle.silt_log.specs.Rows.{StoredRow, has_known_kind}
-use Rattle.silt_log_store.specs.Growing.{puts_of}
 use Rattle.silt_log_store.specs.declared.store.Found.{Found}
 use Rattle.silt_log_store.proofs.Named.{kind_of_byte}
 use Rattle.silt_hash_store.specs.Lookup.{FindsRow}
-use Rattle.silt_hash_store.specs.Rebuild.{AddsSound, IsFirstUnsound, IsGrown, IsRebuiltHash, IsRefusedHash, TagsKey, Takes}
-use Rattle.silt_hash_store.specs.Slots.{is_row_of, is_sound_slot, rows_before, slot_row, tag_at, tag_of}
+use Rattle.silt_hash_store.specs.Rebuild.{AddsSound, IsFirstUnsound, IsGrown, IsRebuiltHash, IsRefusedHash, TagsKey, TakesAdded}
+use Rattle.silt_hash_store.specs.Slots.{is_row_of, is_sound_slot, rows_before, slot_row, slot_tag, tag_of}
 use Rattle.silt_hash_store.specs.State.{HashState, IsHashStore, IsHeldHash, IsTagged}
-use Rattle.silt_hash_store.specs.declared.rebuilding.RebuildError.{RebuildError}
-use Rattle.silt_hash_store.specs.declared.rebuilding.RebuildError.TheVariants.{Damaged, Device, NoMemory}
-use Rattle.silt_hash_store.specs.declared.rebuilding.Rebuilt.{Rebuilt}
+use Rattle.silt_hash_store.specs.declared.rebuild.RebuildError.{RebuildError}
+use Rattle.silt_hash_store.specs.declared.rebuild.RebuildError.TheVariants.{Damaged, Device, NoMemory}
+use Rattle.silt_hash_store.specs.declared.rebuild.Rebuilt.{Rebuilt}
 use Rattle.silt_hash_store.proofs.Slotting.{all_before, before_count, before_more, before_taken, before_there, empty_not_known, sound_empty, sound_known, tag_empty, tag_known, unsound_bucket, unsound_kind, unsound_twice}
 
 -- ---- findings
@@ -222,13 +221,13 @@ one_kept : (row : StoredRow) → has_known_kind row ≡ true → filter has_know
 one_kept row known = rw known refl
 
 -- the puts of one row
-row_charge : (kind : Kind) (row : StoredRow) → kind_byte kind ≡ row.kind → charge_of_rows (row ∷ []) ≡ puts_of kind
+row_charge : (kind : Kind) (row : StoredRow) → kind_byte kind ≡ row.kind → put_count (row ∷ []) ≡ puts_of kind
 row_charge Put row e = ap (λ n. 0 + cond (eqb n 1) 1 0) (sym e)
 row_charge Delete row e = ap (λ n. 0 + cond (eqb n 1) 1 0) (sym e)
 
 -- the store of one slot more
 pub slot_taken : (old new : Rebuilt) (image : List ℕ) (slot : ℕ) (added : Option (Kind × ℕ)) → slot < 4 * old.store.shape.buckets → length old.store.tags ≡ 4 * old.store.shape.buckets
-    → IsGrown old image slot → AddsSound old.store image slot added → Takes slot added old new → IsGrown new image (slot + 1)
+    → IsGrown old image slot → AddsSound old.store image slot added → TakesAdded slot added old new → IsGrown new image (slot + 1)
 slot_taken old new image slot None below long is adds takes =
     let row : StoredRow = slot_row old.store.shape old.store.region image slot in
     let same : filter has_known_kind (rows_before old.store.shape old.store.region image (slot + 1)) ≡ filter has_known_kind (rows_before old.store.shape old.store.region image slot) ++ [] =
@@ -239,13 +238,13 @@ slot_taken old new image slot None below long is adds takes =
         most = omega (arith, below);
         sound = λ j low. elim (cases_eq j slot) [ inl here ↦ rw (← here) at adds.sound | inr other ↦ is.tagged.sound j (omega arith) ];
         tagged = λ j low. elim (cases_eq j slot) [
-          | inl here ↦ ap (tag_at old.store.tags) here ∙ is.tagged.later slot (omega arith) ∙ sym (tag_empty old.store.shape.buckets slot row adds.adds)
+          | inl here ↦ ap (slot_tag old.store.tags) here ∙ is.tagged.later slot (omega arith) ∙ sym (tag_empty old.store.shape.buckets slot row adds.adds)
               ∙ ap (λ n. tag_of old.store.shape.buckets n (slot_row old.store.shape old.store.region image n)) (sym here)
           | inr other ↦ is.tagged.tagged j (omega arith)
         ];
         later = λ j past. is.tagged.later j (omega arith);
       };
-      charged = is.charged ∙ ap charge_of_rows (sym kept);
+      charged = is.charged ∙ ap put_count (sym kept);
       counted = is.counted ∙ ap length (sym kept);
     })
 slot_taken old new image slot (Some (kind, tag)) below long is adds takes =
@@ -260,14 +259,14 @@ slot_taken old new image slot (Some (kind, tag)) below long is adds takes =
         most = omega (arith, below);
         sound = λ j low. elim (cases_eq j slot) [ inl here ↦ rw (← here) at adds.sound | inr other ↦ is.tagged.sound j (omega arith) ];
         tagged = λ j low. elim (cases_eq j slot) [
-          | inl here ↦ ap (tag_at tags) here ∙ get_or-set_same old.store.tags slot (Some tag) None (omega (arith, below, long)) ∙ sym adds.adds.1
+          | inl here ↦ ap (slot_tag tags) here ∙ get_or-set_same old.store.tags slot (Some tag) None (omega (arith, below, long)) ∙ sym adds.adds.1
               ∙ ap (λ n. tag_of old.store.shape.buckets n (slot_row old.store.shape old.store.region image n)) (sym here)
           | inr other ↦ get_or-set_other old.store.tags slot j (Some tag) None other ∙ is.tagged.tagged j (omega arith)
         ];
         later = λ j past. get_or-set_other old.store.tags slot j (Some tag) None (λ same. absurd (omega arith)) ∙ is.tagged.later j (omega arith);
       };
-      charged = ap (λ n. n + puts_of kind) is.charged ∙ ap (λ n. charge_of_rows before + n) (sym (row_charge kind row (kind_of_byte row.kind kind adds.adds.0)))
-          ∙ sym (sum_by-append (λ (r : StoredRow). cond (r.kind == 1) 1 0) before (row ∷ [])) ∙ ap charge_of_rows (sym kept);
+      charged = ap (λ n. n + puts_of kind) is.charged ∙ ap (λ n. put_count before + n) (sym (row_charge kind row (kind_of_byte row.kind kind adds.adds.0)))
+          ∙ sym (sum_by-append (λ (r : StoredRow). cond (r.kind == 1) 1 0) before (row ∷ [])) ∙ ap put_count (sym kept);
       counted = ap (λ n. n + 1) is.counted ∙ sym (length-append before (row ∷ [])) ∙ ap length (sym kept);
     })
 
@@ -281,7 +280,7 @@ none_grown rebuilt image tags puts rows = record {
     most = omega arith;
     sound = λ slot low. absurd (omega arith);
     tagged = λ slot low. absurd (omega arith);
-    later = λ slot past. ap (λ (t : List (Option ℕ)). tag_at t slot) tags ∙ no_tag (4 * rebuilt.store.shape.buckets) slot;
+    later = λ slot past. ap (λ (t : List (Option ℕ)). slot_tag t slot) tags ∙ no_tag (4 * rebuilt.store.shape.buckets) slot;
   };
   charged = puts;
   counted = rows;
@@ -296,7 +295,7 @@ none_grown rebuilt image tags puts rows = record {
 pub all_grown : (content : Content) (rebuilt : Rebuilt) → IsTrue content.honest → IsGrown rebuilt content.shown (4 * rebuilt.store.shape.buckets) → IsRebuiltHash content rebuilt
 all_grown content rebuilt honest is = record {
   stands = record { sound = λ _. nothing_found rebuilt.store.shape rebuilt.store.region content.shown is.tagged.sound; tagged = λ _. is.tagged.tagged };
-  charged = is.charged ∙ ap (λ (l : List StoredRow). charge_of_rows (filter has_known_kind l)) (sym (all_before rebuilt.store.shape rebuilt.store.region content.shown));
+  charged = is.charged ∙ ap (λ (l : List StoredRow). put_count (filter has_known_kind l)) (sym (all_before rebuilt.store.shape rebuilt.store.region content.shown));
   counted = is.counted ∙ ap (λ (l : List StoredRow). length (filter has_known_kind l)) (sym (all_before rebuilt.store.shape rebuilt.store.region content.shown));
 }
 

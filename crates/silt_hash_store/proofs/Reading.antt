@@ -5,18 +5,18 @@ use Rattle.std.proofs.lemmas.List.Edits.{get_or-between}
 use Rattle.silt_device.specs.Disk.{Content, ChangesWithin, Tears, Torn, Writes, size}
 use Rattle.silt_device.specs.Layout.{Shape, hash_at, row_len}
 use Rattle.silt_device.proofs.Images.{splice_slice, torn_slice_after, torn_slice_before, write_within}
-use Rattle.silt_log.specs.Rows.{row_of}
+use Rattle.silt_frame.specs.Rows.{row_of}
 use Rattle.silt_log.proofs.Bodies.{body_before}
 use Rattle.silt_log.proofs.Parts.{drop_front, slice_of_slice, slice_to_end}
-use Rattle.silt_hash_store.specs.Slots.{HeadSays, slot_at, slot_row}
+use Rattle.silt_hash_store.specs.Slots.{HeadSays, hash_slot_at, slot_row}
 use Rattle.silt_hash_store.specs.declared.region.Head.{Head}
 
 -- a slot lies within its region
-pub slot_inside : (s : Shape) (region slot end : ℕ) → hash_at s region + 4 * s.buckets * row_len s ≤ end → slot < 4 * s.buckets → slot_at s region slot + row_len s ≤ end
+pub slot_inside : (s : Shape) (region slot end : ℕ) → hash_at s region + 4 * s.buckets * row_len s ≤ end → slot < 4 * s.buckets → hash_slot_at s region slot + row_len s ≤ end
 slot_inside s region slot end fits below = let inside = body_before (hash_at s region) (row_len s) slot (4 * s.buckets) below in omega (arith, inside, fits)
 
 -- a head that was read is that of the row in the slot
-pub head_read : (s : Shape) (region slot at : ℕ) (image head : List ℕ) (said : Head) → at ≡ slot_at s region slot → at + row_len s ≤ length image → head ≡ slice_range image at (at + 21)
+pub head_read : (s : Shape) (region slot at : ℕ) (image head : List ℕ) (said : Head) → at ≡ hash_slot_at s region slot → at + row_len s ≤ length image → head ≡ slice_range image at (at + 21)
     → HeadSays (get_or head 0 0) (drop 1 head) said → HeadSays (slot_row s region image slot).kind (slot_row s region image slot).key said
 unfolding slot_row
 head_read s region slot at image head said same fits read says =
@@ -31,19 +31,19 @@ head_read s region slot at image head said same fits read says =
     subst (λ (n : ℕ). HeadSays (row_of (slice_range image n (n + len))).kind (row_of (slice_range image n (n + len))).key said) same both
 
 -- a value that was read is that of the row in the slot
-pub value_read : (s : Shape) (region slot at count : ℕ) (image bytes : List ℕ) → at ≡ slot_at s region slot → at + row_len s ≤ length image → count ≡ s.value_len
+pub value_read : (s : Shape) (region slot at count : ℕ) (image bytes : List ℕ) → at ≡ hash_slot_at s region slot → at + row_len s ≤ length image → count ≡ s.value_len
     → bytes ≡ slice_range image (at + 21) (at + 21 + count) → bytes ≡ (slot_row s region image slot).value
 unfolding slot_row
 value_read s region slot at count image bytes here fits long read =
     read ∙ slice_to_end image at (row_len s) 21 count (omega arith) fits ∙ ap (λ n. drop 21 (slice_range image n (n + row_len s))) here
 
 -- a write of a slot changes nothing but the slot
-pub slot_changes : (s : Shape) (region slot at count : ℕ) (old new : Content) → at ≡ slot_at s region slot → count ≡ row_len s → Tears at count old new → ChangesWithin (slot_at s region slot) (row_len s) old new
+pub slot_changes : (s : Shape) (region slot at count : ℕ) (old new : Content) → at ≡ hash_slot_at s region slot → count ≡ row_len s → Tears at count old new → ChangesWithin (hash_slot_at s region slot) (row_len s) old new
 slot_changes s region slot at count old new same long tears =
     subst (λ (n : ℕ). ChangesWithin n (row_len s) old new) same (subst (λ (n : ℕ). ChangesWithin at n old new) long (write_within tears))
 
 -- and the slot then shows what was written
-pub slot_written : (s : Shape) (region slot at : ℕ) (bytes : List ℕ) (old new : Content) → at ≡ slot_at s region slot → length bytes ≡ row_len s → at + row_len s ≤ size old → Writes at bytes old new
+pub slot_written : (s : Shape) (region slot at : ℕ) (bytes : List ℕ) (old new : Content) → at ≡ hash_slot_at s region slot → length bytes ≡ row_len s → at + row_len s ≤ size old → Writes at bytes old new
     → IsTrue old.honest → slot_row s region new.shown slot ≡ row_of bytes
 unfolding slot_row
 slot_written s region slot at bytes old new same long fits writes honest =
@@ -54,16 +54,16 @@ slot_written s region slot at bytes old new same long fits writes honest =
 
 -- a write of a slot leaves the other slots
 pub slot_elsewhere : (s : Shape) (region slot other : ℕ) (old new : List ℕ) → hash_at s region + 4 * s.buckets * row_len s ≤ length old → slot < 4 * s.buckets → other < 4 * s.buckets → other ≢ slot
-    → Torn (slot_at s region slot) (row_len s) old new → slot_row s region new other ≡ slot_row s region old other
+    → Torn (hash_slot_at s region slot) (row_len s) old new → slot_row s region new other ≡ slot_row s region old other
 unfolding slot_row
 slot_elsewhere s region slot other old new fits there below apart torn =
     let inside = slot_inside s region other (length old) fits below in
     elim (cases_lt other slot) [
       | inl before ↦
           let ends = body_before (hash_at s region) (row_len s) other slot before in
-          ap row_of (torn_slice_before _ _ old new torn (slot_at s region other) (slot_at s region other + row_len s) (omega (arith, ends)) inside)
+          ap row_of (torn_slice_before _ _ old new torn (hash_slot_at s region other) (hash_slot_at s region other + row_len s) (omega (arith, ends)) inside)
       | inr after ↦
           let behind : slot < other = omega (arith, after, apart) in
           let begins = body_before (hash_at s region) (row_len s) slot other behind in
-          ap row_of (torn_slice_after _ _ old new torn (slot_at s region other) (slot_at s region other + row_len s) (omega (arith, begins)) inside)
+          ap row_of (torn_slice_after _ _ old new torn (hash_slot_at s region other) (hash_slot_at s region other + row_len s) (omega (arith, begins)) inside)
     ]

@@ -4,15 +4,15 @@ use Rattle.std.proofs.Math.Seq.{take-append_seam}
 use Rattle.std.proofs.lemmas.Grind.{flat_map-append}
 use Rattle.std.proofs.lemmas.List.{map-append}
 use Rattle.silt_cuckoo.specs.Slots.{Slots}
-use Rattle.silt_image.specs.Commands.{Map, map_after}
+use Rattle.silt_event.specs.Commands.{Map, map_after}
 use Rattle.silt_image.specs.Laws.{FindsNothing}
-use Rattle.silt_image.specs.Meaning.{IsSound, charge_of, charge_of_rows, command_of, hash_findings, known_rows, log_findings, map_of_rows, oldest_first, part_rows, rows_of}
+use Rattle.silt_image.specs.Meaning.{IsSound, charge_of, command_of, hash_findings, known_rows, log_findings, map_of_rows, oldest_first, part_rows, rows_of}
+use Rattle.silt_frame.specs.Rows.{put_count, StoredRow}
 use Rattle.silt_image.specs.Stores.{Part, Stores}
 use Rattle.silt_image.proofs.Rows.{count_law, map_after-append, map_law}
 use Rattle.silt_image.proofs.Sound.{finds_nothing, is_sound, nothing_both, nothing_first}
-use Rattle.silt_log.specs.Rows.{StoredRow}
 use Rattle.silt_manifest.specs.declared.body.Body.{Body}
-use Rattle.silt_hash_store.specs.Converting.{converted_rows}
+use Rattle.silt_hash_store.specs.Conversion.{converted_rows}
 use Rattle.silt_hash_store.specs.Laws.{ConvertsLaw, HasOldest, IsTableOf, ReplacesLog, with_converted}
 use Rattle.silt_hash_store.proofs.Answering.{converted_map}
 use Rattle.silt_hash_store.proofs.Charging.{converted_charge}
@@ -89,12 +89,12 @@ module _ (s : Stores) (body : Body) (rows : List StoredRow) (table : Slots) (reg
   same_behind more = map_law (rows_of new) more ∙ ap (λ (m : Map). map_after m (map command_of more)) same_map ∙ sym (map_law (rows_of s) more)
 
   -- the puts of the one count for those of the other
-  charge_moves : charge_of new + charge_of_rows rows ≡ charge_of s + charge_of_rows (known_rows part)
+  charge_moves : charge_of new + put_count rows ≡ charge_of s + put_count (known_rows part)
   charge_moves =
       omega (
         arith,
-        ap charge_of_rows rows_old,
-        ap charge_of_rows rows_new,
+        ap put_count rows_old,
+        ap put_count rows_new,
         count_law front (rows ++ rest),
         count_law rows rest,
         count_law front (known_rows part ++ rest),

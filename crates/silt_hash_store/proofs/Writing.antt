@@ -4,22 +4,23 @@ use Rattle.std.proofs.lemmas.Bool.{cases_eq}
 use Rattle.std.proofs.lemmas.List.Elements.{filter-append}
 use Rattle.std.proofs.lemmas.List.FromFn.{map-range_with_len_more}
 use Rattle.silt_cuckoo.specs.Slots.{Entry, IsBucketCount, Slots, entry_at}
-use Rattle.silt_device.specs.Disk.{ChangesWithin, Content, size}
-use Rattle.silt_device.specs.Layout.{Shape, device_size, hash_at, row_len}
+use Rattle.silt_device.specs.Disk.{ChangesWithin, Content, LiesOutside, size}
+use Rattle.silt_device.specs.Layout.{Shape, device_size, gates_at, hash_at, log_len, row_len}
 use Rattle.silt_device.proofs.Regions.{regions_apart}
-use Rattle.silt_image.specs.Meaning.{charge_of_rows, hash_findings}
+use Rattle.silt_image.specs.Meaning.{hash_findings}
+use Rattle.silt_frame.specs.Rows.{put_count, has_known_kind, StoredRow}
 use Rattle.silt_image.specs.Stores.{hash_rows}
 use Rattle.silt_image.proofs.Rows.{count_law}
-use Rattle.silt_log.specs.Rows.{StoredRow, has_known_kind, row_at}
+use Rattle.silt_log.specs.Rows.{row_at}
 use Rattle.silt_log.specs.State.{InBounds, all_rows}
 use Rattle.silt_log.proofs.Bodies.{map_range_same}
-use Rattle.silt_log.proofs.Elsewhere.{IsOutside, row_of_all}
+use Rattle.silt_log.proofs.Elsewhere.{row_of_all}
 use Rattle.silt_log_store.specs.State.{IsFrozenStore, IsIndexed, LogStoreState}
 use Rattle.silt_log_store.proofs.Elsewhere.{frozen_elsewhere, rows_outside}
 use Rattle.silt_log_store.proofs.Rows.{known_there}
-use Rattle.silt_hash_store.specs.Converting.{ConversionState, HasWritten, IsHeldConversion, Steps, converted_before, converted_row, converted_rows, empty_row, row_for, tag_of_entry, with_entry}
+use Rattle.silt_hash_store.specs.Conversion.{ConversionState, HasWritten, IsHeldConversion, Steps, converted_before, converted_row, converted_rows, empty_row, row_for, tag_of_entry, with_entry}
 use Rattle.silt_hash_store.specs.Laws.{IsTableOf}
-use Rattle.silt_hash_store.specs.Slots.{rows_before, slot_at, slot_row, tag_at, tag_of}
+use Rattle.silt_hash_store.specs.Slots.{rows_before, hash_slot_at, slot_row, slot_tag, tag_of}
 use Rattle.silt_hash_store.specs.State.{IsHashStore}
 use Rattle.silt_hash_store.proofs.Reading.{slot_elsewhere}
 use Rattle.silt_hash_store.proofs.Slotting.{all_before}
@@ -38,12 +39,12 @@ due_known content log place index honest below = known_there content log.log pla
 
 -- the puts that are due in one slot more
 due_more : (s : Shape) (table : Slots) (rows : List StoredRow) (n : ℕ)
-    → charge_of_rows (filter has_known_kind (converted_before s table rows (n + 1))) ≡ charge_of_rows (filter has_known_kind (converted_before s table rows n)) + charge_of_rows (filter has_known_kind (converted_row s table rows n ∷ []))
+    → put_count (filter has_known_kind (converted_before s table rows (n + 1))) ≡ put_count (filter has_known_kind (converted_before s table rows n)) + put_count (filter has_known_kind (converted_row s table rows n ∷ []))
 unfolding converted_before
 due_more s table rows n =
     let before : List StoredRow = converted_before s table rows n in
-    ap (λ (l : List StoredRow). charge_of_rows (filter has_known_kind l)) (map-range_with_len_more (converted_row s table rows) 0 n n (omega arith))
-    ∙ ap charge_of_rows (filter-append has_known_kind before (converted_row s table rows n ∷ []))
+    ap (λ (l : List StoredRow). put_count (filter has_known_kind l)) (map-range_with_len_more (converted_row s table rows) 0 n n (omega arith))
+    ∙ ap put_count (filter-append has_known_kind before (converted_row s table rows n ∷ []))
     ∙ count_law (filter has_known_kind before) (filter has_known_kind (converted_row s table rows n ∷ []))
 
 -- a conversion with no slot written
@@ -53,7 +54,7 @@ none_written content log conversion same next puts = record {
   shape = same;
   due = λ honest slot below. absurd (omega (arith, next));
   tagged = λ slot below. absurd (omega (arith, next));
-  charged = λ honest. puts ∙ ap (λ n. charge_of_rows (filter has_known_kind (converted_before conversion.shape log.table (all_rows content log.log) n))) (sym next);
+  charged = λ honest. puts ∙ ap (λ n. put_count (filter has_known_kind (converted_before conversion.shape log.table (all_rows content log.log) n))) (sym next);
 }
 
 -- ---- tags
@@ -64,12 +65,12 @@ entry_long tags slot None = refl
 entry_long tags slot (Some entry) = length-set tags slot (Some entry.0)
 
 -- the slot has the entry's tag
-pub entry_here : (tags : List (Option ℕ)) (slot : ℕ) (entry : Option Entry) → slot < length tags → tag_at tags slot ≡ None → tag_at (with_entry tags slot entry) slot ≡ tag_of_entry entry
+pub entry_here : (tags : List (Option ℕ)) (slot : ℕ) (entry : Option Entry) → slot < length tags → slot_tag tags slot ≡ None → slot_tag (with_entry tags slot entry) slot ≡ tag_of_entry entry
 entry_here tags slot None below none = none
 entry_here tags slot (Some entry) below none = get_or-set_same tags slot (Some entry.0) None below
 
 -- and another slot has its own
-pub entry_elsewhere : (tags : List (Option ℕ)) (slot other : ℕ) (entry : Option Entry) → other ≢ slot → tag_at (with_entry tags slot entry) other ≡ tag_at tags other
+pub entry_elsewhere : (tags : List (Option ℕ)) (slot other : ℕ) (entry : Option Entry) → other ≢ slot → slot_tag (with_entry tags slot entry) other ≡ slot_tag tags other
 entry_elsewhere tags slot other None apart = refl
 entry_elsewhere tags slot other (Some entry) apart = get_or-set_other tags slot other (Some entry.0) None apart
 
@@ -100,15 +101,15 @@ slots_inside s region there =
     omega (arith, apart.hashes region s.hashes there, apart.hash_end 2, apart.device)
 
 -- and behind every log
-pub behind_logs : (s : Shape) (log_region region slot : ℕ) → log_region < s.logs → IsOutside s log_region (slot_at s region slot) (row_len s)
+pub behind_logs : (s : Shape) (log_region region slot : ℕ) → log_region < s.logs → LiesOutside (gates_at s log_region) (log_len s) (hash_slot_at s region slot) (row_len s)
 behind_logs s log_region region slot there =
     let apart = regions_apart s in
     inr (omega (arith, apart.bodies log_region s.logs there, apart.logs region))
 
 module _ (old new : Content) (log : LogStoreState) (conversion : ConversionState) (bounds : InBounds log.log) (same : conversion.shape ≡ log.log.shape)
-    (fits : device_size conversion.shape ≤ size old) (changes : ChangesWithin (slot_at conversion.shape conversion.region conversion.next) (row_len conversion.shape) old new) where
-  outside : IsOutside log.log.shape log.log.region (slot_at conversion.shape conversion.region conversion.next) (row_len conversion.shape)
-  outside = subst (λ (s : Shape). IsOutside s log.log.region (slot_at conversion.shape conversion.region conversion.next) (row_len conversion.shape)) same
+    (fits : device_size conversion.shape ≤ size old) (changes : ChangesWithin (hash_slot_at conversion.shape conversion.region conversion.next) (row_len conversion.shape) old new) where
+  outside : LiesOutside (gates_at log.log.shape log.log.region) (log_len log.log.shape) (hash_slot_at conversion.shape conversion.region conversion.next) (row_len conversion.shape)
+  outside = subst (λ (s : Shape). LiesOutside (gates_at s log.log.region) (log_len s) (hash_slot_at conversion.shape conversion.region conversion.next) (row_len conversion.shape)) same
       (behind_logs conversion.shape log.log.region conversion.region conversion.next (subst (λ (s : Shape). log.log.region < s.logs) (sym same) bounds.region))
 
   log_fits : device_size log.log.shape ≤ size old
@@ -116,11 +117,11 @@ module _ (old new : Content) (log : LogStoreState) (conversion : ConversionState
 
   -- the log keeps its rows
   rows_kept : IsTrue old.honest → all_rows new log.log ≡ all_rows old log.log
-  rows_kept honest = rows_outside old new log.log (slot_at conversion.shape conversion.region conversion.next) (row_len conversion.shape) bounds log_fits outside changes honest
+  rows_kept honest = rows_outside old new log.log (hash_slot_at conversion.shape conversion.region conversion.next) (row_len conversion.shape) bounds log_fits outside changes honest
 
   -- and stands
   pub frozen_kept : IsFrozenStore old log → IsFrozenStore new log
-  frozen_kept frozen = frozen_elsewhere old new log (slot_at conversion.shape conversion.region conversion.next) (row_len conversion.shape) frozen bounds log_fits outside changes
+  frozen_kept frozen = frozen_elsewhere old new log (hash_slot_at conversion.shape conversion.region conversion.next) (row_len conversion.shape) frozen bounds log_fits outside changes
 
   -- the slots before show what they showed
   pub written_kept : conversion.region < conversion.shape.hashes → conversion.next < 4 * conversion.shape.buckets → HasWritten old log conversion → HasWritten new log conversion
@@ -133,12 +134,12 @@ module _ (old new : Content) (log : LogStoreState) (conversion : ConversionState
     tagged = is.tagged;
     charged = λ honest.
         let was : IsTrue old.honest = sym changes.honest ∙ honest in
-        is.charged was ∙ ap (λ (rows : List StoredRow). charge_of_rows (filter has_known_kind (converted_before conversion.shape log.table rows conversion.next))) (sym (rows_kept was));
+        is.charged was ∙ ap (λ (rows : List StoredRow). put_count (filter has_known_kind (converted_before conversion.shape log.table rows conversion.next))) (sym (rows_kept was));
   }
 
   -- and the next one what is due
   pub written_step : (after : ConversionState) → conversion.region < conversion.shape.hashes → conversion.next < 4 * conversion.shape.buckets → length conversion.tags ≡ 4 * conversion.shape.buckets
-      → tag_at conversion.tags conversion.next ≡ None → Steps log old new conversion after → IsFrozenStore old log → HasWritten old log conversion → HasWritten new log after
+      → slot_tag conversion.tags conversion.next ≡ None → Steps log old new conversion after → IsFrozenStore old log → HasWritten old log conversion → HasWritten new log after
   written_step after there below long none steps frozen is =
       let kept = written_kept there below is in
       subst (λ (a : ConversionState). HasWritten new log a) (sym steps.next) (record {
@@ -151,16 +152,16 @@ module _ (old new : Content) (log : LogStoreState) (conversion : ConversionState
           | inr other ↦ kept.due honest slot (omega arith)
         ];
         tagged = λ slot low. elim (cases_eq slot conversion.next) [
-          | inl here ↦ ap (tag_at (with_entry conversion.tags conversion.next (entry_at log.table conversion.next))) here
+          | inl here ↦ ap (slot_tag (with_entry conversion.tags conversion.next (entry_at log.table conversion.next))) here
               ∙ entry_here conversion.tags conversion.next (entry_at log.table conversion.next) (omega (arith, below, long)) none ∙ ap (λ n. tag_of_entry (entry_at log.table n)) (sym here)
           | inr other ↦ entry_elsewhere conversion.tags conversion.next slot (entry_at log.table conversion.next) other ∙ is.tagged slot (omega arith)
         ];
         charged = λ honest.
             let was : IsTrue old.honest = sym changes.honest ∙ honest in
             steps.added was frozen
-            ∙ ap (λ n. n + charge_of_rows (filter has_known_kind (converted_row conversion.shape log.table (all_rows old log.log) conversion.next ∷ []))) (is.charged was)
+            ∙ ap (λ n. n + put_count (filter has_known_kind (converted_row conversion.shape log.table (all_rows old log.log) conversion.next ∷ []))) (is.charged was)
             ∙ sym (due_more conversion.shape log.table (all_rows old log.log) conversion.next)
-            ∙ ap (λ (rows : List StoredRow). charge_of_rows (filter has_known_kind (converted_before conversion.shape log.table rows (conversion.next + 1)))) (sym (rows_kept was));
+            ∙ ap (λ (rows : List StoredRow). put_count (filter has_known_kind (converted_before conversion.shape log.table rows (conversion.next + 1)))) (sym (rows_kept was));
       })
 
 -- ---- all slots
@@ -176,10 +177,10 @@ all_due content log conversion done is honest =
 
 -- and its puts are those of all rows that are due
 pub all_charged : (content : Content) (log : LogStoreState) (conversion : ConversionState) → conversion.next ≡ 4 * conversion.shape.buckets → HasWritten content log conversion → IsTrue content.honest
-    → conversion.puts ≡ charge_of_rows (filter has_known_kind (converted_rows conversion.shape log.table (all_rows content log.log)))
+    → conversion.puts ≡ put_count (filter has_known_kind (converted_rows conversion.shape log.table (all_rows content log.log)))
 unfolding converted_rows
 all_charged content log conversion done is honest =
-    is.charged honest ∙ ap (λ n. charge_of_rows (filter has_known_kind (converted_before conversion.shape log.table (all_rows content log.log) n))) done
+    is.charged honest ∙ ap (λ n. put_count (filter has_known_kind (converted_before conversion.shape log.table (all_rows content log.log) n))) done
 
 -- the table of a log that is only read is that of its rows
 pub table_of : (content : Content) (log : LogStoreState) → IsBucketCount log.log.shape.buckets → IsFrozenStore content log → IsTrue content.honest → IsTableOf log.log.shape (all_rows content log.log) log.table

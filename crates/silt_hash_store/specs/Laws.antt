@@ -1,18 +1,18 @@
 -- Laws of hash stores and conversions, for the layers above.
-use Rattle.std.specs.Prelude.{◌≡◌, ℕ, ◌+◌, ◌-◌, ◌*◌, ◌≤◌, ◌<◌, ◌⊎◌, true, List, [], ◌∷◌, ◌++◌, Some, length, map, filter, take}
+use Rattle.std.specs.Prelude.{◌≡◌, ℕ, ◌+◌, ◌-◌, ◌*◌, ◌≤◌, ◌<◌, true, List, [], ◌∷◌, ◌++◌, Some, length, map, filter, take}
 use Rattle.std.specs.List.{list_all}
 use Rattle.silt_cuckoo.specs.Slots.{Slots, IsBucketCount}
 use Rattle.silt_cuckoo.specs.Index.{index_of_keys}
-use Rattle.silt_device.specs.Disk.{ChangesWithin, Content, size}
-use Rattle.silt_device.specs.Layout.{Shape, bodies_at, device_size, gates_at, hash_at, row_len}
-use Rattle.silt_image.specs.Commands.{Map, map_after}
-use Rattle.silt_image.specs.Meaning.{IsSound, charge_of, charge_of_rows, command_of, hash_findings, keys_of, known_rows, map_of_rows, rows_of}
+use Rattle.silt_device.specs.Disk.{ChangesWithin, Content, LiesOutside, size}
+use Rattle.silt_device.specs.Layout.{Shape, device_size, gates_at, hash_at, log_len, slots_len}
+use Rattle.silt_event.specs.Commands.{Map, map_after}
+use Rattle.silt_image.specs.Meaning.{IsSound, charge_of, command_of, hash_findings, known_rows, map_of_rows, rows_of}
+use Rattle.silt_frame.specs.Rows.{put_count, keys_of, has_known_kind, StoredRow}
 use Rattle.silt_image.specs.Stores.{Part, Stores}
-use Rattle.silt_log.specs.Rows.{StoredRow, has_known_kind}
 use Rattle.silt_log.specs.State.{InBounds}
 use Rattle.silt_log_store.specs.State.{LogStoreState}
 use Rattle.silt_manifest.specs.declared.body.Body.{Body}
-use Rattle.silt_hash_store.specs.Converting.{ConversionState, HasWritten, converted_rows}
+use Rattle.silt_hash_store.specs.Conversion.{ConversionState, HasWritten, converted_rows}
 use Rattle.silt_hash_store.specs.State.{HashState, IsHashStore, IsHeldHash}
 
 -- rows of known kinds, and the table of their keys
@@ -37,7 +37,7 @@ ConvertedMapLaw =
 abbrev pub ConvertedChargeLaw : Type 0
 ConvertedChargeLaw =
     (shape : Shape) (rows : List StoredRow) (table : Slots) → IsTableOf shape rows table
-    → charge_of_rows (filter has_known_kind (converted_rows shape table rows)) ≤ charge_of_rows rows
+    → put_count (filter has_known_kind (converted_rows shape table rows)) ≤ put_count rows
 
 -- ---- a conversion that is finished
 
@@ -57,7 +57,7 @@ pub record ReplacesLog (rows : List StoredRow) (part : Part) (old new : Stores) 
   pub map : map_of_rows (rows_of new) ≡ map_of_rows (rows_of old)
   pub behind : (more : List StoredRow) → map_of_rows (rows_of new ++ more) ≡ map_of_rows (rows_of old ++ more)
   pub sound : IsSound new
-  pub charge : charge_of new + charge_of_rows rows ≡ charge_of old + charge_of_rows (known_rows part)
+  pub charge : charge_of new + put_count rows ≡ charge_of old + put_count (known_rows part)
 
 -- the rows that are due may stand in a hash store in place of the oldest log
 abbrev pub ConvertsLaw : Type 0
@@ -68,23 +68,15 @@ ConvertsLaw =
 
 -- ---- changes elsewhere
 
--- this range lies before the slots of a hash region or behind them
-abbrev pub IsOutsideSlots : Shape → ℕ → ℕ → ℕ → Type 0
-IsOutsideSlots shape region at count = (at + count ≤ hash_at shape region) ⊎ (hash_at shape region + 4 * shape.buckets * row_len shape ≤ at)
-
--- this range lies before the gates of a log region or behind its bodies
-abbrev pub IsOutsideLog : Shape → ℕ → ℕ → ℕ → Type 0
-IsOutsideLog shape region at count = (at + count ≤ gates_at shape region) ⊎ (bodies_at shape region + shape.log_capacity * row_len shape ≤ at)
-
 -- a hash store stands on after a change outside its slots
 abbrev pub HashElsewhereLaw : Type 0
 HashElsewhereLaw =
-    (store : HashState) (old new : Content) (at count : ℕ) → IsHeldHash store → device_size store.shape ≤ size old → IsOutsideSlots store.shape store.region at count
+    (store : HashState) (old new : Content) (at count : ℕ) → IsHeldHash store → device_size store.shape ≤ size old → LiesOutside (hash_at store.shape store.region) (slots_len store.shape) at count
     → ChangesWithin at count old new → IsHashStore old store → IsHashStore new store
 
 -- a conversion has written what it had, after a change outside its slots and its log
 abbrev pub WrittenElsewhereLaw : Type 0
 WrittenElsewhereLaw =
     (log : LogStoreState) (conversion : ConversionState) (old new : Content) (at count : ℕ) → InBounds log.log → conversion.region < conversion.shape.hashes
-    → conversion.next ≤ 4 * conversion.shape.buckets → device_size conversion.shape ≤ size old → IsOutsideLog log.log.shape log.log.region at count
-    → IsOutsideSlots conversion.shape conversion.region at count → ChangesWithin at count old new → HasWritten old log conversion → HasWritten new log conversion
+    → conversion.next ≤ 4 * conversion.shape.buckets → device_size conversion.shape ≤ size old → LiesOutside (gates_at log.log.shape log.log.region) (log_len log.log.shape) at count
+    → LiesOutside (hash_at conversion.shape conversion.region) (slots_len conversion.shape) at count → ChangesWithin at count old new → HasWritten old log conversion → HasWritten new log conversion

@@ -2,5 +2,5 @@ pub mod Slots
 pub mod Lookup
 pub mod State
 pub mod Rebuild
-pub mod Converting
+pub mod Conversion
 pub mod Laws

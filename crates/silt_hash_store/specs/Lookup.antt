@@ -4,9 +4,10 @@ use Rattle.silt_frame.specs.Frame.{kind_byte}
 use Rattle.silt_frame.specs.declared.key.Kind.{Kind}
 use Rattle.silt_frame.specs.declared.key.Row.{Row}
 use Rattle.silt_image.specs.Meaning.{holds_key}
-use Rattle.silt_log.specs.Rows.{IsRow, StoredRow, has_known_kind}
+use Rattle.silt_log.specs.Rows.{IsRow}
+use Rattle.silt_frame.specs.Rows.{has_known_kind, StoredRow}
 use Rattle.silt_log_store.specs.declared.store.Found.{Found}
-use Rattle.silt_hash_store.specs.Slots.{is_row_of, slot_row, tag_at}
+use Rattle.silt_hash_store.specs.Slots.{is_row_of, slot_row, slot_tag}
 use Rattle.silt_hash_store.specs.State.{HashState}
 
 -- what is found among rows is a row of this key, by its kind and its number, and nothing where no row of a known kind has the key
@@ -27,9 +28,9 @@ MatchesTag at tag row key (Some kind) = (at ≡ Some tag) × (is_row_of key row 
 -- among the slots of a bucket with this tag a row of the key was found, or none has the key
 abbrev pub FindsIn : HashState → List ℕ → ℕ → ℕ → List ℕ → Option Found → Type 0
 FindsIn store image bucket tag key None =
-    (slot : ℕ) → 4 * bucket ≤ slot → slot < 4 * bucket + 4 → tag_at store.tags slot ≡ Some tag → is_row_of key (slot_row store.shape store.region image slot) ≡ false
+    (slot : ℕ) → 4 * bucket ≤ slot → slot < 4 * bucket + 4 → slot_tag store.tags slot ≡ Some tag → is_row_of key (slot_row store.shape store.region image slot) ≡ false
 FindsIn store image bucket tag key (Some found) =
-    MatchesTag (tag_at store.tags found.place) tag (slot_row store.shape store.region image found.place) key (Some found.kind)
+    MatchesTag (slot_tag store.tags found.place) tag (slot_row store.shape store.region image found.place) key (Some found.kind)
 
 -- the kind, the key and the number of the row in a slot, none where its kind is unknown
 abbrev pub IsRowAt : StoredRow → ℕ → Option Row → Type 0

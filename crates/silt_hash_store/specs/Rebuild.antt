@@ -6,22 +6,21 @@ use Rattle.silt_device.specs.Disk.{Content}
 use Rattle.silt_device.specs.Layout.{Shape}
 use Rattle.silt_frame.specs.Frame.{kind_of}
 use Rattle.silt_frame.specs.declared.key.Kind.{Kind}
-use Rattle.silt_image.specs.Meaning.{charge_of_rows, hash_findings, is_in_bucket, known_rows}
+use Rattle.silt_image.specs.Meaning.{hash_findings, is_in_bucket, known_rows}
+use Rattle.silt_frame.specs.Rows.{put_count, has_known_kind, StoredRow, puts_of}
 use Rattle.silt_image.specs.Stores.{hash_part}
-use Rattle.silt_image.specs.declared.finding.Finding.TheVariants as finding
-use Rattle.silt_image.specs.declared.finding.Place.TheVariants.{Hash}
-use Rattle.silt_log.specs.Rows.{StoredRow, has_known_kind}
-use Rattle.silt_log_store.specs.Growing.{puts_of}
+use Rattle.silt_image.specs.declared.damage.Finding.TheVariants as finding
+use Rattle.silt_event.specs.declared.place.Place.TheVariants.{Hash}
 use Rattle.silt_hash_store.specs.Slots.{is_sound_slot, rows_before, slot_row, tag_of}
 use Rattle.silt_hash_store.specs.State.{HashState, IsHashStore, IsTagged}
-use Rattle.silt_hash_store.specs.declared.rebuilding.Rebuilt.{Rebuilt}
-use Rattle.silt_hash_store.specs.declared.rebuilding.RebuildError.{RebuildError}
-use Rattle.silt_hash_store.specs.declared.rebuilding.RebuildError.TheVariants.{Damaged, Device, NoMemory}
+use Rattle.silt_hash_store.specs.declared.rebuild.Rebuilt.{Rebuilt}
+use Rattle.silt_hash_store.specs.declared.rebuild.RebuildError.{RebuildError}
+use Rattle.silt_hash_store.specs.declared.rebuild.RebuildError.TheVariants.{Damaged, Device, NoMemory}
 
 -- a store that was rebuilt from what is shown, with the number of its puts and of its rows of known kinds
 pub record IsRebuiltHash (content : Content) (rebuilt : Rebuilt) : Type 0 where
   pub stands : IsHashStore content rebuilt.store
-  pub charged : rebuilt.puts ≡ charge_of_rows (known_rows (hash_part rebuilt.store.shape content.shown rebuilt.store.region))
+  pub charged : rebuilt.puts ≡ put_count (known_rows (hash_part rebuilt.store.shape content.shown rebuilt.store.region))
   pub counted : rebuilt.rows ≡ length (known_rows (hash_part rebuilt.store.shape content.shown rebuilt.store.region))
 
 -- this slot is the first finding in a hash region
@@ -44,15 +43,15 @@ pub record AddsSound (store : HashState) (image : List ℕ) (slot : ℕ) (added 
   pub adds : AddsSlot store.shape.buckets slot (slot_row store.shape store.region image slot) added
 
 -- what a slot adds is taken: its tag, and its row is counted
-abbrev pub Takes : ℕ → Option (Kind × ℕ) → Rebuilt → Rebuilt → Type 0
-Takes slot None old new = new ≡ old
-Takes slot (Some (kind, tag)) old new =
+abbrev pub TakesAdded : ℕ → Option (Kind × ℕ) → Rebuilt → Rebuilt → Type 0
+TakesAdded slot None old new = new ≡ old
+TakesAdded slot (Some (kind, tag)) old new =
     new ≡ record { store = record { shape = old.store.shape; region = old.store.region; tags = slice_set old.store.tags slot (Some tag) }; puts = old.puts + puts_of kind; rows = old.rows + 1 }
 
 -- a store of the first slots of an image, this many, with the number of their puts and of their rows of known kinds
 pub record IsGrown (rebuilt : Rebuilt) (image : List ℕ) (count : ℕ) : Type 0 where
   pub tagged : IsTagged rebuilt.store image count
-  pub charged : rebuilt.puts ≡ charge_of_rows (filter has_known_kind (rows_before rebuilt.store.shape rebuilt.store.region image count))
+  pub charged : rebuilt.puts ≡ put_count (filter has_known_kind (rows_before rebuilt.store.shape rebuilt.store.region image count))
   pub counted : rebuilt.rows ≡ length (filter has_known_kind (rows_before rebuilt.store.shape rebuilt.store.region image count))
 
 -- why a rebuild was refused: by the number of a slot, or by the fault of a read; want of memory says nothing

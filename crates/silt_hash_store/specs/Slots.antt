@@ -10,11 +10,12 @@ use Rattle.silt_hash_store.specs.declared.region.Head.{Head}
 use Rattle.silt_hash_store.specs.declared.region.Head.TheVariants.{Empty, Unknown, Row}
 use Rattle.silt_image.specs.Meaning.{is_sound_hash_slot}
 use Rattle.silt_image.specs.Stores.{hash_rows}
-use Rattle.silt_log.specs.Rows.{StoredRow, body_row, has_known_kind}
+use Rattle.silt_log.specs.Rows.{body_row}
+use Rattle.silt_frame.specs.Rows.{has_known_kind, StoredRow}
 
 -- where a slot begins
-abbrev pub slot_at : Shape → ℕ → ℕ → ℕ
-slot_at shape region slot = hash_at shape region + slot * row_len shape
+abbrev pub hash_slot_at : Shape → ℕ → ℕ → ℕ
+hash_slot_at shape region slot = hash_at shape region + slot * row_len shape
 
 -- the row in a slot
 unfoldable pub slot_row : Shape → ℕ → List ℕ → ℕ → StoredRow
@@ -39,8 +40,8 @@ HeadSays byte key Unknown = (kind_of byte ≡ None) × (byte ≢ 0)
 HeadSays byte key (Row kind its_key) = (kind_of byte ≡ Some kind) × (its_key.0 ≡ key)
 
 -- the tag of a slot
-abbrev pub tag_at : List (Option ℕ) → ℕ → Option ℕ
-tag_at tags slot = get_or tags slot None
+abbrev pub slot_tag : List (Option ℕ) → ℕ → Option ℕ
+slot_tag tags slot = get_or tags slot None
 
 -- what a tag of 16 bits stands for: none for the greatest number
 abbrev pub tag_seen : ℕ → Option ℕ

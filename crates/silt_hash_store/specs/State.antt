@@ -4,7 +4,7 @@ use Rattle.silt_device.specs.Disk.{Content}
 use Rattle.silt_device.specs.Layout.{Shape}
 use Rattle.silt_image.specs.Meaning.{hash_findings}
 use Rattle.silt_image.specs.Stores.{hash_part}
-use Rattle.silt_hash_store.specs.Slots.{is_sound_slot, slot_row, tag_at, tag_of}
+use Rattle.silt_hash_store.specs.Slots.{is_sound_slot, slot_row, slot_tag, tag_of}
 
 -- a hash store: its region, and the tag of each slot
 pub record HashState : Type 0 where
@@ -21,11 +21,11 @@ pub record IsHeldHash (store : HashState) : Type 0 where
 pub record IsTagged (store : HashState) (image : List ℕ) (count : ℕ) : Type 0 where
   pub most : count ≤ 4 * store.shape.buckets
   pub sound : (slot : ℕ) → slot < count → is_sound_slot store.shape store.region image slot ≡ true
-  pub tagged : (slot : ℕ) → slot < count → tag_at store.tags slot ≡ tag_of store.shape.buckets slot (slot_row store.shape store.region image slot)
-  pub later : (slot : ℕ) → count ≤ slot → tag_at store.tags slot ≡ None
+  pub tagged : (slot : ℕ) → slot < count → slot_tag store.tags slot ≡ tag_of store.shape.buckets slot (slot_row store.shape store.region image slot)
+  pub later : (slot : ℕ) → count ≤ slot → slot_tag store.tags slot ≡ None
 
 -- a hash store as it stands on a disk: on an honest disk nothing is found in its slots, and each slot has the tag of its row
 pub record IsHashStore (content : Content) (store : HashState) : Type 0 where
   pub sound : IsTrue content.honest → hash_findings store.shape (hash_part store.shape content.shown store.region) ≡ []
   pub tagged : IsTrue content.honest → (slot : ℕ) → slot < 4 * store.shape.buckets
-      → tag_at store.tags slot ≡ tag_of store.shape.buckets slot (slot_row store.shape store.region content.shown slot)
+      → slot_tag store.tags slot ≡ tag_of store.shape.buckets slot (slot_row store.shape store.region content.shown slot)

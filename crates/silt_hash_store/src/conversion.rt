@@ -2,10 +2,9 @@
 ghost use Rattle.std.specs.Prelude.{◌≡◌, ◌==◌, ◌+◌, ◌*◌, ◌<◌, ◌≤◌, ◌^◌, true, false, [], ◌∷◌, filter, Some, length, replicate, None, IsTrue, IfOk, IfErr, IfSome, OnOk, OnErr, MatchResult};
 ghost use Rattle.silt_device.specs.Disk.{Content, ChangesWithin, CountsFault, GaveAny, size};
 ghost use Rattle.silt_device.specs.Layout.{device_size, row_len};
-ghost use Rattle.silt_hash_store.specs.Converting.{converted_row, converted_rows, with_entry};
-ghost use Rattle.silt_image.specs.Meaning.{charge_of_rows};
+ghost use Rattle.silt_hash_store.specs.Conversion.{converted_row, converted_rows, with_entry};
+ghost use Rattle.silt_frame.specs.Rows.{put_count, has_known_kind, row_of};
 ghost use Rattle.silt_image.specs.Stores.{hash_rows};
-ghost use Rattle.silt_log.specs.Rows.{has_known_kind, row_of};
 ghost use Rattle.silt_log.specs.State.{all_rows};
 ghost use Rattle.silt_log_store.specs.State.{IsHeldStore, IsIndexed};
 
@@ -41,7 +40,7 @@ pub struct Conversion {
 
 impl Model for Conversion {
     ghost use Rattle.std.specs.Prelude.{vec_len};
-    ghost use Rattle.silt_hash_store.specs.Converting.{ConversionState, IsHeldConversion};
+    ghost use Rattle.silt_hash_store.specs.Conversion.{ConversionState, IsHeldConversion};
 
     ghost Value = { ConversionState };
 
@@ -55,7 +54,7 @@ fn settle_row(row: &mut [u8]) -> u32
     requires some { 0 < length row.old }
     ensures known { has_known_kind (row_of row.old) ≡ true → row.new ≡ row.old }
     ensures unknown { has_known_kind (row_of row.old) ≡ false → row.new ≡ replicate (length row.old) 0 }
-    ensures puts { result ≡ charge_of_rows (filter has_known_kind (row_of row.new ∷ [])) }
+    ensures puts { result ≡ put_count (filter has_known_kind (row_of row.new ∷ [])) }
     ensures most { result ≤ 1 }
 {
     match row[0] {
@@ -75,7 +74,7 @@ fn read_due<D: Disk>(log: &LogStore, disk: &D, slot: u32, out: &mut [u8]) -> Res
     requires size { device_size log.now.log.shape ≤ size (D.content disk.now) }
     ensures due { IsTrue (D.content disk.now).honest → IsIndexed (D.content disk.now) log.now
         → OnOk result (row_of out.new ≡ converted_row log.now.log.shape log.now.table (all_rows (D.content disk.now) log.now.log) slot) }
-    ensures puts { IfOk result (λ puts. puts ≡ charge_of_rows (filter has_known_kind (row_of out.new ∷ []))) }
+    ensures puts { IfOk result (λ puts. puts ≡ put_count (filter has_known_kind (row_of out.new ∷ []))) }
     ensures most { IfOk result (λ puts. puts ≤ 1) }
     ensures fault { IfErr result (GaveAny D.gave disk.now) }
     ensures held { IsHeldStore log.now }
@@ -105,8 +104,8 @@ fn note_entry(tags: &mut Tags, slot: u32, entry: Option<(u32, u32)>)
 
 impl Conversion {
     ghost use Rattle.silt_log_store.specs.State.{LogStoreState, IsFrozenStore};
-    ghost use Rattle.silt_hash_store.specs.Converting.{ConversionState, FailsStep, HasWritten, IsHeldConversion, Steps};
-    ghost use Rattle.silt_hash_store.specs.Slots.{slot_at};
+    ghost use Rattle.silt_hash_store.specs.Conversion.{ConversionState, FailsStep, HasWritten, IsHeldConversion, Steps};
+    ghost use Rattle.silt_hash_store.specs.Slots.{hash_slot_at};
     ghost use Rattle.silt_hash_store.specs.State.{IsHashStore, IsHeldHash};
 
     /// A conversion of a log into this region, with no slot written. It takes all memory that the conversion needs: two bytes a
@@ -169,7 +168,7 @@ impl Conversion {
         requires shape { self.old.shape ≡ log.now.log.shape }
         requires size { device_size self.old.shape ≤ size (D.content disk.old) }
         ensures size { size (D.content disk.new) ≡ size (D.content disk.old) }
-        ensures changes { ChangesWithin (slot_at self.old.shape self.old.region self.old.next) (row_len self.old.shape) (D.content disk.old) (D.content disk.new) }
+        ensures changes { ChangesWithin (hash_slot_at self.old.shape self.old.region self.old.next) (row_len self.old.shape) (D.content disk.old) (D.content disk.new) }
         ensures ok { OnOk result (Steps log.now (D.content disk.old) (D.content disk.new) self.old self.new) }
         ensures err { OnErr result (self.new ≡ self.old) }
         ensures written { IsFrozenStore (D.content disk.old) log.now → HasWritten (D.content disk.old) log.now self.old → HasWritten (D.content disk.new) log.now self.new }
@@ -198,7 +197,7 @@ impl Conversion {
         ensures rows { (content : Content) (log : LogStoreState) → HasWritten content log self → IsTrue content.honest
             → hash_rows self.shape self.region content.shown ≡ converted_rows self.shape log.table (all_rows content log.log) }
         ensures charged { (content : Content) (log : LogStoreState) → HasWritten content log self → IsTrue content.honest
-            → self.puts ≡ charge_of_rows (filter has_known_kind (converted_rows self.shape log.table (all_rows content log.log))) }
+            → self.puts ≡ put_count (filter has_known_kind (converted_rows self.shape log.table (all_rows content log.log))) }
         ensures stands { (content : Content) (log : LogStoreState) → IsFrozenStore content log → HasWritten content log self → IsHashStore content result }
     {
         let _limits = self.region.geometry.buckets(); // so the number of buckets lies within its limits

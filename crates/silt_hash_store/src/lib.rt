@@ -13,7 +13,7 @@
 mod conversion;
 mod laws;
 mod lookup;
-mod rebuilding;
+mod rebuild;
 mod region;
 mod store;
 mod tags;
@@ -23,7 +23,7 @@ pub use laws::{
     converted_charge_law, converted_map_law, converted_sound_law, converts_law, hash_elsewhere_law,
     written_elsewhere_law,
 };
-pub use rebuilding::{RebuildError, Rebuilt};
+pub use rebuild::{RebuildError, Rebuilt};
 pub use silt_log_store::Found;
 pub use store::HashStore;
 

@@ -3,8 +3,8 @@ ghost use Rattle.std.specs.Prelude.{◌+◌, ◌*◌, ◌<◌, ◌≤◌, IsTrue
 ghost use Rattle.silt_device.specs.Disk.{GaveAny, size};
 ghost use Rattle.silt_device.specs.Layout.{device_size};
 ghost use Rattle.silt_hash_store.specs.Lookup.{FindsIn, MatchesKey, MatchesTag};
-ghost use Rattle.silt_hash_store.specs.Slots.{HeadSays, slot_row, tag_at};
-ghost use Rattle.silt_log.specs.Rows.{StoredRow};
+ghost use Rattle.silt_hash_store.specs.Slots.{HeadSays, slot_row, slot_tag};
+ghost use Rattle.silt_frame.specs.Rows.{StoredRow};
 
 use crate::region::{HashRegion, Head};
 use crate::tags::Tags;
@@ -33,7 +33,8 @@ fn match_at<D: Disk>(
 ) -> Result<Option<Kind>, D::Fault>
     requires slot { slot < 4 * region.now.geometry.buckets }
     requires size { device_size region.now.geometry ≤ size (D.content disk.now) }
-    ensures matches { IsTrue (D.content disk.now).honest → IfOk result (MatchesTag (tag_at tags.now slot) tag (slot_row region.now.geometry region.now.number (D.content disk.now).shown slot) key.now.0) }
+    ensures matches { IsTrue (D.content disk.now).honest → IfOk result (MatchesTag (slot_tag tags.now slot) tag
+        (slot_row region.now.geometry region.now.number (D.content disk.now).shown slot) key.now.0) }
     ensures fault { IfErr result (GaveAny D.gave disk.now) }
 {
     if tags.get(slot) != Some(tag) {
@@ -54,7 +55,8 @@ pub fn find_in<D: Disk>(
 ) -> Result<Option<Found>, D::Fault>
     requires bucket { bucket < region.now.geometry.buckets }
     requires size { device_size region.now.geometry ≤ size (D.content disk.now) }
-    ensures finds { IsTrue (D.content disk.now).honest → IfOk result (FindsIn (record { shape = region.now.geometry; region = region.now.number; tags = tags.now }) (D.content disk.now).shown bucket tag key.now.0) }
+    ensures finds { IsTrue (D.content disk.now).honest
+        → IfOk result (FindsIn (record { shape = region.now.geometry; region = region.now.number; tags = tags.now }) (D.content disk.now).shown bucket tag key.now.0) }
     ensures place { IfOk result (λ found. IfSome found (λ row. row.place < 4 * region.now.geometry.buckets)) }
     ensures fault { IfErr result (GaveAny D.gave disk.now) }
 {

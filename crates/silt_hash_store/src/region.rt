@@ -2,8 +2,8 @@
 ghost use Rattle.std.specs.Prelude.{◌≡◌, ◌+◌, ◌*◌, ◌<◌, ◌≤◌, ◌^◌, length, drop, slice_index, IsTrue, IfOk, IfErr, OnOk, MatchResult};
 ghost use Rattle.silt_device.specs.Disk.{ChangesWithin, CountsFault, GaveAny, size};
 ghost use Rattle.silt_device.specs.Layout.{device_size, row_len};
-ghost use Rattle.silt_hash_store.specs.Slots.{HeadSays, slot_at, slot_row};
-ghost use Rattle.silt_log.specs.Rows.{row_of};
+ghost use Rattle.silt_hash_store.specs.Slots.{HeadSays, hash_slot_at, slot_row};
+ghost use Rattle.silt_frame.specs.Rows.{row_of};
 
 use silt_device::{Disk, Geometry};
 use silt_frame::{HEAD_LEN, Key, Kind, head_of};
@@ -52,7 +52,7 @@ impl HashRegion {
     // Where a slot begins.
     fn slot_at(&self, slot: u32) -> u64
         requires { slot < 4 * self.now.geometry.buckets }
-        ensures value { result ≡ slot_at self.now.geometry self.now.number slot }
+        ensures value { result ≡ hash_slot_at self.now.geometry self.now.number slot }
         ensures fits { result + row_len self.now.geometry ≤ device_size self.now.geometry }
         ensures most { device_size self.now.geometry ≤ 2 ^ 39 }
     {
@@ -67,7 +67,9 @@ impl HashRegion {
     pub fn read_head<D: Disk>(&self, disk: &D, slot: u32) -> Result<Head, D::Fault>
         requires slot { slot < 4 * self.now.geometry.buckets }
         requires size { device_size self.now.geometry ≤ size (D.content disk.now) }
-        ensures head { IsTrue (D.content disk.now).honest → IfOk result (HeadSays (slot_row self.now.geometry self.now.number (D.content disk.now).shown slot).kind (slot_row self.now.geometry self.now.number (D.content disk.now).shown slot).key) }
+        ensures head { IsTrue (D.content disk.now).honest → IfOk result (HeadSays
+            (slot_row self.now.geometry self.now.number (D.content disk.now).shown slot).kind
+            (slot_row self.now.geometry self.now.number (D.content disk.now).shown slot).key) }
         ensures fault { IfErr result (GaveAny D.gave disk.now) }
     {
         let mut head = [0; HEAD_LEN];
@@ -101,7 +103,7 @@ impl HashRegion {
         requires row { length row.now ≡ row_len self.now.geometry }
         requires size { device_size self.now.geometry ≤ size (D.content disk.old) }
         ensures size { size (D.content disk.new) ≡ size (D.content disk.old) }
-        ensures changes { ChangesWithin (slot_at self.now.geometry self.now.number slot) (row_len self.now.geometry) (D.content disk.old) (D.content disk.new) }
+        ensures changes { ChangesWithin (hash_slot_at self.now.geometry self.now.number slot) (row_len self.now.geometry) (D.content disk.old) (D.content disk.new) }
         ensures written { IsTrue (D.content disk.old).honest → OnOk result (slot_row self.now.geometry self.now.number (D.content disk.new).shown slot ≡ row_of row.now) }
         ensures failures { MatchResult result (λ _. D.failures disk.new ≡ D.failures disk.old) (CountsFault D.failures D.gave disk.old disk.new) }
     {

@@ -5,7 +5,7 @@ ghost use Rattle.silt_device.specs.Layout.{device_size};
 ghost use Rattle.silt_image.specs.Stores.{hash_rows};
 
 use crate::lookup::find_in;
-use crate::rebuilding::{RebuildError, Rebuilt, rebuild_region};
+use crate::rebuild::{RebuildError, Rebuilt, rebuild_region};
 use crate::region::{HashRegion, Head};
 use crate::tags::Tags;
 use silt_cuckoo::key_buckets;

@@ -1,6 +1,6 @@
 // The tags of the slots of a hash region, in two bytes a slot.
 ghost use Rattle.std.specs.Prelude.{◌≡◌, ◌<◌, ◌^◌, IfOk, None, Some, length, replicate, slice_set};
-ghost use Rattle.silt_hash_store.specs.Slots.{tag_at};
+ghost use Rattle.silt_hash_store.specs.Slots.{slot_tag};
 
 use std::alloc::{AllocError, Global};
 use std::marker::Model;
@@ -38,7 +38,7 @@ impl Tags {
 
     /// The tag of a slot, none where it has none or is past the last.
     pub fn get(&self, slot: u32) -> Option<u32>
-        ensures { result ≡ tag_at self.now slot }
+        ensures { result ≡ slot_tag self.now slot }
     {
         match self.numbers.get(slot as usize) {
             Some(number) if *number != NO_TAG => Some(u32::from(*number)),

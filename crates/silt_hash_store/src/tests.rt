@@ -77,6 +77,7 @@ enum Outcome {
     Rebuilt(u32, u32),
     Damaged(u32),
     Failed,
+    NoMemory,
 }
 
 // What a rebuild of hash region 0 comes to.
@@ -87,7 +88,8 @@ fn rebuild<D: Disk>(alloc: Global, disk: &D, geometry: Geometry) -> Outcome
     match HashStore::rebuild(alloc, disk, geometry, 0) {
         Ok(rebuilt) => Outcome::Rebuilt(rebuilt.rows, rebuilt.puts),
         Err(RebuildError::Damaged(slot)) => Outcome::Damaged(slot),
-        Err(_) => Outcome::Failed,
+        Err(RebuildError::Device(_)) => Outcome::Failed,
+        Err(RebuildError::NoMemory) => Outcome::NoMemory,
     }
 }
 
@@ -213,9 +215,17 @@ fn a_failed_read_is_told(rt: HostRuntime) -> Result<(), Fail> {
     let alloc = rt.alloc();
     let geometry = small()?;
     let rebuilt = Outcome::Rebuilt(2, 2);
+    for number in 1..10u64 {
+        let mut disk = MemDisk::new(alloc, geometry.size() as usize)?;
+        fill_slot(&mut disk, 0, 1, &paired(1))?;
+        fill_slot(&mut disk, 1, 1, &paired(2))?;
+        assert_eq!(rt;
+            rebuild_with_fault(alloc, disk, geometry, number),
+            (Outcome::Failed, true),
+            "read {number}"
+        );
+    }
     for (number, first, second) in [
-        (1, Outcome::Failed, true),
-        (9, Outcome::Failed, true),
         (10, rebuilt, false),
         (18, rebuilt, false),
         (20, rebuilt, false),
@@ -442,5 +452,18 @@ fn goes_on_after_a_failed_step(rt: HostRuntime) -> Result<(), Fail> {
             "call {number}"
         );
     }
+    Ok(())
+}
+
+// Where memory is ample a conversion of a log of any geometry begins, that of the most buckets too.
+#[test]
+fn the_largest_conversion_begins(rt: HostRuntime) -> Result<(), Fail> {
+    let alloc = rt.alloc();
+    let geometry = Geometry::new(1, 32_768, 131_072, 2, 1, 1)?;
+    let log = LogStore::new(alloc, geometry, 0)?;
+    let conversion = Conversion::start(alloc, &log, 0)?;
+    assert_eq!(rt; (conversion.region(), conversion.is_done()), (0, false));
+    let disk = MemDisk::new(alloc, geometry.size() as usize)?;
+    assert_eq!(rt; rebuild(alloc, &disk, geometry), Outcome::Rebuilt(0, 0));
     Ok(())
 }

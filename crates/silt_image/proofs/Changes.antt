@@ -9,7 +9,7 @@ use Rattle.silt_manifest.specs.Ruling.{ruling_manifest}
 use Rattle.silt_manifest.specs.declared.body.Body.{Body}
 use Rattle.silt_image.specs.Stores.{Stores, image_stores}
 use Rattle.silt_image.specs.Meaning.{names_log, with_log_rows, with_new_log}
-use Rattle.silt_image.specs.Laws.{Freezes}
+use Rattle.silt_image.specs.Laws.{FreezesActive}
 use Rattle.silt_image.proofs.Frame.{free_hash_law, free_sorted_law, log_region_law, next_body_law, same_body_law}
 use Rattle.silt_image.proofs.Rows.{unnamed_law}
 
@@ -53,7 +53,7 @@ abbrev pub HoldsEither : Stores → Body → List ℕ → Type 0
 HoldsEither s next image = Holds s image ⊎ Holds (with_new_log next s) image
 
 -- in a manifest slot, until a body rules that freezes the active log, where the region of the new one has no rows
-pub next_body_changes : (s : Stores) (slot : ℕ) (next : Body) (old new : Content) → slot < 2 → ChangesWithin (slot_at slot) 4096 old new → Freezes s.body next → LeavesOnly old (Holds s)
+pub next_body_changes : (s : Stores) (slot : ℕ) (next : Body) (old new : Content) → slot < 2 → ChangesWithin (slot_at slot) 4096 old new → FreezesActive s.body next → LeavesOnly old (Holds s)
     → LeavesOnly old (λ image. log_rows s.shape next.active image ≡ []) → LeavesOnly new (λ image. (ruling_manifest s.shape image ≡ Some s.body) ⊎ (ruling_manifest s.shape image ≡ Some next))
     → LeavesOnly new (HoldsEither s next)
 next_body_changes s slot next old new below changes freezes leaves empty rules = record {
@@ -68,7 +68,7 @@ next_body_changes s slot next old new below changes freezes leaves empty rules =
 }
 
 -- and once it rules
-pub ruled_next_changes : (s : Stores) (slot : ℕ) (next : Body) (old new : Content) → slot < 2 → ChangesWithin (slot_at slot) 4096 old new → Freezes s.body next → LeavesOnly old (Holds s)
+pub ruled_next_changes : (s : Stores) (slot : ℕ) (next : Body) (old new : Content) → slot < 2 → ChangesWithin (slot_at slot) 4096 old new → FreezesActive s.body next → LeavesOnly old (Holds s)
     → LeavesOnly old (λ image. log_rows s.shape next.active image ≡ []) → LeavesOnly new (λ image. ruling_manifest s.shape image ≡ Some next) → LeavesOnly new (Holds (with_new_log next s))
 ruled_next_changes s slot next old new below changes freezes leaves empty rules = record {
   each = λ honest image left.

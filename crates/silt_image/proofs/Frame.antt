@@ -8,7 +8,9 @@ use Rattle.silt_device.specs.Disk.{Torn}
 use Rattle.silt_device.specs.Layout.{Shape, row_len, entry_len, slot_at, log_size, hash_size, sorted_size, gates_at, bodies_at, hash_at, sorted_at, device_size}
 use Rattle.silt_device.proofs.Regions.{next_region, up_least}
 use Rattle.silt_device.proofs.Images.{torn_slice_before}
-use Rattle.silt_log.specs.Rows.{StoredRow, body_row, gate_bytes, is_open, log_rows, open_count, row_at, row_of, rows_from}
+use Rattle.silt_frame.specs.Gate.{is_open}
+use Rattle.silt_log.specs.Rows.{body_row, gate_bytes, log_rows, open_count, row_at, rows_from}
+use Rattle.silt_frame.specs.Rows.{row_of, StoredRow, entry_row, put_count}
 use Rattle.silt_log.proofs.Bodies.{map_range_same, body_before}
 use Rattle.silt_log.proofs.Counts.{count_most}
 use Rattle.silt_manifest.specs.Body.{all_below, is_well_formed}
@@ -18,10 +20,10 @@ use Rattle.silt_manifest.specs.declared.slot.Damage.{Damage}
 use Rattle.silt_manifest.proofs.Laws.{other_regions, same_found}
 use Rattle.silt_manifest.proofs.SoundBodies.{sound_parts}
 use Rattle.silt_image.specs.Header.{header_of}
-use Rattle.silt_image.specs.Stores.{Part, Stores, entry_row, hash_part, hash_rows, image_stores, log_part, shape_found, sorted_rows, stores_named, stores_ruled, stores_shaped}
-use Rattle.silt_image.specs.Meaning.{image_charge, image_fits, image_map, image_rows, image_stands, image_verdict, findings_of, map_where_sound, all_logs_fit, rows_found, map_of_rows, charge_of_rows, with_log_rows, with_new_log, with_part_rows}
-use Rattle.silt_image.specs.Laws.{Agree, FrameLaw, FreeHashLaw, FreeLogLaw, FreeSortedLaw, FreezeLaw, Freezes, HasStores, LogRegionLaw, ManifestLaw, MeaningLaw, NextBodyLaw, RulingLaw, SameBodyLaw, SameRegions, SameWithin}
-use Rattle.silt_image.specs.declared.finding.Finding.{Finding}
+use Rattle.silt_image.specs.Stores.{Part, Stores, hash_part, hash_rows, image_stores, log_part, shape_found, sorted_rows, stores_named, stores_ruled, stores_shaped}
+use Rattle.silt_image.specs.Meaning.{image_charge, image_fits, image_map, image_rows, image_stands, image_verdict, findings_of, map_where_sound, all_logs_fit, rows_found, map_of_rows, with_log_rows, with_new_log, with_part_rows}
+use Rattle.silt_image.specs.Laws.{Agree, FrameLaw, FreeHashLaw, FreeLogLaw, FreeSortedLaw, FreezeLaw, FreezesActive, HasStores, LogRegionLaw, ManifestLaw, MeaningLaw, NextBodyLaw, RulingLaw, SameBodyLaw, SameRegions, SameWithin}
+use Rattle.silt_image.specs.declared.damage.Finding.{Finding}
 use Rattle.silt_image.proofs.Named.{stores_law, whole_law, ruling_sound, shape_parts, apart_of}
 use Rattle.silt_image.proofs.Rows.{keeps_rows, takes_rows}
 
@@ -250,7 +252,7 @@ meaning_law before after same = record {
   fits = ap all_logs_fit same;
   rows = ap rows_found same;
   map = ap (λ r. map_of_rows (rows_found r)) same;
-  charge = ap (λ r. charge_of_rows (rows_found r)) same;
+  charge = ap (λ r. put_count (rows_found r)) same;
 }
 
 -- ---- changes
@@ -397,7 +399,7 @@ manifest_law before after s slot body e below torn found =
     })
 
 -- the stores of a next body, over those of the body before it
-freeze_named : (sh : Shape) (old next : Body) (image : List ℕ) → Freezes old next → log_rows sh next.active image ≡ [] → stores_named sh next image ≡ with_new_log next (stores_named sh old image)
+freeze_named : (sh : Shape) (old next : Body) (image : List ℕ) → FreezesActive old next → log_rows sh next.active image ≡ [] → stores_named sh next image ≡ with_new_log next (stores_named sh old image)
 unfolding stores_named with_new_log
 freeze_named sh old next image freezes none =
     ap (λ (ids : List ℕ). record { shape = sh; body = next; logs = log_part sh image next.active ∷ map (log_part sh image) ids; hashes = map (hash_part sh image) next.hashed; entries = sorted_rows sh next.sorted next.sorted_count image }) freezes.frozen

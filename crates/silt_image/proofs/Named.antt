@@ -7,7 +7,7 @@ use Rattle.std.proofs.lemmas.List.Edits.{length-between}
 use Rattle.std.proofs.lemmas.Slice.Eq.{bytes_eq-Decides}
 use Rattle.silt_device.specs.Layout.{Shape, InLimits, device_size, is_bucket_count}
 use Rattle.silt_manifest.specs.Body.{is_well_formed}
-use Rattle.silt_manifest.specs.Ruling.{manifest_found, body_found, greater_body, is_sound_slot, open_body}
+use Rattle.silt_manifest.specs.Ruling.{manifest_found, body_found, greater_body, is_sound_body, open_body}
 use Rattle.silt_manifest.specs.declared.body.Body.{Body}
 use Rattle.silt_manifest.specs.declared.slot.Damage.{Damage}
 use Rattle.silt_manifest.specs.declared.slot.Damage.TheVariants as damage
@@ -15,9 +15,9 @@ use Rattle.silt_manifest.proofs.SoundBodies.{own_slot}
 use Rattle.silt_image.specs.Header.{IsHeader, header_of, header_shape, is_formatted, is_in_limits, magic}
 use Rattle.silt_image.specs.Stores.{Part, Stores, image_stores, shape_found, stores_named, stores_ruled, stores_shaped, log_part}
 use Rattle.silt_image.specs.Laws.{LimitsLaw, StoresLaw, WholeLaw, HasStores}
-use Rattle.silt_image.specs.declared.finding.Finding.{Finding}
-use Rattle.silt_image.specs.declared.finding.Finding.TheVariants.{NotFormatted, Damaged}
-use Rattle.silt_image.specs.declared.finding.Place.TheVariants.{Header, Length}
+use Rattle.silt_image.specs.declared.damage.Finding.{Finding}
+use Rattle.silt_image.specs.declared.damage.Finding.TheVariants.{NotFormatted, Damaged}
+use Rattle.silt_event.specs.declared.place.Place.TheVariants.{Header, Length}
 
 -- ---- the header
 
@@ -130,7 +130,7 @@ header_is header long formatted =
 -- ---- the manifest
 
 -- the body of greater generation is one of the two
-greater_sound : (s : Shape) (first second : Option Body) (body : Body) → is_sound_slot s 0 first ≡ true → is_sound_slot s 1 second ≡ true → greater_body first second ≡ Ok body → (slot : ℕ) × (is_well_formed s slot body ≡ true)
+greater_sound : (s : Shape) (first second : Option Body) (body : Body) → is_sound_body s 0 first ≡ true → is_sound_body s 1 second ≡ true → greater_body first second ≡ Ok body → (slot : ℕ) × (is_well_formed s slot body ≡ true)
 greater_sound s None None body s0 s1 e = absurd (cc)
 greater_sound s None (Some b) body s0 s1 e = let same : b ≡ body = cc in (1, ap (is_well_formed s 1) (sym same) ∙ s1)
 greater_sound s (Some a) None body s0 s1 e = let same : a ≡ body = cc in (0, ap (is_well_formed s 0) (sym same) ∙ s0)
@@ -154,7 +154,7 @@ both_sound true true found body e = (refl, refl, e)
 pub ruling_sound : (s : Shape) (image : List ℕ) (body : Body) → manifest_found s image ≡ Ok body → is_well_formed s (body.generation % 2) body ≡ true
 unfolding body_found
 ruling_sound s image body e =
-    let tests = both_sound (is_sound_slot s 0 (open_body image 0)) (is_sound_slot s 1 (open_body image 1)) (greater_body (open_body image 0) (open_body image 1)) body e in
+    let tests = both_sound (is_sound_body s 0 (open_body image 0)) (is_sound_body s 1 (open_body image 1)) (greater_body (open_body image 0) (open_body image 1)) body e in
     let sound = greater_sound s (open_body image 0) (open_body image 1) body tests.0 tests.1 tests.2 in
     own_slot s sound.0 body sound.1
 

@@ -10,11 +10,11 @@ use Rattle.std.proofs.lemmas.Cmp.{eq_by_cmp_equiv, nat_list_cmp_total}
 use Rattle.std.proofs.lemmas.Map.Text.{is_eq-slice_cmp}
 use Rattle.std.proofs.lemmas.List.{map-append, reverse-append, reverse-reverse}
 use Rattle.std.proofs.lemmas.List.Sums.{sum_by-append}
-use Rattle.silt_log.specs.Rows.{StoredRow}
-use Rattle.silt_image.specs.Commands.{Command, Map, put, delete, changed, map_after}
+use Rattle.silt_frame.specs.Rows.{StoredRow, put_count}
+use Rattle.silt_event.specs.Commands.{Command, Map, put, delete, changed, map_after}
 use Rattle.silt_image.specs.Stores.{Part, Stores}
-use Rattle.silt_image.specs.Meaning.{HasActive, charge_of_rows, command_of, known_rows, map_of_rows, oldest_first, part_rows, rows_of, with_log_rows, with_new_log, with_part_rows}
-use Rattle.silt_image.specs.Laws.{ActiveLaw, AgainLaw, AppendLaw, CountLaw, MapLaw, NewActiveLaw, NewLogLaw, NewestLaw, OtherLogsLaw, OtherRowsLaw, OwnRowsLaw, PutsLaw, UnnamedLaw, value_of}
+use Rattle.silt_image.specs.Meaning.{HasActive, command_of, known_rows, map_of_rows, oldest_first, part_rows, rows_of, with_log_rows, with_new_log, with_part_rows}
+use Rattle.silt_image.specs.Laws.{ActiveLaw, AgainLaw, AppendLaw, CountLaw, MapLaw, NewActiveLaw, NewLogLaw, NewestLaw, OtherLogsLaw, OtherRowsLaw, OwnRowsLaw, PutsLaw, UnnamedLaw, value_given}
 
 -- ---- the logs
 
@@ -149,17 +149,17 @@ count_law rows more = sum_by-append (λ (row : StoredRow). cond (row.kind == 1) 
 
 -- rows at the end of the active log add their puts
 pub puts_law : PutsLaw
-puts_law s rows more has = ap charge_of_rows (append_law s rows more has) ∙ count_law (rows_of s) more
+puts_law s rows more has = ap put_count (append_law s rows more has) ∙ count_law (rows_of s) more
 
 -- two keys are told apart as bytes
 same_key : (key other : List ℕ) → eq_by_cmp (slice_cmp nat_cmp) key other ≡ bytes_eq other key
 same_key key other = (eq_by_cmp_equiv nat_list_cmp_total).symm key other ∙ is_eq-slice_cmp other key
 
 -- what a map has for a key after one row more
-changed_get : (m : Map) (row : StoredRow) (key : List ℕ) → get (changed m (command_of row)) key ≡ cond (bytes_eq row.key key) (value_of row) (get m key)
+changed_get : (m : Map) (row : StoredRow) (key : List ℕ) → get (changed m (command_of row)) key ≡ cond (bytes_eq row.key key) (value_given row) (get m key)
 changed_get m row key = go (row.kind == 1) refl
   where
-    go : (b : Bool) → (row.kind == 1) ≡ b → get (changed m (command_of row)) key ≡ cond (bytes_eq row.key key) (value_of row) (get m key)
+    go : (b : Bool) → (row.kind == 1) ≡ b → get (changed m (command_of row)) key ≡ cond (bytes_eq row.key key) (value_given row) (get m key)
     go true is =
         ap (λ (b : Bool). get (changed m (if b then put row.key row.value else delete row.key)) key) is
         ∙ get-insert nat_list_cmp_total m row.key row.value key
@@ -172,19 +172,19 @@ changed_get m row key = go (row.kind == 1) refl
         ∙ ap (λ (b : Bool). cond (bytes_eq row.key key) (if b then Some row.value else None) (get m key)) (sym is)
 
 -- rows that are listed the newest first
-newest_of : (rows : List StoredRow) (key : List ℕ) → get (map_of_rows (reverse rows)) key ≡ option_and_then value_of (find (λ (row : StoredRow). bytes_eq row.key key) rows)
+newest_of : (rows : List StoredRow) (key : List ℕ) → get (map_of_rows (reverse rows)) key ≡ option_and_then value_given (find (λ (row : StoredRow). bytes_eq row.key key) rows)
 newest_of [] key = get-empty (slice_cmp nat_cmp) key
 newest_of (row ∷ rows) key =
     let turned : reverse (row ∷ rows) ≡ reverse rows ++ row ∷ [] = reverse-append (row ∷ []) rows in
     let found : Option StoredRow = find (λ (r : StoredRow). bytes_eq r.key key) rows in
-    let go : (b : Bool) → bytes_eq row.key key ≡ b → cond (bytes_eq row.key key) (value_of row) (option_and_then value_of found) ≡ option_and_then value_of (find (λ (r : StoredRow). bytes_eq r.key key) (row ∷ rows)) = elim [
+    let go : (b : Bool) → bytes_eq row.key key ≡ b → cond (bytes_eq row.key key) (value_given row) (option_and_then value_given found) ≡ option_and_then value_given (find (λ (r : StoredRow). bytes_eq r.key key) (row ∷ rows)) = elim [
       | true ↦ λ is. rw is refl
       | false ↦ λ is. rw is refl
     ] in
     ap (λ (l : List StoredRow). get (map_of_rows l) key) turned
     ∙ ap (λ (m : Map). get m key) (map_law (reverse rows) (row ∷ []))
     ∙ changed_get (map_of_rows (reverse rows)) row key
-    ∙ ap (λ (v : Option (List ℕ)). cond (bytes_eq row.key key) (value_of row) v) (newest_of rows key)
+    ∙ ap (λ (v : Option (List ℕ)). cond (bytes_eq row.key key) (value_given row) v) (newest_of rows key)
     ∙ go (bytes_eq row.key key) refl
 
 -- the last row of a key decides

@@ -8,13 +8,14 @@ use Rattle.std.proofs.lemmas.List.FromFn.{length-map-range_with_len, get_or-map-
 use Rattle.std.proofs.lemmas.List.Folds.{list_all_more}
 use Rattle.std.proofs.lemmas.Option.{slice_get-get_or}
 use Rattle.silt_device.specs.Layout.{Shape}
-use Rattle.silt_log.specs.Rows.{FirstUnknown, StoredRow, has_known_kind, log_rows, open_count, row_at, rows_from}
+use Rattle.silt_log.specs.Rows.{FirstUnknown, log_rows, open_count, row_at, rows_from}
+use Rattle.silt_frame.specs.Rows.{has_known_kind, StoredRow}
 use Rattle.silt_image.specs.Stores.{Part, log_part}
 use Rattle.silt_image.specs.Meaning.{charge_findings, charge_of, finding_if, fits_table, hash_findings, log_findings, row_findings, sorted_findings, store_findings}
 use Rattle.silt_image.specs.Laws.{ChargeFoundLaw, CrowdedRowLaw, FirstEntryLaw, FirstFinding, FirstFindingLaw, FirstSlotLaw, OverchargedLaw, UnknownRowLaw}
-use Rattle.silt_image.specs.declared.finding.Finding.{Finding}
-use Rattle.silt_image.specs.declared.finding.Finding.TheVariants.{Damaged, Crowded}
-use Rattle.silt_image.specs.declared.finding.Place.TheVariants.{Log, Charge}
+use Rattle.silt_image.specs.declared.damage.Finding.{Finding}
+use Rattle.silt_image.specs.declared.damage.Finding.TheVariants.{Damaged, Crowded}
+use Rattle.silt_event.specs.declared.place.Place.TheVariants.{Log, Charge}
 use Rattle.silt_image.proofs.Sound.{fits_take, no_entries, no_hashes, nothing_both, nothing_where_passes}
 use Rattle.silt_image.proofs.Verdict.{verdict_of}
 

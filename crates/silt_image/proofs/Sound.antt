@@ -5,15 +5,15 @@ use Rattle.std.proofs.lemmas.Bool.{and_parts, and_from, ltb-false, le-ltb}
 use Rattle.std.proofs.lemmas.List.{map-append, take_all}
 use Rattle.std.proofs.lemmas.List.Folds.{list_all-append}
 use Rattle.silt_device.specs.Layout.{Shape}
-use Rattle.silt_log.specs.Rows.{StoredRow, has_known_kind}
+use Rattle.silt_frame.specs.Rows.{has_known_kind, StoredRow, keys_of, put_count}
 use Rattle.silt_cuckoo.specs.Index.{Index, indexed, index_of_keys}
 use Rattle.silt_cuckoo.proofs.KeyIndex.{indexed_append, stays_none, next_index}
 use Rattle.silt_image.specs.Stores.{Part, Stores}
-use Rattle.silt_image.specs.Meaning.{IsSound, charge_findings, charge_of, charge_of_rows, finding_if, fits_table, hash_findings, keys_of, known_rows, log_findings, oldest_first, part_rows, row_findings, rows_of, sorted_findings, store_findings, with_log_rows, with_new_log, with_part_rows}
+use Rattle.silt_image.specs.Meaning.{IsSound, charge_findings, charge_of, finding_if, fits_table, hash_findings, known_rows, log_findings, oldest_first, part_rows, row_findings, rows_of, sorted_findings, store_findings, with_log_rows, with_new_log, with_part_rows}
 use Rattle.silt_image.specs.Laws.{BeginningLaw, ChargeLaw, FindsNothing, FrozenLaw, LogSoundLaw, LogsSoundLaw, PartsLaw, TakenLaw}
-use Rattle.silt_image.specs.declared.finding.Finding.{Finding}
-use Rattle.silt_image.specs.declared.finding.Finding.TheVariants.{Damaged, Crowded}
-use Rattle.silt_image.specs.declared.finding.Place.TheVariants.{Log, Charge}
+use Rattle.silt_image.specs.declared.damage.Finding.{Finding}
+use Rattle.silt_image.specs.declared.damage.Finding.TheVariants.{Damaged, Crowded}
+use Rattle.silt_event.specs.declared.place.Place.TheVariants.{Log, Charge}
 use Rattle.silt_image.proofs.Rows.{count_law, keeps_rows, new_log_law, takes_rows}
 
 -- ---- findings one after the other
@@ -214,21 +214,21 @@ sound_with s region old new fine most sound =
 -- ---- fewer rows
 
 -- one log's rows have no more puts where they are fewer
-part_charge : (region : ℕ) (rows more : List StoredRow) (part : Part) → charge_of_rows (part_rows (with_part_rows region rows part)) ≤ charge_of_rows (part_rows (with_part_rows region (rows ++ more) part))
+part_charge : (region : ℕ) (rows more : List StoredRow) (part : Part) → put_count (part_rows (with_part_rows region rows part)) ≤ put_count (part_rows (with_part_rows region (rows ++ more) part))
 part_charge region rows more part = go (part.region == region) refl
   where
-    go : (b : Bool) → (part.region == region) ≡ b → charge_of_rows (part_rows (with_part_rows region rows part)) ≤ charge_of_rows (part_rows (with_part_rows region (rows ++ more) part))
+    go : (b : Bool) → (part.region == region) ≡ b → put_count (part_rows (with_part_rows region rows part)) ≤ put_count (part_rows (with_part_rows region (rows ++ more) part))
     go true is =
-        let few : charge_of_rows (part_rows (with_part_rows region rows part)) ≡ charge_of_rows rows = ap (λ p. charge_of_rows (part_rows p)) (takes_rows region rows part is) in
-        let many : charge_of_rows (part_rows (with_part_rows region (rows ++ more) part)) ≡ charge_of_rows (rows ++ more) = ap (λ p. charge_of_rows (part_rows p)) (takes_rows region (rows ++ more) part is) in
+        let few : put_count (part_rows (with_part_rows region rows part)) ≡ put_count rows = ap (λ p. put_count (part_rows p)) (takes_rows region rows part is) in
+        let many : put_count (part_rows (with_part_rows region (rows ++ more) part)) ≡ put_count (rows ++ more) = ap (λ p. put_count (part_rows p)) (takes_rows region (rows ++ more) part is) in
         omega (arith, few, many, count_law rows more)
     go false other =
-        let same : charge_of_rows (part_rows (with_part_rows region rows part)) ≡ charge_of_rows (part_rows (with_part_rows region (rows ++ more) part)) =
-        ap (λ p. charge_of_rows (part_rows p)) (keeps_rows region rows part other ∙ sym (keeps_rows region (rows ++ more) part other)) in
+        let same : put_count (part_rows (with_part_rows region rows part)) ≡ put_count (part_rows (with_part_rows region (rows ++ more) part)) =
+        ap (λ p. put_count (part_rows p)) (keeps_rows region rows part other ∙ sym (keeps_rows region (rows ++ more) part other)) in
         omega (arith, same)
 
 parts_charge : (region : ℕ) (rows more : List StoredRow) (parts : List Part)
-    → charge_of_rows (oldest_first (map part_rows (map (with_part_rows region rows) parts))) ≤ charge_of_rows (oldest_first (map part_rows (map (with_part_rows region (rows ++ more)) parts)))
+    → put_count (oldest_first (map part_rows (map (with_part_rows region rows) parts))) ≤ put_count (oldest_first (map part_rows (map (with_part_rows region (rows ++ more)) parts)))
 parts_charge region rows more [] = omega arith
 parts_charge region rows more (part ∷ parts) =
     let few : List StoredRow = oldest_first (map part_rows (map (with_part_rows region rows) parts)) in
@@ -288,7 +288,7 @@ pub frozen_law : FrozenLaw
 unfolding with_new_log
 frozen_law s next sound =
     let nothing = finds_nothing s sound in
-    let puts : charge_of (with_new_log next s) ≡ charge_of s = ap charge_of_rows (new_log_law s next) in
+    let puts : charge_of (with_new_log next s) ≡ charge_of s = ap put_count (new_log_law s next) in
     is_sound (with_new_log next s) (record {
       logs = nothing_both (log_findings s.shape (record { region = next.active; rows = [] })) (flat_map (log_findings s.shape) s.logs) (empty_log s.shape next.active) nothing.logs;
       hashes = nothing.hashes;

@@ -3,14 +3,15 @@ use Rattle.std.proofs.Common.{◌≡◌, ◌↔◌, ℕ, ◌+◌, ◌-◌, Bool,
 use Rattle.std.specs.List.{list_all, enumerate_from, range_with_len}
 use Rattle.std.proofs.lemmas.Bool.{and_parts, and_from}
 use Rattle.silt_device.specs.Layout.{Shape}
-use Rattle.silt_log.specs.Rows.{StoredRow, has_known_kind, log_rows}
+use Rattle.silt_log.specs.Rows.{log_rows}
+use Rattle.silt_frame.specs.Rows.{has_known_kind, StoredRow, keys_of, put_count}
 use Rattle.silt_manifest.specs.Body.{first_body}
 use Rattle.silt_image.specs.Stores.{Part, Stores, image_stores, sorted_rows, stores_named, stores_ruled, stores_shaped}
-use Rattle.silt_image.specs.Meaning.{IsSound, all_logs_fit, charge_findings, charge_of, charge_of_rows, entry_findings, finding_if, findings_of, fits_table, hash_findings, image_fits, image_map, image_rows, image_stands, image_verdict, is_crowding, is_key_below, is_sound_hash_slot, keys_of, log_findings, map_of_rows, map_where_sound, row_findings, rows_found, rows_of, slot_findings, sorted_findings, store_findings}
+use Rattle.silt_image.specs.Meaning.{IsSound, all_logs_fit, charge_findings, charge_of, entry_findings, finding_if, findings_of, fits_table, hash_findings, image_fits, image_map, image_rows, image_stands, image_verdict, is_crowding, is_key_below, is_sound_hash_slot, log_findings, map_of_rows, map_where_sound, row_findings, rows_found, rows_of, slot_findings, sorted_findings, store_findings}
 use Rattle.silt_image.specs.Laws.{EmptyLaw, GoodLaw, GoodStandsLaw, NoStoresLaw, RowsLaw, SoundLaw, StandsLaw, VerdictLaw}
-use Rattle.silt_image.specs.declared.finding.Finding.{Finding}
-use Rattle.silt_image.specs.declared.finding.Finding.TheVariants.{Damaged, Crowded}
-use Rattle.silt_image.specs.declared.finding.Place.TheVariants.{Log, Hash, Sorted, Charge}
+use Rattle.silt_image.specs.declared.damage.Finding.{Finding}
+use Rattle.silt_image.specs.declared.damage.Finding.TheVariants.{Damaged, Crowded}
+use Rattle.silt_event.specs.declared.place.Place.TheVariants.{Log, Hash, Sorted, Charge}
 use Rattle.silt_image.proofs.Named.{whole_law}
 use Rattle.silt_image.proofs.Sound.{fine_of, finds_nothing, fits_none, fits_take, logs_sound_law, nothing_both, nothing_first, nothing_second, of_fine}
 
@@ -202,7 +203,7 @@ no_rows s region logs hashes entries = rw (logs, hashes, entries) refl
 nothing_found : (s : Stores) (region : ℕ) → s.logs ≡ record { region = region; rows = [] } ∷ [] → s.hashes ≡ [] → s.entries ≡ [] → IsSound s
 nothing_found s region logs hashes entries =
     let none : flat_map (log_findings s.shape) s.logs ≡ [] = ap (flat_map (log_findings s.shape)) logs ∙ nothing_both (log_findings s.shape (record { region = region; rows = [] })) [] (of_fine s.shape (record { region = region; rows = [] }) (record { known = refl; fits = fits_none s.shape })) refl in
-    let puts : charge_of s ≡ 0 = ap charge_of_rows (no_rows s region logs hashes entries) in
+    let puts : charge_of s ≡ 0 = ap put_count (no_rows s region logs hashes entries) in
     (logs_sound_law s none hashes entries).1 (omega (arith, puts))
 
 -- it stands for the empty map

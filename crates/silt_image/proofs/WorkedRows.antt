@@ -1,7 +1,8 @@
 -- Worked images, by computation.
 use Rattle.std.specs.Prelude.{◌≡◌, ℕ, ◌-◌, ◌*◌, List, [], ◌∷◌, ◌++◌, map, replicate, length, take, refl, Option, Some, None, Result, Ok, Err}
 use Rattle.silt_device.specs.Layout.{Shape}
-use Rattle.silt_log.specs.Rows.{StoredRow, log_rows, open_count, row_at, rows_from}
+use Rattle.silt_log.specs.Rows.{log_rows, open_count, row_at, rows_from}
+use Rattle.silt_frame.specs.Rows.{StoredRow}
 use Rattle.silt_manifest.specs.Body.{body_bytes, first_body}
 use Rattle.silt_manifest.specs.Ruling.{body_behind, body_found}
 use Rattle.silt_manifest.specs.declared.body.Body.{Body}
@@ -11,10 +12,10 @@ use Rattle.silt_image.specs.Header.{header_bytes}
 use Rattle.silt_image.specs.Stores.{Stores, hash_rows, image_stores, shape_found, sorted_rows, stores_named}
 use Rattle.silt_image.specs.Meaning.{fits_table, hash_findings, image_rows, image_verdict, log_findings, report_of, rows_of, sorted_findings, store_findings}
 use Rattle.silt_image.specs.Laws.{newest_row}
-use Rattle.silt_image.specs.declared.finding.Finding.{Finding}
-use Rattle.silt_image.specs.declared.finding.Finding.TheVariants.{NotFormatted, Damaged, Crowded}
-use Rattle.silt_image.specs.declared.finding.Place.TheVariants.{Hash, Length, Log, Slot, Sorted}
-use Rattle.silt_image.specs.declared.finding.Report.{Report}
+use Rattle.silt_image.specs.declared.damage.Finding.{Finding}
+use Rattle.silt_image.specs.declared.damage.Finding.TheVariants.{NotFormatted, Damaged, Crowded}
+use Rattle.silt_event.specs.declared.place.Place.TheVariants.{Hash, Length, Log, Slot, Sorted}
+use Rattle.silt_event.specs.declared.report.Report.{Report}
 
 -- ---- one small shape
 

@@ -3,8 +3,8 @@ use Rattle.std.specs.Prelude.{◌≡◌, ◌<◌, ◌*◌, ◌^◌, ℕ, ◌==�
 use Rattle.std.specs.Str.{bytes_eq}
 use Rattle.byteorder.specs.Endian.{big_bytes}
 use Rattle.silt_device.specs.Layout.{Shape, is_bucket_count}
+use Rattle.silt_frame.specs.Gate.{gate_open, is_open}
 use Rattle.silt_manifest.specs.Numbers.{number_at}
-use Rattle.silt_manifest.specs.Ruling.{is_open}
 
 -- the text SILTFLSH
 abbrev pub magic : List ℕ
@@ -28,7 +28,7 @@ is_formatted header =
 -- a header is whole, its gate is open, and the magic bytes and the version 1 follow
 pub record IsHeader (header : List ℕ) : Type 0 where
   pub whole : length header ≡ 37
-  pub gate : slice_index header 0 ≡ 167
+  pub gate : slice_index header 0 ≡ gate_open
   pub magic : slice_range header 1 9 ≡ magic
   pub version : number_at 4 9 header ≡ 1
 

@@ -5,17 +5,19 @@ use Rattle.std.specs.Str.{bytes_eq}
 use Rattle.std.specs.FinMap.{get, empty}
 use Rattle.silt_device.specs.Disk.{Torn}
 use Rattle.silt_device.specs.Layout.{Shape, InLimits, device_size, slot_at, gates_at, hash_at, sorted_at, log_size, hash_size, sorted_size}
-use Rattle.silt_log.specs.Rows.{FirstUnknown, StoredRow, has_known_kind, log_rows, open_count, row_at}
+use Rattle.silt_log.specs.Rows.{FirstUnknown, log_rows, open_count, row_at}
+use Rattle.silt_frame.specs.Rows.{StoredRow, has_known_kind, is_put_row, put_count}
 use Rattle.silt_manifest.specs.Body.{first_body, is_well_formed}
 use Rattle.silt_manifest.specs.Ruling.{manifest_found, open_body, ruling_manifest}
 use Rattle.silt_manifest.specs.declared.body.Body.{Body}
-use Rattle.silt_image.specs.Commands.{map_after}
+use Rattle.silt_event.specs.Commands.{map_after}
 use Rattle.silt_image.specs.Header.{FitsHeader, IsHeader, header_bytes, header_of, header_shape, is_in_limits, shape_of}
 use Rattle.silt_image.specs.Stores.{Part, Stores, image_stores, log_part, shape_found, stores_named}
-use Rattle.silt_image.specs.Meaning.{HasActive, IsGood, IsSound, StandsFor, charge_of, charge_of_rows, command_of, fits_table, hash_findings, image_charge, image_fits, image_map, image_rows, image_stands, image_verdict, log_findings, map_of_rows, names_log, row_findings, rows_of, sorted_findings, with_log_rows, with_new_log}
-use Rattle.silt_image.specs.declared.finding.Finding.{Finding}
-use Rattle.silt_image.specs.declared.finding.Finding.TheVariants.{Crowded, Damaged}
-use Rattle.silt_image.specs.declared.finding.Place.TheVariants.{Charge, Log}
+use Rattle.silt_image.specs.Meaning.{HasActive, IsGood, IsSound, StandsFor, charge_of, command_of, fits_table, hash_findings, image_charge, image_fits, image_map, image_rows, image_stands, image_verdict, log_findings, map_of_rows, names_log, row_findings, rows_of, sorted_findings, with_log_rows, with_new_log}
+use Rattle.silt_image.specs.declared.damage.Finding.{Finding}
+use Rattle.silt_image.specs.declared.damage.Finding.TheVariants.{Crowded, Damaged}
+use Rattle.silt_event.specs.declared.place.Place.TheVariants.{Charge, Log}
+use Rattle.silt_frame.specs.Gate.{gate_open}
 
 -- ---- the header
 
@@ -29,7 +31,7 @@ LimitsLaw = (shape : Shape) → IsTrue (is_in_limits shape) ↔ InLimits shape
 
 -- a device of the length that its header's numbers say, behind an open gate, has this shape
 abbrev pub FormattedLaw : Type 0
-FormattedLaw = (shape : Shape) → InLimits shape → shape_found (device_size shape) (167 ∷ header_bytes shape) ≡ Ok shape
+FormattedLaw = (shape : Shape) → InLimits shape → shape_found (device_size shape) (gate_open ∷ header_bytes shape) ≡ Ok shape
 
 -- ---- the stores of an image
 
@@ -133,7 +135,7 @@ SameBodyLaw =
     → ruling_manifest s.shape after ≡ Some s.body → image_stores after ≡ Ok s
 
 -- a body freezes the active log of another: it has a new one, and the old one in front of the frozen ones
-pub record Freezes (old new : Body) : Type 0 where
+pub record FreezesActive (old new : Body) : Type 0 where
   pub frozen : new.frozen ≡ old.active ∷ old.frozen
   pub hashed : new.hashed ≡ old.hashed
   pub sorted : new.sorted ≡ old.sorted
@@ -142,19 +144,19 @@ pub record Freezes (old new : Body) : Type 0 where
 -- a body that freezes the active log, and has an empty one in its place, names the stores with a new log in front
 abbrev pub FreezeLaw : Type 0
 FreezeLaw =
-    (image : List ℕ) (s : Stores) (next : Body) → image_stores image ≡ Ok s → Freezes s.body next → log_rows s.shape next.active image ≡ []
+    (image : List ℕ) (s : Stores) (next : Body) → image_stores image ≡ Ok s → FreezesActive s.body next → log_rows s.shape next.active image ≡ []
     → stores_named s.shape next image ≡ with_new_log next s
 
 -- a change in a manifest slot after which such a body rules: the stores have a new log in front
 abbrev pub NextBodyLaw : Type 0
 NextBodyLaw =
     (before after : List ℕ) (s : Stores) (slot : ℕ) (next : Body) → image_stores before ≡ Ok s → slot < 2 → Torn (slot_at slot) 4096 before after
-    → ruling_manifest s.shape after ≡ Some next → Freezes s.body next → log_rows s.shape next.active before ≡ [] → image_stores after ≡ Ok (with_new_log next s)
+    → ruling_manifest s.shape after ≡ Some next → FreezesActive s.body next → log_rows s.shape next.active before ≡ [] → image_stores after ≡ Ok (with_new_log next s)
 
 -- the new log of such a body has a region that no log had
 abbrev pub FreeLogLaw : Type 0
 FreeLogLaw =
-    (image : List ℕ) (s : Stores) (slot : ℕ) (next : Body) → image_stores image ≡ Ok s → Freezes s.body next → is_well_formed s.shape slot next ≡ true
+    (image : List ℕ) (s : Stores) (slot : ℕ) (next : Body) → image_stores image ≡ Ok s → FreezesActive s.body next → is_well_formed s.shape slot next ≡ true
     → names_log s next.active ≡ false
 
 -- ---- when nothing is found
@@ -201,7 +203,7 @@ AppendLaw = (s : Stores) (rows more : List StoredRow) → HasActive rows s → r
 abbrev pub PutsLaw : Type 0
 PutsLaw =
     (s : Stores) (rows more : List StoredRow) → HasActive rows s
-    → charge_of (with_log_rows s.body.active (rows ++ more) s) ≡ charge_of s + charge_of_rows more
+    → charge_of (with_log_rows s.body.active (rows ++ more) s) ≡ charge_of s + put_count more
 
 -- a new log has no rows
 abbrev pub NewLogLaw : Type 0
@@ -253,19 +255,19 @@ MapLaw = (rows more : List StoredRow) → map_of_rows (rows ++ more) ≡ map_aft
 
 -- the puts among more rows
 abbrev pub CountLaw : Type 0
-CountLaw = (rows more : List StoredRow) → charge_of_rows (rows ++ more) ≡ charge_of_rows rows + charge_of_rows more
+CountLaw = (rows more : List StoredRow) → put_count (rows ++ more) ≡ put_count rows + put_count more
 
 -- the last row of a key
 abbrev pub newest_row : List StoredRow → List ℕ → Option StoredRow
 newest_row rows key = find (λ row. bytes_eq row.key key) (reverse rows)
 
 -- the value that a row gives its key, none where it is a delete
-abbrev pub value_of : StoredRow → Option (List ℕ)
-value_of row = if row.kind == 1 then Some row.value else None
+abbrev pub value_given : StoredRow → Option (List ℕ)
+value_given row = if is_put_row row then Some row.value else None
 
 -- the last row of a key decides: a put gives its value, and a delete none
 abbrev pub NewestLaw : Type 0
-NewestLaw = (rows : List StoredRow) (key : List ℕ) → get (map_of_rows rows) key ≡ option_and_then value_of (newest_row rows key)
+NewestLaw = (rows : List StoredRow) (key : List ℕ) → get (map_of_rows rows) key ≡ option_and_then value_given (newest_row rows key)
 
 -- ---- the verdict
 

@@ -1,4 +1,3 @@
-pub mod Commands
 pub mod Header
 pub mod Stores
 pub mod Meaning

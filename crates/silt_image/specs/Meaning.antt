@@ -6,17 +6,17 @@ use Rattle.std.specs.Str.{bytes_eq}
 use Rattle.std.specs.Cmp.Lexicographic.{slice_cmp}
 use Rattle.std.specs.Ordering.{nat_cmp, is_lt}
 use Rattle.silt_device.specs.Layout.{Shape}
-use Rattle.silt_log.specs.Rows.{StoredRow, has_known_kind}
+use Rattle.silt_frame.specs.Rows.{StoredRow, has_known_kind, is_put_row, keys_of, put_count}
 use Rattle.silt_manifest.specs.declared.body.Body.{Body}
 use Rattle.silt_cuckoo.specs.Keys.{first_bucket, second_bucket}
 use Rattle.silt_cuckoo.specs.Index.{index_of_keys}
-use Rattle.silt_image.specs.Commands.{Command, put, delete, Map, map_after}
+use Rattle.silt_event.specs.Commands.{Command, put, delete, Map, map_after}
 use Rattle.silt_image.specs.Header.{shape_of}
 use Rattle.silt_image.specs.Stores.{Part, Stores, image_stores}
-use Rattle.silt_image.specs.declared.finding.Finding.{Finding}
-use Rattle.silt_image.specs.declared.finding.Finding.TheVariants.{Damaged, Crowded}
-use Rattle.silt_image.specs.declared.finding.Place.TheVariants.{Log, Hash, Sorted, Charge}
-use Rattle.silt_image.specs.declared.finding.Report.{Report}
+use Rattle.silt_image.specs.declared.damage.Finding.{Finding}
+use Rattle.silt_image.specs.declared.damage.Finding.TheVariants.{Damaged, Crowded}
+use Rattle.silt_event.specs.declared.place.Place.TheVariants.{Log, Hash, Sorted, Charge}
+use Rattle.silt_event.specs.declared.report.Report.{Report}
 
 -- ---- the rows and their map
 
@@ -39,29 +39,21 @@ rows_of s = s.entries ++ oldest_first (map known_rows s.hashes) ++ oldest_first 
 
 -- what a row does to the map
 abbrev pub command_of : StoredRow → Command
-command_of row = if row.kind == 1 then put row.key row.value else delete row.key
+command_of row = if is_put_row row then put row.key row.value else delete row.key
 
 -- the map that rows make, the oldest first
 abbrev pub map_of_rows : List StoredRow → Map
 map_of_rows rows = map_after empty (map command_of rows)
 
--- how many of the rows are puts
-abbrev pub charge_of_rows : List StoredRow → ℕ
-charge_of_rows rows = count_by (λ row. row.kind == 1) rows
-
 -- how many of all rows of the stores are puts
 abbrev pub charge_of : Stores → ℕ
-charge_of s = charge_of_rows (rows_of s)
+charge_of s = put_count (rows_of s)
 
 -- ---- what is found in the stores, in the order of the search
 
 -- this finding where the test succeeds
 abbrev pub finding_if : Bool → Finding → List Finding
 finding_if test finding = if test then finding ∷ [] else []
-
--- the keys of rows
-abbrev pub keys_of : List StoredRow → List (List ℕ)
-keys_of rows = map (λ row. row.key) rows
 
 -- the keys of the rows of a log, the oldest first, have places in a table
 unfoldable pub fits_table : Shape → List StoredRow → Bool
@@ -161,7 +153,7 @@ image_map image = map_of_rows (image_rows image)
 
 -- how many put rows an image has
 unfoldable pub image_charge : List ℕ → ℕ
-image_charge image = charge_of_rows (image_rows image)
+image_charge image = put_count (image_rows image)
 
 -- the first finding in an image, none where it is good
 unfoldable pub image_verdict : List ℕ → Option Finding

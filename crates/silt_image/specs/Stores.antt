@@ -2,15 +2,16 @@
 use Rattle.std.specs.Prelude.{ℕ, ◌+◌, ◌*◌, ◌==◌, nat_le, ◌&&◌, not, if◌then◌else◌, List, ◌∷◌, length, map, take, drop, slice_range, Result, Ok, Err}
 use Rattle.std.specs.List.{range_with_len}
 use Rattle.silt_device.specs.Layout.{Shape, row_len, entry_len, hash_at, sorted_at, device_size}
-use Rattle.silt_log.specs.Rows.{StoredRow, body_row, log_rows}
+use Rattle.silt_log.specs.Rows.{body_row, log_rows}
+use Rattle.silt_frame.specs.Rows.{StoredRow, entry_row}
 use Rattle.silt_manifest.specs.Ruling.{manifest_found}
 use Rattle.silt_manifest.specs.declared.body.Body.{Body}
 use Rattle.silt_manifest.specs.declared.slot.Damage.{Damage}
 use Rattle.silt_manifest.specs.declared.slot.Damage.TheVariants as damage
 use Rattle.silt_image.specs.Header.{header_of, header_shape, is_formatted, is_in_limits}
-use Rattle.silt_image.specs.declared.finding.Finding.{Finding}
-use Rattle.silt_image.specs.declared.finding.Finding.TheVariants.{NotFormatted, Damaged}
-use Rattle.silt_image.specs.declared.finding.Place.TheVariants.{Header, Length, Slot, NoSlot}
+use Rattle.silt_image.specs.declared.damage.Finding.{Finding}
+use Rattle.silt_image.specs.declared.damage.Finding.TheVariants.{NotFormatted, Damaged}
+use Rattle.silt_event.specs.declared.place.Place.TheVariants.{Header, Length, Slot, NoSlot}
 
 -- A store with the number of its region. The rows of a log stand the oldest first, those of a hash region in the order of its
 -- slots, of which the empty ones have kind 0.
@@ -32,10 +33,6 @@ pub record Stores : Type 0 where
 -- the rows in the slots of a hash region, in order
 unfoldable pub hash_rows : Shape → ℕ → List ℕ → List StoredRow
 hash_rows shape region image = map (body_row (hash_at shape region) (row_len shape) image) (range_with_len 0 (4 * shape.buckets))
-
--- the put that the bytes of a sorted entry stand for
-abbrev pub entry_row : List ℕ → StoredRow
-entry_row bytes = record { kind = 1; key = take 20 bytes; value = drop 20 bytes }
 
 -- this many entries of a sorted region, from its front on
 unfoldable pub sorted_rows : Shape → ℕ → ℕ → List ℕ → List StoredRow

@@ -4,15 +4,14 @@ ghost use Rattle.silt_device.specs.Layout.{InLimits, device_size};
 ghost use Rattle.silt_image.specs.Header.{header_bytes, header_shape, is_formatted};
 ghost use Rattle.silt_image.specs.Stores.{shape_found};
 
-use crate::{Finding, Place};
+use crate::Finding;
 use byteorder::{BigEndian, ByteOrder};
 use silt_device::{BadGeometry, Geometry};
+use silt_event::Place;
+use silt_frame::is_open;
 
 /// The bytes of a header that count: its gate, the magic bytes, the version and the six numbers.
 pub const HEADER_LEN: usize = 37;
-
-// The byte of an open gate.
-const OPEN: u8 = 0xA7;
 
 // What follows the header's gate first.
 const MAGIC: [u8; 8] = *b"SILTFLSH";
@@ -24,7 +23,7 @@ const VERSION: u32 = 1;
 fn is_formatted(header: &[u8; 37]) -> bool
     ensures { result ≡ is_formatted header.now }
 {
-    header[0] == OPEN
+    is_open(header[0])
         && &header[1..9] == MAGIC.as_slice()
         && BigEndian::read_u32(&header[9..13]) == VERSION
 }

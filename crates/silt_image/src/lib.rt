@@ -9,13 +9,13 @@
 //! image's bytes only the header is read and written here.
 #![tactic(auto)]
 
-mod finding;
+mod damage;
 mod header;
 mod laws;
 #[cfg(test)]
 mod tests;
 
-pub use finding::{Finding, Place, Report};
+pub use damage::Finding;
 pub use header::{HEADER_LEN, header_bytes, read_header};
 pub use laws::{
     active_law, again_law, append_law, beginning_law, charge_found_law, charge_law, count_law,

@@ -1,6 +1,7 @@
 // Worked headers.
 use super::*;
 use silt_device::Geometry;
+use silt_event::Place;
 use silt_manifest::Damage;
 
 // The header of a store with values of 2 bytes, 2 buckets, logs of 4 rows, 2 logs, 2 hash regions and 8 sorted entries.

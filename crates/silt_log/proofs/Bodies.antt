@@ -4,7 +4,8 @@ use Rattle.std.specs.List.{range_with_len}
 use Rattle.silt_device.specs.Disk.{Torn, splice}
 use Rattle.silt_device.proofs.Images.{torn_slice_before, torn_slice_after, splice_slice}
 use Rattle.silt_device.proofs.Regions.{next_region}
-use Rattle.silt_log.specs.Rows.{row_of, body_row}
+use Rattle.silt_log.specs.Rows.{body_row}
+use Rattle.silt_frame.specs.Rows.{row_of}
 
 -- a list made of numbers from a place on, in two parts
 pub range_split : {X : Type 0} (f : ℕ → X) (from a b : ℕ) → map f (range_with_len from (a + b)) ≡ map f (range_with_len from a) ++ map f (range_with_len (from + a) b)

@@ -7,7 +7,8 @@ use Rattle.std.proofs.lemmas.List.Edits.{length-between, get_or-between}
 use Rattle.std.proofs.lemmas.List.Folds.{list_any_at}
 use Rattle.std.proofs.lemmas.List.Sums.{prefix_len-le-length, prefix_len_passes, prefix_len_stops}
 use Rattle.silt_device.specs.Disk.{Torn}
-use Rattle.silt_log.specs.Rows.{GatesAre, gate_bytes, is_open}
+use Rattle.silt_frame.specs.Gate.{is_open}
+use Rattle.silt_log.specs.Rows.{GatesAre, gate_bytes}
 
 -- a place that is equal to another holds the same byte
 pub same_byte : (image : List ℕ) (a b : ℕ) → a ≡ b → get_or image a 0 ≡ get_or image b 0

@@ -1,22 +1,27 @@
 -- For the crates above: what calls on other parts of the disk leave of a log, and how its rows make one list.
 use Rattle.std.proofs.Common.{◌≡◌, ℕ, ◌+◌, ◌-◌, ◌*◌, ◌≤◌, ◌<◌, ◌⊎◌, IsTrue, List, ◌++◌, length, map, get_or, refl, sym, ap, ◌∙◌, subst, inl, inr, arith}
 use Rattle.std.specs.List.{range_with_len, prefix_len}
-use Rattle.silt_device.specs.Disk.{Content, Torn, LeavesOnly, ChangesWithin, Settles, Stays, Restarts, size}
-use Rattle.silt_device.specs.Layout.{Shape, row_len, log_size, gates_at, bodies_at, device_size}
+use Rattle.silt_device.specs.Disk.{ChangesWithin, Content, LeavesOnly, LiesOutside, Restarts, Settles, Stays, Torn, size}
+use Rattle.silt_device.specs.Layout.{Shape, bodies_at, device_size, gates_at, log_len, log_size, row_len}
 use Rattle.silt_device.proofs.Images.{shown_left, torn_slice_before, within_leaves, within_wider, sync_within, failed_sync_within, torn_slice_after}
 use Rattle.silt_device.proofs.Regions.{up_least}
-use Rattle.silt_log.specs.Rows.{StoredRow, GatesAre, is_open, row_of, body_at, body_row, rows_from, row_at, log_rows, open_count, gate_bytes}
+use Rattle.silt_log.specs.Rows.{GatesAre, body_at, body_row, rows_from, row_at, log_rows, open_count, gate_bytes}
+use Rattle.silt_frame.specs.Rows.{row_of, StoredRow}
 use Rattle.silt_log.specs.State.{LogState, IsLog, settled_rows, waiting_rows, all_rows}
-use Rattle.silt_log.specs.Calls.{Keeps}
+use Rattle.silt_log.specs.Calls.{KeepsRows}
 use Rattle.std.proofs.lemmas.List.FromFn.{length-map-range_with_len, get_or-map-range_with_len}
+use Rattle.silt_frame.specs.Gate.{is_open}
 use Rattle.silt_log.proofs.Counts.{count_most}
 use Rattle.silt_log.proofs.Bodies.{body_before, map_range_same, range_split, rows_behind}
 use Rattle.silt_log.proofs.Standing.{gates_within}
 use Rattle.silt_log.proofs.Exits.{StandsIn, region_lies, log_from, log_standing, stands_resized}
 
--- this range lies before a log region's gates or behind its bodies
-abbrev pub IsOutside : Shape → ℕ → ℕ → ℕ → Type 0
-IsOutside s region at count = (at + count ≤ gates_at s region) ⊎ (bodies_at s region + s.log_capacity * row_len s ≤ at)
+-- a range outside a log's gates and bodies lies before its gates or behind its bodies
+pub outside_bodies : (s : Shape) (region at count : ℕ) → LiesOutside (gates_at s region) (log_len s) at count → (at + count ≤ gates_at s region) ⊎ (bodies_at s region + s.log_capacity * row_len s ≤ at)
+outside_bodies s region at count outside = elim outside [
+  | inl before ↦ inl before
+  | inr behind ↦ inr (omega (arith, behind))
+]
 
 -- ---- the rows of a log
 
@@ -72,7 +77,7 @@ module _ (gates count bodies len : ℕ) (lies : gates + count ≤ bodies) (at lo
   ]
 
 -- a change outside a log region leaves its rows in an image
-pub log_rows_elsewhere : (s : Shape) (region at count : ℕ) (old new : List ℕ) → region < s.logs → device_size s ≤ length old → IsOutside s region at count → Torn at count old new → log_rows s region new ≡ log_rows s region old
+pub log_rows_elsewhere : (s : Shape) (region at count : ℕ) (old new : List ℕ) → region < s.logs → device_size s ≤ length old → LiesOutside (gates_at s region) (log_len s) at count → Torn at count old new → log_rows s region new ≡ log_rows s region old
 unfolding log_rows rows_from row_at open_count
 log_rows_elsewhere s region at count old new before fits outside torn =
     let place = region_lies s region (length old) before fits in
@@ -85,10 +90,10 @@ log_rows_elsewhere s region at count old new before fits outside torn =
     ] in
     let counted : ℕ = prefix_len is_open (gate_bytes (gates_at s region) s.log_capacity old) in
     ap (λ (l : List ℕ). map (body_row (bodies_at s region) (row_len s) new) (range_with_len 0 (prefix_len is_open l))) bytes
-    ∙ rows_elsewhere _ _ _ _ place.apart at count outside old new torn counted (count_most _ _ old gates_fit) inside
+    ∙ rows_elsewhere _ _ _ _ place.apart at count (outside_bodies s region at count outside) old new torn counted (count_most _ _ old gates_fit) inside
 
 -- a change outside the region of a log leaves the log and its rows
-pub log_elsewhere : (old new : Content) (log : LogState) (at count : ℕ) → IsLog old log → device_size log.shape ≤ size old → size new ≡ size old → IsOutside log.shape log.region at count → ChangesWithin at count old new → Keeps old new log log
+pub log_elsewhere : (old new : Content) (log : LogState) (at count : ℕ) → IsLog old log → device_size log.shape ≤ size old → size new ≡ size old → LiesOutside (gates_at log.shape log.region) (log_len log.shape) at count → ChangesWithin at count old new → KeepsRows old new log log
 unfolding rows_from row_at
 log_elsewhere old new log at count is fits same outside changes =
     let place = region_lies log.shape log.region (size old) is.bounds.region fits in
@@ -98,11 +103,11 @@ log_elsewhere old new log at count is fits same outside changes =
     let leaves : LeavesOnly new (StandsIn new log (settled_rows old log)) = within_leaves changes (log_standing old log is fits)
     (λ before after stands torn. stands_resized old new log (settled_rows old log) after same (record {
       long = torn.size ∙ stands.long;
-      are = gates_elsewhere _ _ _ _ place.apart at count outside before after torn log.settled settled_most stands.are;
-      hold = rows_elsewhere _ _ _ _ place.apart at count outside before after torn log.settled settled_most (subst (λ n. bodies_at log.shape log.region + log.shape.log_capacity * row_len log.shape ≤ n) (sym stands.long) place.inside) ∙ stands.hold;
+      are = gates_elsewhere _ _ _ _ place.apart at count (outside_bodies log.shape log.region at count outside) before after torn log.settled settled_most stands.are;
+      hold = rows_elsewhere _ _ _ _ place.apart at count (outside_bodies log.shape log.region at count outside) before after torn log.settled settled_most (subst (λ n. bodies_at log.shape log.region + log.shape.log_capacity * row_len log.shape ≤ n) (sym stands.long) place.inside) ∙ stands.hold;
     })) in
     let stands = log_from new log (settled_rows old log) is.bounds is.sealed fits_new leaves in
-    let all : IsTrue old.honest → all_rows new log ≡ all_rows old log = λ honest. rows_elsewhere _ _ _ _ place.apart at count outside old.shown new.shown (changes.shown honest) log.used is.bounds.room place.inside in
+    let all : IsTrue old.honest → all_rows new log ≡ all_rows old log = λ honest. rows_elsewhere _ _ _ _ place.apart at count (outside_bodies log.shape log.region at count outside) old.shown new.shown (changes.shown honest) log.used is.bounds.room place.inside in
     record {
       log = refl;
       stands = stands;
@@ -112,11 +117,11 @@ log_elsewhere old new log at count is fits same outside changes =
     }
 
 -- a sync leaves a log and its rows
-pub log_synced : (old new : Content) (log : LogState) → IsLog old log → device_size log.shape ≤ size old → size new ≡ size old → Settles old new → Keeps old new log log
+pub log_synced : (old new : Content) (log : LogState) → IsLog old log → device_size log.shape ≤ size old → size new ≡ size old → Settles old new → KeepsRows old new log log
 log_synced old new log is fits same settles = log_elsewhere old new log 0 0 is fits same (inl (omega arith)) (sync_within 0 0 settles)
 
 -- so does a sync that fails
-pub log_unsynced : (old new : Content) (log : LogState) → IsLog old log → device_size log.shape ≤ size old → size new ≡ size old → Stays old new → Keeps old new log log
+pub log_unsynced : (old new : Content) (log : LogState) → IsLog old log → device_size log.shape ≤ size old → size new ≡ size old → Stays old new → KeepsRows old new log log
 log_unsynced old new log is fits same stays = log_elsewhere old new log 0 0 is fits same (inl (omega arith)) (failed_sync_within 0 0 stays)
 
 -- ---- what a call changes lies in the log's region

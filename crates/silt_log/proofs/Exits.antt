@@ -7,9 +7,10 @@ use Rattle.silt_device.specs.Disk.{Content, LeavesOnly, ChangesWithin, Writes, s
 use Rattle.silt_device.specs.Layout.{Shape, row_len, gates_at, bodies_at, device_size}
 use Rattle.silt_device.proofs.Images.{shown_left, within_leaves}
 use Rattle.silt_device.proofs.Regions.{regions_apart}
-use Rattle.silt_log.specs.Rows.{StoredRow, row_of, body_row, body_at, row_at, rows_from, log_rows, open_count}
+use Rattle.silt_log.specs.Rows.{body_row, body_at, row_at, rows_from, log_rows, open_count}
+use Rattle.silt_frame.specs.Rows.{row_of, StoredRow}
 use Rattle.silt_log.specs.State.{LogState, InBounds, IsLog, settled_rows, all_rows}
-use Rattle.silt_log.specs.Calls.{Appends, Keeps}
+use Rattle.silt_log.specs.Calls.{Appends, KeepsRows}
 use Rattle.silt_log.proofs.Counts.{count_is}
 use Rattle.silt_log.proofs.Bodies.{body_before, rows_below, row_written}
 use Rattle.silt_log.proofs.Standing.{Lies, Stands, rows_standing, body_torn, gates_spliced, gates_within}
@@ -107,7 +108,7 @@ module _ (old new : Content) (log : LogState) (is : IsLog old log) (fits : devic
       rows_below (bodies_at log.shape log.region) (row_len log.shape) old.shown new.shown log.used log.shape.log_capacity log.used room place.inside (changes.shown honest) (omega arith)
 
   -- at an exit with a fault
-  pub append_failed : Keeps old new log log
+  pub append_failed : KeepsRows old new log log
   append_failed =
       let stands = log_from new log (settled_rows old log) is.bounds is.sealed append_fits append_stands in
       record { log = refl; stands = stands; settled = append_settled; all = append_all; full = λ honest. stands.full (changes.honest ∙ honest) ∙ append_all honest }

@@ -7,9 +7,11 @@ use Rattle.std.proofs.lemmas.List.FromFn.{take-map-range_with_len, length-map-ra
 use Rattle.silt_device.specs.Disk.{Content, Torn, LeavesOnly, Writes, Rests, size, splice}
 use Rattle.silt_device.specs.Layout.{row_len, gates_at, bodies_at, device_size}
 use Rattle.silt_device.proofs.Images.{shown_left, rests_leaves, splice_byte}
-use Rattle.silt_log.specs.Rows.{StoredRow, gate_bytes, is_open, body_row, rows_from, first_rows, row_at, log_rows, open_count}
-use Rattle.silt_log.specs.State.{LogState, InBounds, IsLog, settled_rows, all_rows, full_image}
-use Rattle.silt_log.specs.Calls.{SyncsAndTears, Empties, Opens, OpensSome, HasBeginning}
+use Rattle.silt_frame.specs.Gate.{is_open}
+use Rattle.silt_log.specs.Rows.{gate_bytes, body_row, rows_from, first_rows, row_at, log_rows, open_count}
+use Rattle.silt_frame.specs.Rows.{StoredRow}
+use Rattle.silt_log.specs.State.{LogState, InBounds, IsLog, settled_rows, all_rows, opened_image}
+use Rattle.silt_log.specs.Calls.{SyncsAndTears, Empties, OpensGates, OpensSome, HasBeginning}
 use Rattle.silt_log.proofs.Bodies.{range_split}
 use Rattle.silt_log.proofs.Splices.{spliced_over}
 use Rattle.silt_log.proofs.Standing.{Stands, gates_torn_rows, gates_spliced, gates_torn, gates_within}
@@ -67,7 +69,7 @@ module _ (old : Content) (log : LogState) (is : IsLog old log) (fits : device_si
 
   -- after a write there, with all of these gates open the same image is had
   pub open_full_same : (new : List ℕ) → Torn (gates_at log.shape log.region + log.settled) (log.used - log.settled) old.shown new
-      → splice (gates_at log.shape log.region + log.settled) (replicate (log.used - log.settled) 167) new ≡ full_image old log
+      → splice (gates_at log.shape log.region + log.settled) (replicate (log.used - log.settled) 167) new ≡ opened_image old log
   open_full_same new torn =
       let ones : List ℕ = replicate (log.used - log.settled) 167 in
       let long : length ones ≡ log.used - log.settled = length-replicate (log.used - log.settled) 167 in
@@ -114,7 +116,7 @@ module _ (old : Content) (log : LogState) (is : IsLog old log) (fits : device_si
 
   -- at the exit with Ok
   pub open_done : (new : Content) (bytes : ℕ) → bytes ≡ log.used - log.settled → size new ≡ size old → Writes (gates_at log.shape log.region + log.settled) (replicate bytes 167) old new → Rests new
-      → Opens old new log (record log { settled = log.used })
+      → OpensGates old new log (record log { settled = log.used })
   unfolding rows_from row_at
   open_done new bytes count same writes rests =
       let after : LogState = record log { settled = log.used } in
@@ -124,11 +126,11 @@ module _ (old : Content) (log : LogState) (is : IsLog old log) (fits : device_si
       let here : device_size log.shape ≤ size old = fits in
       let fits_new : device_size log.shape ≤ size new = subst (λ n. device_size log.shape ≤ n) (sym same) here in
       let bounds : InBounds after = record { region = is.bounds.region; order = omega arith; room = is.bounds.room; gap = λ loose. absurd (false≢true (sym is.sealed ∙ loose)) } in
-      let shown : IsTrue old.honest → new.shown ≡ full_image old log = λ honest.
+      let shown : IsTrue old.honest → new.shown ≡ opened_image old log = λ honest.
       writes.shown honest ∙ ap (λ n. splice (gates_at log.shape log.region + log.settled) (replicate n 167) old.shown) count in
       let stands : IsTrue old.honest → StandsIn new after (all_rows old log) new.shown = λ honest.
       let opened = gates_spliced _ _ _ _ _ place log.settled more (settled_rows old log) old.shown open_most (open_shown honest) in
-      let as_used = subst (λ n. Stands (gates_at log.shape log.region) log.shape.log_capacity (bodies_at log.shape log.region) (row_len log.shape) (size old) n (first_rows log.shape log.region old.shown n) (full_image old log)) both opened in
+      let as_used = subst (λ n. Stands (gates_at log.shape log.region) log.shape.log_capacity (bodies_at log.shape log.region) (row_len log.shape) (size old) n (first_rows log.shape log.region old.shown n) (opened_image old log)) both opened in
       subst (StandsIn new after (all_rows old log)) (sym (shown honest)) (record { long = as_used.long ∙ sym same; are = as_used.are; hold = as_used.hold }) in
       let leaves : LeavesOnly new (StandsIn new after (all_rows old log)) = rests_leaves rests (record { holds = λ honest. stands (sym writes.honest ∙ honest) }) in
       record {
@@ -139,5 +141,5 @@ module _ (old : Content) (log : LogState) (is : IsLog old log) (fits : device_si
       }
 
 -- the same of a log that is named in another way
-pub opens_as : (old new : Content) (before after after_other : LogState) → after_other ≡ after → Opens old new before after → Opens old new before after_other
-opens_as old new before after after_other same opens = subst (λ l. Opens old new before l) (sym same) opens
+pub opens_as : (old new : Content) (before after after_other : LogState) → after_other ≡ after → OpensGates old new before after → OpensGates old new before after_other
+opens_as old new before after after_other same opens = subst (λ l. OpensGates old new before l) (sym same) opens

@@ -6,7 +6,8 @@ use Rattle.silt_device.specs.Layout.{Shape, row_len}
 use Rattle.silt_frame.specs.Frame.{kind_of, head_of}
 use Rattle.silt_frame.specs.declared.key.Key.{Key}
 use Rattle.silt_frame.specs.declared.key.Kind.{Kind}
-use Rattle.silt_log.specs.Rows.{row_of, row_at, row_head, body_at}
+use Rattle.silt_log.specs.Rows.{row_at, row_head, body_at}
+use Rattle.silt_frame.specs.Rows.{row_of}
 use Rattle.silt_log.proofs.Parts.{slice_of_slice, drop_front}
 
 -- a head that was read is that of the row

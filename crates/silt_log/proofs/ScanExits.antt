@@ -4,10 +4,11 @@ use Rattle.std.specs.List.{prefix_len, range_with_len, list_any}
 use Rattle.std.specs.Result.{is_ok, MatchResult}
 use Rattle.std.proofs.lemmas.Bool.{false≢true}
 use Rattle.silt_device.specs.Layout.{Shape, row_len, gates_at, bodies_at}
+use Rattle.silt_frame.specs.Gate.{is_open}
 use Rattle.silt_frame.specs.declared.key.Row.{Row}
 use Rattle.silt_log.specs.declared.scan.ScanError.{ScanError}
-use Rattle.silt_log.specs.Rows.{AreRows, FirstUnknown, gate_bytes, is_open, body_row, row_at, rows_from, log_rows, open_count, has_loose_gate}
-use Rattle.silt_log.specs.Scans.{IsRefused}
+use Rattle.silt_log.specs.Rows.{AreRows, FirstUnknown, gate_bytes, body_row, row_at, rows_from, log_rows, open_count, has_loose_gate}
+use Rattle.silt_log.specs.Scans.{IsScanRefused}
 use Rattle.silt_log.proofs.Scanned.{refused_weaker}
 
 -- an Ok that only an Ok becomes
@@ -48,7 +49,7 @@ module _ (shape : Shape) (region : ℕ) (shown : List ℕ) (at gates bodies len 
 -- so a refused scan names that row
 pub scan_refused : {F : Type 0} (honest : Type 0) (shape : Shape) (region : ℕ) (shown : List ℕ) (at gates bodies len count : ℕ) (was_given : F → Type 0) (error : ScanError F) → at ≡ gates_at shape region → gates ≡ shape.log_capacity → bodies ≡ bodies_at shape region → len ≡ row_len shape
     → (honest → count ≡ prefix_len is_open (gate_bytes at gates shown))
-    → IsRefused (λ place. honest → FirstUnknown (body_row bodies len shown) count place) was_given error → IsRefused (λ place. honest → FirstUnknown (row_at shape region shown) (open_count shape region shown) place) was_given error
+    → IsScanRefused (λ place. honest → FirstUnknown (body_row bodies len shown) count place) was_given error → IsScanRefused (λ place. honest → FirstUnknown (row_at shape region shown) (open_count shape region shown) place) was_given error
 scan_refused honest shape region shown at gates bodies len count was_given error at_is gates_are bodies_is len_is counted refused =
     refused_weaker (λ place. honest → FirstUnknown (body_row bodies len shown) count place) (λ place. honest → FirstUnknown (row_at shape region shown) (open_count shape region shown) place) was_given error
     (λ place first is. scan_unknown shape region shown at gates bodies len count at_is gates_are bodies_is len_is (counted is) place (first is)) refused

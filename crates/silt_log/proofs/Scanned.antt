@@ -14,8 +14,9 @@ use Rattle.silt_frame.specs.declared.key.Kind.TheVariants.{Put, Delete}
 use Rattle.silt_frame.specs.declared.key.Row.{Row}
 use Rattle.silt_log.specs.declared.scan.ScanError.{ScanError}
 use Rattle.silt_log.specs.declared.scan.ScanError.TheVariants.{Damaged, Device, NoMemory}
-use Rattle.silt_log.specs.Scans.{IsRefused}
-use Rattle.silt_log.specs.Rows.{StoredRow, IsRow, AreRows, FirstUnknown, body_row, has_known_kind}
+use Rattle.silt_log.specs.Scans.{IsScanRefused}
+use Rattle.silt_log.specs.Rows.{IsRow, AreRows, FirstUnknown, body_row}
+use Rattle.silt_frame.specs.Rows.{has_known_kind, StoredRow}
 use Rattle.silt_log.proofs.Parts.{slice_of_slice, drop_front}
 
 -- one more number
@@ -90,7 +91,7 @@ row_read bodies len place shown head kind key fits long read says =
     }
 
 -- a refusal that says less of a damaged row
-pub refused_weaker : {F : Type 0} (strong weak : ℕ → Type 0) (was_given : F → Type 0) (error : ScanError F) → ((place : ℕ) → strong place → weak place) → IsRefused strong was_given error → IsRefused weak was_given error
+pub refused_weaker : {F : Type 0} (strong weak : ℕ → Type 0) (was_given : F → Type 0) (error : ScanError F) → ((place : ℕ) → strong place → weak place) → IsScanRefused strong was_given error → IsScanRefused weak was_given error
 refused_weaker strong weak was_given (Damaged place) step refused = step place refused
 refused_weaker strong weak was_given (Device fault) step refused = refused
 refused_weaker strong weak was_given NoMemory step refused = refused
@@ -102,7 +103,7 @@ unknown_here stored count place here below same unknown known =
 
 -- a refusal at this row, where all before it are of known kinds
 pub refused_here : {F : Type 0} (honest : Type 0) (stored : ℕ → StoredRow) (count place : ℕ) (was_given : F → Type 0) (error : ScanError F) → place < count → (honest → (earlier : ℕ) → earlier < place → has_known_kind (stored earlier) ≡ true)
-    → IsRefused (λ damaged. (damaged ≡ place) × (honest → has_known_kind (stored place) ≡ false)) was_given error → IsRefused (λ damaged. honest → FirstUnknown stored count damaged) was_given error
+    → IsScanRefused (λ damaged. (damaged ≡ place) × (honest → has_known_kind (stored place) ≡ false)) was_given error → IsScanRefused (λ damaged. honest → FirstUnknown stored count damaged) was_given error
 refused_here honest stored count place was_given error below known refused =
     refused_weaker (λ damaged. (damaged ≡ place) × (honest → has_known_kind (stored place) ≡ false)) (λ damaged. honest → FirstUnknown stored count damaged) was_given error
     (λ here damaged is. unknown_here stored count place here below damaged.0 (damaged.1 is) (known is)) refused

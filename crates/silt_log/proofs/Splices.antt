@@ -7,7 +7,7 @@ use Rattle.silt_device.proofs.Images.{torn_splice, splice_byte, write_within, wi
 use Rattle.silt_frame.specs.Frame.{head_bytes, kind_byte}
 use Rattle.silt_frame.specs.declared.key.Key.{Key}
 use Rattle.silt_frame.specs.declared.key.Kind.{Kind}
-use Rattle.silt_log.specs.Rows.{StoredRow, row_of, stored_row}
+use Rattle.silt_frame.specs.Rows.{stored_row, row_of, StoredRow}
 use Rattle.silt_log.proofs.Counts.{same_byte}
 
 -- the same bytes over a range hide what a write did there

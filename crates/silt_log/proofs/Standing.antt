@@ -5,7 +5,9 @@ use Rattle.std.proofs.lemmas.Bool.{cases_lt}
 use Rattle.std.proofs.lemmas.List.{get_or-replicate, length-replicate}
 use Rattle.silt_device.specs.Disk.{Torn, splice}
 use Rattle.silt_device.proofs.Images.{torn_splice, splice_byte}
-use Rattle.silt_log.specs.Rows.{StoredRow, GatesAre, gate_bytes, is_open, body_row}
+use Rattle.silt_frame.specs.Gate.{is_open}
+use Rattle.silt_log.specs.Rows.{GatesAre, gate_bytes, body_row}
+use Rattle.silt_frame.specs.Rows.{StoredRow}
 use Rattle.silt_log.proofs.Counts.{same_byte, count_is, count_between, torn_gates}
 use Rattle.silt_log.proofs.Bodies.{rows_below, rows_behind}
 

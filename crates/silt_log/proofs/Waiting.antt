@@ -2,9 +2,10 @@
 use Rattle.std.proofs.Common.{ℕ, length, take, ◌≡◌, ◌-◌, ◌≤◌, IsTrue, List, [], ◌∷◌, ◌++◌, sym, ap, ◌∙◌, arith}
 use Rattle.std.proofs.lemmas.List.{append_assoc, append_cancel_left, append-nil, take_all}
 use Rattle.silt_device.specs.Disk.{Content}
-use Rattle.silt_log.specs.Rows.{StoredRow, rows_from, log_rows}
+use Rattle.silt_log.specs.Rows.{rows_from, log_rows}
+use Rattle.silt_frame.specs.Rows.{StoredRow}
 use Rattle.silt_log.specs.State.{LogState, IsLog, settled_rows, waiting_rows, all_rows}
-use Rattle.silt_log.specs.Calls.{HasBeginning, Appends, Keeps}
+use Rattle.silt_log.specs.Calls.{HasBeginning, Appends, KeepsRows}
 use Rattle.silt_log.proofs.Elsewhere.{all_are_settled_and_waiting}
 
 -- the rows that wait are fixed by all rows and those that are settled
@@ -22,7 +23,7 @@ pub waiting_appended : (row : StoredRow) (old new : Content) (before after : Log
 waiting_appended row old new before after is honest appends = waiting_from old new before after (row ∷ []) is.bounds.order appends.stands.bounds.order (appends.settled honest) (appends.all honest)
 
 -- where the log is kept, the same rows wait
-pub waiting_kept : (old new : Content) (before after : LogState) → IsLog old before → IsTrue old.honest → Keeps old new before after → waiting_rows new after ≡ waiting_rows old before
+pub waiting_kept : (old new : Content) (before after : LogState) → IsLog old before → IsTrue old.honest → KeepsRows old new before after → waiting_rows new after ≡ waiting_rows old before
 waiting_kept old new before after is honest keeps =
     waiting_from old new before after [] is.bounds.order keeps.stands.bounds.order (keeps.settled honest) (keeps.all honest ∙ sym (append-nil (all_rows old before))) ∙ append-nil (waiting_rows old before)
 

@@ -1,8 +1,9 @@
 -- What the calls of a log do to it and to the disk.
 use Rattle.std.specs.Prelude.{◌≡◌, ℕ, ◌+◌, ◌≤◌, ◌⊎◌, false, IsTrue, List, [], ◌∷◌, ◌++◌, length, take}
 use Rattle.silt_device.specs.Disk.{Content, Torn, Left, LeavesOnly}
-use Rattle.silt_log.specs.Rows.{StoredRow, log_rows}
-use Rattle.silt_log.specs.State.{LogState, IsLog, settled_rows, waiting_rows, all_rows, full_image}
+use Rattle.silt_log.specs.Rows.{log_rows}
+use Rattle.silt_frame.specs.Rows.{StoredRow}
+use Rattle.silt_log.specs.State.{LogState, IsLog, settled_rows, waiting_rows, all_rows, opened_image}
 
 -- A sync and then a write to this range, as far as they came: what a stop may leave is what it might have left before, or
 -- what was shown, torn in the range.
@@ -25,15 +26,15 @@ pub record Appends (row : StoredRow) (old new : Content) (before after : LogStat
   pub all : IsTrue old.honest → all_rows new after ≡ all_rows old before ++ row ∷ []
 
 -- the log stands as before, with the same rows
-pub record Keeps (old new : Content) (before after : LogState) : Type 0 where
+pub record KeepsRows (old new : Content) (before after : LogState) : Type 0 where
   pub log : after ≡ before
   pub stands : IsLog new after
   pub settled : IsTrue old.honest → settled_rows new after ≡ settled_rows old before
   pub all : IsTrue old.honest → all_rows new after ≡ all_rows old before
-  pub full : IsTrue old.honest → log_rows before.shape before.region (full_image new before) ≡ all_rows old before
+  pub full : IsTrue old.honest → log_rows before.shape before.region (opened_image new before) ≡ all_rows old before
 
 -- the rows that waited are settled
-pub record Opens (old new : Content) (before after : LogState) : Type 0 where
+pub record OpensGates (old new : Content) (before after : LogState) : Type 0 where
   pub log : after ≡ record before { settled = before.used }
   pub stands : IsLog new after
   pub settled : IsTrue old.honest → settled_rows new after ≡ all_rows old before
@@ -49,7 +50,7 @@ HasBeginning content log image =
 pub record OpensSome (old new : Content) (before after : LogState) : Type 0 where
   pub log : after ≡ before
   pub images : LeavesOnly new (HasBeginning old before)
-  pub full : IsTrue old.honest → log_rows before.shape before.region (full_image new before) ≡ all_rows old before
+  pub full : IsTrue old.honest → log_rows before.shape before.region (opened_image new before) ≡ all_rows old before
 
 -- all gates past the first closed one are closed, and the rows are the same
 pub record Seals (old new : Content) (before after : LogState) : Type 0 where

@@ -1,34 +1,20 @@
 -- What the bytes of a log region say: its gates, and the rows in its bodies.
-use Rattle.std.specs.Prelude.{◌≡◌, ℕ, ◌+◌, ◌*◌, ◌≤◌, ◌<◌, ◌==◌, Bool, true, false, Option, List, length, map, drop, slice_index, slice_range}
+use Rattle.std.specs.Prelude.{◌≡◌, ℕ, ◌+◌, ◌*◌, ◌≤◌, ◌<◌, Bool, true, false, Option, List, length, map, drop, replicate, slice_index, slice_range}
 use Rattle.std.specs.List.{prefix_len, range_with_len, list_any}
 use Rattle.std.specs.Option.{is_some, option_map}
 use Rattle.silt_device.specs.Layout.{Shape, row_len, gates_at, bodies_at}
+use Rattle.silt_frame.specs.Gate.{is_open}
 use Rattle.silt_frame.specs.Frame.{kind_byte, kind_of}
 use Rattle.silt_frame.specs.declared.key.Key.{Key}
 use Rattle.silt_frame.specs.declared.key.Kind.{Kind}
+use Rattle.silt_frame.specs.declared.key.Kind.TheVariants.{Put, Delete}
 use Rattle.silt_frame.specs.declared.key.Row.{Row}
+use Rattle.silt_frame.specs.Rows.{StoredRow, row_of, has_known_kind}
 
--- a gate is open exactly where it is 0xA7
-abbrev pub is_open : ℕ → Bool
-is_open gate = gate == 167
-
--- a row as it lies on the device: the kind byte, the key and the value
-pub record StoredRow : Type 0 where
-  pub kind : ℕ
-  pub key : List ℕ
-  pub value : List ℕ
-
--- the row that these bytes hold: the kind in one byte, the key in 20, and the value
-abbrev pub row_of : List ℕ → StoredRow
-row_of body = record { kind = slice_index body 0; key = slice_range body 1 21; value = drop 21 body }
-
--- the row that is written for this kind, key and value
-abbrev pub stored_row : Kind → Key → List ℕ → StoredRow
-stored_row kind key value = record { kind = kind_byte kind; key = key.0; value = value }
-
--- the kind byte stands for a put or a delete
-abbrev pub has_known_kind : StoredRow → Bool
-has_known_kind row = is_some (kind_of row.kind)
+-- a row of this kind may have this value: a put any, a delete zeros alone
+abbrev pub IsValueOf : Kind → List ℕ → Type 0
+IsValueOf Put value = Unit {0}
+IsValueOf Delete value = value ≡ replicate (length value) 0
 
 -- the kind and the key of a row, none where its kind is unknown
 unfoldable pub row_head : StoredRow → Option (Kind × Key)

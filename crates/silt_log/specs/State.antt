@@ -2,7 +2,9 @@
 use Rattle.std.specs.Prelude.{◌≡◌, ℕ, ◌+◌, ◌-◌, ◌≤◌, ◌<◌, Bool, false, IsTrue, List, replicate}
 use Rattle.silt_device.specs.Disk.{Content, LeavesOnly, splice}
 use Rattle.silt_device.specs.Layout.{Shape, gates_at}
-use Rattle.silt_log.specs.Rows.{StoredRow, GatesAre, rows_from, first_rows, log_rows, open_count, has_loose_gate}
+use Rattle.silt_frame.specs.Gate.{gate_open}
+use Rattle.silt_log.specs.Rows.{GatesAre, rows_from, first_rows, log_rows, open_count, has_loose_gate}
+use Rattle.silt_frame.specs.Rows.{StoredRow}
 
 -- A log: its region, how many of its rows have an open gate that is settled, how many rows it has, those that wait included,
 -- and whether a gate past the first closed one is open.
@@ -38,8 +40,8 @@ abbrev pub all_rows : Content → LogState → List StoredRow
 all_rows content log = first_rows log.shape log.region content.shown log.used
 
 -- what is shown, with the gates of the waiting rows open
-abbrev pub full_image : Content → LogState → List ℕ
-full_image content log = splice (gates_at log.shape log.region + log.settled) (replicate (log.used - log.settled) 167) content.shown
+abbrev pub opened_image : Content → LogState → List ℕ
+opened_image content log = splice (gates_at log.shape log.region + log.settled) (replicate (log.used - log.settled) gate_open) content.shown
 
 -- A log as it stands on a disk: whatever a stop leaves has the settled rows and no others, and with the gates of the
 -- waiting rows open what is shown has all rows.
@@ -47,7 +49,7 @@ pub record IsLog (content : Content) (log : LogState) : Type 0 where
   pub bounds : InBounds log
   pub sealed : log.loose ≡ false
   pub images : LeavesOnly content (λ image. log_rows log.shape log.region image ≡ settled_rows content log)
-  pub full : IsTrue content.honest → log_rows log.shape log.region (full_image content log) ≡ all_rows content log
+  pub full : IsTrue content.honest → log_rows log.shape log.region (opened_image content log) ≡ all_rows content log
   pub gates : LeavesOnly content (GatesAre (gates_at log.shape log.region) log.shape.log_capacity log.settled)
 
 -- a log as it was scanned on a disk: its rows are those before the first closed gate

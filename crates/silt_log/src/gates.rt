@@ -2,16 +2,12 @@
 ghost use Rattle.std.specs.Prelude.{◌≡◌, ◌==◌, ◌+◌, ◌<◌, ◌≤◌, ◌++◌, length, drop, replicate, IsTrue, IfOk, IfErr, OnOk, MatchResult};
 ghost use Rattle.std.specs.List.{list_any, prefix_len};
 ghost use Rattle.silt_device.specs.Disk.{ChangesWithin, CountsFault, GaveAny, Rests, Writes, size};
-ghost use Rattle.silt_log.specs.Rows.{gate_bytes, is_open};
+ghost use Rattle.silt_frame.specs.Gate.{gate_open, is_open};
+ghost use Rattle.silt_log.specs.Rows.{gate_bytes};
 ghost use Rattle.silt_log.specs.Calls.{SyncsAndTears};
 
 use silt_device::{Disk, write_synced};
-
-/// The byte of an open gate.
-pub const OPEN: u8 = 0xA7;
-
-/// The byte that closes a gate.
-pub const CLOSED: u8 = 0x00;
+use silt_frame::GATE_OPEN;
 
 // Writes this byte over the gates from here on, as many as the buffer has bytes, and syncs.
 pub fn write_gates<D: Disk>(
@@ -38,12 +34,12 @@ pub fn open_behind_sync<D: Disk>(disk: &mut D, at: u64, buffer: &mut [u8]) -> Re
     requires { at + length buffer.old ≤ size (D.content disk.old) }
     ensures size { size (D.content disk.new) ≡ size (D.content disk.old) }
     ensures begun { SyncsAndTears at (length buffer.old) (D.content disk.old) (D.content disk.new) }
-    ensures written { OnOk result (Writes at (replicate (length buffer.old) 167) (D.content disk.old) (D.content disk.new)) }
+    ensures written { OnOk result (Writes at (replicate (length buffer.old) gate_open) (D.content disk.old) (D.content disk.new)) }
     ensures rests { OnOk result (Rests (D.content disk.new)) }
     ensures failures { MatchResult result (λ _. D.failures disk.new ≡ D.failures disk.old) (CountsFault D.failures D.gave disk.old disk.new) }
 {
     disk.sync()?;
-    write_gates(disk, at, buffer, OPEN)?;
+    write_gates(disk, at, buffer, GATE_OPEN)?;
     Ok(())
 }
 
@@ -81,12 +77,12 @@ fn count_open(gates: &[u8]) -> usize
     ensures count { result ≡ prefix_len is_open gates.now }
     ensures most { result ≤ length gates.now }
 {
-    gates.iter().take_while(|gate| **gate == OPEN).count()
+    gates.iter().take_while(|gate| **gate == GATE_OPEN).count()
 }
 
 // Whether some gate is open.
 fn has_open(gates: &[u8]) -> bool
     ensures { result ≡ list_any is_open gates.now }
 {
-    gates.contains(&OPEN)
+    gates.contains(&GATE_OPEN)
 }

@@ -2,14 +2,16 @@
 ghost use Rattle.std.specs.Prelude.{vec_len, ◌≡◌, ◌==◌, ◌+◌, ◌-◌, ◌<◌, ◌≤◌, ◌++◌, length, replicate, nat_lt, false, IsTrue, IfOk, IfErr, OnOk, OnErr, MatchResult};
 ghost use Rattle.silt_device.specs.Disk.{ChangesWithin, CountsFault, GaveAny, LeavesOnly, Rests, Writes, size};
 ghost use Rattle.silt_device.specs.Layout.{device_size, gates_at, row_len};
+ghost use Rattle.silt_frame.specs.Gate.{gate_open};
 ghost use Rattle.silt_frame.specs.Frame.{head_bytes};
-ghost use Rattle.silt_log.specs.Rows.{AreRows, FirstUnknown, body_at, log_rows, open_count, row_at, row_head, row_of, stored_row};
-ghost use Rattle.silt_log.specs.Scans.{IsRefused};
+ghost use Rattle.silt_log.specs.Rows.{AreRows, FirstUnknown, IsValueOf, body_at, log_rows, open_count, row_at, row_head};
+ghost use Rattle.silt_frame.specs.Rows.{stored_row, row_of};
+ghost use Rattle.silt_log.specs.Scans.{IsScanRefused};
 
-use crate::gates::{CLOSED, open_behind_sync, read_gates, write_gates, write_row};
+use crate::gates::{open_behind_sync, read_gates, write_gates, write_row};
 use crate::scan::{ScanError, read_rows};
 use silt_device::{Disk, Geometry};
-use silt_frame::{HEAD_LEN, KEY_LEN, Key, Kind, Row, head_bytes, head_of};
+use silt_frame::{GATE_CLOSED, HEAD_LEN, KEY_LEN, Key, Kind, Row, head_bytes, head_of};
 use std::alloc::{AllocError, Global};
 use std::marker::Model;
 
@@ -40,7 +42,7 @@ impl Model for Log {
 impl Log {
     ghost use Rattle.std.specs.Prelude.{◌^◌};
     ghost use Rattle.silt_log.specs.State.{LogState, InBounds, IsLog, IsScanned, settled_rows};
-    ghost use Rattle.silt_log.specs.Calls.{Empties, Appends, Keeps, Opens, OpensSome, Seals};
+    ghost use Rattle.silt_log.specs.Calls.{Empties, Appends, KeepsRows, OpensGates, OpensSome, Seals};
 
     /// A log of this region with no rows. It is `prepare`d or scanned before it is used.
     ///
@@ -58,7 +60,7 @@ impl Log {
             settled: 0,
             used: 0,
             loose: false,
-            gates: vec![in alloc; CLOSED; capacity]?,
+            gates: vec![in alloc; GATE_CLOSED; capacity]?,
         })
     }
 
@@ -147,14 +149,14 @@ impl Log {
         ensures failures { MatchResult result (λ _. D.failures disk.new ≡ D.failures disk.old) (CountsFault D.failures D.gave disk.old disk.new) }
     {
         let at = self.geometry.gates_at(self.region);
-        write_gates(disk, at, &mut self.gates, CLOSED)?;
+        write_gates(disk, at, &mut self.gates, GATE_CLOSED)?;
         self.settled = 0;
         self.used = 0;
         self.loose = false;
         Ok(())
     }
 
-    /// Writes a row behind the others: the head, then the value. Its gate stays closed.
+    /// Writes a row behind the others: the head, then the value. Its gate stays closed. A delete's value is zeros.
     ///
     /// # Errors
     ///
@@ -168,6 +170,7 @@ impl Log {
     ) -> Result<(), D::Fault>
         requires room { self.old.used < self.old.shape.log_capacity }
         requires value { length value.now ≡ self.old.shape.value_len }
+        requires zeros { IsValueOf kind value.now }
         requires size { device_size self.old.shape ≤ size (D.content disk.old) }
         requires log { IsLog (D.content disk.old) self.old }
         ensures size { size (D.content disk.new) ≡ size (D.content disk.old) }
@@ -175,7 +178,7 @@ impl Log {
         ensures written { OnOk result (Writes (body_at self.old.shape self.old.region self.old.used) (head_bytes kind key.now ++ value.now) (D.content disk.old) (D.content disk.new)) }
         ensures images { LeavesOnly (D.content disk.new) (λ image. log_rows self.old.shape self.old.region image ≡ settled_rows (D.content disk.old) self.old) }
         ensures ok { OnOk result (Appends (stored_row kind key.now value.now) (D.content disk.old) (D.content disk.new) self.old self.new) }
-        ensures err { OnErr result (Keeps (D.content disk.old) (D.content disk.new) self.old self.new) }
+        ensures err { OnErr result (KeepsRows (D.content disk.old) (D.content disk.new) self.old self.new) }
         ensures failures { MatchResult result (λ _. D.failures disk.new ≡ D.failures disk.old) (CountsFault D.failures D.gave disk.old disk.new) }
     {
         let at = self.body_at(self.used);
@@ -195,9 +198,10 @@ impl Log {
         requires log { IsLog (D.content disk.old) self.old }
         ensures size { size (D.content disk.new) ≡ size (D.content disk.old) }
         ensures changes { ChangesWithin (gates_at self.old.shape self.old.region + self.old.settled) (self.old.used - self.old.settled) (D.content disk.old) (D.content disk.new) }
-        ensures written { OnOk result (Writes (gates_at self.old.shape self.old.region + self.old.settled) (replicate (self.old.used - self.old.settled) 167) (D.content disk.old) (D.content disk.new)) }
+        ensures written { OnOk result (Writes (gates_at self.old.shape self.old.region + self.old.settled)
+            (replicate (self.old.used - self.old.settled) gate_open) (D.content disk.old) (D.content disk.new)) }
         ensures rests { OnOk result (Rests (D.content disk.new)) }
-        ensures ok { OnOk result (Opens (D.content disk.old) (D.content disk.new) self.old self.new) }
+        ensures ok { OnOk result (OpensGates (D.content disk.old) (D.content disk.new) self.old self.new) }
         ensures err { OnErr result (OpensSome (D.content disk.old) (D.content disk.new) self.old self.new) }
         ensures failures { MatchResult result (λ _. D.failures disk.new ≡ D.failures disk.old) (CountsFault D.failures D.gave disk.old disk.new) }
     {
@@ -222,7 +226,8 @@ impl Log {
         ensures changes { ChangesWithin (gates_at self.old.shape self.old.region + self.old.used + 1) (self.old.shape.log_capacity - (self.old.used + 1)) (D.content disk.old) (D.content disk.new) }
         ensures images { LeavesOnly (D.content disk.new) (λ image. log_rows self.old.shape self.old.region image ≡ log_rows self.old.shape self.old.region (D.content disk.old).shown) }
         ensures quiet { self.old.loose ≡ false → disk.new ≡ disk.old }
-        ensures written { IsTrue self.old.loose → OnOk result (Writes (gates_at self.old.shape self.old.region + self.old.used + 1) (replicate (self.old.shape.log_capacity - (self.old.used + 1)) 0) (D.content disk.old) (D.content disk.new)) }
+        ensures written { IsTrue self.old.loose → OnOk result (Writes (gates_at self.old.shape self.old.region + self.old.used + 1)
+            (replicate (self.old.shape.log_capacity - (self.old.used + 1)) 0) (D.content disk.old) (D.content disk.new)) }
         ensures rests { OnOk result (Rests (D.content disk.new)) }
         ensures ok { OnOk result (Seals (D.content disk.old) (D.content disk.new) self.old self.new) }
         ensures err { OnErr result ((self.new ≡ self.old) × IsTrue self.old.loose) }
@@ -234,12 +239,13 @@ impl Log {
         let first = self.used + 1;
         let at = self.geometry.gates_at(self.region) + u64::from(first);
         let past = (self.geometry.log_capacity() - first) as usize;
-        write_gates(disk, at, &mut self.gates[..past], CLOSED)?;
+        write_gates(disk, at, &mut self.gates[..past], GATE_CLOSED)?;
         self.loose = false;
         Ok(())
     }
 
-    /// Reads which gates are open, and the kind and key of each row before the first closed gate.
+    /// Reads which gates are open, and the kind and key of each row before the first closed gate. It is how a log is read that
+    /// has no table; a log with one reads its gates (`scan_gates`), and then its rows one by one.
     ///
     /// # Errors
     ///
@@ -254,9 +260,12 @@ impl Log {
         ensures region { (self.new.shape ≡ self.old.shape) × (self.new.region ≡ self.old.region) }
         ensures settled { OnOk result (self.new.settled ≡ self.new.used) }
         ensures len { IfOk result (λ rows. vec_len rows ≡ self.new.used) }
-        ensures ok { IsTrue (D.content disk.now).honest → IfOk result (λ rows. IsScanned (D.content disk.now) self.new × AreRows rows.items (log_rows self.old.shape self.old.region (D.content disk.now).shown)) }
+        ensures ok { IsTrue (D.content disk.now).honest → IfOk result (λ rows. IsScanned (D.content disk.now) self.new
+            × AreRows rows.items (log_rows self.old.shape self.old.region (D.content disk.now).shown)) }
         ensures err { OnErr result (self.new ≡ self.old) }
-        ensures refusal { IfErr result (IsRefused (λ place. IsTrue (D.content disk.now).honest → FirstUnknown (row_at self.old.shape self.old.region (D.content disk.now).shown) (open_count self.old.shape self.old.region (D.content disk.now).shown) place) (GaveAny D.gave disk.now)) }
+        ensures refusal { IfErr result (IsScanRefused (λ place. IsTrue (D.content disk.now).honest
+            → FirstUnknown (row_at self.old.shape self.old.region (D.content disk.now).shown)
+            (open_count self.old.shape self.old.region (D.content disk.now).shown) place) (GaveAny D.gave disk.now)) }
     {
         let at = self.geometry.gates_at(self.region);
         let (count, loose) = read_gates(disk, at, &mut self.gates).map_err(ScanError::Device)?;
@@ -302,7 +311,8 @@ impl Log {
         self.geometry.bodies_at(self.region) + u64::from(place) * self.geometry.row_len() as u64
     }
 
-    /// Reads the key in the body of this number, behind whatever gate.
+    /// Reads the key in the body of this number, behind whatever gate. It is for a row whose kind is known; the layers above read
+    /// both (`read_head`).
     ///
     /// # Errors
     ///

@@ -2,8 +2,9 @@
 ghost use Rattle.std.specs.Prelude.{vec_len, ◌≡◌, ◌+◌, ◌*◌, ◌≤◌, ℕ, map, true, false, IsTrue, IfOk, IfErr, MatchResult};
 ghost use Rattle.std.specs.List.{range_with_len};
 ghost use Rattle.silt_device.specs.Disk.{GaveAny, size};
-ghost use Rattle.silt_log.specs.Rows.{AreRows, FirstUnknown, IsRow, body_row, has_known_kind};
-ghost use Rattle.silt_log.specs.Scans.{IsRefused};
+ghost use Rattle.silt_log.specs.Rows.{AreRows, FirstUnknown, IsRow, body_row};
+ghost use Rattle.silt_frame.specs.Rows.{has_known_kind};
+ghost use Rattle.silt_log.specs.Scans.{IsScanRefused};
 
 use silt_device::Disk;
 use silt_frame::{HEAD_LEN, Row, head_of};
@@ -32,7 +33,7 @@ pub fn read_rows<D: Disk>(
     requires fits { bodies + count * row_len ≤ size (D.content disk.now) }
     ensures len { IfOk result (λ rows. vec_len rows ≡ count) }
     ensures rows { IsTrue (D.content disk.now).honest → IfOk result (λ rows. AreRows rows.items (map (body_row bodies row_len (D.content disk.now).shown) (range_with_len 0 count))) }
-    ensures err { IfErr result (IsRefused (λ place. IsTrue (D.content disk.now).honest → FirstUnknown (body_row bodies row_len (D.content disk.now).shown) count place) (GaveAny D.gave disk.now)) }
+    ensures err { IfErr result (IsScanRefused (λ place. IsTrue (D.content disk.now).honest → FirstUnknown (body_row bodies row_len (D.content disk.now).shown) count place) (GaveAny D.gave disk.now)) }
 {
     let _size = disk.len(); // so no place within it passes a word
     let mut rows = Vec::with_capacity(alloc, count as usize).map_err(|_| ScanError::NoMemory)?;
@@ -53,7 +54,9 @@ fn read_row<D: Disk>(
     requires len { 21 ≤ row_len }
     requires fits { bodies + place * row_len + row_len ≤ size (D.content disk.now) }
     ensures row { IsTrue (D.content disk.now).honest → IfOk result (IsRow place (body_row bodies row_len (D.content disk.now).shown place)) }
-    ensures err { IfErr result (IsRefused (λ damaged. (damaged ≡ place) × (IsTrue (D.content disk.now).honest → has_known_kind (body_row bodies row_len (D.content disk.now).shown place) ≡ false)) (GaveAny D.gave disk.now)) }
+    ensures err { IfErr result (IsScanRefused (λ damaged. (damaged ≡ place)
+        × (IsTrue (D.content disk.now).honest → has_known_kind (body_row bodies row_len (D.content disk.now).shown place) ≡ false))
+        (GaveAny D.gave disk.now)) }
 {
     let _size = disk.len(); // so no place within it passes a word
     let mut head = [0; HEAD_LEN];

@@ -125,6 +125,16 @@ fn a_scan_ends_at_the_first_closed_gate(rt: HostRuntime) -> Result<(), Fail> {
     Ok(())
 }
 
+// Where memory is ample a log of any geometry is made, that of the most rows too.
+#[test]
+fn the_longest_log_is_made(rt: HostRuntime) -> Result<(), Fail> {
+    let alloc = rt.alloc();
+    let geometry = Geometry::new(1, 32_768, 131_072, 2, 1, 1)?;
+    let log = Log::new(alloc, geometry, 1)?;
+    assert_eq!(rt; (log.capacity(), log.region()), (131_072, 1));
+    Ok(())
+}
+
 #[test]
 fn an_unknown_kind_is_damage(rt: HostRuntime) -> Result<(), Fail> {
     let alloc = rt.alloc();

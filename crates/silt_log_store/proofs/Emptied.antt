@@ -6,12 +6,13 @@ use Rattle.std.proofs.lemmas.List.{get_or-replicate, length-replicate}
 use Rattle.silt_device.specs.Disk.{Content}
 use Rattle.silt_cuckoo.specs.Slots.{Entry, bucket_count, empty_slots, entry_at}
 use Rattle.silt_cuckoo.specs.Keys.{first_bucket, second_bucket}
-use Rattle.silt_cuckoo.specs.Index.{has_key, index_of_keys, placed_or_replaced, slot_of_key}
+use Rattle.silt_cuckoo.specs.Index.{is_entry_of, index_of_keys, placed_or_replaced, slot_of_key}
 use Rattle.silt_cuckoo.specs.Placing.{first_path, free_slot, path_for, placed, put_along, shortest_walk}
 use Rattle.silt_cuckoo.proofs.Search.{found_in_range, none_in_range}
 use Rattle.silt_log.specs.Rows.{rows_from}
 use Rattle.silt_log.specs.State.{all_rows}
-use Rattle.silt_log_store.specs.State.{LogStoreState, IsHeldStore, keys_of}
+use Rattle.silt_log_store.specs.State.{LogStoreState, IsHeldStore}
+use Rattle.silt_frame.specs.Rows.{keys_of}
 use Rattle.silt_log_store.specs.Calls.{IsPlacingFor}
 use Rattle.silt_log_store.proofs.Exits.{index_none}
 use Rattle.silt_log_store.proofs.Finds.{next_table}
@@ -28,9 +29,9 @@ no_slot buckets key = go (slot_of_key [] (empty_slots buckets) key) refl
     go None is = is
     go (Some slot) is =
         let long : length (empty_slots buckets) ≡ 4 * buckets = length-replicate {A = Option Entry} (4 * buckets) None in
-        let inside = found_in_range (has_key [] (empty_slots buckets) key) 0 (length (empty_slots buckets)) slot is in
+        let inside = found_in_range (is_entry_of [] (empty_slots buckets) key) 0 (length (empty_slots buckets)) slot is in
         let none = no_entry buckets slot (omega (arith, inside.1, long)) in
-        absurd (let clash : has_key [] (empty_slots buckets) key slot ≡ false = rw none refl in let there = inside.2 in cc)
+        absurd (let clash : is_entry_of [] (empty_slots buckets) key slot ≡ false = rw none refl in let there = inside.2 in cc)
 
 -- the first slot of a bucket is free
 has_free : (buckets bucket : ℕ) → bucket < buckets → IsSome (free_slot (empty_slots buckets) bucket)

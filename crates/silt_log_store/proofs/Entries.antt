@@ -7,7 +7,7 @@ use Rattle.silt_cuckoo.specs.Index.{Indexes}
 use Rattle.silt_cuckoo.proofs.Indexing.{index_law}
 use Rattle.silt_cuckoo.proofs.Placed.{table_pairs-held}
 use Rattle.silt_cuckoo.proofs.Places.{holds_from_pair}
-use Rattle.silt_log_store.specs.Laws.{HasEntries, EntryLaw}
+use Rattle.silt_log_store.specs.Laws.{HasEntries, TableEntryLaw}
 
 -- an entry's place is held
 held_of : (slots : Slots) (slot tag place : ℕ) → entry_at slots slot ≡ Some (tag, place) → place_at slots slot ≡ Some place
@@ -28,5 +28,5 @@ entries_of slots buckets keys index = record {
 }
 
 -- the table of some keys has such slots
-pub entry_law : EntryLaw
+pub entry_law : TableEntryLaw
 entry_law buckets keys slots count is = entries_of slots buckets keys (index_law buckets keys slots count is)

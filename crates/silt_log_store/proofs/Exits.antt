@@ -1,5 +1,5 @@
 -- What stands at the exits of the calls of a log store.
-use Rattle.std.proofs.Common.{◌≡◌, ◌↔◌, ℕ, ◌+◌, ◌-◌, ◌<◌, ◌≤◌, Bool, true, false, if◌then◌else◌, List, [], ◌∷◌, ◌++◌, Option, Some, None, IsTrue, IsSome, IfSome, option_map, refl, sym, subst, ap, ◌∙◌, arith}
+use Rattle.std.proofs.Common.{◌≡◌, ◌↔◌, ℕ, ◌+◌, ◌-◌, ◌<◌, ◌≤◌, Bool, true, false, if◌then◌else◌, List, [], ◌∷◌, ◌++◌, Option, Some, None, IsTrue, IsSome, IfSome, ◌⊎◌, inl, inr, option_map, refl, sym, subst, ap, ◌∙◌, arith}
 use Rattle.std.specs.List.{list_all}
 use Rattle.std.specs.Option.{is_some}
 use Rattle.silt_device.specs.Disk.{Content, ChangesWithin, size}
@@ -11,19 +11,19 @@ use Rattle.silt_cuckoo.specs.Keys.{first_bucket, second_bucket}
 use Rattle.silt_cuckoo.specs.Lookup.{candidates_of}
 use Rattle.silt_cuckoo.specs.Index.{Indexes, index_of_keys, indexed, placed_or_replaced, slot_of_key}
 use Rattle.silt_cuckoo.proofs.Indexing.{index_law}
-use Rattle.silt_log.specs.Rows.{StoredRow, has_known_kind, stored_row, row_at, rows_from}
+use Rattle.silt_log.specs.Rows.{row_at, rows_from}
+use Rattle.silt_frame.specs.Rows.{has_known_kind, stored_row, StoredRow, keys_of, put_count, puts_of}
 use Rattle.silt_log.specs.State.{LogState, InBounds, all_rows}
 use Rattle.silt_log.specs.Calls.{Empties, Appends, OpensSome}
 use Rattle.silt_log.proofs.Elsewhere.{all_count}
 use Rattle.silt_log.proofs.Exits.{region_lies}
 use Rattle.silt_log.proofs.Standing.{gates_torn_rows}
-use Rattle.silt_log_store.specs.State.{LogStoreState, IsHeldStore, IsIndexed, IsLogStore, keys_of, put_count}
+use Rattle.silt_log_store.specs.State.{LogStoreState, IsHeldStore, IsIndexed, IsLogStore}
 use Rattle.silt_log_store.specs.Calls.{IsPlacingFor, EmptiesStore, TakesRow, OpensSomeOfStore}
-use Rattle.silt_log_store.specs.Finding.{FindsLast}
-use Rattle.silt_log_store.specs.Growing.{puts_of}
+use Rattle.silt_log_store.specs.LastRow.{FindsLast}
 use Rattle.silt_log_store.specs.Lookup.{IsFirstMatch}
 use Rattle.silt_log_store.specs.declared.lookup.Match.{Match}
-use Rattle.silt_log_store.specs.declared.placing.Placing.{Placing}
+use Rattle.silt_log_store.specs.declared.placement.Placing.{Placing}
 use Rattle.silt_log_store.proofs.Finds.{standing_is, match_is_last, none_is_none, next_table}
 use Rattle.silt_log_store.proofs.Named.{byte_of_kind}
 use Rattle.silt_log_store.proofs.Rows.{keys_count, keys_push, known_push, puts_push}
@@ -176,6 +176,24 @@ placing_none content store key found can held honest index first room exact fail
     go (Some slots) is =
         let passes = (takes_exactly content store key held honest index found can first room exact).1 (room, ap is_some is) in
         absurd (let clash : false ≡ true = sym fails ∙ passes in cc)
+
+-- a placing is answered exactly where a row of the key can be taken
+pub placing_exactly : (content : Content) (store : LogStoreState) (key : List ℕ) → IsTrue content.honest → IsIndexed content store → (placing : Option Placing) → IfSome placing (IsPlacingFor content store key)
+    → ((placing ≡ None) ↔ ((store.log.used ≡ store.log.shape.log_capacity) ⊎ (index_of_keys store.log.shape.buckets (keys_of (all_rows content store.log) ++ key ∷ []) ≡ None)))
+    → IsTrue (is_some placing) ↔ ((store.log.used < store.log.shape.log_capacity) × IsSome (index_of_keys store.log.shape.buckets (keys_of (all_rows content store.log) ++ key ∷ [])))
+placing_exactly content store key honest index None some none = (
+  λ yes. absurd (cc),
+  λ takes. absurd (elim (none.0 refl) [
+    | inl full ↦ omega (arith, full, takes.0)
+    | inr gone ↦ let is = takes.1 in let not_is = ap is_some gone in cc
+  ]),
+)
+placing_exactly content store key honest index (Some placing) some none = (λ _. (some.room, some.takes honest index), λ _. refl)
+
+-- and then the log has room
+pub placing_room : (content : Content) (store : LogStoreState) (key : List ℕ) (placing : Option Placing) → IfSome placing (IsPlacingFor content store key) → IsTrue (is_some placing) → store.log.used < store.log.shape.log_capacity
+placing_room content store key None some answered = absurd (cc)
+placing_room content store key (Some placing) some answered = some.room
 
 -- a change of gates alone leaves the rows that are shown
 pub gates_leave_rows : (old new : Content) (log : LogState) (from count : ℕ) → InBounds log → device_size log.shape ≤ size old → from + count ≤ log.shape.log_capacity → ChangesWithin (gates_at log.shape log.region + from) count old new

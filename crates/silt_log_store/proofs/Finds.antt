@@ -8,7 +8,7 @@ use Rattle.silt_cuckoo.specs.declared.lookup.Candidate.{Candidate}
 use Rattle.silt_cuckoo.specs.Slots.{Slots, HoldsPlace}
 use Rattle.silt_cuckoo.specs.Keys.{first_bucket, second_bucket, key_pair}
 use Rattle.silt_cuckoo.specs.Lookup.{candidates_of}
-use Rattle.silt_cuckoo.specs.Index.{IsNewest, Indexes, has_key, slot_of_key, index_of_keys, placed_or_replaced}
+use Rattle.silt_cuckoo.specs.Index.{IsNewest, Indexes, is_entry_of, slot_of_key, index_of_keys, placed_or_replaced}
 use Rattle.silt_cuckoo.proofs.Finding.{find_law}
 use Rattle.silt_cuckoo.proofs.KeyIndex.{push_law}
 use Rattle.silt_cuckoo.proofs.Indexing.{is_has_key}
@@ -17,9 +17,8 @@ use Rattle.silt_cuckoo.proofs.Paths.{entry_inside}
 use Rattle.silt_cuckoo.proofs.Placed.{has_entry}
 use Rattle.silt_cuckoo.proofs.Places.{holds_from_pair}
 use Rattle.silt_cuckoo.proofs.Search.{none_in_range}
-use Rattle.silt_log.specs.Rows.{StoredRow}
-use Rattle.silt_log_store.specs.State.{keys_of}
-use Rattle.silt_log_store.specs.Finding.{FindsLast}
+use Rattle.silt_frame.specs.Rows.{StoredRow, keys_of}
+use Rattle.silt_log_store.specs.LastRow.{FindsLast}
 use Rattle.silt_log_store.specs.Lookup.{IsFirstMatch, candidate_of}
 use Rattle.silt_log_store.specs.declared.lookup.Match.{Match}
 use Rattle.silt_log_store.proofs.Rows.{key_of_row, keys_count}
@@ -59,7 +58,7 @@ no_key : (keys : List (List ℕ)) (slots : Slots) (key : List ℕ) (place : ℕ)
 no_key keys slots key place none (slot, held) same =
     let entry = has_entry slots slot place held in
     let there = entry_inside slots slot entry.0 entry.1 in
-    let fails = none_in_range (has_key keys slots key) 0 (length slots) none slot (omega arith) (omega arith) in
+    let fails = none_in_range (is_entry_of keys slots key) 0 (length slots) none slot (omega arith) (omega arith) in
     let passes = is_has_key keys slots key slot entry.0 entry.1 (ap (λ n. get_or keys n []) entry.2 ∙ same) in
     absurd (cc)
 

@@ -20,14 +20,15 @@ use Rattle.silt_cuckoo.specs.Index.{Indexes, index_of_keys, placed_or_replaced, 
 use Rattle.silt_cuckoo.proofs.Indexing.{index_law, has_key_is}
 use Rattle.silt_cuckoo.proofs.Finding.{find_law}
 use Rattle.silt_cuckoo.proofs.Search.{found_in_range}
-use Rattle.silt_log.specs.Rows.{StoredRow, has_known_kind, row_at, row_head, first_rows, log_rows}
+use Rattle.silt_log.specs.Rows.{row_at, row_head, first_rows, log_rows}
+use Rattle.silt_frame.specs.Rows.{has_known_kind, StoredRow, keys_of, put_count, puts_of}
 use Rattle.silt_log.specs.State.{LogState, InBounds, IsScanned}
-use Rattle.silt_log_store.specs.Growing.{IsKeyIndex, IsOfRows, AddsKey, puts_of}
+use Rattle.silt_log_store.specs.Growth.{IsKeyIndex, IsOfRows, AddsKey}
 use Rattle.silt_log_store.specs.Rebuild.{IsSoundBefore, IsFirstDamaged, IsFirstCrowded, IsRebuilt, IsRefusedRebuild, has_known_kind_at}
-use Rattle.silt_log_store.specs.State.{IsHeldStore, IsIndexed, IsFrozenStore, keys_of, put_count}
+use Rattle.silt_log_store.specs.State.{IsHeldStore, IsIndexed, IsFrozenStore}
 use Rattle.silt_log_store.specs.declared.index.KeyIndex.{KeyIndex}
-use Rattle.silt_log_store.specs.declared.rebuilding.RebuildError.{RebuildError}
-use Rattle.silt_log_store.specs.declared.rebuilding.RebuildError.TheVariants.{Damaged, Crowded, Device, NoMemory}
+use Rattle.silt_log_store.specs.declared.rebuild.RebuildError.{RebuildError}
+use Rattle.silt_log_store.specs.declared.rebuild.RebuildError.TheVariants.{Damaged, Crowded, Device, NoMemory}
 use Rattle.silt_log_store.proofs.Exits.{index_none}
 use Rattle.silt_log_store.proofs.Finds.{next_table}
 use Rattle.silt_log_store.proofs.Rows.{keys_push, known_push, puts_push, rows_more, rows_taken, rows_count, rows_at}

@@ -9,9 +9,9 @@ use Rattle.silt_frame.specs.Frame.{kind_byte, kind_of}
 use Rattle.silt_frame.specs.declared.key.Key.{Key}
 use Rattle.silt_frame.specs.declared.key.Kind.{Kind}
 use Rattle.silt_cuckoo.specs.declared.lookup.Candidate.{Candidate}
-use Rattle.silt_log.specs.Rows.{StoredRow, has_known_kind, row_at, row_head}
+use Rattle.silt_log.specs.Rows.{row_at, row_head}
+use Rattle.silt_frame.specs.Rows.{has_known_kind, StoredRow, keys_of}
 use Rattle.silt_log.specs.State.{LogState, all_rows}
-use Rattle.silt_log_store.specs.State.{keys_of}
 use Rattle.silt_log_store.specs.Lookup.{IsFirstMatch, kind_with_key, kind_for}
 use Rattle.silt_log_store.proofs.Rows.{row_there, key_there, known_there}
 use Rattle.silt_log_store.proofs.Searching.{find_first, find_nothing, same_default}

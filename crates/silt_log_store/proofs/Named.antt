@@ -4,7 +4,7 @@ use Rattle.std.proofs.lemmas.Bool.{cases_Bool, cond-true, cond-false, eqb-true}
 use Rattle.silt_frame.specs.Frame.{kind_byte, kind_of}
 use Rattle.silt_frame.specs.declared.key.Kind.{Kind}
 use Rattle.silt_frame.specs.declared.key.Kind.TheVariants.{Put, Delete}
-use Rattle.silt_log_store.specs.Growing.{puts_of}
+use Rattle.silt_frame.specs.Rows.{puts_of}
 
 -- the kind that a byte stands for has this byte
 pub kind_of_byte : (byte : ℕ) (kind : Kind) → kind_of byte ≡ Some kind → kind_byte kind ≡ byte

@@ -11,11 +11,10 @@ use Rattle.silt_device.specs.Disk.{Content}
 use Rattle.silt_device.specs.Layout.{Shape}
 use Rattle.silt_frame.specs.Frame.{kind_of}
 use Rattle.silt_frame.specs.declared.key.Kind.{Kind}
-use Rattle.silt_log.specs.Rows.{StoredRow, has_known_kind, row_at, rows_from, first_rows}
+use Rattle.silt_log.specs.Rows.{row_at, rows_from, first_rows}
+use Rattle.silt_frame.specs.Rows.{has_known_kind, StoredRow, keys_of, put_count, puts_of}
 use Rattle.silt_log.specs.State.{LogState, all_rows}
 use Rattle.silt_log.proofs.Elsewhere.{all_count, row_of_all}
-use Rattle.silt_log_store.specs.State.{keys_of, put_count}
-use Rattle.silt_log_store.specs.Growing.{puts_of}
 use Rattle.silt_log_store.proofs.Named.{kind_counts}
 
 -- a row and its key

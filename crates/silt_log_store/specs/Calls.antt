@@ -3,11 +3,11 @@ use Rattle.std.specs.Prelude.{◌≡◌, ◌<◌, ℕ, IsTrue, IsSome, IfSome, L
 use Rattle.silt_cuckoo.specs.Slots.{bucket_count, entry_at}
 use Rattle.silt_cuckoo.specs.Index.{index_of_keys, placed_or_replaced}
 use Rattle.silt_device.specs.Disk.{Content}
-use Rattle.silt_log.specs.Rows.{StoredRow}
+use Rattle.silt_frame.specs.Rows.{StoredRow, keys_of}
 use Rattle.silt_log.specs.State.{all_rows}
-use Rattle.silt_log.specs.Calls.{Empties, Appends, Keeps, Opens, OpensSome, Seals}
-use Rattle.silt_log_store.specs.State.{LogStoreState, IsIndexed, IsLogStore, keys_of}
-use Rattle.silt_log_store.specs.declared.placing.Placing.{Placing}
+use Rattle.silt_log.specs.Calls.{Empties, Appends, KeepsRows, OpensGates, OpensSome, Seals}
+use Rattle.silt_log_store.specs.State.{LogStoreState, IsIndexed, IsLogStore}
+use Rattle.silt_log_store.specs.declared.placement.Placing.{Placing}
 
 -- the store has no rows, and whatever a stop leaves has none
 pub record EmptiesStore (new : Content) (before after : LogStoreState) : Type 0 where
@@ -24,12 +24,12 @@ pub record TakesRow (row : StoredRow) (old new : Content) (before after : LogSto
 -- the store stands as before, with the same rows
 pub record KeepsStore (old new : Content) (before after : LogStoreState) : Type 0 where
   pub store : after ≡ before
-  pub log : Keeps old new before.log after.log
+  pub log : KeepsRows old new before.log after.log
   pub stands : IsLogStore new after
 
 -- the rows that waited are settled
 pub record OpensStore (old new : Content) (before after : LogStoreState) : Type 0 where
-  pub log : Opens old new before.log after.log
+  pub log : OpensGates old new before.log after.log
   pub table : after.table ≡ before.table
   pub puts : after.puts ≡ before.puts
   pub stands : IsLogStore new after

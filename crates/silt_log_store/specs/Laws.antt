@@ -14,5 +14,5 @@ pub record HasEntries (slots : Slots) (buckets : ℕ) (keys : List (List ℕ)) :
   pub once : (place slot other : ℕ) → place_at slots slot ≡ Some place → place_at slots other ≡ Some place → other ≡ slot
 
 -- the table of some keys has such slots
-abbrev pub EntryLaw : Type 0
-EntryLaw = (buckets : ℕ) (keys : List (List ℕ)) (slots : Slots) → IsBucketCount buckets → index_of_keys buckets keys ≡ Some slots → HasEntries slots buckets keys
+abbrev pub TableEntryLaw : Type 0
+TableEntryLaw = (buckets : ℕ) (keys : List (List ℕ)) (slots : Slots) → IsBucketCount buckets → index_of_keys buckets keys ≡ Some slots → HasEntries slots buckets keys

@@ -1,7 +1,7 @@
 pub mod State
-pub mod Finding
+pub mod LastRow
 pub mod Lookup
-pub mod Growing
+pub mod Growth
 pub mod Rebuild
 pub mod Calls
 pub mod Laws

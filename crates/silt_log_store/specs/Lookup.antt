@@ -5,9 +5,8 @@ use Rattle.silt_frame.specs.Frame.{kind_byte, kind_of}
 use Rattle.silt_frame.specs.declared.key.Key.{Key}
 use Rattle.silt_frame.specs.declared.key.Kind.{Kind}
 use Rattle.silt_cuckoo.specs.declared.lookup.Candidate.{Candidate}
-use Rattle.silt_log.specs.Rows.{StoredRow}
+use Rattle.silt_frame.specs.Rows.{StoredRow, keys_of}
 use Rattle.silt_log_store.specs.declared.lookup.Match.{Match}
-use Rattle.silt_log_store.specs.State.{keys_of}
 
 -- the kind of a head, where it has the key
 abbrev pub kind_with_key : Option (Kind × Key) → List ℕ → Option Kind

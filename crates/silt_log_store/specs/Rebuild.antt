@@ -2,12 +2,13 @@
 use Rattle.std.specs.Prelude.{◌≡◌, ℕ, ◌+◌, ◌<◌, Bool, true, false, List, length, map, take, get_or, IsSome, Some, None}
 use Rattle.std.specs.List.{list_all}
 use Rattle.silt_device.specs.Disk.{Content}
-use Rattle.silt_log.specs.Rows.{StoredRow, has_known_kind, log_rows}
+use Rattle.silt_log.specs.Rows.{log_rows}
+use Rattle.silt_frame.specs.Rows.{has_known_kind, StoredRow, keys_of, put_count}
 use Rattle.silt_log.specs.State.{IsScanned}
 use Rattle.silt_cuckoo.specs.Index.{index_of_keys}
-use Rattle.silt_log_store.specs.declared.rebuilding.RebuildError.{RebuildError}
-use Rattle.silt_log_store.specs.declared.rebuilding.RebuildError.TheVariants.{Damaged, Crowded, Device, NoMemory}
-use Rattle.silt_log_store.specs.State.{LogStoreState, keys_of, put_count}
+use Rattle.silt_log_store.specs.declared.rebuild.RebuildError.{RebuildError}
+use Rattle.silt_log_store.specs.declared.rebuild.RebuildError.TheVariants.{Damaged, Crowded, Device, NoMemory}
+use Rattle.silt_log_store.specs.State.{LogStoreState}
 
 -- the row of this number is there and of a known kind
 abbrev pub has_known_kind_at : List StoredRow → ℕ → Bool

@@ -2,7 +2,8 @@
 use Rattle.std.specs.Prelude.{◌≡◌, ℕ, ◌==◌, ◌≤◌, true, IsTrue, List, map, count_by, Some}
 use Rattle.std.specs.List.{list_all}
 use Rattle.silt_device.specs.Disk.{Content, LeavesOnly}
-use Rattle.silt_log.specs.Rows.{StoredRow, has_known_kind, log_rows}
+use Rattle.silt_log.specs.Rows.{log_rows}
+use Rattle.silt_frame.specs.Rows.{has_known_kind, StoredRow, keys_of, put_count}
 use Rattle.silt_log.specs.State.{LogState, InBounds, IsLog, all_rows}
 use Rattle.silt_cuckoo.specs.Slots.{Slots, IsTable, PlacesBelow, bucket_count}
 use Rattle.silt_cuckoo.specs.Index.{index_of_keys}
@@ -21,14 +22,6 @@ pub record IsHeldStore (store : LogStoreState) : Type 0 where
   pub count : bucket_count store.table ≡ store.log.shape.buckets
   pub below : PlacesBelow store.table store.log.used
   pub most : store.puts ≤ store.log.used
-
--- the keys of some rows, in their order
-abbrev pub keys_of : List StoredRow → List (List ℕ)
-keys_of rows = map (λ row. row.key) rows
-
--- how many rows are puts
-abbrev pub put_count : List StoredRow → ℕ
-put_count rows = count_by (λ row. row.kind == 1) rows
 
 -- on an honest disk the rows that are shown are of known kinds, the table is that of their keys, and the number is that of their puts
 pub record IsIndexed (content : Content) (store : LogStoreState) : Type 0 where

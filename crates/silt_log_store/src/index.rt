@@ -3,10 +3,9 @@ ghost use Rattle.std.specs.Prelude.{◌≡◌, ◌+◌, ◌<◌, ◌≤◌, ◌^
 ghost use Rattle.std.specs.Str.{bytes_eq};
 ghost use Rattle.silt_cuckoo.specs.declared.lookup.Candidate.{Candidate};
 ghost use Rattle.silt_cuckoo.specs.Index.{slot_of_key};
-ghost use Rattle.silt_log_store.specs.Growing.{puts_of};
 ghost use Rattle.silt_cuckoo.specs.Slots.{IsBucketCount, PlacesBelow, bucket_count, entry_at};
 
-use crate::placing::place_key;
+use crate::placement::place_key;
 use silt_cuckoo::{Candidate, Table, key_buckets};
 use silt_frame::{KEY_LEN, Key, Kind};
 use std::alloc::{AllocError, Global};
@@ -20,7 +19,7 @@ pub struct KeyIndex {
 }
 
 impl KeyIndex {
-    ghost use Rattle.silt_log_store.specs.Growing.{AddsOrGivesUp, IsKeyIndex, IsOfRows};
+    ghost use Rattle.silt_log_store.specs.Growth.{AddsOrGivesUp, IsKeyIndex, IsOfRows};
 
     /// No keys, and a table of so many buckets. So many keys can be added with no more memory.
     ///
@@ -68,19 +67,8 @@ impl KeyIndex {
             return Ok(false);
         }
         self.keys.push(key.0)?;
-        self.puts += puts_of(kind);
+        self.puts += kind.puts();
         Ok(true)
-    }
-}
-
-// How many puts a row of this kind counts for.
-pub fn puts_of(kind: Kind) -> u32
-    ensures value { result ≡ puts_of kind }
-    ensures most { result ≤ 1 }
-{
-    match kind {
-        Kind::Put => 1,
-        Kind::Delete => 0,
     }
 }
 

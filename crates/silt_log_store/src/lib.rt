@@ -14,13 +14,13 @@
 mod index;
 mod laws;
 mod lookup;
-mod placing;
-mod rebuilding;
+mod placement;
+mod rebuild;
 mod store;
 
 pub use laws::entry_law;
-pub use placing::Placing;
-pub use rebuilding::RebuildError;
+pub use placement::Placing;
+pub use rebuild::RebuildError;
 pub use store::{Found, LogStore};
 
 #[cfg(test)]

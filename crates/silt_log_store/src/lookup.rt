@@ -7,7 +7,8 @@ ghost use Rattle.silt_cuckoo.specs.Keys.{first_bucket, second_bucket};
 ghost use Rattle.silt_cuckoo.specs.Slots.{PlacesBelow, bucket_count, place_at};
 ghost use Rattle.silt_device.specs.Disk.{GaveAny, size};
 ghost use Rattle.silt_device.specs.Layout.{device_size};
-ghost use Rattle.silt_log.specs.Rows.{has_known_kind, row_at};
+ghost use Rattle.silt_log.specs.Rows.{row_at};
+ghost use Rattle.silt_frame.specs.Rows.{has_known_kind};
 ghost use Rattle.silt_log.specs.State.{all_rows};
 ghost use Rattle.silt_log_store.specs.declared.lookup.Match.{Match};
 ghost use Rattle.silt_log_store.specs.Lookup.{IsFirstMatch, candidate_of, kind_for, kind_with_key};
@@ -93,7 +94,8 @@ pub fn look_up<D: Disk>(
     requires room { log.now.used ≤ log.now.shape.log_capacity }
     ensures standing { IfOk result (λ found. IfSome found (λ m. place_at table.now m.slot ≡ Some m.found.place)) }
     ensures first { IsTrue (D.content disk.now).honest → list_all has_known_kind (all_rows (D.content disk.now) log.now) ≡ true
-        → IfOk result (IsFirstMatch (all_rows (D.content disk.now) log.now) (candidates_of table.now (first_bucket (bucket_count table.now) key.now.0) (second_bucket (bucket_count table.now) key.now.0)) key.now.0) }
+        → IfOk result (IsFirstMatch (all_rows (D.content disk.now) log.now) (candidates_of table.now (first_bucket (bucket_count table.now) key.now.0)
+        (second_bucket (bucket_count table.now) key.now.0)) key.now.0) }
     ensures fault { IfErr result (GaveAny D.gave disk.now) }
 {
     let (first, second) = key_buckets(&key.0, table.bucket_count());

@@ -1,20 +1,22 @@
 // A log region with the table of its keys and the number of its puts, and the calls that change it.
-ghost use Rattle.std.specs.Prelude.{◌≡◌, ◌==◌, ◌↔◌, ◌+◌, ◌-◌, ◌<◌, ◌≤◌, ◌++◌, ◌⊎◌, ℕ, [], ◌∷◌, length, replicate, nat_lt, false, true, IsTrue, IsSome, IfSome, None, IfOk, IfErr, OnOk, OnErr, MatchResult};
+ghost use Rattle.std.specs.Prelude.{◌≡◌, ◌==◌, ◌↔◌, ◌+◌, ◌-◌, ◌<◌, ◌≤◌, ◌++◌, ◌⊎◌, ℕ, [], ◌∷◌, length, replicate, nat_lt, false, true, IsTrue, IsSome, IfSome, None};
+ghost use Rattle.std.specs.Prelude.{IfOk, IfErr, OnOk, OnErr, MatchResult};
 ghost use Rattle.std.specs.List.{list_all};
 ghost use Rattle.silt_cuckoo.specs.Slots.{empty_slots, entry_at};
 ghost use Rattle.silt_cuckoo.specs.Index.{index_of_keys};
 ghost use Rattle.silt_device.specs.Disk.{Content, ChangesWithin, CountsFault, GaveAny, LeavesOnly, Rests, Writes, size};
 ghost use Rattle.silt_device.specs.Layout.{device_size, gates_at, row_len};
+ghost use Rattle.silt_frame.specs.Gate.{gate_open};
 ghost use Rattle.silt_frame.specs.Frame.{head_bytes};
 ghost use Rattle.silt_log.specs.Calls.{HasBeginning};
-ghost use Rattle.silt_log.specs.Rows.{body_at, has_known_kind, log_rows, row_at, row_of, stored_row};
+ghost use Rattle.silt_log.specs.Rows.{IsValueOf, body_at, log_rows, row_at};
+ghost use Rattle.silt_frame.specs.Rows.{has_known_kind, stored_row, row_of, puts_of};
 ghost use Rattle.silt_log.specs.State.{IsScanned, all_rows, settled_rows};
-ghost use Rattle.silt_log_store.specs.Growing.{puts_of};
 
-use crate::index::{KeyIndex, puts_of};
+use crate::index::KeyIndex;
 use crate::lookup::{look_up, slot_of};
-use crate::placing::{Placing, has_place, place_key};
-use crate::rebuilding::{RebuildError, index_rows};
+use crate::placement::{Placing, has_place, place_key};
+use crate::rebuild::{RebuildError, index_rows};
 use silt_cuckoo::Table;
 use silt_device::{Disk, Geometry};
 use silt_frame::{Key, Kind};
@@ -52,8 +54,9 @@ impl Model for LogStore {
 
 impl LogStore {
     ghost use Rattle.silt_log.specs.State.{InBounds};
-    ghost use Rattle.silt_log_store.specs.State.{LogStoreState, IsHeldStore, IsIndexed, IsLogStore, IsFrozenStore, keys_of};
-    ghost use Rattle.silt_log_store.specs.Finding.{FindsLast};
+    ghost use Rattle.silt_log_store.specs.State.{LogStoreState, IsHeldStore, IsIndexed, IsLogStore, IsFrozenStore};
+    ghost use Rattle.silt_frame.specs.Rows.{keys_of};
+    ghost use Rattle.silt_log_store.specs.LastRow.{FindsLast};
     ghost use Rattle.silt_log_store.specs.Calls.{IsPlacingFor, EmptiesStore, TakesRow, KeepsStore, OpensStore, OpensSomeOfStore, SealsStore};
     ghost use Rattle.silt_log_store.specs.Rebuild.{IsRebuilt, IsFirstDamaged, IsFirstCrowded, IsRefusedRebuild};
 
@@ -193,7 +196,8 @@ impl LogStore {
         requires store { IsLogStore (D.content disk.old) self.old }
         ensures size { size (D.content disk.new) ≡ size (D.content disk.old) }
         ensures changes { ChangesWithin (gates_at self.old.log.shape self.old.log.region + self.old.log.settled) (self.old.log.used - self.old.log.settled) (D.content disk.old) (D.content disk.new) }
-        ensures written { OnOk result (Writes (gates_at self.old.log.shape self.old.log.region + self.old.log.settled) (replicate (self.old.log.used - self.old.log.settled) 167) (D.content disk.old) (D.content disk.new)) }
+        ensures written { OnOk result (Writes (gates_at self.old.log.shape self.old.log.region + self.old.log.settled)
+            (replicate (self.old.log.used - self.old.log.settled) gate_open) (D.content disk.old) (D.content disk.new)) }
         ensures rests { OnOk result (Rests (D.content disk.new)) }
         ensures ok { OnOk result (OpensStore (D.content disk.old) (D.content disk.new) self.old self.new) }
         ensures err { OnErr result (OpensSomeOfStore (D.content disk.old) (D.content disk.new) self.old self.new) }
@@ -214,10 +218,12 @@ impl LogStore {
         requires rests { Rests (D.content disk.old) }
         requires scanned { IsTrue (D.content disk.old).honest → IsScanned (D.content disk.old) self.old.log }
         ensures size { size (D.content disk.new) ≡ size (D.content disk.old) }
-        ensures changes { ChangesWithin (gates_at self.old.log.shape self.old.log.region + self.old.log.used + 1) (self.old.log.shape.log_capacity - (self.old.log.used + 1)) (D.content disk.old) (D.content disk.new) }
+        ensures changes { ChangesWithin (gates_at self.old.log.shape self.old.log.region + self.old.log.used + 1)
+            (self.old.log.shape.log_capacity - (self.old.log.used + 1)) (D.content disk.old) (D.content disk.new) }
         ensures images { LeavesOnly (D.content disk.new) (λ image. log_rows self.old.log.shape self.old.log.region image ≡ log_rows self.old.log.shape self.old.log.region (D.content disk.old).shown) }
         ensures quiet { self.old.log.loose ≡ false → disk.new ≡ disk.old }
-        ensures written { IsTrue self.old.log.loose → OnOk result (Writes (gates_at self.old.log.shape self.old.log.region + self.old.log.used + 1) (replicate (self.old.log.shape.log_capacity - (self.old.log.used + 1)) 0) (D.content disk.old) (D.content disk.new)) }
+        ensures written { IsTrue self.old.log.loose → OnOk result (Writes (gates_at self.old.log.shape self.old.log.region + self.old.log.used + 1)
+            (replicate (self.old.log.shape.log_capacity - (self.old.log.used + 1)) 0) (D.content disk.old) (D.content disk.new)) }
         ensures rests { OnOk result (Rests (D.content disk.new)) }
         ensures ok { OnOk result (SealsStore (D.content disk.old) (D.content disk.new) self.old self.new) }
         ensures err { OnErr result ((self.new ≡ self.old) × IsTrue self.old.log.loose) }
@@ -247,7 +253,8 @@ impl LogStore {
     }
 
     /// Whether a row of this key can be taken: the log has room, and the placing rule has a place for the key. The head of each
-    /// candidate is read.
+    /// candidate is read. It is the question alone, for callers that write no row: no layer above asks it, since `placing` answers
+    /// it with the place.
     ///
     /// # Errors
     ///
@@ -260,11 +267,7 @@ impl LogStore {
         ensures room { IfOk result (λ can. IsTrue can → self.now.log.used < self.now.log.shape.log_capacity) }
         ensures fault { IfErr result (GaveAny D.gave disk.now) }
     {
-        if self.log.is_full() {
-            return Ok(false);
-        }
-        let standing = slot_of(look_up(&self.log, &self.table, disk, key)?);
-        Ok(has_place(&self.table, key, standing))
+        Ok(self.placing(disk, key)?.is_some())
     }
 
     /// Where the entry of a key goes that the store can take: none exactly where the log has no room, or the placing rule gives up.
@@ -302,7 +305,7 @@ impl LogStore {
     }
 
     /// Takes a row behind the others, at a placing that was made for its key and this store as it stands: writes the row with its
-    /// gate closed, puts the key into the table, and counts a put. It reads nothing and takes no memory.
+    /// gate closed, puts the key into the table, and counts a put. A delete's value is zeros. It reads nothing and takes no memory.
     ///
     /// # Errors
     ///
@@ -317,6 +320,7 @@ impl LogStore {
     ) -> Result<(), D::Fault>
         requires placing { IsPlacingFor (D.content disk.old) self.old key.now.0 placing }
         requires value { length value.now ≡ self.old.log.shape.value_len }
+        requires zeros { IsValueOf kind value.now }
         requires size { device_size self.old.log.shape ≤ size (D.content disk.old) }
         requires store { IsLogStore (D.content disk.old) self.old }
         ensures size { size (D.content disk.new) ≡ size (D.content disk.old) }
@@ -332,7 +336,7 @@ impl LogStore {
         let place = self.log.len();
         self.log.append(disk, kind, key, value)?;
         let _placed = place_key(&mut self.table, key, placing.standing, place);
-        self.puts += puts_of(kind);
+        self.puts += kind.puts();
         Ok(())
     }
 

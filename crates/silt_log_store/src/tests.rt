@@ -3,6 +3,7 @@ ghost use Rattle.std.specs.Prelude.{◌≡◌, ◌≤◌, ◌<◌, IfOk, OnOk, l
 ghost use Rattle.silt_device.specs.Disk.{size};
 ghost use Rattle.silt_device.specs.Layout.{Shape, device_size};
 ghost use Rattle.silt_device.specs.Memory.{memory_content};
+ghost use Rattle.silt_log.specs.Rows.{IsValueOf};
 ghost use Rattle.silt_log_store.specs.State.{IsLogStore};
 
 use super::*;
@@ -69,6 +70,7 @@ enum Outcome {
     Crowded,
     Damaged(u32),
     Failed,
+    NoMemory,
 }
 
 // What a rebuild of log 0 comes to.
@@ -80,7 +82,8 @@ fn rebuild_log<D: Disk>(alloc: Global, disk: &D, geometry: Geometry) -> Outcome
         Ok(store) => Outcome::Rebuilt(store.len(), store.puts()),
         Err(RebuildError::Damaged(place)) => Outcome::Damaged(place),
         Err(RebuildError::Crowded) => Outcome::Crowded,
-        Err(_) => Outcome::Failed,
+        Err(RebuildError::Device(_)) => Outcome::Failed,
+        Err(RebuildError::NoMemory) => Outcome::NoMemory,
     }
 }
 
@@ -177,6 +180,46 @@ fn a_failed_read_is_told(rt: HostRuntime) -> Result<(), Fail> {
     Ok(())
 }
 
+// What a rebuild of log 0 comes to where the read of this number fails.
+fn rebuild_with_fault(alloc: Global, disk: MemDisk, geometry: Geometry, number: u64) -> Outcome
+    requires region { 0 < geometry.logs }
+    requires size { device_size geometry ≤ size (memory_content disk) }
+{
+    let disk = FaultDisk::new(disk, Call::Read, number);
+    rebuild_log(alloc, &disk, geometry)
+}
+
+// A rebuild of two rows makes three reads, and the fault of each is told as such.
+#[test]
+fn a_failed_read_of_a_rebuild_is_told(rt: HostRuntime) -> Result<(), Fail> {
+    let alloc = rt.alloc();
+    let geometry = small()?;
+    let rebuilt = Outcome::Rebuilt(2, 2);
+    let failed = Outcome::Failed;
+    for (number, want) in [(1, failed), (2, failed), (3, failed), (4, rebuilt)] {
+        let mut disk = MemDisk::new(alloc, geometry.size() as usize)?;
+        crowd(&mut disk, 2, true)?;
+        assert_eq!(rt;
+            rebuild_with_fault(alloc, disk, geometry, number),
+            want,
+            "read {number}"
+        );
+    }
+    Ok(())
+}
+
+// Where memory is ample a store of any geometry is made, that of the most rows and buckets too, and rebuilt.
+#[test]
+fn the_largest_store_is_made(rt: HostRuntime) -> Result<(), Fail> {
+    let alloc = rt.alloc();
+    let geometry = Geometry::new(1, 32_768, 131_072, 2, 1, 1)?;
+    let store = LogStore::new(alloc, geometry, 1)?;
+    assert_eq!(rt; (store.capacity(), store.region()), (131_072, 1));
+    let disk = MemDisk::new(alloc, geometry.size() as usize)?;
+    assert_eq!(rt; rebuild_log(alloc, &disk, geometry), Outcome::Rebuilt(0, 0));
+    Ok(())
+}
+
 // Takes a row where it can be taken: whether it was.
 fn offer<D: Disk>(
     store: &mut LogStore,
@@ -186,6 +229,7 @@ fn offer<D: Disk>(
     value: &[u8],
 ) -> Result<bool, D::Fault>
     requires value { length value.now ≡ store.old.log.shape.value_len }
+    requires zeros { IsValueOf kind value.now }
     requires size { device_size store.old.log.shape ≤ size (D.content disk.old) }
     requires store { IsLogStore (D.content disk.old) store.old }
     ensures size { size (D.content disk.new) ≡ size (D.content disk.old) }
@@ -208,7 +252,7 @@ fn put_three<D: Disk>(store: &mut LogStore, disk: &mut D) -> Result<(u32, [u8; 2
     ensures { size (D.content disk.new) ≡ size (D.content disk.old) }
 {
     offer(store, disk, Kind::Put, &paired(1), &[0, 1])?;
-    offer(store, disk, Kind::Delete, &paired(2), &[0, 2])?;
+    offer(store, disk, Kind::Delete, &paired(2), &[0, 0])?;
     offer(store, disk, Kind::Put, &paired(1), &[0, 3])?;
     if store.has_waiting() {
         store.open_gates(disk)?;

@@ -4,14 +4,14 @@ use Rattle.std.proofs.lemmas.List.{take_more, take_all}
 use Rattle.std.proofs.lemmas.List.FromFn.{length-map-range_with_len}
 use Rattle.byteorder.specs.Endian.{big_bytes}
 use Rattle.silt_manifest.specs.Numbers.{number_at, id_bytes, ids_bytes, ids_at}
-use Rattle.silt_manifest.specs.IdList.{IsFilled, count_back, numbers_back}
+use Rattle.silt_manifest.specs.IdList.{IsIdList, count_back, numbers_back}
 
 -- as many ids as their count says
 pub length_ids_at : (i : ℕ) (bytes : List ℕ) → length (ids_at i bytes) ≡ number_at 4 i bytes
 length_ids_at i bytes = length-map-range_with_len (λ k. number_at 4 (i + 4 + 4 * k) bytes) 0 (number_at 4 i bytes)
 
 -- the array of a list of ids that is seen as this value
-pub array_of : (numbers : List ℕ) (count : ℕ) (value : List ℕ) → take count numbers ≡ value → IsFilled numbers count → (value ++ replicate (16 - length value) 0 ≡ numbers) × (length value ≡ count)
+pub array_of : (numbers : List ℕ) (count : ℕ) (value : List ℕ) → take count numbers ≡ value → IsIdList numbers count → (value ++ replicate (16 - length value) 0 ≡ numbers) × (length value ≡ count)
 array_of numbers count value is filled = rw (← is) (numbers_back numbers count filled, count_back numbers count filled)
 
 -- the bytes of ids that are joined

@@ -4,8 +4,9 @@ use Rattle.std.proofs.lemmas.Bool.{cases_Bool}
 use Rattle.silt_device.specs.Disk.{Content, LeavesOnly, Torn, ChangesWithin, Writes, Rests, size, splice}
 use Rattle.silt_device.specs.Layout.{slot_at}
 use Rattle.silt_device.proofs.Images.{within_leaves, write_shows, rests_leaves, leaves_shows, sized_leaves, sized_shows, torn_splice, torn_slice_after}
+use Rattle.silt_frame.specs.Gate.{is_open}
 use Rattle.silt_manifest.specs.Body.{FitsSlot, body_bytes, body_of, is_well_formed}
-use Rattle.silt_manifest.specs.Ruling.{slot_of, is_open, is_slot_open, body_behind, open_body, ruling_manifest}
+use Rattle.silt_manifest.specs.Ruling.{slot_of, is_slot_open, body_behind, open_body, ruling_manifest}
 use Rattle.silt_manifest.specs.Standing.{ManifestState, IsNext, IsPrepared, IsRuled, IsReady, Rules, RulesOldOrNew, ruled_by, ruling_slot, spare_slot}
 use Rattle.silt_manifest.specs.declared.body.Body.{Body}
 use Rattle.silt_manifest.proofs.RoundTrip.{body_law}

@@ -4,8 +4,9 @@ use Rattle.std.proofs.lemmas.Bool.Decides.{nat_tests}
 use Rattle.silt_device.specs.Disk.{Content, LeavesOnly, Torn, Writes, Rests, size, splice}
 use Rattle.silt_device.specs.Layout.{Shape, InLimits, slot_at}
 use Rattle.silt_device.proofs.Images.{write_shows, rests_leaves, leaves_shows, sized_shows, torn_splice, torn_slice_after, splice_slice}
+use Rattle.silt_frame.specs.Gate.{is_open}
 use Rattle.silt_manifest.specs.Body.{FitsSlot, body_bytes, first_body, is_well_formed}
-use Rattle.silt_manifest.specs.Ruling.{slot_of, is_open, is_slot_open, open_body}
+use Rattle.silt_manifest.specs.Ruling.{slot_of, is_slot_open, open_body}
 use Rattle.silt_manifest.specs.Standing.{IsFirst}
 use Rattle.silt_manifest.proofs.SlotImages.{slot_parts, gate_of, closed_body, other_same, gate_written}
 use Rattle.silt_manifest.proofs.RulingLemmas.{alone_rules}

@@ -1,14 +1,15 @@
 -- What keeps the body that rules, for a crate above to cite.
-use Rattle.std.proofs.Common.{◌≡◌, ℕ, ◌+◌, ◌<◌, ◌≤◌, ◌⊎◌, false, List, Option, [], ◌∷◌, length, refl, sym, ap, ◌∙◌, inl, inr, arith}
+use Rattle.std.proofs.Common.{◌≡◌, ℕ, ◌+◌, ◌<◌, ◌≤◌, false, List, Option, [], ◌∷◌, length, refl, sym, ap, ◌∙◌, inl, inr, arith}
 use Rattle.std.proofs.lemmas.Bool.{cases_eq}
-use Rattle.silt_device.specs.Disk.{ChangesWithin, Content, LeavesOnly, Restarts, Rests, Shows, Torn, Writes, size}
+use Rattle.silt_device.specs.Disk.{ChangesWithin, Content, LeavesOnly, LiesOutside, Restarts, Rests, Shows, Torn, Writes, size}
 use Rattle.silt_device.specs.Layout.{Shape, slot_at}
 use Rattle.silt_device.proofs.Images.{leaves_shows, restart_leaves, rests_leaves, sized_leaves, sized_shows, within_leaves, within_shows, write_shows}
-use Rattle.silt_manifest.specs.Ruling.{ClosedSlotLaw, OtherRegionsLaw, body_behind, body_found, is_open, is_slot_open, manifest_found, open_body, ruling_manifest, slot_of, where_found}
+use Rattle.silt_manifest.specs.Ruling.{ClosedSlotLaw, OtherRegionsLaw, body_behind, body_found, is_slot_open, manifest_found, open_body, ruling_manifest, slot_of, where_found}
 use Rattle.silt_manifest.specs.declared.body.Body.{Body}
 use Rattle.silt_manifest.specs.Standing.{IsFirst, IsRuled, ManifestState, Rules, ruling_slot, spare_slot}
 use Rattle.silt_manifest.proofs.SlotImages.{gate_written, other_same, slot_same}
 use Rattle.std.specs.Prelude.{slice_index}
+use Rattle.silt_frame.specs.Gate.{is_open}
 
 -- two slots that hold the same
 pub same_found : (s : Shape) (before after : List ℕ) → open_body after 0 ≡ open_body before 0 → open_body after 1 ≡ open_body before 1 → manifest_found s after ≡ manifest_found s before
@@ -29,7 +30,7 @@ closed_slots s slot before after below fits torn closed still =
     ]
 
 -- a change outside the slots leaves each as it is
-slot_elsewhere : (at count slot : ℕ) (before after : List ℕ) → slot < 2 → slot_at 1 + 4096 ≤ length before → (at + count ≤ slot_at 0) ⊎ (slot_at 1 + 4096 ≤ at) → Torn at count before after → slot_of after slot ≡ slot_of before slot
+slot_elsewhere : (at count slot : ℕ) (before after : List ℕ) → slot < 2 → slot_at 1 + 4096 ≤ length before → LiesOutside (slot_at 0) 8192 at count → Torn at count before after → slot_of after slot ≡ slot_of before slot
 slot_elsewhere at count slot before after below fits apart torn =
     elim apart [
       | inl low ↦ slot_same at count slot before after torn (omega arith) (inl (omega arith))
@@ -42,7 +43,7 @@ other_regions s at count before after fits apart torn =
     same_found s before after (ap body_behind (slot_elsewhere at count 0 before after (omega arith) fits apart torn)) (ap body_behind (slot_elsewhere at count 1 before after (omega arith) fits apart torn))
 
 -- an image stays ruled under a change outside the slots
-ruled_elsewhere : (m : ManifestState) (n at count : ℕ) → slot_at 1 + 4096 ≤ n → (at + count ≤ slot_at 0) ⊎ (slot_at 1 + 4096 ≤ at) → (before after : List ℕ) → (length before ≡ n) × IsRuled m before → Torn at count before after → IsRuled m after
+ruled_elsewhere : (m : ManifestState) (n at count : ℕ) → slot_at 1 + 4096 ≤ n → LiesOutside (slot_at 0) 8192 at count → (before after : List ℕ) → (length before ≡ n) × IsRuled m before → Torn at count before after → IsRuled m after
 ruled_elsewhere m n at count fits apart before after (size, ruled) torn =
     let room : slot_at 1 + 4096 ≤ length before = omega arith in
     record {
@@ -52,7 +53,7 @@ ruled_elsewhere m n at count fits apart before after (size, ruled) torn =
     }
 
 -- whatever a stop leaves stays ruled under changes outside the slots
-pub rules_elsewhere : (m : ManifestState) (at count : ℕ) (old new : Content) → slot_at 1 + 4096 ≤ size old → (at + count ≤ slot_at 0) ⊎ (slot_at 1 + 4096 ≤ at) → ChangesWithin at count old new → Rules m old → Rules m new
+pub rules_elsewhere : (m : ManifestState) (at count : ℕ) (old new : Content) → slot_at 1 + 4096 ≤ size old → LiesOutside (slot_at 0) 8192 at count → ChangesWithin at count old new → Rules m old → Rules m new
 rules_elsewhere m at count old new fits apart changes rules = within_leaves changes (sized_leaves rules) (ruled_elsewhere m (size old) at count fits apart)
 
 -- and after a stop
@@ -72,19 +73,19 @@ pub closed_leaves : (slot : ℕ) (old new : Content) → slot_at slot + 121 ≤ 
 closed_leaves slot old new fits writes rests = rests_leaves rests (closed_shown slot old new fits writes)
 
 -- it stays closed in what is shown under changes outside the slots
-pub closed_elsewhere : (slot at count : ℕ) (old new : Content) → slot < 2 → slot_at 1 + 4096 ≤ size old → (at + count ≤ slot_at 0) ⊎ (slot_at 1 + 4096 ≤ at) → ChangesWithin at count old new → Shows old (λ image. is_slot_open image slot ≡ false) → Shows new (λ image. is_slot_open image slot ≡ false)
+pub closed_elsewhere : (slot at count : ℕ) (old new : Content) → slot < 2 → slot_at 1 + 4096 ≤ size old → LiesOutside (slot_at 0) 8192 at count → ChangesWithin at count old new → Shows old (λ image. is_slot_open image slot ≡ false) → Shows new (λ image. is_slot_open image slot ≡ false)
 closed_elsewhere slot at count old new below fits apart changes shown =
     within_shows changes (sized_shows shown) (λ before after (had : (length before ≡ size old) × (is_slot_open before slot ≡ false)) torn.
     ap (λ bytes. is_open (slice_index bytes 0)) (slot_elsewhere at count slot before after below (let long = had.0 in omega arith) apart torn) ∙ had.1)
 
 -- so does the body that rules whatever a stop leaves
-pub ruling_elsewhere : (s : Shape) (held : Option Body) (at count : ℕ) (old new : Content) → slot_at 1 + 4096 ≤ size old → (at + count ≤ slot_at 0) ⊎ (slot_at 1 + 4096 ≤ at) → ChangesWithin at count old new → LeavesOnly old (λ image. ruling_manifest s image ≡ held) → LeavesOnly new (λ image. ruling_manifest s image ≡ held)
+pub ruling_elsewhere : (s : Shape) (held : Option Body) (at count : ℕ) (old new : Content) → slot_at 1 + 4096 ≤ size old → LiesOutside (slot_at 0) 8192 at count → ChangesWithin at count old new → LeavesOnly old (λ image. ruling_manifest s image ≡ held) → LeavesOnly new (λ image. ruling_manifest s image ≡ held)
 ruling_elsewhere s held at count old new fits apart changes leaves =
     within_leaves changes (sized_leaves leaves) (λ before after (had : (length before ≡ size old) × (ruling_manifest s before ≡ held)) torn.
     ap where_found (other_regions s at count before after (let long = had.0 in omega arith) apart torn) ∙ had.1)
 
 -- and the first body
-pub first_elsewhere : (at count : ℕ) (old new : Content) → slot_at 1 + 4096 ≤ size old → (at + count ≤ slot_at 0) ⊎ (slot_at 1 + 4096 ≤ at) → ChangesWithin at count old new → LeavesOnly old IsFirst → LeavesOnly new IsFirst
+pub first_elsewhere : (at count : ℕ) (old new : Content) → slot_at 1 + 4096 ≤ size old → LiesOutside (slot_at 0) 8192 at count → ChangesWithin at count old new → LeavesOnly old IsFirst → LeavesOnly new IsFirst
 first_elsewhere at count old new fits apart changes leaves =
     within_leaves changes (sized_leaves leaves) (λ before after (had : (length before ≡ size old) × IsFirst before) torn.
     let long = had.0 in

@@ -4,9 +4,10 @@ use Rattle.std.proofs.lemmas.Bool.{cases_Bool}
 use Rattle.silt_device.specs.Disk.{Content, LeavesOnly, Torn, ChangesWithin, Writes, Rests, size, splice}
 use Rattle.silt_device.specs.Layout.{Shape, slot_at}
 use Rattle.silt_device.proofs.Images.{within_leaves, write_shows, rests_leaves, weaker_leaves, leaves_shows, sized_leaves, sized_shows, torn_splice, splice_slice}
+use Rattle.silt_frame.specs.Gate.{is_open}
 use Rattle.silt_manifest.specs.Body.{FitsSlot, body_bytes, is_well_formed}
-use Rattle.silt_manifest.specs.Ruling.{slot_of, is_open, is_slot_open, body_behind, open_body, ruling_manifest}
-use Rattle.silt_manifest.specs.Standing.{ManifestState, IsNext, IsPrepared, IsRuled, IsReady, Rules, closing_place, ruling_slot, spare_slot}
+use Rattle.silt_manifest.specs.Ruling.{slot_of, is_slot_open, body_behind, open_body, ruling_manifest}
+use Rattle.silt_manifest.specs.Standing.{ManifestState, IsNext, IsPrepared, IsRuled, IsReady, Rules, WritesNext, closing_place, ruling_slot, spare_slot}
 use Rattle.silt_manifest.specs.declared.body.Body.{Body}
 use Rattle.silt_manifest.proofs.SlotImages.{closed_body, slot_same, other_same, gate_torn, gate_stays, gate_written}
 use Rattle.silt_manifest.proofs.RulingLemmas.{alone_rules, still_rules}
@@ -121,6 +122,18 @@ body_fails m place at count old between new fits sound rules is is_at long write
 pub all_prepared : (m : ManifestState) (place at : ℕ) (bytes : List ℕ) (next : Body) (old between new : Content) → slot_at 1 + 4096 ≤ size old → is_well_formed m.shape (ruling_slot m) m.ruling ≡ true → Rules m old → place ≡ closing_place m → at ≡ slot_at (spare_slot m) + 1 → length bytes ≡ 120 → bytes ≡ body_bytes next → Writes place (0 ∷ []) old between → Rests between → Writes at bytes between new → Rests new → LeavesOnly new (IsReady m next)
 all_prepared m place at bytes next old between new fits sound rules is is_at long bytes_are first rests second rests_too =
     rests_leaves rests_too (write_shows second (leaves_shows (shut_leaves m place old between fits sound rules is first rests)) (body_written m (size old) fits sound at bytes next is_at long bytes_are))
+
+-- what is then shown
+pub next_written : (m : ManifestState) (place at : ℕ) (bytes : List ℕ) (next : Body) (old between new : Content) → place ≡ closing_place m → at ≡ slot_at (spare_slot m) + 1 → bytes ≡ body_bytes next → Writes place (0 ∷ []) old between → Writes at bytes between new → WritesNext m next old new
+next_written m place at bytes next old between new is is_at are first second = record {
+  honest = second.honest ∙ first.honest;
+  shown = λ honest.
+      second.shown (first.honest ∙ honest)
+      ∙ ap (λ (image : List ℕ). splice at bytes image) (first.shown honest)
+      ∙ ap (λ (p : ℕ). splice at bytes (splice p (0 ∷ []) old.shown)) is
+      ∙ ap (λ (p : ℕ). splice p bytes (splice (closing_place m) (0 ∷ []) old.shown)) is_at
+      ∙ ap (λ (b : List ℕ). splice (slot_at (spare_slot m) + 1) b (splice (closing_place m) (0 ∷ []) old.shown)) are;
+}
 
 -- the manifest that holds the next body, of this shape and with this body that rules, is prepared
 pub prepared_state : (m : ManifestState) (shape : Shape) (ruling next : Body) (content : Content) → m.shape ≡ shape → m.ruling ≡ ruling → IsNext m next → FitsSlot next → LeavesOnly content (IsReady m next)

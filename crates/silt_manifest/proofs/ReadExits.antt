@@ -6,9 +6,10 @@ use Rattle.std.proofs.lemmas.Bool.{cases_Bool}
 use Rattle.silt_device.specs.Disk.{Content, Shows, LeavesOnly, Rests}
 use Rattle.silt_device.specs.Layout.{Shape}
 use Rattle.silt_device.proofs.Images.{weaker_shows, rests_leaves}
+use Rattle.silt_frame.specs.Gate.{is_open}
 use Rattle.silt_manifest.specs.Body.{body_of}
-use Rattle.silt_manifest.specs.Faults.{IsDamaged, IsNotRead, IsRefused, IsUnsound}
-use Rattle.silt_manifest.specs.Ruling.{HasSlot, body_behind, body_found, is_open, is_slot_open, is_sound_slot, open_body, ruling_manifest, slot_of, where_found}
+use Rattle.silt_manifest.specs.Faults.{IsDamaged, IsNotRead, IsSlotRefused, IsUnsound}
+use Rattle.silt_manifest.specs.Ruling.{HasSlot, body_behind, body_found, is_slot_open, is_sound_body, open_body, ruling_manifest, slot_of, where_found}
 use Rattle.silt_manifest.specs.Standing.{IsRuled, ManifestState, manifest_of, ruled_by}
 use Rattle.silt_manifest.specs.declared.body.Body.{Body}
 use Rattle.silt_manifest.specs.declared.slot.Damage.{Damage}
@@ -25,15 +26,15 @@ abbrev pub ReadsSlot : Content → ℕ → List ℕ → Type 0
 ReadsSlot content slot bytes = IsTrue content.honest → bytes ≡ slot_of content.shown slot
 
 -- a slot that is closed, or whose body is well formed
-pub reads_held : (content : Content) (s : Shape) (slot : ℕ) (bytes : List ℕ) (held : Option Body) → ReadsSlot content slot bytes → body_behind bytes ≡ held → is_sound_slot s slot held ≡ true → Shows content (HasSlot s slot held)
+pub reads_held : (content : Content) (s : Shape) (slot : ℕ) (bytes : List ℕ) (held : Option Body) → ReadsSlot content slot bytes → body_behind bytes ≡ held → is_sound_body s slot held ≡ true → Shows content (HasSlot s slot held)
 reads_held content s slot bytes held reads is sound = record {
   holds = λ honest. record { held = ap body_behind (sym (reads honest)) ∙ is; sound = sound };
 }
 
 -- a slot that is open, and whose body is not well formed
-pub reads_damage : (content : Content) (s : Shape) (slot : ℕ) (bytes : List ℕ) (damage : Damage) → ReadsSlot content slot bytes → damage ≡ Slot slot → is_sound_slot s slot (body_behind bytes) ≡ false → Shows content (IsUnsound s slot damage)
+pub reads_damage : (content : Content) (s : Shape) (slot : ℕ) (bytes : List ℕ) (damage : Damage) → ReadsSlot content slot bytes → damage ≡ Slot slot → is_sound_body s slot (body_behind bytes) ≡ false → Shows content (IsUnsound s slot damage)
 reads_damage content s slot bytes damage reads place unsound = record {
-  holds = λ honest. record { place = place; unsound = ap (λ held. is_sound_slot s slot (body_behind held)) (sym (reads honest)) ∙ unsound };
+  holds = λ honest. record { place = place; unsound = ap (λ held. is_sound_body s slot (body_behind held)) (sym (reads honest)) ∙ unsound };
 }
 
 -- the first slot is damaged
@@ -45,7 +46,7 @@ first_damage s damage image unsound = record { found = rw unsound.unsound (ap Er
 second_damage : (s : Shape) (damage : Damage) (first : Option Body) (image : List ℕ) → HasSlot s 0 first image → IsUnsound s 1 damage image → IsDamaged s damage image
 unfolding body_found
 second_damage s damage first image has unsound =
-    let sound : is_sound_slot s 0 (open_body image 0) ≡ true = ap (is_sound_slot s 0) has.held ∙ has.sound in
+    let sound : is_sound_body s 0 (open_body image 0) ≡ true = ap (is_sound_body s 0) has.held ∙ has.sound in
     record { found = rw (sound, unsound.unsound) (ap Err (sym unsound.place)) }
 
 -- no slot is open
@@ -54,12 +55,12 @@ unfolding body_found
 no_slot s image first second = record { found = rw (first.held, second.held) refl }
 
 -- the read of the first slot is refused
-pub first_refused : {F : Type 0} (content : Content) (s : Shape) (W : F → Type 0) (e : ReadFault F) → IsRefused content s W 0 e → IsNotRead content s W e
+pub first_refused : {F : Type 0} (content : Content) (s : Shape) (W : F → Type 0) (e : ReadFault F) → IsSlotRefused content s W 0 e → IsNotRead content s W e
 first_refused content s W (Damaged damage) refused = weaker_shows refused (first_damage s damage)
 first_refused content s W (Device fault) refused = refused
 
 -- the read of the second slot is refused
-pub second_refused : {F : Type 0} (content : Content) (s : Shape) (W : F → Type 0) (first : Option Body) (e : ReadFault F) → Shows content (HasSlot s 0 first) → IsRefused content s W 1 e → IsNotRead content s W e
+pub second_refused : {F : Type 0} (content : Content) (s : Shape) (W : F → Type 0) (first : Option Body) (e : ReadFault F) → Shows content (HasSlot s 0 first) → IsSlotRefused content s W 1 e → IsNotRead content s W e
 second_refused content s W first (Damaged damage) has refused = record { holds = λ honest. second_damage s damage first content.shown (has.holds honest) (refused.holds honest) }
 second_refused content s W first (Device fault) has refused = refused
 

@@ -6,8 +6,9 @@ use Rattle.std.proofs.lemmas.Bool.Decides.{nat_tests}
 use Rattle.silt_device.specs.Disk.{Torn, splice}
 use Rattle.silt_device.specs.Layout.{slot_at}
 use Rattle.silt_device.proofs.Images.{torn_slice_before, torn_slice_after, torn_splice, splice_byte}
+use Rattle.silt_frame.specs.Gate.{is_open}
 use Rattle.silt_manifest.specs.Body.{body_of}
-use Rattle.silt_manifest.specs.Ruling.{slot_of, is_open, is_slot_open, body_behind, open_body}
+use Rattle.silt_manifest.specs.Ruling.{slot_of, is_slot_open, body_behind, open_body}
 
 -- a slot is its gate and the bytes behind it
 pub slot_parts : (image : List ℕ) (slot : ℕ) → slot_at slot + 121 ≤ length image → slot_of image slot ≡ get_or image (slot_at slot) 0 ∷ slice_range image (slot_at slot + 1) (slot_at slot + 121)

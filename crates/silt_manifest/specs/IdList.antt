@@ -4,17 +4,17 @@ use Rattle.std.proofs.Common.{take-append-drop, length-take-le, length-drop}
 use Rattle.std.proofs.lemmas.List.{ext_get_or, get_or-drop, get_or-replicate, length-replicate}
 
 -- at most 16 numbers, and zeros in the places behind them
-pub record IsFilled (numbers : List ℕ) (count : ℕ) : Type 0 where
+pub record IsIdList (numbers : List ℕ) (count : ℕ) : Type 0 where
   pub most : count ≤ 16
   pub room : length numbers ≡ 16
   pub zeros : (k : ℕ) → count ≤ k → get_or numbers k 0 ≡ 0
 
 -- the count is that of the numbers
-pub count_back : (numbers : List ℕ) (count : ℕ) → IsFilled numbers count → length (take count numbers) ≡ count
+pub count_back : (numbers : List ℕ) (count : ℕ) → IsIdList numbers count → length (take count numbers) ≡ count
 count_back numbers count filled = length-take-le count numbers (omega arith)
 
 -- the numbers with zeros behind them are the whole array
-pub numbers_back : (numbers : List ℕ) (count : ℕ) → IsFilled numbers count → take count numbers ++ replicate (16 - length (take count numbers)) 0 ≡ numbers
+pub numbers_back : (numbers : List ℕ) (count : ℕ) → IsIdList numbers count → take count numbers ++ replicate (16 - length (take count numbers)) 0 ≡ numbers
 numbers_back numbers count filled =
     let counted = count_back numbers count filled in
     let long : length {A = ℕ} (replicate (16 - length (take count numbers)) 0) ≡ 16 - length (take count numbers) = length-replicate (16 - length (take count numbers)) 0 in

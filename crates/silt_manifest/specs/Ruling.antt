@@ -1,15 +1,12 @@
 -- Which body rules, in an image of a device.
-use Rattle.std.specs.Prelude.{◌≡◌, ℕ, ◌+◌, ◌<◌, ◌≤◌, ◌⊎◌, ◌==◌, nat_lt, Bool, true, not, if◌then◌else◌, List, length, slice_index, slice_range, Option, Some, None, Result, Ok, Err}
-use Rattle.silt_device.specs.Disk.{Torn}
+use Rattle.std.specs.Prelude.{◌≡◌, ℕ, ◌+◌, ◌<◌, ◌≤◌, nat_lt, Bool, true, not, if◌then◌else◌, List, length, slice_index, slice_range, Option, Some, None, Result, Ok, Err}
+use Rattle.silt_device.specs.Disk.{LiesOutside, Torn}
 use Rattle.silt_device.specs.Layout.{Shape, slot_at}
+use Rattle.silt_frame.specs.Gate.{is_open}
 use Rattle.silt_manifest.specs.Body.{body_of, is_well_formed}
 use Rattle.silt_manifest.specs.declared.body.Body.{Body}
 use Rattle.silt_manifest.specs.declared.slot.Damage.{Damage}
 use Rattle.silt_manifest.specs.declared.slot.Damage.TheVariants.{Slot, NoSlot}
-
--- a gate is open exactly where it is 0xA7
-abbrev pub is_open : ℕ → Bool
-is_open gate = gate == 0xA7
 
 -- the bytes of a slot that count: its gate and its body
 abbrev pub slot_of : List ℕ → ℕ → List ℕ
@@ -28,9 +25,9 @@ abbrev pub open_body : List ℕ → ℕ → Option Body
 open_body image slot = body_behind (slot_of image slot)
 
 -- a slot is closed, or its body is well formed
-abbrev pub is_sound_slot : Shape → ℕ → Option Body → Bool
-is_sound_slot s slot None = true
-is_sound_slot s slot (Some body) = is_well_formed s slot body
+abbrev pub is_sound_body : Shape → ℕ → Option Body → Bool
+is_sound_body s slot None = true
+is_sound_body s slot (Some body) = is_well_formed s slot body
 
 -- of the slots that are open, the body of greater generation
 abbrev pub greater_body : Option Body → Option Body → Result Body Damage
@@ -42,8 +39,8 @@ greater_body (Some first) (Some second) = Ok (if nat_lt first.generation second.
 -- the first finding, or else the body that rules, in what the two slots hold
 unfoldable pub body_found : Shape → Option Body → Option Body → Result Body Damage
 body_found s first second =
-    if not (is_sound_slot s 0 first) then Err (Slot 0)
-    else if not (is_sound_slot s 1 second) then Err (Slot 1)
+    if not (is_sound_body s 0 first) then Err (Slot 0)
+    else if not (is_sound_body s 1 second) then Err (Slot 1)
     else greater_body first second
 
 -- the first finding, or else the body that rules, in an image
@@ -63,7 +60,7 @@ ruling_manifest s image = where_found (manifest_found s image)
 -- a slot of an image holds this, and it is well formed
 pub record HasSlot (s : Shape) (slot : ℕ) (body : Option Body) (image : List ℕ) : Type 0 where
   pub held : open_body image slot ≡ body
-  pub sound : is_sound_slot s slot body ≡ true
+  pub sound : is_sound_body s slot body ≡ true
 
 -- What a closed slot holds does not count: any change in a slot that is closed before and after.
 abbrev pub ClosedSlotLaw : Type 0
@@ -74,5 +71,5 @@ ClosedSlotLaw =
 -- Nor does what the other regions hold: any change before the slots or behind them.
 abbrev pub OtherRegionsLaw : Type 0
 OtherRegionsLaw =
-    (s : Shape) (at count : ℕ) (before after : List ℕ) → slot_at 1 + 4096 ≤ length before → (at + count ≤ slot_at 0) ⊎ (slot_at 1 + 4096 ≤ at)
+    (s : Shape) (at count : ℕ) (before after : List ℕ) → slot_at 1 + 4096 ≤ length before → LiesOutside (slot_at 0) 8192 at count
     → Torn at count before after → manifest_found s after ≡ manifest_found s before

@@ -1,8 +1,9 @@
 -- What a manifest in memory says of the images of a disk.
-use Rattle.std.specs.Prelude.{◌≡◌, ◌⊎◌, ℕ, ◌+◌, ◌%◌, Bool, true, false, not, nat_lt, if◌then◌else◌, List, ◌∷◌, Option, Some, None, slice_range}
+use Rattle.std.specs.Prelude.{◌≡◌, ◌⊎◌, ℕ, ◌+◌, ◌%◌, Bool, true, false, not, nat_lt, if◌then◌else◌, IsTrue, List, [], ◌∷◌, Option, Some, None, slice_range}
 use Rattle.std.specs.Option.{ForSome}
-use Rattle.silt_device.specs.Disk.{Content, LeavesOnly}
+use Rattle.silt_device.specs.Disk.{Content, LeavesOnly, splice}
 use Rattle.silt_device.specs.Layout.{Shape, InLimits, slot_at}
+use Rattle.silt_frame.specs.Gate.{gate_open}
 use Rattle.silt_manifest.specs.Body.{FitsSlot, body_bytes, first_body, is_well_formed}
 use Rattle.silt_manifest.specs.Ruling.{is_slot_open, open_body, ruling_manifest, slot_of}
 use Rattle.silt_manifest.specs.declared.body.Body.{Body}
@@ -40,13 +41,22 @@ spare_slot m = (m.ruling.generation + 1) % 2
 abbrev pub closing_place : ManifestState → ℕ
 closing_place m = if m.spare_closed then slot_at (spare_slot m) + 4095 else slot_at (spare_slot m)
 
+-- what is shown once the next body is written: a zero at the closing place, and the body's bytes behind the gate
+abbrev pub with_next : ManifestState → Body → List ℕ → List ℕ
+with_next m next image = splice (slot_at (spare_slot m) + 1) (body_bytes next) (splice (closing_place m) (0 ∷ []) image)
+
+-- just the next body is written, with the zero before it
+pub record WritesNext (m : ManifestState) (next : Body) (old new : Content) : Type 0 where
+  pub honest : new.honest ≡ old.honest
+  pub shown : IsTrue old.honest → new.shown ≡ with_next m next old.shown
+
 -- a body may follow the one that rules: it has the next generation and is well formed
 pub record IsNext (m : ManifestState) (next : Body) : Type 0 where
   pub generation : next.generation ≡ m.ruling.generation + 1
   pub sound : is_well_formed m.shape (spare_slot m) next ≡ true
 
 -- the bodies are well formed
-pub record IsSound (m : ManifestState) : Type 0 where
+pub record HasSoundBodies (m : ManifestState) : Type 0 where
   pub ruling : is_well_formed m.shape (ruling_slot m) m.ruling ≡ true
   pub prepared : ForSome m.prepared (IsNext m)
 
@@ -87,4 +97,4 @@ RulesOldOrNew m image = (ruling_manifest m.shape image ≡ Some m.ruling) ⊎ (r
 -- in an image: the body of generation 0 rules, in any store's geometry, and its bytes stand in slot 0 behind an open gate
 pub record IsFirst (image : List ℕ) : Type 0 where
   pub rules : (s : Shape) → InLimits s → ruling_manifest s image ≡ Some first_body
-  pub bytes : slot_of image 0 ≡ 0xA7 ∷ body_bytes first_body
+  pub bytes : slot_of image 0 ≡ gate_open ∷ body_bytes first_body

@@ -20,7 +20,7 @@ impl Model for Ids {
 
     ghost Value = { List ℕ };
 
-    ghost use Rattle.silt_manifest.specs.IdList.{IsFilled, numbers_back, count_back};
+    ghost use Rattle.silt_manifest.specs.IdList.{IsIdList, numbers_back, count_back};
 
     ghost view = { λ ids. take ids.count ids.numbers };
 
@@ -29,7 +29,7 @@ impl Model for Ids {
       count = length numbers;
     } };
 
-    ghost invariant = { λ ids. IsFilled ids.numbers ids.count };
+    ghost invariant = { λ ids. IsIdList ids.numbers ids.count };
 
     ghost inverse_ok = { λ ids filled i. record {
       numbers = numbers_back ids.numbers ids.count filled i;

@@ -3,20 +3,21 @@ ghost use Rattle.std.specs.Prelude.{◌≡◌, ◌+◌, ◌<◌, ◌≤◌, ◌�
 ghost use Rattle.silt_device.specs.Disk.{ChangesWithin, CountsFault, GaveAny, LeavesOnly, Rests, Shows, size};
 ghost use Rattle.silt_device.specs.Layout.{slot_at};
 ghost use Rattle.silt_manifest.specs.Body.{is_well_formed};
-ghost use Rattle.silt_manifest.specs.Ruling.{ClosedSlotLaw, OtherRegionsLaw, is_slot_open, is_sound_slot, ruling_manifest};
+ghost use Rattle.silt_manifest.specs.Ruling.{ClosedSlotLaw, OtherRegionsLaw, is_slot_open, is_sound_body, ruling_manifest};
 ghost use Rattle.silt_manifest.specs.Faults.{IsNotRead};
-ghost use Rattle.silt_manifest.specs.Standing.{CanCommit, IsFirst, IsNext, IsRuled, Rules, RulesOldOrNew, closing_place, manifest_of, ruled_by, ruling_slot, spare_slot};
+ghost use Rattle.silt_manifest.specs.Standing.{CanCommit, IsFirst, IsNext, IsRuled, Rules, RulesOldOrNew, WritesNext, closing_place, manifest_of, ruled_by, ruling_slot, spare_slot};
 
 use crate::body::Body;
-use crate::slot::{CLOSED, Damage, OPEN, ReadFault, read_slot, slot_start, write_body, write_gate};
-use silt_device::{Disk, Geometry, write_synced};
+use crate::slot::{Damage, ReadFault, read_slot, write_body, write_gate};
+use silt_device::{Disk, Geometry, slot_start, write_synced};
+use silt_frame::{GATE_CLOSED, GATE_OPEN};
 use std::marker::Model;
 
 // The last place of a slot, which nothing looks at.
 const UNUSED_PLACE: u64 = 4095;
 
 /// The body that rules a device, and what is known of its slots.
-#[derive(Drop)]
+#[derive(Clone, Copy)]
 pub struct Manifest {
     geometry: Geometry,
     ruling: Body,
@@ -27,13 +28,15 @@ pub struct Manifest {
 }
 
 impl Model for Manifest {
-    ghost use Rattle.silt_manifest.specs.Standing.{ManifestState, IsSound};
+    ghost use Rattle.silt_manifest.specs.Standing.{ManifestState, HasSoundBodies};
 
     ghost Value = { ManifestState };
 
     ghost view = { λ m. record { shape = m.geometry; ruling = m.ruling; spare_closed = m.spare_closed; prepared = m.prepared } };
 
-    ghost invariant = { λ m. IsSound (record { shape = m.geometry; ruling = m.ruling; spare_closed = m.spare_closed; prepared = m.prepared }) };
+    ghost inverse = { λ s. record { geometry = s.shape; ruling = s.ruling; spare_closed = s.spare_closed; prepared = s.prepared } };
+
+    ghost invariant = { λ m. HasSoundBodies (record { shape = m.geometry; ruling = m.ruling; spare_closed = m.spare_closed; prepared = m.prepared }) };
 }
 
 /// Reads the slots of a device. A closed slot is passed over; an open one whose body is not well formed is damage, and so is it if
@@ -94,8 +97,8 @@ impl Manifest {
 
     // The manifest that two slots make, of which each may hold a body that is well formed.
     fn of_slots(geometry: Geometry, first: Option<Body>, second: Option<Body>) -> Option<Self>
-        requires first { is_sound_slot geometry 0 first ≡ true }
-        requires second { is_sound_slot geometry 1 second ≡ true }
+        requires first { is_sound_body geometry 0 first ≡ true }
+        requires second { is_sound_body geometry 1 second ≡ true }
         ensures { result ≡ manifest_of geometry first second }
     {
         match (first, second) {
@@ -155,6 +158,7 @@ impl Manifest {
         ensures size { size (D.content disk.new) ≡ size (D.content disk.old) }
         ensures changes { ChangesWithin (slot_at (spare_slot self.old)) 4096 (D.content disk.old) (D.content disk.new) }
         ensures each { LeavesOnly (D.content disk.new) (λ image. ruling_manifest self.old.shape image ≡ Some self.old.ruling) }
+        ensures written { OnOk result (WritesNext self.old next (D.content disk.old) (D.content disk.new)) }
         ensures ready { OnOk result (CanCommit self.new (D.content disk.new)) }
         ensures rests { OnOk result (Rests (D.content disk.new)) }
         ensures state { OnOk result (self.new ≡ record self.old { spare_closed = true; prepared = Some next }) }
@@ -163,7 +167,7 @@ impl Manifest {
     {
         let _limits = self.geometry.logs(); // at most eight
         let slot = self.spare_slot();
-        write_synced(disk, self.closing_place(), &[CLOSED])?;
+        write_synced(disk, self.closing_place(), &[GATE_CLOSED])?;
         write_body(disk, slot, &next.to_bytes())?;
         self.spare_closed = true;
         self.prepared = Some(next);
@@ -192,7 +196,7 @@ impl Manifest {
         let Some(next) = self.prepared else {
             unreachable!()
         };
-        write_gate(disk, self.spare_slot(), OPEN)?;
+        write_gate(disk, self.spare_slot(), GATE_OPEN)?;
         self.ruling = next;
         self.spare_closed = false;
         self.prepared = None;
@@ -216,9 +220,9 @@ pub fn write_first<D: Disk>(disk: &mut D) -> Result<(), D::Fault>
     ensures rests { OnOk result (Rests (D.content disk.new)) }
     ensures failures { MatchResult result (λ _. D.failures disk.new ≡ D.failures disk.old) (CountsFault D.failures D.gave disk.old disk.new) }
 {
-    write_gate(disk, 0, CLOSED)?;
+    write_gate(disk, 0, GATE_CLOSED)?;
     write_body(disk, 0, &Body::first().to_bytes())?;
-    write_gate(disk, 0, OPEN)?;
+    write_gate(disk, 0, GATE_OPEN)?;
     Ok(())
 }
 

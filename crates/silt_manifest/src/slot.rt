@@ -1,19 +1,14 @@
 // The two slots of a manifest.
-ghost use Rattle.std.specs.Prelude.{◌≡◌, ◌+◌, ◌*◌, ◌<◌, ◌≤◌, true, false, [], ◌∷◌, IfOk, IfErr, OnOk, MatchResult};
+ghost use Rattle.std.specs.Prelude.{◌≡◌, ◌+◌, ◌<◌, ◌≤◌, true, false, [], ◌∷◌, IfOk, IfErr, OnOk, MatchResult};
 ghost use Rattle.silt_device.specs.Disk.{ChangesWithin, CountsFault, GaveAny, Rests, Shows, Writes, size};
 ghost use Rattle.silt_device.specs.Layout.{slot_at};
-ghost use Rattle.silt_manifest.specs.Ruling.{HasSlot, body_behind, is_sound_slot};
-ghost use Rattle.silt_manifest.specs.Faults.{IsRefused};
+ghost use Rattle.silt_manifest.specs.Ruling.{HasSlot, body_behind, is_sound_body};
+ghost use Rattle.silt_manifest.specs.Faults.{IsSlotRefused};
 ghost use Rattle.silt_manifest.specs.declared.slot.Damage.TheVariants.{Slot};
 
 use crate::body::{BODY_LEN, Body, SLOT_LEN};
-use silt_device::{Disk, Geometry, write_synced};
-
-/// The byte of an open gate. Every other one is closed.
-pub(crate) const OPEN: u8 = 0xA7;
-
-/// The byte that closes a gate.
-pub(crate) const CLOSED: u8 = 0x00;
+use silt_device::{Disk, Geometry, slot_start, write_synced};
+use silt_frame::is_open;
 
 /// Where a manifest is damaged.
 #[derive(Clone, Copy, Debug, PartialEq, Eq)]
@@ -33,21 +28,13 @@ pub enum ReadFault<F> {
     Device(F),
 }
 
-// Where a slot begins.
-pub(crate) fn slot_start(slot: u32) -> u64
-    requires { slot < 2 }
-    ensures { result ≡ slot_at slot }
-{
-    4096 + 4096 * u64::from(slot)
-}
-
 // What the bytes of a slot say: nothing where it is closed, and else a body that is well formed.
 #[tactic(auto, unfolding(crate::specs::Ruling::body_behind))]
 fn slot_held(bytes: &[u8; SLOT_LEN], geometry: &Geometry, slot: u32) -> Result<Option<Body>, Damage>
-    ensures held { IfOk result (λ held. (body_behind bytes.now ≡ held) × (is_sound_slot geometry.now slot held ≡ true)) }
-    ensures damaged { IfErr result (λ damage. (damage ≡ Slot slot) × (is_sound_slot geometry.now slot (body_behind bytes.now) ≡ false)) }
+    ensures held { IfOk result (λ held. (body_behind bytes.now ≡ held) × (is_sound_body geometry.now slot held ≡ true)) }
+    ensures damaged { IfErr result (λ damage. (damage ≡ Slot slot) × (is_sound_body geometry.now slot (body_behind bytes.now) ≡ false)) }
 {
-    if bytes[0] != OPEN {
+    if !is_open(bytes[0]) {
         return Ok(None);
     }
     match Body::from_slot(bytes, geometry, slot) {
@@ -64,9 +51,9 @@ pub(crate) fn read_slot<D: Disk>(
 ) -> Result<Option<Body>, ReadFault<D::Fault>>
     requires slot { slot < 2 }
     requires size { slot_at 1 + 4096 ≤ size (D.content disk.now) }
-    ensures sound { IfOk result (λ held. is_sound_slot geometry.now slot held ≡ true) }
+    ensures sound { IfOk result (λ held. is_sound_body geometry.now slot held ≡ true) }
     ensures held { IfOk result (λ held. Shows (D.content disk.now) (HasSlot geometry.now slot held)) }
-    ensures refused { IfErr result (IsRefused (D.content disk.now) geometry.now (GaveAny D.gave disk.now) slot) }
+    ensures refused { IfErr result (IsSlotRefused (D.content disk.now) geometry.now (GaveAny D.gave disk.now) slot) }
 {
     let mut bytes = [0; SLOT_LEN];
     disk.read(slot_start(slot), &mut bytes)

@@ -413,6 +413,29 @@ fn the_first_body_begins_at_its_gate(rt: HostRuntime) -> Result<(), Fail> {
     Ok(())
 }
 
+// The gate of slot 0, which is open at first, behind each of the six calls that write the first body: a zero from the first one
+// on, and open from the fifth one on.
+#[test]
+fn the_first_gate_is_closed_by_a_zero(rt: HostRuntime) -> Result<(), Fail> {
+    let alloc = rt.alloc();
+    for (k, gate) in [
+        (2, 0xA7),
+        (3, 0),
+        (4, 0),
+        (5, 0),
+        (6, 0),
+        (7, 0xA7),
+        (8, 0xA7),
+    ] {
+        let stop = Stop { k, fill: Fill::Old };
+        let mut disk = device(alloc, &slot_of(0xA7, 4), &slot_of(0xA7, 5), stop)?.restart();
+        assert_eq!(rt; disk.len(), LEN as u64);
+        assert!(rt; write_slots(&mut disk).is_err());
+        assert_eq!(rt; disk.shown().get(4096), Some(&gate), "call {k}");
+    }
+    Ok(())
+}
+
 // The fault of each read, and of each of the six calls, is handed on.
 #[test]
 fn hands_on_each_fault(rt: HostRuntime) -> Result<(), Fail> {

@@ -1,5 +1,5 @@
 -- The key that is decided next is the lowest one, and by what it is decided.
-use Rattle.std.proofs.Common.{◌≡◌, ◌≢◌, ℕ, ◌<◌, nat_lt, Bool, true, false, List, [], length, slice_get, Option, Some, None, option_map, inl, inr, refl, sym, subst, ap, ◌∙◌}
+use Rattle.std.proofs.Common.{◌≡◌, ◌≢◌, ℕ, ◌<◌, nat_lt, Bool, true, false, not, List, [], length, slice_get, Option, Some, None, option_map, inl, inr, refl, sym, subst, ap, ◌∙◌}
 use Rattle.std.specs.Option.{is_some}
 use Rattle.std.specs.Ordering.{match_ordering, nat_cmp}
 use Rattle.std.specs.Cmp.Lexicographic.{slice_cmp}
@@ -10,12 +10,11 @@ use Rattle.std.proofs.lemmas.Cmp.{nat_list_cmp_total}
 use Rattle.std.proofs.lemmas.Map.Lookups.{exact_bytes}
 use Rattle.std.proofs.lemmas.Option.{slice_get_within}
 use Rattle.silt_frame.specs.declared.key.Key.{Key}
-use Rattle.silt_image.specs.Stores.{entry_row}
-use Rattle.silt_log.specs.Rows.{StoredRow}
+use Rattle.silt_frame.specs.Rows.{entry_row, StoredRow}
 use Rattle.silt_sorted_store.proofs.Entries.{key_of_row}
 use Rattle.silt_sorted_store.proofs.Rising.{key_at, not_below_itself}
-use Rattle.silt_merge.specs.Choosing.{IsFirst, IsNextEntry, choice_of, lower_choice}
-use Rattle.silt_merge.specs.State.{source_at}
+use Rattle.silt_merge.specs.Choice.{IsFirstWaiting, IsNextEntry, IsOffered, choice_of, lower_choice}
+use Rattle.silt_merge.specs.State.{is_above, is_behind, source_at}
 use Rattle.silt_merge.specs.declared.choice.Choice.{Choice}
 use Rattle.silt_merge.specs.declared.source.Source.{Source}
 use Rattle.silt_merge.proofs.Deciding.{IsLowest}
@@ -23,24 +22,33 @@ use Rattle.silt_merge.proofs.Newest.{turned}
 
 -- ---- on any disk
 
--- a choice is of a row that waits, or of the next entry
-pub record IsOffered (waiting : List (Key × Source)) (next : Option Key) (choice : Choice) : Type 0 where
-  pub source : (source : Source) → choice.source ≡ Some source → source_at waiting choice.key.0 ≡ Some source
-  pub none : choice.source ≡ None → choice.passes ≡ true
-  pub more : choice.passes ≡ true → is_some next ≡ true
+-- of two keys only one is lower
+not_both : (a b : List ℕ) → slice_cmp nat_cmp a b ≡ Less → slice_cmp nat_cmp b a ≢ Less
+not_both a b less other = not_below_itself a a refl (nat_list_cmp_total.trans a b a less other)
 
 -- the choice of a row that waits
-offered_row : (waiting : List (Key × Source)) (key : Key) (source : Source) (next : Option Key) (choice : Choice) → source_at waiting key.0 ≡ Some source → choice.key ≡ key → choice.source ≡ Some source → (choice.passes ≡ true → is_some next ≡ true)
-    → IsOffered waiting next choice
-offered_row waiting key source next choice waits its_key its_source passes = record {
-  source = λ other is. ap (λ (k : Key). source_at waiting k.0) its_key ∙ waits ∙ sym its_source ∙ is;
+offered_row : (waiting : List (Key × Source)) (last : Option Key) (key : Key) (source : Source) (choice : Choice) → IsFirstWaiting waiting (Some (key, source)) → ((key : List ℕ) (its : Source) → source_at waiting key ≡ Some its → is_above last key ≡ true)
+    → choice.key ≡ key → choice.source ≡ Some source → IsOffered waiting last choice
+offered_row waiting last key source choice is above its_key its_source = record {
+  source = λ other same. ap (λ (k : Key). source_at waiting k.0) its_key ∙ is.0 ∙ sym its_source ∙ same;
   none = λ none. absurd (cc);
-  more = passes;
+  least = λ other its waits less. is.1 other its waits (ap (λ (k : Key). slice_cmp nat_cmp other k.0) (sym its_key) ∙ less);
+  above = ap (λ (k : Key). is_above last k.0) its_key ∙ above key.0 source is.0;
 }
 
--- that of the next entry
-offered_entry : (waiting : List (Key × Source)) (next : Key) (choice : Choice) → choice.source ≡ None → choice.passes ≡ true → IsOffered waiting (Some next) choice
-offered_entry waiting next choice none passes = record { source = λ other is. absurd (cc); none = λ same. passes; more = λ same. refl }
+-- that of the next entry, which is below each row
+offered_entry : (waiting : List (Key × Source)) (last : Option Key) (next : Key) (choice : Choice) → choice.key ≡ next → choice.source ≡ None → choice.passes ≡ true → is_behind last (Some next) ≡ false
+    → ((key : List ℕ) (its : Source) → source_at waiting key ≡ Some its → slice_cmp nat_cmp key next.0 ≢ Less) → IsOffered waiting last choice
+offered_entry waiting last next choice its_key none passes ahead least = record {
+  source = λ other is. absurd (cc);
+  none = λ same. passes;
+  least = λ other its waits less. least other its waits (ap (λ (k : Key). slice_cmp nat_cmp other k.0) (sym its_key) ∙ less);
+  above = ap (λ (k : Key). is_above last k.0) its_key ∙ not_false (is_above last next.0) ahead;
+}
+  where
+    not_false : (b : Bool) → not b ≡ false → b ≡ true
+    not_false true is = refl
+    not_false false is = absurd (cc)
 
 -- the choice of the lower of two keys
 lower_is : (key : Key) (source : Source) (next : Key) (o : Ordering) → slice_cmp nat_cmp key.0 next.0 ≡ o
@@ -48,22 +56,36 @@ lower_is : (key : Key) (source : Source) (next : Key) (o : Ordering) → slice_c
 lower_is key source next o is =
     ap (λ (p : Ordering). let it : Choice = match_ordering p (record { key = key; source = Some source; passes = false }) (record { key = key; source = Some source; passes = true }) (record { key = next; source = None; passes = true }) in it) is
 
-pub offered : (waiting : List (Key × Source)) (first : Option (Key × Source)) (next : Option Key) (choice : Choice) → IsFirst waiting first → choice_of first next ≡ Some choice → IsOffered waiting next choice
-offered waiting None None choice is chosen = absurd (cc)
-offered waiting None (Some next) choice is chosen =
+-- what is chosen is offered
+pub offered : (waiting : List (Key × Source)) (last : Option Key) (first : Option (Key × Source)) (next : Option Key) (choice : Choice) → IsFirstWaiting waiting first → choice_of first next ≡ Some choice → is_behind last next ≡ false
+    → ((key : List ℕ) (its : Source) → source_at waiting key ≡ Some its → is_above last key ≡ true) → IsOffered waiting last choice
+offered waiting last None None choice is chosen ahead above = absurd (cc)
+offered waiting last None (Some next) choice is chosen ahead above =
     let it : record { key = next; source = None; passes = true } ≡ choice = cc in
-    subst (IsOffered waiting (Some next)) it (offered_entry waiting next (record { key = next; source = None; passes = true }) refl refl)
-offered waiting (Some (key, source)) None choice is chosen =
+    subst (IsOffered waiting last) it
+    (offered_entry waiting last next (record { key = next; source = None; passes = true }) refl refl refl ahead (λ key its waits. let none : source_at waiting key ≡ None = ap (λ l. source_at l key) is in absurd (cc)))
+offered waiting last (Some (key, source)) None choice is chosen ahead above =
     let it : record { key = key; source = Some source; passes = false } ≡ choice = cc in
-    subst (IsOffered waiting None) it (offered_row waiting key source None (record { key = key; source = Some source; passes = false }) is.0 refl refl (λ same. absurd (cc)))
-offered waiting (Some (key, source)) (Some next) choice is chosen =
+    subst (IsOffered waiting last) it (offered_row waiting last key source (record { key = key; source = Some source; passes = false }) is above refl refl)
+offered waiting last (Some (key, source)) (Some next) choice is chosen ahead above =
     let it : lower_choice key source next ≡ choice = cc in
-    let go : (o : Ordering) → slice_cmp nat_cmp key.0 next.0 ≡ o → IsOffered waiting (Some next) (lower_choice key source next) = elim [
-      | Less ↦ λ o. subst (IsOffered waiting (Some next)) (sym (lower_is key source next Less o)) (offered_row waiting key source (Some next) (record { key = key; source = Some source; passes = false }) is.0 refl refl (λ same. refl))
-      | Equal ↦ λ o. subst (IsOffered waiting (Some next)) (sym (lower_is key source next Equal o)) (offered_row waiting key source (Some next) (record { key = key; source = Some source; passes = true }) is.0 refl refl (λ same. refl))
-      | Greater ↦ λ o. subst (IsOffered waiting (Some next)) (sym (lower_is key source next Greater o)) (offered_entry waiting next (record { key = next; source = None; passes = true }) refl refl)
+    let go : (o : Ordering) → slice_cmp nat_cmp key.0 next.0 ≡ o → IsOffered waiting last (lower_choice key source next) = elim [
+      | Less ↦ λ o. subst (IsOffered waiting last) (sym (lower_is key source next Less o)) (offered_row waiting last key source (record { key = key; source = Some source; passes = false }) is above refl refl)
+      | Equal ↦ λ o. subst (IsOffered waiting last) (sym (lower_is key source next Equal o)) (offered_row waiting last key source (record { key = key; source = Some source; passes = true }) is above refl refl)
+      | Greater ↦ λ o. subst (IsOffered waiting last) (sym (lower_is key source next Greater o))
+          (offered_entry waiting last next (record { key = next; source = None; passes = true }) refl refl refl ahead
+          (λ other its waits less. is.1 other its waits (nat_list_cmp_total.trans other next.0 key.0 less (turned key.0 next.0 o))))
     ] in
-    subst (IsOffered waiting (Some next)) it (go (slice_cmp nat_cmp key.0 next.0) refl)
+    subst (IsOffered waiting last) it (go (slice_cmp nat_cmp key.0 next.0) refl)
+
+-- an entry is passed over only where there is one
+pub passes_next : (first : Option (Key × Source)) (next : Option Key) (choice : Choice) → choice_of first next ≡ Some choice → choice.passes ≡ true → is_some next ≡ true
+passes_next None None choice chosen passes = absurd (cc)
+passes_next first (Some next) choice chosen passes = refl
+passes_next (Some (key, source)) None choice chosen passes =
+    let it : record { key = key; source = Some source; passes = false } ≡ choice = cc in
+    let none : false ≡ choice.passes = ap (λ (c : Choice). c.passes) it in
+    absurd (cc)
 
 -- ---- on an honest disk
 
@@ -79,10 +101,6 @@ pub record IsChosen (entries : List StoredRow) (passed : ℕ) (bytes : List ℕ)
 map_some : {A B : Type 0} (f : A → B) (o : Option A) (y : B) → option_map f o ≡ Some y → (x : A) × (o ≡ Some x)
 map_some f None y is = absurd (cc)
 map_some f (Some x) y is = (x, refl)
-
--- of two keys only one is lower
-not_both : (a b : List ℕ) → slice_cmp nat_cmp a b ≡ Less → slice_cmp nat_cmp b a ≢ Less
-not_both a b less other = not_below_itself a a refl (nat_list_cmp_total.trans a b a less other)
 
 module _ (entries : List StoredRow) (passed : ℕ) (bytes : List ℕ) (row_of : Source → StoredRow) (waiting : List (Key × Source)) where
   abbrev waits : List ℕ → Option StoredRow
@@ -101,7 +119,7 @@ module _ (entries : List StoredRow) (passed : ℕ) (bytes : List ℕ) (row_of : 
   no_next none below = let some = lt-ltb passed (length entries) below in absurd (cc)
 
   -- no row waits for a key below the first
-  not_before : (key : Key) (source : Source) → IsFirst waiting (Some (key, source)) → (other : List ℕ) (row : StoredRow) → waits other ≡ Some row → slice_cmp nat_cmp other key.0 ≢ Less
+  not_before : (key : Key) (source : Source) → IsFirstWaiting waiting (Some (key, source)) → (other : List ℕ) (row : StoredRow) → waits other ≡ Some row → slice_cmp nat_cmp other key.0 ≢ Less
   not_before key source is other row some = let its = map_some row_of (source_at waiting other) row some in is.1 other its.0 its.1
 
   -- the next entry, where its key is below that of each row
@@ -126,7 +144,7 @@ module _ (entries : List StoredRow) (passed : ℕ) (bytes : List ℕ) (row_of : 
       nothing (Some source) some = absurd (not_below_itself next.0 next.0 refl (above next.0 source some))
 
   -- the first row, where the next entry is not below it
-  chosen_row : (key : Key) (source : Source) (passes : Bool) → IsFirst waiting (Some (key, source)) → (passed < length entries → slice_cmp nat_cmp (key_at entries passed) key.0 ≢ Less)
+  chosen_row : (key : Key) (source : Source) (passes : Bool) → IsFirstWaiting waiting (Some (key, source)) → (passed < length entries → slice_cmp nat_cmp (key_at entries passed) key.0 ≢ Less)
       → (passes ≡ true → (passed < length entries) × (key_at entries passed ≡ key.0)) → (passes ≡ false → passed < length entries → slice_cmp nat_cmp key.0 (key_at entries passed) ≡ Less)
       → IsChosen entries passed bytes row_of waiting (record { key = key; source = Some source; passes = passes })
   chosen_row key source passes is entry with_it without = record {
@@ -137,7 +155,7 @@ module _ (entries : List StoredRow) (passed : ℕ) (bytes : List ℕ) (row_of : 
     entry = λ none. absurd (cc);
   }
 
-  pub chosen : (first : Option (Key × Source)) (next : Option Key) (choice : Choice) → IsFirst waiting first → IsNextEntry entries passed bytes next → is_some next ≡ nat_lt passed (length entries)
+  pub chosen : (first : Option (Key × Source)) (next : Option Key) (choice : Choice) → IsFirstWaiting waiting first → IsNextEntry entries passed bytes next → is_some next ≡ nat_lt passed (length entries)
       → choice_of first next ≡ Some choice → IsChosen entries passed bytes row_of waiting choice
   chosen None None choice is there some made = absurd (cc)
   chosen None (Some next) choice is there some made =

@@ -9,13 +9,13 @@ use Rattle.std.proofs.lemmas.Bool.{and_from, cond-true}
 use Rattle.std.proofs.lemmas.Cmp.{eq_by_cmp_equiv, nat_list_cmp_total}
 use Rattle.std.proofs.lemmas.List.{length-map}
 use Rattle.std.proofs.lemmas.Map.Text.{is_eq-slice_cmp}
-use Rattle.silt_image.specs.Commands.{Map}
-use Rattle.silt_image.specs.Laws.{value_of}
+use Rattle.silt_event.specs.Commands.{Map}
+use Rattle.silt_image.specs.Laws.{value_given}
 use Rattle.silt_image.specs.Meaning.{map_of_rows}
 use Rattle.silt_image.proofs.Rows.{newest_law}
-use Rattle.silt_log.specs.Rows.{StoredRow}
+use Rattle.silt_frame.specs.Rows.{StoredRow, is_put_row}
 use Rattle.silt_merge.specs.Laws.{MergedCountLaw}
-use Rattle.silt_merge.specs.Rows.{is_put, merged_rows, newest_rows}
+use Rattle.silt_merge.specs.Rows.{merged_rows, newest_rows}
 use Rattle.silt_merge.proofs.Newest.{Above, Rises, merged_map, newest_rising, no_put_first, put_first, rises_newest, rises_puts, row_with}
 
 -- the keys of rows with their values
@@ -44,28 +44,28 @@ find_pairs (row ∷ rows) key =
     ap (λ b. cond b (Some row.value) (find (slice_cmp nat_cmp) key (pairs rows))) same ∙ go (bytes_eq row.key key)
 
 -- which is what a put gives
-put_values : (rows : List StoredRow) (key : List ℕ) → option_and_then value_of (row_with key (filter is_put rows)) ≡ option_map (λ (r : StoredRow). r.value) (row_with key (filter is_put rows))
+put_values : (rows : List StoredRow) (key : List ℕ) → option_and_then value_given (row_with key (filter is_put_row rows)) ≡ option_map (λ (r : StoredRow). r.value) (row_with key (filter is_put_row rows))
 put_values [] key = refl
 put_values (row ∷ rows) key =
     let further = put_values rows key in
-    let here : is_put row ≡ true → (b : Bool) → option_and_then value_of (cond b (Some row) (row_with key (filter is_put rows))) ≡ option_map (λ (r : StoredRow). r.value) (cond b (Some row) (row_with key (filter is_put rows))) = λ put b. elim b as (λ b. option_and_then value_of (cond b (Some row) (row_with key (filter is_put rows))) ≡ option_map (λ (r : StoredRow). r.value) (cond b (Some row) (row_with key (filter is_put rows)))) [
+    let here : is_put_row row ≡ true → (b : Bool) → option_and_then value_given (cond b (Some row) (row_with key (filter is_put_row rows))) ≡ option_map (λ (r : StoredRow). r.value) (cond b (Some row) (row_with key (filter is_put_row rows))) = λ put b. elim b as (λ b. option_and_then value_given (cond b (Some row) (row_with key (filter is_put_row rows))) ≡ option_map (λ (r : StoredRow). r.value) (cond b (Some row) (row_with key (filter is_put_row rows)))) [
       | true ↦ cond-true _ _ _ put
       | false ↦ further
     ] in
-    let go : (p : Bool) → is_put row ≡ p → option_and_then value_of (row_with key (filter is_put (row ∷ rows))) ≡ option_map (λ (r : StoredRow). r.value) (row_with key (filter is_put (row ∷ rows))) = elim [
-      | true ↦ λ put. subst (λ l. option_and_then value_of (row_with key l) ≡ option_map (λ (r : StoredRow). r.value) (row_with key l)) (sym (put_first row rows put)) (here put (bytes_eq row.key key))
-      | false ↦ λ other. subst (λ l. option_and_then value_of (row_with key l) ≡ option_map (λ (r : StoredRow). r.value) (row_with key l)) (sym (no_put_first row rows other)) further
+    let go : (p : Bool) → is_put_row row ≡ p → option_and_then value_given (row_with key (filter is_put_row (row ∷ rows))) ≡ option_map (λ (r : StoredRow). r.value) (row_with key (filter is_put_row (row ∷ rows))) = elim [
+      | true ↦ λ put. subst (λ l. option_and_then value_given (row_with key l) ≡ option_map (λ (r : StoredRow). r.value) (row_with key l)) (sym (put_first row rows put)) (here put (bytes_eq row.key key))
+      | false ↦ λ other. subst (λ l. option_and_then value_given (row_with key l) ≡ option_map (λ (r : StoredRow). r.value) (row_with key l)) (sym (no_put_first row rows other)) further
     ] in
-    go (is_put row) refl
+    go (is_put_row row) refl
 
 -- the map of the newest rows that are puts has an entry for each
 pub merged_count : MergedCountLaw
 unfolding merged_rows
 merged_count rows =
-    let puts : List StoredRow = filter is_put (newest_rows rows) in
+    let puts : List StoredRow = filter is_put_row (newest_rows rows) in
     let rises = rises_puts (newest_rows rows) (rises_newest rows) in
     let sorted : T (is_sorted (slice_cmp nat_cmp) (pairs puts)) = subst T (sym (sorted_pairs puts rises)) tt in
     let listed : Map = from_sorted (pairs puts) in
     let same : map_of_rows puts ≡ listed = same_map nat_list_cmp_total (slice_cmp-IsAntisymmetric nat_cmp-IsAntisymmetric) (map_of_rows puts) listed (λ key.
-    newest_law puts key ∙ ap (option_and_then value_of) (newest_rising puts rises key) ∙ put_values (newest_rows rows) key ∙ sym (get-from_sorted (slice_cmp nat_cmp) (pairs puts) key sorted ∙ find_pairs puts key)) in
+    newest_law puts key ∙ ap (option_and_then value_given) (newest_rising puts rises key) ∙ put_values (newest_rows rows) key ∙ sym (get-from_sorted (slice_cmp nat_cmp) (pairs puts) key sorted ∙ find_pairs puts key)) in
     sym (ap len (sym (merged_map rows) ∙ same) ∙ len-entries listed ∙ ap (λ l. length l) (entries-from_sorted (slice_cmp nat_cmp) (pairs puts) sorted) ∙ length-map puts (λ (row : StoredRow). (row.key, row.value)))

@@ -12,10 +12,10 @@ use Rattle.std.proofs.lemmas.List.Elements.{filter-append}
 use Rattle.std.proofs.lemmas.List.Folds.{list_any-append}
 use Rattle.std.proofs.lemmas.Option.{get_or_from_slice_get, slice_get_within}
 use Rattle.silt_image.specs.Laws.{newest_row}
-use Rattle.silt_log.specs.Rows.{StoredRow}
+use Rattle.silt_frame.specs.Rows.{StoredRow, is_put_row}
 use Rattle.silt_sorted_store.proofs.Entries.{key_of_row, row_inside}
 use Rattle.silt_sorted_store.proofs.Rising.{key_at}
-use Rattle.silt_merge.specs.Rows.{has_key, is_put, newest_rows}
+use Rattle.silt_merge.specs.Rows.{has_row_with, newest_rows}
 use Rattle.silt_merge.proofs.Newest.{Above, Rises, find_newest, key_below, key_is, key_itself, newest_append, newest_rising, rises_at, rises_newest, row_with}
 
 -- ---- rows that rise, by places
@@ -43,11 +43,11 @@ find_at (first ∷ rest) zero row rises there = let same : first ≡ row = cc in
 find_at (first ∷ rest) (suc place) row rises there = cond-false _ _ _ (key_below first.key row.key (above_there first.key rest place row rises.0 there)) ∙ find_at rest place row rises.1 there
 
 -- and no row before it has its key
-pub none_before : (rows : List StoredRow) (place : ℕ) (row : StoredRow) → Rises rows → slice_get rows place ≡ Some row → has_key row.key (take place rows) ≡ false
+pub none_before : (rows : List StoredRow) (place : ℕ) (row : StoredRow) → Rises rows → slice_get rows place ≡ Some row → has_row_with row.key (take place rows) ≡ false
 none_before [] place row rises there = absurd (cc)
 none_before (first ∷ rest) zero row rises there = refl
 none_before (first ∷ rest) (suc place) row rises there =
-    ap (λ b. b || has_key row.key (take place rest)) (key_below first.key row.key (above_there first.key rest place row rises.0 there)) ∙ none_before rest place row rises.1 there
+    ap (λ b. b || has_row_with row.key (take place rest)) (key_below first.key row.key (above_there first.key rest place row rises.0 there)) ∙ none_before rest place row rises.1 there
 
 -- the row of a key has a place
 pub place_found : (key : List ℕ) (rows : List StoredRow) (row : StoredRow) → row_with key rows ≡ Some row → (place : ℕ) × (slice_get rows place ≡ Some row) × (row.key ≡ key)
@@ -63,15 +63,15 @@ place_found key (first ∷ rest) row is =
     ]
 
 -- a row is found exactly where one has the key
-pub found_where_has : (key : List ℕ) (rows : List StoredRow) → has_key key rows ≡ is_some (row_with key rows)
+pub found_where_has : (key : List ℕ) (rows : List StoredRow) → has_row_with key rows ≡ is_some (row_with key rows)
 found_where_has key [] = refl
 found_where_has key (first ∷ rest) =
     let further = found_where_has key rest in
-    let go : (b : Bool) → (b || has_key key rest) ≡ is_some (cond b (Some first) (row_with key rest)) = elim [ true ↦ refl | false ↦ further ] in
+    let go : (b : Bool) → (b || has_row_with key rest) ≡ is_some (cond b (Some first) (row_with key rest)) = elim [ true ↦ refl | false ↦ further ] in
     go (bytes_eq first.key key)
 
 -- a key that is not among the first rows is that of the next one, or above it
-pub next_at : (rows : List StoredRow) (count : ℕ) (key : List ℕ) (found : StoredRow) → Rises rows → row_with key rows ≡ Some found → has_key key (take count rows) ≡ false
+pub next_at : (rows : List StoredRow) (count : ℕ) (key : List ℕ) (found : StoredRow) → Rises rows → row_with key rows ≡ Some found → has_row_with key (take count rows) ≡ false
     → (row : StoredRow) × (slice_get rows count ≡ Some row) × ((row.key ≡ key) ⊎ (slice_cmp nat_cmp row.key key ≡ Less))
 next_at [] count key found rises is none = absurd (cc)
 next_at (first ∷ rest) zero key found rises is none = (
@@ -83,19 +83,30 @@ next_at (first ∷ rest) zero key found rises is none = (
   ],
 )
 next_at (first ∷ rest) (suc count) key found rises is none =
-    let both = or_parts (bytes_eq first.key key) (has_key key (take count rest)) none in
+    let both = or_parts (bytes_eq first.key key) (has_row_with key (take count rest)) none in
     next_at rest count key found rises.1 (sym (cond-false _ _ _ both.0) ∙ is) both.1
 
 -- one row more
-pub has_more : (rows : List StoredRow) (count : ℕ) (row : StoredRow) (key : List ℕ) → slice_get rows count ≡ Some row → has_key key (take (count + 1) rows) ≡ (has_key key (take count rows) || bytes_eq row.key key)
+pub has_more : (rows : List StoredRow) (count : ℕ) (row : StoredRow) (key : List ℕ) → slice_get rows count ≡ Some row → has_row_with key (take (count + 1) rows) ≡ (has_row_with key (take count rows) || bytes_eq row.key key)
 has_more rows count row key there =
     let last : (b : Bool) → (b || false) ≡ b = elim [ true ↦ refl | false ↦ refl ] in
-    ap (has_key key) (one_more rows count row there)
+    ap (has_row_with key) (one_more rows count row there)
     ∙ list_any-append (λ (r : StoredRow). bytes_eq r.key key) (take count rows) (row ∷ [])
-    ∙ ap (λ b. has_key key (take count rows) || b) (last (bytes_eq row.key key))
+    ∙ ap (λ b. has_row_with key (take count rows) || b) (last (bytes_eq row.key key))
   where
     one_more : (rows : List StoredRow) (count : ℕ) (row : StoredRow) → slice_get rows count ≡ Some row → take (count + 1) rows ≡ take count rows ++ row ∷ []
     one_more rows count row there = take_more rows count row (slice_get_within rows count row there) ∙ ap (λ r. take count rows ++ r ∷ []) (get_or_from_slice_get rows count row row there)
+
+-- a key of the first rows is below that of the next one
+pub before_at : (rows : List StoredRow) (count : ℕ) (key : List ℕ) (row : StoredRow) → Rises rows → has_row_with key (take count rows) ≡ true → slice_get rows count ≡ Some row → slice_cmp nat_cmp key row.key ≡ Less
+before_at [] count key row rises has there = absurd (cc)
+before_at (first ∷ rest) zero key row rises has there = absurd (cc)
+before_at (first ∷ rest) (suc count) key row rises has there =
+    let further = before_at rest count key row rises.1 in
+    elim (cases_Bool (bytes_eq first.key key)) [
+      | inl same ↦ ap (λ k. slice_cmp nat_cmp k row.key) (sym (key_is first.key key same)) ∙ above_there first.key rest count row rises.0 there
+      | inr other ↦ further (sym (ap (λ b. b || has_row_with key (take count rest)) other) ∙ has) there
+    ]
 
 -- ---- choices
 
@@ -130,8 +141,8 @@ or_nothing (Some x) p none = absurd (cc)
 -- Of entries and the rows of hash stores, so many keys are decided: `waits` gives the newest row of each key that is not decided and has
 -- one in a hash store, and so many entries have keys that are decided.
 pub record IsDecided (entries hashed : List StoredRow) (decided passed : ℕ) (waits : List ℕ → Option StoredRow) : Type 0 where
-  pub waiting : (key : List ℕ) → waits key ≡ cond (has_key key (take decided (newest_rows (entries ++ hashed)))) None (newest_row hashed key)
-  pub passing : (place : ℕ) → place < length entries → has_key (key_at entries place) (take decided (newest_rows (entries ++ hashed))) ≡ nat_lt place passed
+  pub waiting : (key : List ℕ) → waits key ≡ cond (has_row_with key (take decided (newest_rows (entries ++ hashed)))) None (newest_row hashed key)
+  pub passing : (place : ℕ) → place < length entries → has_row_with (key_at entries place) (take decided (newest_rows (entries ++ hashed))) ≡ nat_lt place passed
 
 -- a key for which a row waits, or which the next entry has, and no lower key is such
 pub record IsLowest (entries : List StoredRow) (passed : ℕ) (waits : List ℕ → Option StoredRow) (key : List ℕ) : Type 0 where
@@ -152,15 +163,27 @@ module _ (entries hashed : List StoredRow) (decided passed : ℕ) (waits : List 
   newest_entry place row key there same = newest_rising entries rises key ∙ ap (λ k. row_with k entries) (sym same) ∙ find_at entries place row rises there
 
   -- a row waits for no key that is decided
-  waits_for : (key : List ℕ) (row : StoredRow) → waits key ≡ Some row → (has_key key (take decided all) ≡ false) × (newest_row hashed key ≡ Some row)
-  waits_for key row is = cond_some (has_key key (take decided all)) (newest_row hashed key) row (sym (so_far.waiting key) ∙ is)
+  waits_for : (key : List ℕ) (row : StoredRow) → waits key ≡ Some row → (has_row_with key (take decided all) ≡ false) × (newest_row hashed key ≡ Some row)
+  waits_for key row is = cond_some (has_row_with key (take decided all)) (newest_row hashed key) row (sym (so_far.waiting key) ∙ is)
 
   -- an entry that is not passed over has a key that is not decided
-  entry_waits : (place : ℕ) (key : List ℕ) → passed ≤ place → place < length entries → key_at entries place ≡ key → has_key key (take decided all) ≡ false
-  entry_waits place key past inside at = ap (λ k. has_key k (take decided all)) (sym at) ∙ so_far.passing place inside ∙ le-ltb place passed past
+  entry_waits : (place : ℕ) (key : List ℕ) → passed ≤ place → place < length entries → key_at entries place ≡ key → has_row_with key (take decided all) ≡ false
+  entry_waits place key past inside at = ap (λ k. has_row_with k (take decided all)) (sym at) ∙ so_far.passing place inside ∙ le-ltb place passed past
+
+  -- the next entry is above each key that is decided
+  pub next_above : (key : List ℕ) → has_row_with key (take decided all) ≡ true → passed < length entries → slice_cmp nat_cmp key (key_at entries passed) ≡ Less
+  next_above key has below =
+      let row = row_inside entries passed below in
+      let its : List ℕ = key_at entries passed in
+      let here = newest_entry passed row.0 its row.1 (sym (key_of_row entries passed row.0 row.1)) in
+      let some = or_some (newest_row hashed its) row.0 in
+      let apart = entry_waits passed its (omega arith) below refl in
+      let next = next_at all decided its some.0 (rises_newest (entries ++ hashed)) (newest_of its ∙ ap (option_or (newest_row hashed its)) here ∙ some.1) apart in
+      let lower = before_at all decided key next.0 (rises_newest (entries ++ hashed)) has next.1 in
+      elim next.2 [ inl same ↦ ap (slice_cmp nat_cmp key) (sym same) ∙ lower | inr less ↦ nat_list_cmp_total.trans key next.0.key its lower less ]
 
   -- the lowest key has a row, and is not decided
-  lowest_waits : (key : List ℕ) → IsLowest entries passed waits key → ((row : StoredRow) × (row_with key all ≡ Some row)) × (has_key key (take decided all) ≡ false)
+  lowest_waits : (key : List ℕ) → IsLowest entries passed waits key → ((row : StoredRow) × (row_with key all ≡ Some row)) × (has_row_with key (take decided all) ≡ false)
   lowest_waits key lowest = elim lowest.is [
     | inl found ↦ let it = waits_for key found.0 found.1 in ((found.0, newest_of key ∙ or_first _ _ found.0 it.1), it.0)
     | inr next ↦
@@ -178,11 +201,11 @@ module _ (entries hashed : List StoredRow) (decided passed : ℕ) (waits : List 
       let found = sym (newest_of row.key) ∙ find_at all decided row rising there in
       go apart (newest_row hashed row.key) refl found
     where
-      behind : (place : ℕ) → slice_get entries place ≡ Some row → has_key row.key (take decided all) ≡ false → ⊥
+      behind : (place : ℕ) → slice_get entries place ≡ Some row → has_row_with row.key (take decided all) ≡ false → ⊥
       behind place at apart =
           let inside = slice_get_within entries place row at in
           let its : key_at entries place ≡ row.key = key_of_row entries place row at in
-          let past : passed ≤ place = ltb-false place passed (sym (so_far.passing place inside) ∙ ap (λ k. has_key k (take decided all)) its ∙ apart) in
+          let past : passed ≤ place = ltb-false place passed (sym (so_far.passing place inside) ∙ ap (λ k. has_row_with k (take decided all)) its ∙ apart) in
           elim (cases_eq passed place) [
             | inl same ↦ lowest.entry (omega arith) (ap (λ p. slice_cmp nat_cmp (key_at entries p) key) same ∙ ap (λ k. slice_cmp nat_cmp k key) its ∙ less)
             | inr other ↦
@@ -190,7 +213,7 @@ module _ (entries hashed : List StoredRow) (decided passed : ℕ) (waits : List 
                 lowest.entry (omega arith) (nat_list_cmp_total.trans (key_at entries passed) row.key key under less)
           ]
 
-      go : has_key row.key (take decided all) ≡ false → (o : Option StoredRow) → newest_row hashed row.key ≡ o → option_or o (newest_row entries row.key) ≡ Some row → ⊥
+      go : has_row_with row.key (take decided all) ≡ false → (o : Option StoredRow) → newest_row hashed row.key ≡ o → option_or o (newest_row entries row.key) ≡ Some row → ⊥
       go apart (Some other) is found = lowest.rows row.key other (so_far.waiting row.key ∙ cond-false _ _ _ apart ∙ is) less
       go apart None is found = let at = place_found row.key entries row (sym (newest_rising entries rises row.key) ∙ found) in behind at.0 at.1 apart
 
@@ -219,16 +242,16 @@ module _ (entries hashed : List StoredRow) (decided passed : ℕ) (waits : List 
 
   -- the rows that wait, where those of the key are let go
   waits_after : (row : StoredRow) (after : List ℕ → Option StoredRow) → slice_get all decided ≡ Some row → ((key : List ℕ) → after key ≡ cond (bytes_eq row.key key) None (waits key))
-      → (key : List ℕ) → after key ≡ cond (has_key key (take (decided + 1) all)) None (newest_row hashed key)
+      → (key : List ℕ) → after key ≡ cond (has_row_with key (take (decided + 1) all)) None (newest_row hashed key)
   waits_after row after there gone key =
       gone key
       ∙ ap (cond (bytes_eq row.key key) None) (so_far.waiting key)
-      ∙ cond_twice (has_key key (take decided all)) (bytes_eq row.key key) (newest_row hashed key)
+      ∙ cond_twice (has_row_with key (take decided all)) (bytes_eq row.key key) (newest_row hashed key)
       ∙ ap (λ b. cond b None (newest_row hashed key)) (sym (has_more all decided row key there))
 
   -- an entry's key
   passes_at : (row : StoredRow) (place : ℕ) → slice_get all decided ≡ Some row → place < length entries
-      → has_key (key_at entries place) (take (decided + 1) all) ≡ (nat_lt place passed || bytes_eq row.key (key_at entries place))
+      → has_row_with (key_at entries place) (take (decided + 1) all) ≡ (nat_lt place passed || bytes_eq row.key (key_at entries place))
   passes_at row place there inside = has_more all decided row (key_at entries place) there ∙ ap (λ b. b || bytes_eq row.key (key_at entries place)) (so_far.passing place inside)
 
   -- so many and one entry have keys that are decided, where the next entry has the key
@@ -285,13 +308,13 @@ module _ (entries hashed : List StoredRow) (decided passed : ℕ) (waits : List 
           let inside = slice_get_within entries at.0 row at.1 in
           let passed_over : nat_lt at.0 passed ≡ true = lt-ltb at.0 passed (omega arith) in
           let has = so_far.passing at.0 inside ∙ passed_over in
-          let lacks_it = ap (λ k. has_key k (take decided all)) (key_of_row entries at.0 row at.1) ∙ apart in
+          let lacks_it = ap (λ k. has_row_with k (take decided all)) (key_of_row entries at.0 row at.1) ∙ apart in
           absurd (cc)
 
   -- and the other way round
   pub none_waits : length all ≤ decided → ((key : List ℕ) → waits key ≡ None) × (length entries ≤ passed)
   none_waits most = (
-    λ key. so_far.waiting key ∙ ap (λ l. cond (has_key key l) None (newest_row hashed key)) (take_all decided all most) ∙ all_known key (has_key key all) refl,
+    λ key. so_far.waiting key ∙ ap (λ l. cond (has_row_with key l) None (newest_row hashed key)) (take_all decided all most) ∙ all_known key (has_row_with key all) refl,
     elim (cases_lt passed (length entries)) [
       | inr past ↦ past
       | inl below ↦
@@ -299,13 +322,13 @@ module _ (entries hashed : List StoredRow) (decided passed : ℕ) (waits : List 
           let key : List ℕ = key_at entries passed in
           let here = newest_entry passed row.0 key row.1 (sym (key_of_row entries passed row.0 row.1)) in
           let some = or_some (newest_row hashed key) row.0 in
-          let has : has_key key all ≡ true = found_where_has key all ∙ ap is_some (newest_of key ∙ ap (option_or (newest_row hashed key)) here ∙ some.1) in
-          let lacks : has_key key all ≡ false = ap (has_key key) (sym (take_all decided all most)) ∙ so_far.passing passed below ∙ le-ltb passed passed (omega arith) in
+          let has : has_row_with key all ≡ true = found_where_has key all ∙ ap is_some (newest_of key ∙ ap (option_or (newest_row hashed key)) here ∙ some.1) in
+          let lacks : has_row_with key all ≡ false = ap (has_row_with key) (sym (take_all decided all most)) ∙ so_far.passing passed below ∙ le-ltb passed passed (omega arith) in
           absurd (cc)
     ],
   )
     where
-      all_known : (key : List ℕ) (b : Bool) → has_key key all ≡ b → cond (has_key key all) None (newest_row hashed key) ≡ None
+      all_known : (key : List ℕ) (b : Bool) → has_row_with key all ≡ b → cond (has_row_with key all) None (newest_row hashed key) ≡ None
       all_known key true has = cond-true _ _ _ has
       all_known key false lacks =
           let none : (o : Option StoredRow) → is_some o ≡ false → o ≡ None = elim [ None ↦ λ e. refl | Some r ↦ λ e. absurd (cc) ] in
@@ -323,14 +346,14 @@ take_both most xs ys = elim (cases_lt (length xs) most) [
 ]
 
 -- one row more that is due, or not
-pub due_more : (rows : List StoredRow) (count most : ℕ) (row : StoredRow) (before due after : List StoredRow) → slice_get rows count ≡ Some row → before ≡ take most (filter is_put (take count rows))
-    → due ≡ filter is_put (row ∷ []) → after ≡ take most (before ++ due) → after ≡ take most (filter is_put (take (count + 1) rows))
+pub due_more : (rows : List StoredRow) (count most : ℕ) (row : StoredRow) (before due after : List StoredRow) → slice_get rows count ≡ Some row → before ≡ take most (filter is_put_row (take count rows))
+    → due ≡ filter is_put_row (row ∷ []) → after ≡ take most (before ++ due) → after ≡ take most (filter is_put_row (take (count + 1) rows))
 due_more rows count most row before due after there is more made =
     let one : take (count + 1) rows ≡ take count rows ++ row ∷ [] =
     take_more rows count row (slice_get_within rows count row there) ∙ ap (λ r. take count rows ++ r ∷ []) (get_or_from_slice_get rows count row row there) in
     made
     ∙ ap (λ l. take most (l ++ due)) is
-    ∙ ap (λ l. take most (take most (filter is_put (take count rows)) ++ l)) more
-    ∙ take_both most (filter is_put (take count rows)) (filter is_put (row ∷ []))
-    ∙ ap (take most) (sym (filter-append is_put (take count rows) (row ∷ [])))
-    ∙ ap (λ l. take most (filter is_put l)) (sym one)
+    ∙ ap (λ l. take most (take most (filter is_put_row (take count rows)) ++ l)) more
+    ∙ take_both most (filter is_put_row (take count rows)) (filter is_put_row (row ∷ []))
+    ∙ ap (take most) (sym (filter-append is_put_row (take count rows) (row ∷ [])))
+    ∙ ap (λ l. take most (filter is_put_row l)) (sym one)

@@ -1,84 +1,32 @@
 -- What a change on another part of the disk leaves of a merge.
-use Rattle.std.proofs.Common.{◌≡◌, ◌≢◌, ℕ, suc, ◌+◌, ◌*◌, ◌<◌, ◌≤◌, ◌⊎◌, cond, IsTrue, List, [], ◌∷◌, ◌++◌, filter, flat_map, length, map, take, get_or, slice_range, Option, Some, None, option_map, inl, inr, refl, sym, subst, ap, ◌∙◌, arith}
+use Rattle.std.proofs.Common.{◌≡◌, ◌≢◌, ℕ, suc, ◌+◌, ◌-◌, ◌*◌, ◌<◌, ◌≤◌, ◌⊎◌, cond, IsTrue, List, [], ◌∷◌, ◌++◌, filter, flat_map, length, drop, map, take, get_or, slice_get, slice_range, Option, Some, None, option_map, inl, inr, refl, sym, subst, ap, ◌∙◌, arith}
 use Rattle.std.specs.List.{All, range_with_len}
 use Rattle.std.proofs.lemmas.Bool.{cases_lt, cases_order}
-use Rattle.std.proofs.lemmas.List.{get_or-map, length-map, take-map}
+use Rattle.std.proofs.Math.Seq.{drop-append-add}
+use Rattle.std.proofs.lemmas.List.{get_or-map, length-append, length-drop, length-map, take-map}
 use Rattle.std.proofs.lemmas.List.FromFn.{map-range_with_len_more}
-use Rattle.silt_device.specs.Disk.{Torn, size}
-use Rattle.silt_device.specs.Layout.{Shape, device_size, entry_len, hash_at, row_len, sorted_at}
-use Rattle.silt_device.proofs.Images.{torn_slice_after, torn_slice_before}
+use Rattle.silt_device.specs.Disk.{LiesOutside, Torn, size}
+use Rattle.silt_device.specs.Layout.{Shape, device_size, entries_len, entry_len, hash_at, slots_len, sorted_at}
 use Rattle.silt_device.proofs.Regions.{next_region, regions_apart}
+use Rattle.silt_hash_store.proofs.Elsewhere.{slot_outside}
 use Rattle.silt_frame.specs.Frame.{kind_byte}
-use Rattle.silt_hash_store.specs.Laws.{IsOutsideSlots}
-use Rattle.silt_hash_store.specs.Slots.{rows_before, slot_at, slot_row}
+use Rattle.silt_hash_store.specs.Slots.{rows_before, slot_row}
 use Rattle.silt_hash_store.specs.State.{HashState}
-use Rattle.silt_hash_store.proofs.Reading.{slot_inside}
 use Rattle.silt_hash_store.proofs.Slotting.{all_before}
 use Rattle.silt_hash_store.proofs.Writing.{slots_inside}
 use Rattle.silt_image.specs.Laws.{newest_row}
-use Rattle.silt_image.specs.Meaning.{hash_findings, keys_of, known_rows, oldest_first, sorted_findings}
-use Rattle.silt_image.specs.Stores.{Part, entry_row, hash_part, sorted_rows}
-use Rattle.silt_log.specs.Rows.{StoredRow, has_known_kind, row_of}
+use Rattle.silt_image.specs.Meaning.{hash_findings, known_rows, oldest_first, sorted_findings}
+use Rattle.silt_frame.specs.Rows.{StoredRow, entry_row, has_known_kind, is_put_row, keys_of}
+use Rattle.silt_image.specs.Stores.{Part, hash_part, sorted_rows}
 use Rattle.silt_log.proofs.Bodies.{map_range_same}
-use Rattle.silt_merge.specs.Laws.{IsOutsideEntries, MergedElsewhereLaw}
+use Rattle.silt_merge.specs.Laws.{MergedElsewhereLaw, OldestStoresLaw}
+use Rattle.silt_sorted_store.proofs.Elsewhere.{entries_inside, entries_outside}
 use Rattle.silt_merge.specs.Merging.{AreSound, IsGatheredIn, IsMergedIn, decided_rows, gathered_rows, source_row}
-use Rattle.silt_merge.specs.Rows.{entries_in, has_key, hashed_rows, is_put, key_count, newest_rows, regions_of, sources}
-use Rattle.silt_merge.specs.State.{IsHeldMerge, MergeState, source_at}
+use Rattle.silt_merge.specs.Rows.{entries_in, has_row_with, rows_of_hashes, key_count, newest_rows, regions_of, sources}
+use Rattle.silt_merge.specs.State.{IsHeldMerge, MergeState, oldest_stores, source_at}
 use Rattle.silt_merge.specs.declared.source.Source.{Source}
-use Rattle.silt_sorted_store.specs.State.{IsHeldSorted, SortedState, entry_at}
+use Rattle.silt_sorted_store.specs.State.{IsHeldSorted, SortedState, sorted_entry_at}
 use Rattle.silt_sorted_store.proofs.Entries.{part_inside}
-
--- ---- regions
-
--- a change outside the slots of a hash region leaves each row
-slot_outside : (s : Shape) (region slot at count : ℕ) (old new : List ℕ) → hash_at s region + 4 * s.buckets * row_len s ≤ length old → slot < 4 * s.buckets → IsOutsideSlots s region at count
-    → Torn at count old new → slot_row s region new slot ≡ slot_row s region old slot
-unfolding slot_row
-slot_outside s region slot at count old new fits below outside torn =
-    let inside = slot_inside s region slot (length old) fits below in
-    elim outside [
-      | inl before ↦ ap row_of (torn_slice_after at count old new torn (slot_at s region slot) (slot_at s region slot + row_len s) (omega (arith, before)) inside)
-      | inr behind ↦
-          let ends = slot_inside s region slot at behind below in
-          ap row_of (torn_slice_before at count old new torn (slot_at s region slot) (slot_at s region slot + row_len s) ends inside)
-    ]
-
--- the entries of a sorted region lie within the device
-pub entries_inside : (s : Shape) (region : ℕ) → region < 2 → sorted_at s region + s.sorted_capacity * entry_len s ≤ device_size s
-entries_inside s region below = let apart = regions_apart s in omega (arith, apart.sorted region 2 below, apart.device)
-
--- the bytes of an entry
-abbrev pub entry_bytes : Shape → ℕ → List ℕ → ℕ → List ℕ
-entry_bytes s region image place = slice_range image (entry_at s region place) (entry_at s region place + entry_len s)
-
--- a change outside the entries of a sorted region leaves each entry
-entries_outside : (s : Shape) (region n at count : ℕ) (old new : List ℕ) → sorted_at s region + s.sorted_capacity * entry_len s ≤ length old → n ≤ s.sorted_capacity → IsOutsideEntries s region at count
-    → Torn at count old new → sorted_rows s region n new ≡ sorted_rows s region n old
-unfolding sorted_rows
-entries_outside s region n at count old new fits most outside torn =
-    map_range_same (λ (p : ℕ). entry_row (entry_bytes s region new p)) (λ (p : ℕ). entry_row (entry_bytes s region old p)) 0 n (λ place low high.
-    let inside = part_inside (sorted_at s region) (entry_len s) s.sorted_capacity place (length old) fits (omega arith) in
-    elim outside [
-      | inl before ↦ ap entry_row (torn_slice_after at count old new torn (entry_at s region place) (entry_at s region place + entry_len s) (omega (arith, before)) inside)
-      | inr behind ↦
-          let ends = part_inside (sorted_at s region) (entry_len s) s.sorted_capacity place at behind (omega arith) in
-          ap entry_row (torn_slice_before at count old new torn (entry_at s region place) (entry_at s region place + entry_len s) ends inside)
-    ])
-
--- a change of one entry leaves those before it
-pub entries_before : (s : Shape) (region n : ℕ) (old new : List ℕ) → sorted_at s region + s.sorted_capacity * entry_len s ≤ length old → n ≤ s.sorted_capacity
-    → Torn (entry_at s region n) (entry_len s) old new → sorted_rows s region n new ≡ sorted_rows s region n old
-unfolding sorted_rows
-entries_before s region n old new fits most torn =
-    map_range_same (λ (p : ℕ). entry_row (entry_bytes s region new p)) (λ (p : ℕ). entry_row (entry_bytes s region old p)) 0 n (λ place low high.
-    let inside = part_inside (sorted_at s region) (entry_len s) s.sorted_capacity place (length old) fits (omega arith) in
-    let apart = next_region place n (entry_len s) (omega arith) in
-    ap entry_row (torn_slice_before (entry_at s region n) (entry_len s) old new torn (entry_at s region place) (entry_at s region place + entry_len s) (omega (arith, apart)) inside))
-
--- one entry more
-pub entry_more : (s : Shape) (region n : ℕ) (image : List ℕ) → sorted_rows s region (n + 1) image ≡ sorted_rows s region n image ++ entry_row (entry_bytes s region image n) ∷ []
-unfolding sorted_rows
-entry_more s region n image = map-range_with_len_more (λ (p : ℕ). entry_row (entry_bytes s region image p)) 0 n n (omega arith)
 
 -- ---- all that is merged
 
@@ -120,7 +68,7 @@ module _ (s : Shape) (old new : List ℕ) where
         | inl below ↦ rows store place below (omega arith)
         | inr none ↦ absurd (omega arith)
       ]) in
-      ap (λ l. filter has_known_kind l ++ hashed_rows s new (take store regions)) own
+      ap (λ l. filter has_known_kind l ++ rows_of_hashes s new (take store regions)) own
       ∙ ap (λ ps. filter has_known_kind (map (slot_row s region old) (range_with_len 0 slot)) ++ oldest_first (map known_rows ps)) (first_same store regions rows)
 
 module _ (old new : List ℕ) (stores : List HashState) (sorted : SortedState) (same : SameSources sorted.shape (regions_of stores) sorted old new) where
@@ -128,7 +76,7 @@ module _ (old new : List ℕ) (stores : List HashState) (sorted : SortedState) (
   pub sources_same : sources new stores sorted ≡ sources old stores sorted
   unfolding sources
   sources_same =
-      ap (λ l. l ++ hashed_rows sorted.shape new (regions_of stores)) same.entries
+      ap (λ l. l ++ rows_of_hashes sorted.shape new (regions_of stores)) same.entries
       ∙ ap (λ ps. entries_in old sorted ++ oldest_first (map known_rows ps)) (parts_same sorted.shape old new (regions_of stores) same.rows)
 
   -- nothing was found where nothing is
@@ -146,7 +94,7 @@ module _ (old new : List ℕ) (stores : List HashState) (sorted : SortedState) (
   -- what was gathered and decided is so still
   pub merged_same : (merge : MergeState) → ((key : List ℕ) (source : Source) → source_at merge.waiting key ≡ Some source → (source.store < length (regions_of stores)) × (source.slot < 4 * sorted.shape.buckets))
       → (merge.store < length (regions_of stores)) ⊎ (merge.slot ≡ 0) → merge.slot ≤ 4 * sorted.shape.buckets
-      → IsGatheredIn old stores sorted merge → sorted_rows merge.shape merge.region merge.written new ≡ take merge.shape.sorted_capacity (filter is_put (decided_rows old stores sorted merge.decided))
+      → IsGatheredIn old stores sorted merge → sorted_rows merge.shape merge.region merge.written new ≡ take merge.shape.sorted_capacity (filter is_put_row (decided_rows old stores sorted merge.decided))
       → IsMergedIn new stores sorted merge
   merged_same merge inside some most is writes =
       let decided : decided_rows new stores sorted merge.decided ≡ decided_rows old stores sorted merge.decided = ap (λ l. take merge.decided (newest_rows l)) sources_same in
@@ -156,14 +104,16 @@ module _ (old new : List ℕ) (stores : List HashState) (sorted : SortedState) (
           waits = λ key.
               row_of_source key (source_at merge.waiting key) refl
               ∙ is.waits key
-              ∙ ap (λ l. cond (has_key key (decided_rows old stores sorted merge.decided)) None (newest_row l key)) (sym (gathered_same sorted.shape old new (regions_of stores) merge.store merge.slot same.rows some most))
-              ∙ ap (λ l. cond (has_key key l) None (newest_row (gathered_rows sorted.shape new (regions_of stores) merge.store merge.slot) key)) (sym decided);
+              ∙ ap (λ l. cond (has_row_with key (decided_rows old stores sorted merge.decided)) None (newest_row l key)) (sym (gathered_same sorted.shape old new (regions_of stores) merge.store merge.slot same.rows some most))
+              ∙ ap (λ l. cond (has_row_with key l) None (newest_row (gathered_rows sorted.shape new (regions_of stores) merge.store merge.slot) key)) (sym decided);
+          last = λ key same_key. ap (has_row_with key.0) decided ∙ is.last key same_key;
+          next = λ bytes same_bytes below. ap (λ l. slice_get l merge.passed) same.entries ∙ is.next bytes same_bytes below;
           passes = λ place below.
-              ap (λ l. has_key (get_or (keys_of l) place []) (decided_rows new stores sorted merge.decided)) same.entries
-              ∙ ap (has_key (get_or (keys_of (entries_in old sorted)) place [])) decided
+              ap (λ l. has_row_with (get_or (keys_of l) place []) (decided_rows new stores sorted merge.decided)) same.entries
+              ∙ ap (has_row_with (get_or (keys_of (entries_in old sorted)) place [])) decided
               ∙ is.passes place below;
         };
-        writes = writes ∙ ap (λ l. take merge.shape.sorted_capacity (filter is_put l)) (sym decided);
+        writes = writes ∙ ap (λ l. take merge.shape.sorted_capacity (filter is_put_row l)) (sym decided);
       }
     where
       row_of_source : (key : List ℕ) (o : Option Source) → source_at merge.waiting key ≡ o → option_map (source_row sorted.shape new (regions_of stores)) (source_at merge.waiting key) ≡ option_map (source_row sorted.shape old (regions_of stores)) (source_at merge.waiting key)
@@ -182,7 +132,7 @@ regions_count stores = length-map stores (λ (s : HashState). s.region)
 
 -- a change outside all that is merged
 pub same_outside : (stores : List HashState) (sorted : SortedState) (old new : List ℕ) (at count : ℕ) → device_size sorted.shape ≤ length old → All (λ store. store.region < sorted.shape.hashes) stores → IsHeldSorted sorted
-    → IsOutsideEntries sorted.shape sorted.region at count → All (λ store. IsOutsideSlots sorted.shape store.region at count) stores → Torn at count old new → SameSources sorted.shape (regions_of stores) sorted old new
+    → LiesOutside (sorted_at sorted.shape sorted.region) (entries_len sorted.shape) at count → All (λ store. LiesOutside (hash_at sorted.shape store.region) (slots_len sorted.shape) at count) stores → Torn at count old new → SameSources sorted.shape (regions_of stores) sorted old new
 same_outside stores sorted old new at count fits there held behind outside torn = record {
   rows = λ store slot below inside.
       let blank : HashState = record { shape = sorted.shape; region = 0; tags = [] } in
@@ -245,7 +195,17 @@ merged_elsewhere stores sorted merge old new at count held_sorted held fits own 
       let so_far = is.merged was (sound_before old.shown new.shown stores sorted same sound) in
       let ends = entries_inside sorted.shape merge.region held.there in
       let kept = entries_outside merge.shape merge.region merge.written at count old.shown new.shown (subst (λ (s : Shape). sorted_at s merge.region + s.sorted_capacity * entry_len s ≤ size old) is.shape (omega (arith, ends))) held.room
-      (subst (λ (s : Shape). IsOutsideEntries s merge.region at count) is.shape own) torn in
+      (subst (λ (s : Shape). LiesOutside (sorted_at s merge.region) (entries_len s) at count) is.shape own) torn in
       merged_same old.shown new.shown stores sorted same merge (source_inside stores sorted merge held is.shape is.counted) (store_next stores merge held is.counted)
       (subst (λ (s : Shape). merge.slot ≤ 4 * s.buckets) (sym is.shape) (omega (arith, held.slot))) so_far.gathered (kept ∙ so_far.writes);
 }
+
+-- the oldest of stores in front of which others came
+pub oldest_stores_law : OldestStoresLaw
+oldest_stores_law newer stores count most =
+    let before : length (newer ++ stores) - count ≡ length newer + (length stores - count) = omega (arith, most, length-append newer stores) in
+    ap (λ n. drop n (newer ++ stores)) before ∙ drop-append-add newer stores (length stores - count)
+
+-- there are so many of them
+pub oldest_count : (stores : List HashState) (count : ℕ) → count ≤ length stores → length (oldest_stores count stores) ≡ count
+oldest_count stores count most = omega (arith, most, length-drop (length stores - count) stores)

@@ -1,37 +1,41 @@
 -- What the decision of a key leaves, and what a merge that is done has written.
-use Rattle.std.proofs.Common.{◌≡◌, ◌≢◌, ℕ, ◌+◌, ◌*◌, ◌<◌, ◌≤◌, ◌&&◌, ◌==◌, nat_lt, nat_le, Bool, true, false, cond, IsTrue, List, [], ◌∷◌, ◌++◌, filter, length, take, get_or, slice_get, Option, Some, None, option_map, inl, inr, refl, sym, subst, ap, ◌∙◌, arith}
+use Rattle.std.proofs.Common.{◌≡◌, ◌≢◌, ℕ, ◌+◌, ◌*◌, ◌<◌, ◌≤◌, ◌&&◌, ◌==◌, nat_lt, nat_le, Bool, true, false, not, ◌||◌, cond, IsTrue, List, [], ◌∷◌, ◌++◌, filter, length, take, get_or, slice_get, Option, Some, None, option_map, inl, inr, refl, sym, subst, ap, ◌∙◌, arith}
 use Rattle.std.specs.Option.{is_some}
 use Rattle.std.specs.Str.{bytes_eq}
-use Rattle.std.proofs.lemmas.Bool.{and_from, and_parts, cases_lt, cond-true, cond-false, eq-eqb, eqb-true, le-leb, leb-true, ne_eqb}
+use Rattle.std.proofs.lemmas.Bool.{and_from, and_parts, cases_lt, cond-true, cond-false, eq-eqb, eqb-true, le-leb, leb-true, lt-ltb, ltb-true, ne_eqb}
 use Rattle.std.proofs.lemmas.Map.Text.{is_eq-slice_cmp}
 use Rattle.std.proofs.lemmas.List.{take_all}
 use Rattle.std.proofs.lemmas.Option.{slice_get_within}
 use Rattle.silt_device.specs.Disk.{ChangesWithin, Content, Torn, size}
 use Rattle.silt_device.specs.Layout.{Shape, device_size, entry_len, sorted_at}
 use Rattle.silt_device.proofs.Regions.{next_region}
-use Rattle.silt_frame.specs.Frame.{kind_byte}
+use Rattle.silt_frame.specs.Frame.{is_put, kind_byte}
 use Rattle.silt_frame.specs.declared.key.Key.{Key}
 use Rattle.silt_frame.specs.declared.key.Kind.{Kind}
 use Rattle.silt_frame.specs.declared.key.Kind.TheVariants.{Put, Delete}
 use Rattle.silt_hash_store.specs.Slots.{slot_row}
 use Rattle.silt_hash_store.specs.State.{HashState}
-use Rattle.std.specs.Ordering.{nat_cmp}
+use Rattle.std.specs.Ordering.{is_lt, nat_cmp}
+use Rattle.std.specs.declared.cmp.Ordering.{Ordering}
+use Rattle.std.specs.declared.cmp.Ordering.TheVariants.{Less, Equal, Greater}
+use Rattle.std.proofs.lemmas.Map.Lookups.{exact_bytes}
 use Rattle.std.specs.Cmp.Lexicographic.{slice_cmp}
 use Rattle.silt_image.specs.Laws.{newest_row}
 use Rattle.silt_image.specs.Meaning.{sorted_findings}
-use Rattle.silt_image.specs.Stores.{entry_row, sorted_rows}
-use Rattle.silt_log.specs.Rows.{StoredRow}
-use Rattle.silt_merge.specs.Choosing.{IsFirst, IsNextEntry, ReadsRow, choice_of, choice_puts, due_rows, puts}
+use Rattle.silt_image.specs.Stores.{sorted_rows}
+use Rattle.silt_frame.specs.Rows.{StoredRow, entry_row, is_put_row}
+use Rattle.silt_merge.specs.Choice.{IsFirstWaiting, IsNextEntry, IsOffered, ReadsRow, choice_of, choice_puts}
+use Rattle.silt_sorted_store.specs.Region.{due_rows}
 use Rattle.silt_merge.specs.Merging.{AreSound, HasMerged, IsGatheredIn, IsMergeOf, source_row}
-use Rattle.silt_merge.specs.Rows.{entries_in, has_key, hashed_rows, is_put, key_count, merged_rows, newest_rows, regions_of, sources}
-use Rattle.silt_merge.specs.State.{IsHeldMerge, IsInside, MergeState, is_done, passed_after, source_at, steps_for, steps_of}
+use Rattle.silt_merge.specs.Rows.{entries_in, has_row_with, rows_of_hashes, key_count, merged_rows, newest_rows, regions_of, sources}
+use Rattle.silt_merge.specs.State.{IsHeldMerge, IsInside, MergeState, is_behind, is_done, next_after, next_bytes, passed_after, source_at, steps_for, steps_of}
 use Rattle.silt_merge.specs.declared.choice.Choice.{Choice}
 use Rattle.silt_merge.specs.declared.source.Source.{Source}
-use Rattle.silt_merge.proofs.Choosing.{IsChosen, IsOffered, chosen}
-use Rattle.silt_merge.proofs.Deciding.{IsDecided, all_decided, cond_some, decided_with, decided_without, due_more, lowest_next, next_enters, next_waits, none_waits}
+use Rattle.silt_merge.proofs.Choosing.{IsChosen, chosen}
+use Rattle.silt_merge.proofs.Deciding.{IsDecided, all_decided, cond_some, decided_with, decided_without, due_more, has_more, lowest_next, next_above, next_enters, next_waits, none_waits}
 use Rattle.silt_merge.proofs.Elsewhere.{SameSources, merged_same, regions_count, same_beside, sound_before, source_inside, store_next}
 use Rattle.silt_merge.proofs.Gathering.{all_gathered}
-use Rattle.silt_merge.proofs.Newest.{Rises, key_itself, merged_law, rises_from}
+use Rattle.silt_merge.proofs.Newest.{Rises, key_itself, merged_law, rises_from, turned}
 use Rattle.silt_sorted_store.specs.State.{IsHeldSorted, SortedState, entries_of}
 use Rattle.silt_sorted_store.proofs.Entries.{entry_count, key_of_row}
 use Rattle.silt_sorted_store.proofs.Rising.{key_at, lower_below}
@@ -47,7 +51,7 @@ module _ (image : List ℕ) (stores : List HashState) (sorted : SortedState) whe
   entries = entries_in image sorted
 
   abbrev hashed : List StoredRow
-  hashed = hashed_rows sorted.shape image (regions_of stores)
+  hashed = rows_of_hashes sorted.shape image (regions_of stores)
 
   -- the row for which a key's source stands
   abbrev pub waits_in : List (Key × Source) → List ℕ → Option StoredRow
@@ -58,18 +62,22 @@ module _ (image : List ℕ) (stores : List HashState) (sorted : SortedState) whe
       → IsDecided entries hashed merge.decided merge.passed (waits_in merge.waiting)
   unfolding sources
   decided_of merge past none is = record {
-    waiting = λ key. is.waits key ∙ ap (λ l. cond (has_key key (take merge.decided (newest_rows (entries ++ hashed)))) None (newest_row l key)) (all_gathered sorted.shape image (regions_of stores) merge.store merge.slot past none);
+    waiting = λ key. is.waits key ∙ ap (λ l. cond (has_row_with key (take merge.decided (newest_rows (entries ++ hashed)))) None (newest_row l key)) (all_gathered sorted.shape image (regions_of stores) merge.store merge.slot past none);
     passing = λ place inside. is.passes place (omega (arith, entry_count sorted.shape sorted.region sorted.count image));
   }
 
   -- and the other way round
   pub gathered_of : (merge : MergeState) → length (regions_of stores) ≤ merge.store → merge.slot ≡ 0 → merge.decided ≤ length (newest_rows (entries ++ hashed))
+      → ((key : Key) → merge.last ≡ Some key → has_row_with key.0 (take merge.decided (newest_rows (entries ++ hashed))) ≡ true)
+      → ((bytes : List ℕ) → merge.next ≡ Some bytes → merge.passed < sorted.count → slice_get entries merge.passed ≡ Some (entry_row bytes))
       → IsDecided entries hashed merge.decided merge.passed (waits_in merge.waiting) → IsGatheredIn image stores sorted merge
   unfolding sources
-  gathered_of merge past none most is = record {
+  gathered_of merge past none most last next is = record {
     most = most;
+    last = last;
+    next = next;
     waits = λ key. is.waiting key
-        ∙ ap (λ l. cond (has_key key (take merge.decided (newest_rows (entries ++ hashed)))) None (newest_row l key)) (sym (all_gathered sorted.shape image (regions_of stores) merge.store merge.slot past none));
+        ∙ ap (λ l. cond (has_row_with key (take merge.decided (newest_rows (entries ++ hashed)))) None (newest_row l key)) (sym (all_gathered sorted.shape image (regions_of stores) merge.store merge.slot past none));
     passes = λ place inside. is.passing place (omega (arith, entry_count sorted.shape sorted.region sorted.count image));
   }
 
@@ -77,12 +85,12 @@ module _ (image : List ℕ) (stores : List HashState) (sorted : SortedState) whe
 
 -- the entry that is due for a row of a source
 due_row : (row shown : StoredRow) (source : Source) (key bytes : List ℕ) → row ≡ (let r : StoredRow = record shown { kind = kind_byte source.kind } in r) → row.key ≡ key
-    → (puts source.kind ≡ true → entry_row bytes ≡ (let r : StoredRow = record { kind = 1; key = key; value = shown.value } in r)) → due_rows (puts source.kind) bytes ≡ filter is_put (row ∷ [])
+    → (is_put source.kind ≡ true → entry_row bytes ≡ (let r : StoredRow = record { kind = 1; key = key; value = shown.value } in r)) → due_rows (is_put source.kind) bytes ≡ filter is_put_row (row ∷ [])
 due_row row shown source key bytes is same read = go source.kind refl
   where
-    go : (kind : Kind) → source.kind ≡ kind → due_rows (puts source.kind) bytes ≡ filter is_put (row ∷ [])
+    go : (kind : Kind) → source.kind ≡ kind → due_rows (is_put source.kind) bytes ≡ filter is_put_row (row ∷ [])
     go Put it =
-        let puts_it : puts source.kind ≡ true = ap puts it in
+        let puts_it : is_put source.kind ≡ true = ap is_put it in
         let kind : row.kind ≡ 1 = ap (λ (r : StoredRow). r.kind) is ∙ ap kind_byte it in
         let value : row.value ≡ shown.value = ap (λ (r : StoredRow). r.value) is in
         let own : (let r : StoredRow = record { kind = 1; key = key; value = shown.value } in r) ≡ row =
@@ -92,17 +100,17 @@ due_row row shown source key bytes is same read = go source.kind refl
         ap (λ b. due_rows b bytes) puts_it ∙ ap (λ r. r ∷ []) (read puts_it ∙ own) ∙ sym (cond-true _ _ _ (eq-eqb row.kind 1 kind))
     go Delete it =
         let kind : row.kind ≡ 2 = ap (λ (r : StoredRow). r.kind) is ∙ ap kind_byte it in
-        let other : is_put row ≡ false = ap (λ n. n == 1) kind in
-        ap (λ b. due_rows b bytes) (ap puts it) ∙ sym (cond-false _ _ _ other)
+        let other : is_put_row row ≡ false = ap (λ n. n == 1) kind in
+        ap (λ b. due_rows b bytes) (ap is_put it) ∙ sym (cond-false _ _ _ other)
 
 module _ (image : List ℕ) (stores : List HashState) (sorted : SortedState) (merge : MergeState) (choice : Choice) (bytes : List ℕ) (rises : Rises (entries_in image sorted))
-    (so_far : IsDecided (entries_in image sorted) (hashed_rows sorted.shape image (regions_of stores)) merge.decided merge.passed (waits_in image stores sorted merge.waiting))
+    (so_far : IsDecided (entries_in image sorted) (rows_of_hashes sorted.shape image (regions_of stores)) merge.decided merge.passed (waits_in image stores sorted merge.waiting))
     (is : IsChosen (entries_in image sorted) merge.passed bytes (source_row sorted.shape image (regions_of stores)) merge.waiting choice) where
   abbrev old_entries : List StoredRow
   old_entries = entries_in image sorted
 
   abbrev old_hashed : List StoredRow
-  old_hashed = hashed_rows sorted.shape image (regions_of stores)
+  old_hashed = rows_of_hashes sorted.shape image (regions_of stores)
 
   abbrev all_rows : List StoredRow
   all_rows = newest_rows (old_entries ++ old_hashed)
@@ -112,20 +120,20 @@ module _ (image : List ℕ) (stores : List HashState) (sorted : SortedState) (me
   decides = lowest_next old_entries old_hashed merge.decided merge.passed (waits_in image stores sorted merge.waiting) rises so_far choice.key.0 is.lowest
 
   -- whose entry is due, where it is a put
-  pub due_is : (after : List ℕ) → ReadsRow sorted.shape image (regions_of stores) choice.key.0 choice.source bytes after → due_rows (choice_puts choice.source) after ≡ filter is_put (decides.0 ∷ [])
+  pub due_is : (after : List ℕ) → ReadsRow sorted.shape image (regions_of stores) choice.key.0 choice.source bytes after → due_rows (choice_puts choice.source) after ≡ filter is_put_row (decides.0 ∷ [])
   due_is after read = go choice.source refl read
     where
       row : StoredRow
       row = decides.0
 
-      go : (o : Option Source) → choice.source ≡ o → ReadsRow sorted.shape image (regions_of stores) choice.key.0 o bytes after → due_rows (choice_puts choice.source) after ≡ filter is_put (row ∷ [])
+      go : (o : Option Source) → choice.source ≡ o → ReadsRow sorted.shape image (regions_of stores) choice.key.0 o bytes after → due_rows (choice_puts choice.source) after ≡ filter is_put_row (row ∷ [])
       go None none same =
           let lacks : waits_in image stores sorted merge.waiting row.key ≡ None = ap (waits_in image stores sorted merge.waiting) decides.2 ∙ ap (option_map (source_row sorted.shape image (regions_of stores))) (is.source ∙ none) in
           let at = (is.entry none).0 in
           let entry_key : (entry_row bytes).key ≡ row.key = sym (key_of_row old_entries merge.passed (entry_row bytes) at) ∙ (is.passes (is.entry none).1).1 ∙ sym decides.2 in
           let it : row ≡ entry_row bytes = next_enters old_entries old_hashed merge.decided merge.passed (waits_in image stores sorted merge.waiting) rises so_far row (entry_row bytes) decides.1 lacks at entry_key in
           ap (λ o. due_rows (choice_puts o) after) none ∙ ap (λ b. entry_row b ∷ []) same
-          ∙ sym (ap (λ r. filter is_put (r ∷ [])) it)
+          ∙ sym (ap (λ r. filter is_put_row (r ∷ [])) it)
       go (Some source) some read_it =
           let shown : StoredRow = slot_row sorted.shape (get_or (regions_of stores) source.store 0) image source.slot in
           let has : waits_in image stores sorted merge.waiting row.key ≡ Some (source_row sorted.shape image (regions_of stores) source) =
@@ -156,7 +164,63 @@ module _ (image : List ℕ) (stores : List HashState) (sorted : SortedState) (me
           (decided_without old_entries old_hashed merge.decided merge.passed (waits_in image stores sorted merge.waiting) rises so_far decides.0 (waits_in image stores sorted after) decides.1
           (λ below. ap (λ k. slice_cmp nat_cmp k (key_at old_entries merge.passed)) decides.2 ∙ is.stays stays below) let_go_row)
 
+-- the last key of one key more
+last_decided : (rows : List StoredRow) (decided : ℕ) (row : StoredRow) (own key : Key) → slice_get rows decided ≡ Some row → row.key ≡ own.0 → Some own ≡ Some key → has_row_with key.0 (take (decided + 1) rows) ≡ true
+last_decided rows decided row own key there same is =
+    let one : own ≡ key = cc in
+    let last : (b : Bool) → (b || true) ≡ true = elim [ true ↦ refl | false ↦ refl ] in
+    has_more rows decided row key.0 there
+    ∙ ap (λ b. has_row_with key.0 (take decided rows) || b) (key_itself row.key key.0 (same ∙ ap (λ (k : Key). k.0) one))
+    ∙ last (has_row_with key.0 (take decided rows))
+
+-- the bytes of the next entry are what it has
+abbrev pub HasNext : List StoredRow → ℕ → MergeState → Type 0
+HasNext entries count merge = (bytes : List ℕ) → merge.next ≡ Some bytes → merge.passed < count → slice_get entries merge.passed ≡ Some (entry_row bytes)
+
+-- those that are kept
+pub has_kept : (rows : List StoredRow) (count : ℕ) (merge : MergeState) (is_read : Bool) (items kept : List ℕ) → merge.next ≡ next_bytes is_read items → kept ≡ items → HasNext rows count merge
+    → is_read ≡ true → merge.passed < count → slice_get rows merge.passed ≡ Some (entry_row kept)
+has_kept rows count merge is_read items kept same value has is below = has kept (same ∙ ap (λ b. next_bytes b items) is ∙ ap Some (sym value)) below
+
+-- they are so after a key that the next entry has not
+next_kept : (entries : List StoredRow) (count passed : ℕ) (next : Option Key) (passes : Bool) (bytes kept : List ℕ) → is_some next ≡ nat_lt passed count → IsNextEntry entries passed bytes next
+    → next_after passes (Some bytes) ≡ Some kept → passed_after passes passed < count → slice_get entries (passed_after passes passed) ≡ Some (entry_row kept)
+next_kept entries count passed next true bytes kept some there is below = absurd (cc)
+next_kept entries count passed (Some next) false bytes kept some there is below = let same : bytes ≡ kept = cc in there.0 ∙ ap (λ b. Some (entry_row b)) same
+next_kept entries count passed None false bytes kept some there is below = let more = lt-ltb passed count below in absurd (cc)
+
 -- ---- on a disk
+
+-- on an honest disk the next entry is above the last key, so that none is passed over for its key
+pub merged_behind : (content : Content) (stores : List HashState) (sorted : SortedState) (merge : MergeState) (next : Option Key) (bytes : List ℕ) → IsHeldMerge merge → merge.store ≡ merge.stores
+    → is_some next ≡ nat_lt merge.passed sorted.count → (IsTrue content.honest → HasNext (entries_of content sorted) sorted.count merge → IsNextEntry (entries_of content sorted) merge.passed bytes next) → is_behind merge.last next ≡ true
+    → HasMerged content stores sorted merge → HasMerged content stores sorted (record merge { passed = merge.passed + 1; decided = merge.decided + 1; next = None })
+unfolding sources
+merged_behind content stores sorted merge next bytes held all some there behind is = record {
+  shape = is.shape;
+  counted = is.counted;
+  apart = is.apart;
+  merged = λ honest sound.
+      let image : List ℕ = content.shown in
+      let so_far = is.merged honest sound in
+      let past : length (regions_of stores) ≤ merge.store = omega (arith, regions_count stores, is.counted) in
+      let rises = rises_of (entries_in image sorted) sound.entries in
+      let decided = decided_of image stores sorted merge past (held.ended all) so_far.gathered in
+      let long = entry_count sorted.shape sorted.region sorted.count image in
+      absurd (go next merge.last refl some (there honest so_far.gathered.next) behind (λ key is_key below.
+      next_above (entries_in image sorted) (rows_of_hashes sorted.shape image (regions_of stores)) merge.decided merge.passed (waits_in image stores sorted merge.waiting) rises decided key.0 (so_far.gathered.last key is_key) (omega (arith, long, below))));
+}
+  where
+    go : (next : Option Key) (last : Option Key) → merge.last ≡ last → is_some next ≡ nat_lt merge.passed sorted.count → IsNextEntry (entries_of content sorted) merge.passed bytes next → is_behind last next ≡ true
+        → ((key : Key) → merge.last ≡ Some key → merge.passed < sorted.count → slice_cmp nat_cmp key.0 (key_at (entries_of content sorted) merge.passed) ≡ Less) → ⊥
+    go None last is_last some there behind lower = absurd (cc)
+    go (Some next) None is_last some there behind lower = absurd (cc)
+    go (Some next) (Some last) is_last some there behind lower =
+        let below : merge.passed < sorted.count = ltb-true merge.passed sorted.count (sym some) in
+        let its : key_at (entries_of content sorted) merge.passed ≡ next.0 = key_of_row (entries_of content sorted) merge.passed (entry_row bytes) there.0 ∙ sym there.1 in
+        let less : slice_cmp nat_cmp last.0 next.0 ≡ Less = ap (slice_cmp nat_cmp last.0) (sym its) ∙ lower last is_last below in
+        let under : not (is_lt (slice_cmp nat_cmp last.0 next.0)) ≡ false = ap (λ o. not (is_lt o)) less in
+        absurd (cc)
 
 module _ (old new : Content) (stores : List HashState) (sorted : SortedState) (merge : MergeState) (held : IsHeldMerge merge) (held_sorted : IsHeldSorted sorted) (fits : device_size merge.shape ≤ size old)
     (changes : ChangesWithin (sorted_at merge.shape merge.region) (merge.shape.sorted_capacity * entry_len merge.shape) old new) where
@@ -186,13 +250,13 @@ module _ (old new : Content) (stores : List HashState) (sorted : SortedState) (m
   still_inside choice after gone key source is = (cond_some (bytes_eq choice.key.0 key) (source_at merge.waiting key) source (sym (gone key) ∙ is)).1
 
   -- a key that is decided, with its entry where one is due
-  pub merged_step : (first : Option (Key × Source)) (next : Option Key) (choice : Choice) (bytes row_bytes : List ℕ) (after : List (Key × Source)) (count : ℕ) → merge.store ≡ merge.stores → IsFirst merge.waiting first
-      → choice_of first next ≡ Some choice → is_some next ≡ nat_lt merge.passed sorted.count → (IsTrue old.honest → IsNextEntry (entries_of old sorted) merge.passed bytes next)
+  pub merged_step : (first : Option (Key × Source)) (next : Option Key) (choice : Choice) (bytes row_bytes : List ℕ) (after : List (Key × Source)) (count : ℕ) → merge.store ≡ merge.stores → IsFirstWaiting merge.waiting first
+      → choice_of first next ≡ Some choice → is_some next ≡ nat_lt merge.passed sorted.count → (IsTrue old.honest → HasNext (entries_of old sorted) sorted.count merge → IsNextEntry (entries_of old sorted) merge.passed bytes next)
       → (IsTrue old.honest → ReadsRow merge.shape old.shown (regions_of stores) choice.key.0 choice.source bytes row_bytes)
       → (IsTrue old.honest → sorted_rows merge.shape merge.region count new.shown ≡ take merge.shape.sorted_capacity (sorted_rows merge.shape merge.region merge.written old.shown ++ due_rows (choice_puts choice.source) row_bytes))
       → ((key : List ℕ) → source_at after key ≡ cond (bytes_eq choice.key.0 key) None (source_at merge.waiting key))
       → HasMerged old stores sorted merge
-      → HasMerged new stores sorted (record merge { waiting = after; passed = passed_after choice.passes merge.passed; written = count; decided = merge.decided + 1 })
+      → HasMerged new stores sorted (record merge { waiting = after; passed = passed_after choice.passes merge.passed; written = count; decided = merge.decided + 1; last = Some choice.key; next = next_after choice.passes (Some bytes) })
   unfolding sources
   merged_step first next choice bytes row_bytes after count all its_first made some there read written gone is = record {
     shape = is.shape;
@@ -201,7 +265,7 @@ module _ (old new : Content) (stores : List HashState) (sorted : SortedState) (m
     merged = λ honest sound.
         let was : IsTrue old.honest = sym changes.honest ∙ honest in
         let image : List ℕ = old.shown in
-        let merge_after : MergeState = record merge { waiting = after; passed = passed_after choice.passes merge.passed; written = count; decided = merge.decided + 1 } in
+        let merge_after : MergeState = record merge { waiting = after; passed = passed_after choice.passes merge.passed; written = count; decided = merge.decided + 1; last = Some choice.key; next = next_after choice.passes (Some bytes) } in
         let same = sources_stay is sound was in
         let sound_old = sound_before old.shown new.shown stores sorted same sound in
         let so_far = is.merged was sound_old in
@@ -210,31 +274,67 @@ module _ (old new : Content) (stores : List HashState) (sorted : SortedState) (m
         let rises = rises_of (entries_in image sorted) sound_old.entries in
         let decided = decided_of image stores sorted merge past none so_far.gathered in
         let long = entry_count sorted.shape sorted.region sorted.count image in
-        let choices = chosen (entries_in image sorted) merge.passed bytes (source_row sorted.shape image (regions_of stores)) merge.waiting first next choice its_first (there was) (some ∙ ap (nat_lt merge.passed) (sym long)) made in
+        let choices = chosen (entries_in image sorted) merge.passed bytes (source_row sorted.shape image (regions_of stores)) merge.waiting first next choice its_first (there was so_far.gathered.next) (some ∙ ap (nat_lt merge.passed) (sym long)) made in
         let next_row = decides image stores sorted merge choice bytes rises decided choices in
         let reads = subst (λ (s : Shape). ReadsRow s image (regions_of stores) choice.key.0 choice.source bytes row_bytes) (sym is.shape) (read was) in
         let due = due_is image stores sorted merge choice bytes rises decided choices row_bytes reads in
-        let below = slice_get_within (newest_rows (entries_in image sorted ++ hashed_rows sorted.shape image (regions_of stores))) merge.decided next_row.0 next_row.1 in
+        let below = slice_get_within (newest_rows (entries_in image sorted ++ rows_of_hashes sorted.shape image (regions_of stores))) merge.decided next_row.0 next_row.1 in
         let after_it = decided_step image stores sorted merge choice bytes rises decided choices after gone in
-        let writes = due_more (newest_rows (entries_in image sorted ++ hashed_rows sorted.shape image (regions_of stores))) merge.decided merge.shape.sorted_capacity next_row.0 (sorted_rows merge.shape merge.region merge.written image)
+        let writes = due_more (newest_rows (entries_in image sorted ++ rows_of_hashes sorted.shape image (regions_of stores))) merge.decided merge.shape.sorted_capacity next_row.0 (sorted_rows merge.shape merge.region merge.written image)
         (due_rows (choice_puts choice.source) row_bytes) (sorted_rows merge.shape merge.region count new.shown) next_row.1 so_far.writes due (written was) in
         merged_same old.shown new.shown stores sorted same merge_after (λ key source found. source_inside stores sorted merge held is.shape is.counted key source (still_inside choice after gone key source found)) (inr none)
-        (omega (arith, none)) (gathered_of image stores sorted merge_after past none (omega (arith, below)) after_it) writes;
+        (omega (arith, none)) (gathered_of image stores sorted merge_after past none (omega (arith, below))
+        (λ key is_key. last_decided (newest_rows (entries_in image sorted ++ rows_of_hashes sorted.shape image (regions_of stores))) merge.decided next_row.0 choice.key key next_row.1 next_row.2 is_key)
+        (λ b is_bytes within. next_kept (entries_in image sorted) sorted.count merge.passed next choice.passes bytes b some (there was so_far.gathered.next) is_bytes within) after_it) writes;
   }
 
 -- ---- on any disk
 
--- a merge with one key more
-pub decided_held : (merge : MergeState) (choice : Choice) (after : List (Key × Source)) (count : ℕ) → IsHeldMerge merge → merge.store ≡ merge.stores → ((source : Source) → choice.source ≡ Some source → source_at merge.waiting choice.key.0 ≡ Some source)
-    → (choice.source ≡ None → choice.passes ≡ true) → count ≤ merge.shape.sorted_capacity → ((key : List ℕ) → source_at after key ≡ cond (bytes_eq choice.key.0 key) None (source_at merge.waiting key))
-    → length after ≤ length merge.waiting → ((source : Source) → source_at merge.waiting choice.key.0 ≡ Some source → length after + 1 ≡ length merge.waiting)
-    → IsHeldMerge (record merge { waiting = after; passed = passed_after choice.passes merge.passed; written = count; decided = merge.decided + 1 })
-decided_held merge choice after count held all offers none room gone long less = record {
+-- a merge with the next entry read or not
+pub held_next : (merge : MergeState) (next : Option (List ℕ)) → IsHeldMerge merge → IsHeldMerge (record merge { next = next })
+held_next merge next held = record {
+  there = held.there;
+  store = held.store;
+  slot = held.slot;
+  ended = held.ended;
+  gathers = held.gathers;
+  fresh = held.fresh;
+  above = held.above;
+  inside = λ key source found. let inside = held.inside key source found in record { store = inside.store; slot = inside.slot };
+  room = held.room;
+  few = held.few;
+}
+
+-- a merge with one entry more passed over
+pub passed_held : (merge : MergeState) → IsHeldMerge merge → merge.store ≡ merge.stores → IsHeldMerge (record merge { passed = merge.passed + 1; decided = merge.decided + 1; next = None })
+passed_held merge held all = record {
   there = held.there;
   store = held.store;
   slot = held.slot;
   ended = held.ended;
   gathers = λ still. absurd (omega (arith, all));
+  fresh = held.fresh;
+  above = held.above;
+  inside = λ key source found. let inside = held.inside key source found in record { store = inside.store; slot = inside.slot };
+  room = held.room;
+  few = omega (arith, held.few);
+}
+
+-- a merge with one key more
+pub decided_held : (merge : MergeState) (choice : Choice) (after : List (Key × Source)) (count : ℕ) (next : Option (List ℕ)) → IsHeldMerge merge → merge.store ≡ merge.stores → IsOffered merge.waiting merge.last choice
+    → count ≤ merge.shape.sorted_capacity → ((key : List ℕ) → source_at after key ≡ cond (bytes_eq choice.key.0 key) None (source_at merge.waiting key))
+    → length after ≤ length merge.waiting → ((source : Source) → source_at merge.waiting choice.key.0 ≡ Some source → length after + 1 ≡ length merge.waiting)
+    → IsHeldMerge (record merge { waiting = after; passed = passed_after choice.passes merge.passed; written = count; decided = merge.decided + 1; last = Some choice.key; next = next })
+decided_held merge choice after count next held all offers room gone long less = record {
+  there = held.there;
+  store = held.store;
+  slot = held.slot;
+  ended = held.ended;
+  gathers = λ still. absurd (omega (arith, all));
+  fresh = λ still. absurd (omega (arith, all));
+  above = λ key source found.
+      let parts = cond_some (bytes_eq choice.key.0 key) (source_at merge.waiting key) source (sym (gone key) ∙ found) in
+      higher key parts.0 (offers.least key source parts.1);
   inside = λ key source found.
       let inside = held.inside key source (cond_some (bytes_eq choice.key.0 key) (source_at merge.waiting key) source (sym (gone key) ∙ found)).1 in
       record { store = inside.store; slot = inside.slot };
@@ -242,19 +342,28 @@ decided_held merge choice after count held all offers none room gone long less =
   few = go choice.source refl;
 }
   where
+    higher : (key : List ℕ) → bytes_eq choice.key.0 key ≡ false → slice_cmp nat_cmp key choice.key.0 ≢ Less → is_lt (slice_cmp nat_cmp choice.key.0 key) ≡ true
+    higher key other least =
+        let go : (o : Ordering) → slice_cmp nat_cmp key choice.key.0 ≡ o → is_lt (slice_cmp nat_cmp choice.key.0 key) ≡ true = elim [
+          | Less ↦ λ o. absurd (least o)
+          | Equal ↦ λ o. let same = key_itself choice.key.0 key (sym (exact_bytes key choice.key.0 o)) in absurd (cc)
+          | Greater ↦ λ o. ap is_lt (turned key choice.key.0 o)
+        ] in
+        go (slice_cmp nat_cmp key choice.key.0) refl
+
     at_least : (b : Bool) → merge.passed ≤ passed_after b merge.passed
     at_least true = omega arith
     at_least false = omega arith
 
     go : (o : Option Source) → choice.source ≡ o → merge.decided + 1 + length after ≤ merge.store * (4 * merge.shape.buckets) + merge.slot + passed_after choice.passes merge.passed
     go None is =
-        let one : passed_after choice.passes merge.passed ≡ merge.passed + 1 = ap (λ b. passed_after b merge.passed) (none is) in
+        let one : passed_after choice.passes merge.passed ≡ merge.passed + 1 = ap (λ b. passed_after b merge.passed) (offers.none is) in
         omega (arith, held.few, long)
-    go (Some source) is = let one = less source (offers source is) in omega (arith, held.few, at_least choice.passes)
+    go (Some source) is = let one = less source (offers.source source is) in omega (arith, held.few, at_least choice.passes)
 
 -- a source that decides lies in one of the stores
-pub offered_inside : (merge : MergeState) (next : Option Key) (choice : Choice) → IsHeldMerge merge → IsOffered merge.waiting next choice → (source : Source) → choice.source ≡ Some source → IsInside merge source
-offered_inside merge next choice held offers source is = held.inside choice.key.0 source (offers.source source is)
+pub offered_inside : (merge : MergeState) (choice : Choice) → IsHeldMerge merge → IsOffered merge.waiting merge.last choice → (source : Source) → choice.source ≡ Some source → IsInside merge source
+offered_inside merge choice held offers source is = held.inside choice.key.0 source (offers.source source is)
 
 -- ---- done
 
@@ -308,7 +417,7 @@ module _ (merge : MergeState) (sorted : SortedState) where
       let past : length (regions_of stores) ≤ merge.store = omega (arith, regions_count stores, is.counted, parts.0) in
       let decided = decided_of image stores sorted merge past (held.ended parts.0) so_far.gathered in
       let long = entry_count sorted.shape sorted.region sorted.count image in
-      let all = all_decided (entries_in image sorted) (hashed_rows sorted.shape image (regions_of stores)) merge.decided merge.passed (waits_in image stores sorted merge.waiting) (rises_of (entries_in image sorted) sound.entries) decided
+      let all = all_decided (entries_in image sorted) (rows_of_hashes sorted.shape image (regions_of stores)) merge.decided merge.passed (waits_in image stores sorted merge.waiting) (rises_of (entries_in image sorted) sound.entries) decided
       (λ key. ap (λ l. waits_in image stores sorted l key) parts.1) (omega (arith, long, parts.2)) in
       let most = so_far.gathered.most in
       omega (arith, all, most)
@@ -333,7 +442,7 @@ module _ (merge : MergeState) (sorted : SortedState) where
         let past : length (regions_of stores) ≤ merge.store = omega (arith, regions_count stores, is.counted, whole.0) in
         let decided = decided_of image stores sorted merge past (held.ended whole.0) so_far.gathered in
         let long = entry_count sorted.shape sorted.region sorted.count image in
-        let none = none_waits (entries_in image sorted) (hashed_rows sorted.shape image (regions_of stores)) merge.decided merge.passed (waits_in image stores sorted merge.waiting) (rises_of (entries_in image sorted) sound.entries) decided whole.1 in
+        let none = none_waits (entries_in image sorted) (rows_of_hashes sorted.shape image (regions_of stores)) merge.decided merge.passed (waits_in image stores sorted merge.waiting) (rises_of (entries_in image sorted) sound.entries) decided whole.1 in
         same ∙ done_from whole.0 (nothing_waits merge.waiting (λ key. no_source (source_at merge.waiting key) (none.0 key))) (omega (arith, long, none.1)),
   )
     where
@@ -344,9 +453,9 @@ module _ (merge : MergeState) (sorted : SortedState) where
       fewer : (store stores slot slots : ℕ) → store < stores → slot < slots → store * slots + slot < stores * slots
       fewer store stores slot slots below inside = let apart = next_region store stores slots below in omega (arith, apart)
 
-      all_gathered_at : merge.decided ≤ length (newest_rows (entries_in content.shown sorted ++ hashed_rows sorted.shape content.shown (regions_of stores)))
-          → merge.store * (4 * merge.shape.buckets) + merge.slot + merge.decided ≡ merge.stores * (4 * merge.shape.buckets) + length (newest_rows (entries_in content.shown sorted ++ hashed_rows sorted.shape content.shown (regions_of stores)))
-          → (merge.store ≡ merge.stores) × (length (newest_rows (entries_in content.shown sorted ++ hashed_rows sorted.shape content.shown (regions_of stores))) ≤ merge.decided)
+      all_gathered_at : merge.decided ≤ length (newest_rows (entries_in content.shown sorted ++ rows_of_hashes sorted.shape content.shown (regions_of stores)))
+          → merge.store * (4 * merge.shape.buckets) + merge.slot + merge.decided ≡ merge.stores * (4 * merge.shape.buckets) + length (newest_rows (entries_in content.shown sorted ++ rows_of_hashes sorted.shape content.shown (regions_of stores)))
+          → (merge.store ≡ merge.stores) × (length (newest_rows (entries_in content.shown sorted ++ rows_of_hashes sorted.shape content.shown (regions_of stores))) ≤ merge.decided)
       all_gathered_at most steps = elim (cases_lt merge.store merge.stores) [
         | inl below ↦ let few = fewer merge.store merge.stores merge.slot (4 * merge.shape.buckets) below held.slot in absurd (omega (arith, few, most, steps))
         | inr past ↦
@@ -364,7 +473,7 @@ module _ (merge : MergeState) (sorted : SortedState) where
       let so_far = is.merged honest sound in
       let keys = all_keys content stores held is honest sound done in
       so_far.writes
-      ∙ ap (λ l. take merge.shape.sorted_capacity (filter is_put l)) (take_all merge.decided (newest_rows (sources content.shown stores sorted)) (omega (arith, keys)))
+      ∙ ap (λ l. take merge.shape.sorted_capacity (filter is_put_row l)) (take_all merge.decided (newest_rows (sources content.shown stores sorted)) (omega (arith, keys)))
 
   -- which are a merge of the rows
   pub done_merge : (content : Content) (stores : List HashState) → IsHeldMerge merge → is_done merge sorted ≡ true → HasMerged content stores sorted merge → IsTrue content.honest → AreSound content.shown stores sorted

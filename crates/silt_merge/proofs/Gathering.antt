@@ -15,12 +15,12 @@ use Rattle.silt_image.specs.Laws.{newest_row}
 use Rattle.silt_image.specs.Meaning.{hash_findings, holds_key, known_rows, oldest_first}
 use Rattle.silt_image.specs.Stores.{hash_part, hash_rows}
 use Rattle.silt_image.proofs.Sound.{nothing_first, nothing_second}
-use Rattle.silt_log.specs.Rows.{StoredRow, has_known_kind}
-use Rattle.silt_merge.specs.Choosing.{Keeps, own_source}
+use Rattle.silt_frame.specs.Rows.{has_known_kind, StoredRow}
+use Rattle.silt_merge.specs.Choice.{Gathers, own_source}
 use Rattle.silt_merge.specs.State.{slot_after, source_at}
 use Rattle.silt_frame.specs.declared.key.Key.{Key}
 use Rattle.silt_merge.specs.Merging.{gathered_rows, source_row}
-use Rattle.silt_merge.specs.Rows.{hashed_rows}
+use Rattle.silt_merge.specs.Rows.{rows_of_hashes}
 use Rattle.silt_merge.specs.declared.source.Source.{Source}
 use Rattle.silt_merge.proofs.Newest.{key_is, newest_append, newest_cons, or_none, own}
 
@@ -81,28 +81,28 @@ module _ (s : Shape) (image regions : List ℕ) (store : ℕ) where
   region = get_or regions store 0
 
   -- one slot more
-  slot_gathered : (slot : ℕ) → gathered_rows s image regions store (slot + 1) ≡ filter has_known_kind (rows_before s region image slot ++ slot_row s region image slot ∷ []) ++ hashed_rows s image (take store regions)
+  slot_gathered : (slot : ℕ) → gathered_rows s image regions store (slot + 1) ≡ filter has_known_kind (rows_before s region image slot ++ slot_row s region image slot ∷ []) ++ rows_of_hashes s image (take store regions)
   unfolding gathered_rows
-  slot_gathered slot = ap (λ l. filter has_known_kind l ++ hashed_rows s image (take store regions)) (before_more s region image slot)
+  slot_gathered slot = ap (λ l. filter has_known_kind l ++ rows_of_hashes s image (take store regions)) (before_more s region image slot)
 
   -- all slots of a store
-  store_gathered : store < length regions → gathered_rows s image regions store (4 * s.buckets) ≡ hashed_rows s image (take (store + 1) regions)
+  store_gathered : store < length regions → gathered_rows s image regions store (4 * s.buckets) ≡ rows_of_hashes s image (take (store + 1) regions)
   unfolding gathered_rows
   store_gathered below =
       let more : take (store + 1) regions ≡ take store regions ++ region ∷ [] = take_more regions store 0 below in
       let parts : map known_rows (map (hash_part s image) (take store regions ++ region ∷ [])) ≡ map known_rows (map (hash_part s image) (take store regions)) ++ known_rows (hash_part s image region) ∷ [] =
       ap (map known_rows) (map-append (hash_part s image) (take store regions) (region ∷ [])) ∙ map-append known_rows (map (hash_part s image) (take store regions)) (hash_part s image region ∷ []) in
-      ap (λ l. filter has_known_kind l ++ hashed_rows s image (take store regions)) (sym (all_before s region image))
-      ∙ sym (ap (hashed_rows s image) more ∙ ap oldest_first parts ∙ oldest_behind (map known_rows (map (hash_part s image) (take store regions))) (known_rows (hash_part s image region)))
+      ap (λ l. filter has_known_kind l ++ rows_of_hashes s image (take store regions)) (sym (all_before s region image))
+      ∙ sym (ap (rows_of_hashes s image) more ∙ ap oldest_first parts ∙ oldest_behind (map known_rows (map (hash_part s image) (take store regions))) (known_rows (hash_part s image region)))
 
 -- no slot of a store
-pub none_gathered : (s : Shape) (image regions : List ℕ) (store : ℕ) → gathered_rows s image regions store 0 ≡ hashed_rows s image (take store regions)
+pub none_gathered : (s : Shape) (image regions : List ℕ) (store : ℕ) → gathered_rows s image regions store 0 ≡ rows_of_hashes s image (take store regions)
 unfolding gathered_rows rows_before
 none_gathered s image regions store = refl
 
 -- all stores
-pub all_gathered : (s : Shape) (image regions : List ℕ) (store slot : ℕ) → length regions ≤ store → slot ≡ 0 → gathered_rows s image regions store slot ≡ hashed_rows s image regions
-all_gathered s image regions store slot past none = ap (gathered_rows s image regions store) none ∙ none_gathered s image regions store ∙ ap (hashed_rows s image) (take_all store regions past)
+pub all_gathered : (s : Shape) (image regions : List ℕ) (store slot : ℕ) → length regions ≤ store → slot ≡ 0 → gathered_rows s image regions store slot ≡ rows_of_hashes s image regions
+all_gathered s image regions store slot past none = ap (gathered_rows s image regions store) none ∙ none_gathered s image regions store ∙ ap (rows_of_hashes s image) (take_all store regions past)
 
 -- ---- a slot that is gathered
 
@@ -141,7 +141,7 @@ module _ (s : Shape) (image regions : List ℕ) (store slot : ℕ) (below : stor
   row_gathered row key is =
       let region : ℕ = get_or regions store 0 in
       let older : List StoredRow = filter has_known_kind (rows_before s region image slot) in
-      let newer : List StoredRow = hashed_rows s image (take store regions) in
+      let newer : List StoredRow = rows_of_hashes s image (take store regions) in
       ap (λ l. newest_row l key) (slot_gathered s image regions store slot)
       ∙ ap (λ l. newest_row (l ++ newer) key) (known_more (rows_before s region image slot) shown is.known)
       ∙ row_more older newer shown key (alone key is.known)
@@ -152,7 +152,7 @@ module _ (s : Shape) (image regions : List ℕ) (store slot : ℕ) (below : stor
   none_there key unknown =
       let region : ℕ = get_or regions store 0 in
       ap (λ l. newest_row l key) (slot_gathered s image regions store slot)
-      ∙ ap (λ l. newest_row (l ++ hashed_rows s image (take store regions)) key) (unknown_more (rows_before s region image slot) shown unknown)
+      ∙ ap (λ l. newest_row (l ++ rows_of_hashes s image (take store regions)) key) (unknown_more (rows_before s region image slot) shown unknown)
 
 -- the rows that are gathered before the next slot
 pub next_gathered : (s : Shape) (image regions : List ℕ) (store slot : ℕ) → store < length regions → gathered_rows s image regions (slot_after store slot (4 * s.buckets)).0 (slot_after store slot (4 * s.buckets)).1 ≡ gathered_rows s image regions store (slot + 1)
@@ -166,7 +166,7 @@ next_gathered s image regions store slot below = elim (cases_Bool (eqb (slot + 1
 
 -- the rows that wait after a slot was gathered are the newest of those that are gathered
 pub waits_kept : (s : Shape) (image regions : List ℕ) (store slot : ℕ) (row : Option Row) (before after : List (Key × Source)) → store < length regions → slot < 4 * s.buckets
-    → flat_map (hash_findings s) (map (hash_part s image) regions) ≡ [] → IsRowAt (slot_row s (get_or regions store 0) image slot) slot row → Keeps store slot row before after
+    → flat_map (hash_findings s) (map (hash_part s image) regions) ≡ [] → IsRowAt (slot_row s (get_or regions store 0) image slot) slot row → Gathers store slot row before after
     → ((key : List ℕ) → option_map (source_row s image regions) (source_at before key) ≡ newest_row (gathered_rows s image regions store slot) key)
     → (key : List ℕ) → option_map (source_row s image regions) (source_at after key) ≡ newest_row (gathered_rows s image regions store (slot + 1)) key
 waits_kept s image regions store slot None before after below inside none is keeps waits key =

@@ -12,14 +12,11 @@ use Rattle.std.proofs.lemmas.Cmp.{nat_list_cmp_total}
 use Rattle.std.proofs.lemmas.Map.Text.{is_eq-slice_cmp}
 use Rattle.silt_frame.specs.declared.key.Key.{Key}
 use Rattle.silt_frame.specs.declared.key.Row.{Row}
-use Rattle.silt_merge.specs.Choosing.{Keeps}
+use Rattle.silt_merge.specs.Choice.{Gathers}
 use Rattle.silt_merge.specs.State.{source_at}
 use Rattle.silt_merge.specs.declared.source.Source.{Source}
 use Rattle.silt_merge.proofs.Newest.{key_is, prefer}
-
--- the order of keys
-abbrev pub key_cmp : Key → Key → Ordering
-key_cmp a b = slice_cmp nat_cmp a.0 b.0
+use Rattle.silt_frame.specs.Rows.{key_cmp}
 
 -- no row waits for a key below the first
 pub first_least : (waiting : BTreeMap Key Source) (key : Key) → tree.IsLowerBound key_cmp waiting key → (other : List ℕ) (its : Source) → source_at waiting.entries other ≡ Some its → slice_cmp nat_cmp other key.0 ≢ Less
@@ -30,7 +27,7 @@ first_least waiting key least other its is less =
 
 -- a row that is kept
 pub kept_row : (store slot : ℕ) (row : Row) (before after : BTreeMap Key Source) → is_some (source_at before.entries row.key.0) ≡ false
-    → tree.Updates key_cmp before after row.key (Some (record { kind = row.kind; store = store; slot = slot })) → Keeps store slot (Some row) before.entries after.entries
+    → tree.Updates key_cmp before after row.key (Some (record { kind = row.kind; store = store; slot = slot })) → Gathers store slot (Some row) before.entries after.entries
 kept_row store slot row before after lacks updates key =
     let source : Source = record { kind = row.kind; store = store; slot = slot } in
     updates.0 (record { 0 = key })
@@ -42,6 +39,6 @@ kept_row store slot row before after lacks updates key =
     nothing (Some source) none = absurd (cc)
 
 -- a row that is let go
-pub let_go : (key : Key) (before after : BTreeMap Key Source) → tree.UpdatesBy key_cmp (key_cmp key) before after None
+pub remove_waiting : (key : Key) (before after : BTreeMap Key Source) → tree.UpdatesBy key_cmp (key_cmp key) before after None
     → (other : List ℕ) → source_at after.entries other ≡ cond (bytes_eq key.0 other) None (source_at before.entries other)
-let_go key before after updates other = updates.0 (record { 0 = other }) ∙ ap (λ b. cond b None (source_at before.entries other)) (is_eq-slice_cmp key.0 other)
+remove_waiting key before after updates other = updates.0 (record { 0 = other }) ∙ ap (λ b. cond b None (source_at before.entries other)) (is_eq-slice_cmp key.0 other)

@@ -9,4 +9,5 @@ pub mod Reading
 pub mod Sounding
 pub mod Kept
 pub mod Stepping
-pub mod Writing
+pub mod Viewing
+pub mod Replacing

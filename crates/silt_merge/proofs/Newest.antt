@@ -15,17 +15,17 @@ use Rattle.std.proofs.lemmas.List.Sums.{sum_by-cons}
 use Rattle.std.proofs.lemmas.Map.Lookups.{exact_bytes}
 use Rattle.std.proofs.lemmas.Map.Text.{is_eq-slice_cmp}
 use Rattle.std.proofs.lemmas.Slice.Eq.{bytes_eq-Decides}
-use Rattle.silt_image.specs.Laws.{newest_row, value_of}
-use Rattle.silt_image.specs.Meaning.{charge_of_rows, entry_findings, is_key_below, map_of_rows, sorted_findings}
-use Rattle.silt_image.specs.declared.finding.Finding.TheVariants.{Damaged}
-use Rattle.silt_image.specs.declared.finding.Place.TheVariants.{Sorted}
+use Rattle.silt_image.specs.Laws.{newest_row, value_given}
+use Rattle.silt_image.specs.Meaning.{entry_findings, is_key_below, map_of_rows, sorted_findings}
+use Rattle.silt_frame.specs.Rows.{StoredRow, is_put_row, put_count}
+use Rattle.silt_image.specs.declared.damage.Finding.TheVariants.{Damaged}
+use Rattle.silt_event.specs.declared.place.Place.TheVariants.{Sorted}
 use Rattle.silt_image.proofs.Rows.{newest_law}
 use Rattle.silt_image.proofs.Sound.{nothing_where_passes}
-use Rattle.silt_log.specs.Rows.{StoredRow}
 use Rattle.silt_sorted_store.proofs.Ranges.{none_of_all}
 use Rattle.silt_sorted_store.proofs.Rising.{key_at, not_below_itself}
 use Rattle.silt_merge.specs.Laws.{KeyCountLaw, MergedLaw}
-use Rattle.silt_merge.specs.Rows.{is_put, merged_rows, newest_rows, with_older}
+use Rattle.silt_merge.specs.Rows.{merged_rows, newest_rows, with_older}
 
 -- ---- keys
 
@@ -222,39 +222,39 @@ nothing_rising rows rises =
 -- a row that is a put
 abbrev put_of : Option StoredRow → Option StoredRow
 put_of None = None
-put_of (Some row) = cond (is_put row) (Some row) None
+put_of (Some row) = cond (is_put_row row) (Some row) None
 
 -- the first row, where it is a put
-pub put_first : (row : StoredRow) (rows : List StoredRow) → is_put row ≡ true → filter is_put (row ∷ rows) ≡ row ∷ filter is_put rows
+pub put_first : (row : StoredRow) (rows : List StoredRow) → is_put_row row ≡ true → filter is_put_row (row ∷ rows) ≡ row ∷ filter is_put_row rows
 put_first row rows put = cond-true _ _ _ put
 
-pub no_put_first : (row : StoredRow) (rows : List StoredRow) → is_put row ≡ false → filter is_put (row ∷ rows) ≡ filter is_put rows
+pub no_put_first : (row : StoredRow) (rows : List StoredRow) → is_put_row row ≡ false → filter is_put_row (row ∷ rows) ≡ filter is_put_row rows
 no_put_first row rows other = cond-false _ _ _ other
 
-above_puts : (key : List ℕ) (rows : List StoredRow) → Above key rows → Above key (filter is_put rows)
+above_puts : (key : List ℕ) (rows : List StoredRow) → Above key rows → Above key (filter is_put_row rows)
 above_puts key [] above = tt
 above_puts key (row ∷ rows) above =
     let further = above_puts key rows above.1 in
-    let go : (b : Bool) → is_put row ≡ b → Above key (filter is_put (row ∷ rows)) = elim [
+    let go : (b : Bool) → is_put_row row ≡ b → Above key (filter is_put_row (row ∷ rows)) = elim [
       | true ↦ λ put. subst (Above key) (sym (put_first row rows put)) (above.0, further)
       | false ↦ λ other. subst (Above key) (sym (no_put_first row rows other)) further
     ] in
-    go (is_put row) refl
+    go (is_put_row row) refl
 
 -- they rise
-pub rises_puts : (rows : List StoredRow) → Rises rows → Rises (filter is_put rows)
+pub rises_puts : (rows : List StoredRow) → Rises rows → Rises (filter is_put_row rows)
 rises_puts [] rises = tt
 rises_puts (row ∷ rows) rises =
     let further = rises_puts rows rises.1 in
-    let go : (b : Bool) → is_put row ≡ b → Rises (filter is_put (row ∷ rows)) = elim [
+    let go : (b : Bool) → is_put_row row ≡ b → Rises (filter is_put_row (row ∷ rows)) = elim [
       | true ↦ λ put. subst Rises (sym (put_first row rows put)) (above_puts row.key rows rises.0, further)
       | false ↦ λ other. subst Rises (sym (no_put_first row rows other)) further
     ] in
-    go (is_put row) refl
+    go (is_put_row row) refl
 
 -- the row of a key among them, with one row in front
-puts_more : (row : StoredRow) (rows : List StoredRow) (key : List ℕ) → row_with key (filter is_put rows) ≡ put_of (row_with key rows) → row_with row.key rows ≡ None
-    → (p : Bool) → is_put row ≡ p → (b : Bool) → bytes_eq row.key key ≡ b → row_with key (filter is_put (row ∷ rows)) ≡ put_of (row_with key (row ∷ rows))
+puts_more : (row : StoredRow) (rows : List StoredRow) (key : List ℕ) → row_with key (filter is_put_row rows) ≡ put_of (row_with key rows) → row_with row.key rows ≡ None
+    → (p : Bool) → is_put_row row ≡ p → (b : Bool) → bytes_eq row.key key ≡ b → row_with key (filter is_put_row (row ∷ rows)) ≡ put_of (row_with key (row ∷ rows))
 puts_more row rows key further none true put true has = ap (row_with key) (put_first row rows put) ∙ cond-true _ _ _ has ∙ sym (ap put_of (cond-true _ _ _ has) ∙ cond-true _ _ _ put)
 puts_more row rows key further none true put false lacks = ap (row_with key) (put_first row rows put) ∙ cond-false _ _ _ lacks ∙ further ∙ sym (ap put_of (cond-false _ _ _ lacks))
 puts_more row rows key further none false other true has =
@@ -264,65 +264,65 @@ puts_more row rows key further none false other true has =
 puts_more row rows key further none false other false lacks = ap (row_with key) (no_put_first row rows other) ∙ further ∙ sym (ap put_of (cond-false _ _ _ lacks))
 
 -- the row of a key among them
-find_puts : (rows : List StoredRow) → Rises rows → (key : List ℕ) → row_with key (filter is_put rows) ≡ put_of (row_with key rows)
+find_puts : (rows : List StoredRow) → Rises rows → (key : List ℕ) → row_with key (filter is_put_row rows) ≡ put_of (row_with key rows)
 find_puts [] rises key = refl
-find_puts (row ∷ rows) rises key = puts_more row rows key (find_puts rows rises.1 key) (none_above row.key rows rises.0) (is_put row) refl (bytes_eq row.key key) refl
+find_puts (row ∷ rows) rises key = puts_more row rows key (find_puts rows rises.1 key) (none_above row.key rows rises.0) (is_put_row row) refl (bytes_eq row.key key) refl
 
 -- a row that is no put gives no value
-put_value : (o : Option StoredRow) → option_and_then value_of (put_of o) ≡ option_and_then value_of o
+put_value : (o : Option StoredRow) → option_and_then value_given (put_of o) ≡ option_and_then value_given o
 put_value None = refl
 put_value (Some row) = go (row.kind == 1) refl
   where
-    go : (b : Bool) → (row.kind == 1) ≡ b → option_and_then value_of (put_of (Some row)) ≡ value_of row
-    go true put = ap (option_and_then value_of) (cond-true _ _ _ put)
-    go false other = ap (option_and_then value_of) (cond-false _ _ _ other) ∙ sym (cond-false _ _ _ other)
+    go : (b : Bool) → (row.kind == 1) ≡ b → option_and_then value_given (put_of (Some row)) ≡ value_given row
+    go true put = ap (option_and_then value_given) (cond-true _ _ _ put)
+    go false other = ap (option_and_then value_given) (cond-false _ _ _ other) ∙ sym (cond-false _ _ _ other)
 
 -- the map of the newest rows that are puts is that of all rows
 pub merged_map : (rows : List StoredRow) → map_of_rows (merged_rows rows) ≡ map_of_rows rows
 unfolding merged_rows
 merged_map rows =
-    same_map nat_list_cmp_total (slice_cmp-IsAntisymmetric nat_cmp-IsAntisymmetric) (map_of_rows (filter is_put (newest_rows rows))) (map_of_rows rows)
+    same_map nat_list_cmp_total (slice_cmp-IsAntisymmetric nat_cmp-IsAntisymmetric) (map_of_rows (filter is_put_row (newest_rows rows))) (map_of_rows rows)
     (λ key.
-    newest_law (filter is_put (newest_rows rows)) key
-    ∙ ap (option_and_then value_of) (newest_rising (filter is_put (newest_rows rows)) (rises_puts (newest_rows rows) (rises_newest rows)) key ∙ find_puts (newest_rows rows) (rises_newest rows) key)
+    newest_law (filter is_put_row (newest_rows rows)) key
+    ∙ ap (option_and_then value_given) (newest_rising (filter is_put_row (newest_rows rows)) (rises_puts (newest_rows rows) (rises_newest rows)) key ∙ find_puts (newest_rows rows) (rises_newest rows) key)
     ∙ put_value (row_with key (newest_rows rows))
-    ∙ ap (option_and_then value_of) (find_newest rows key)
+    ∙ ap (option_and_then value_given) (find_newest rows key)
     ∙ sym (newest_law rows key))
 
 -- ---- how many there are
 
 -- one row more
-charge_more : (row : StoredRow) (rows : List StoredRow) → charge_of_rows (row ∷ rows) ≡ cond {A = ℕ} (row.kind == 1) 1 0 + charge_of_rows rows
+charge_more : (row : StoredRow) (rows : List StoredRow) → put_count (row ∷ rows) ≡ cond {A = ℕ} (row.kind == 1) 1 0 + put_count rows
 charge_more row rows = sum_by-cons (λ (r : StoredRow). cond (r.kind == 1) 1 0) row rows
 
-charge_older : (row : StoredRow) (rows : List StoredRow) → charge_of_rows (with_older row rows) ≤ charge_of_rows (row ∷ rows)
+charge_older : (row : StoredRow) (rows : List StoredRow) → put_count (with_older row rows) ≤ put_count (row ∷ rows)
 charge_older row [] = omega arith
 charge_older row (first ∷ rest) =
     let further = charge_older row rest in
-    let go : (o : Ordering) → slice_cmp nat_cmp row.key first.key ≡ o → charge_of_rows (with_older row (first ∷ rest)) ≤ charge_of_rows (row ∷ first ∷ rest) = elim [
-      | Less ↦ λ is. omega (arith, ap charge_of_rows (older_less row first rest is))
-      | Equal ↦ λ is. omega (arith, ap charge_of_rows (older_equal row first rest is), charge_more row (first ∷ rest))
-      | Greater ↦ λ is. omega (arith, ap charge_of_rows (older_greater row first rest is), further, charge_more row (first ∷ rest), charge_more first rest, charge_more row rest, charge_more first (with_older row rest))
+    let go : (o : Ordering) → slice_cmp nat_cmp row.key first.key ≡ o → put_count (with_older row (first ∷ rest)) ≤ put_count (row ∷ first ∷ rest) = elim [
+      | Less ↦ λ is. omega (arith, ap put_count (older_less row first rest is))
+      | Equal ↦ λ is. omega (arith, ap put_count (older_equal row first rest is), charge_more row (first ∷ rest))
+      | Greater ↦ λ is. omega (arith, ap put_count (older_greater row first rest is), further, charge_more row (first ∷ rest), charge_more first rest, charge_more row rest, charge_more first (with_older row rest))
     ] in
     go (slice_cmp nat_cmp row.key first.key) refl
 
-charge_newest : (rows : List StoredRow) → charge_of_rows (newest_rows rows) ≤ charge_of_rows rows
+charge_newest : (rows : List StoredRow) → put_count (newest_rows rows) ≤ put_count rows
 charge_newest [] = omega arith
 charge_newest (row ∷ rows) = omega (arith, charge_older row (newest_rows rows), charge_newest rows, charge_more row rows, charge_more row (newest_rows rows))
 
-charge_puts : (rows : List StoredRow) → (charge_of_rows (filter is_put rows) ≡ charge_of_rows rows) × (length (filter is_put rows) ≡ charge_of_rows rows)
+charge_puts : (rows : List StoredRow) → (put_count (filter is_put_row rows) ≡ put_count rows) × (length (filter is_put_row rows) ≡ put_count rows)
 charge_puts [] = (refl, refl)
 charge_puts (row ∷ rows) =
     let rest = charge_puts rows in
-    let go : (b : Bool) → (row.kind == 1) ≡ b → (charge_of_rows (filter is_put (row ∷ rows)) ≡ charge_of_rows (row ∷ rows)) × (length (filter is_put (row ∷ rows)) ≡ charge_of_rows (row ∷ rows)) = elim [
+    let go : (b : Bool) → (row.kind == 1) ≡ b → (put_count (filter is_put_row (row ∷ rows)) ≡ put_count (row ∷ rows)) × (length (filter is_put_row (row ∷ rows)) ≡ put_count (row ∷ rows)) = elim [
       | true ↦ λ put.
           let one : cond {A = ℕ} (row.kind == 1) 1 0 ≡ 1 = cond-true _ _ _ put in (
-            omega (arith, ap charge_of_rows (put_first row rows put), rest.0, charge_more row rows, charge_more row (filter is_put rows)),
+            omega (arith, ap put_count (put_first row rows put), rest.0, charge_more row rows, charge_more row (filter is_put_row rows)),
             omega (arith, ap (λ (l : List StoredRow). length l) (put_first row rows put), rest.1, one, charge_more row rows),
           )
       | false ↦ λ other.
           let none : cond {A = ℕ} (row.kind == 1) 1 0 ≡ 0 = cond-false _ _ _ other in (
-            omega (arith, ap charge_of_rows (no_put_first row rows other), rest.0, none, charge_more row rows),
+            omega (arith, ap put_count (no_put_first row rows other), rest.0, none, charge_more row rows),
             omega (arith, ap (λ (l : List StoredRow). length l) (no_put_first row rows other), rest.1, none, charge_more row rows),
           )
     ] in
@@ -350,7 +350,7 @@ unfolding merged_rows
 merged_law rows =
     let counts = charge_puts (newest_rows rows) in
     record {
-      rising = nothing_rising (filter is_put (newest_rows rows)) (rises_puts (newest_rows rows) (rises_newest rows));
+      rising = nothing_rising (filter is_put_row (newest_rows rows)) (rises_puts (newest_rows rows) (rises_newest rows));
       same_map = merged_map rows;
       charge = omega (arith, counts.0, charge_newest rows);
       counted = counts.1 ∙ sym counts.0;

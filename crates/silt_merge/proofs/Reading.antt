@@ -5,8 +5,8 @@ use Rattle.std.proofs.lemmas.List.{drop_at, get_or-map, take_at}
 use Rattle.silt_device.specs.Layout.{Shape}
 use Rattle.silt_hash_store.specs.Slots.{slot_row}
 use Rattle.silt_hash_store.specs.State.{HashState}
-use Rattle.silt_log.specs.Rows.{StoredRow}
-use Rattle.silt_merge.specs.Choosing.{ReadsRow}
+use Rattle.silt_frame.specs.Rows.{StoredRow}
+use Rattle.silt_merge.specs.Choice.{ReadsRow}
 use Rattle.silt_merge.specs.Rows.{regions_of}
 use Rattle.silt_merge.specs.declared.source.Source.{Source}
 

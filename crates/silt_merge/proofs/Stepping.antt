@@ -13,11 +13,11 @@ use Rattle.silt_hash_store.specs.Slots.{slot_row}
 use Rattle.silt_hash_store.specs.State.{HashState}
 use Rattle.silt_image.specs.Laws.{newest_row}
 use Rattle.silt_image.specs.Stores.{sorted_rows}
-use Rattle.silt_log.specs.Rows.{StoredRow}
-use Rattle.silt_merge.specs.Choosing.{Keeps, own_source}
+use Rattle.silt_frame.specs.Rows.{StoredRow}
+use Rattle.silt_merge.specs.Choice.{Gathers, own_source}
 use Rattle.silt_merge.specs.Merging.{HasMerged, decided_rows, gathered_rows, source_row}
-use Rattle.silt_merge.specs.Rows.{has_key, regions_of}
-use Rattle.silt_merge.specs.State.{IsHeldMerge, MergeState, slot_after, source_at}
+use Rattle.silt_merge.specs.Rows.{has_row_with, regions_of}
+use Rattle.silt_merge.specs.State.{IsHeldMerge, MergeState, is_above, slot_after, source_at}
 use Rattle.silt_merge.specs.declared.source.Source.{Source}
 use Rattle.silt_merge.proofs.Elsewhere.{regions_count}
 use Rattle.silt_merge.proofs.Gathering.{next_gathered, none_gathered, waits_kept}
@@ -33,7 +33,7 @@ none_written s region image = refl
 
 -- nothing is gathered, and nothing is due
 pub started : (content : Content) (stores : List HashState) (sorted : SortedState) (shape : Shape) (region : ℕ) (waiting : List (Key × Source)) → shape ≡ sorted.shape → sorted.region ≢ region → waiting ≡ []
-    → HasMerged content stores sorted (record { shape = shape; region = region; stores = length stores; store = 0; slot = 0; waiting = waiting; passed = 0; written = 0; decided = 0 })
+    → HasMerged content stores sorted (record { shape = shape; region = region; stores = length stores; store = 0; slot = 0; waiting = waiting; passed = 0; written = 0; decided = 0; last = None; next = None })
 started content stores sorted shape region waiting same apart none = record {
   shape = sym same;
   counted = refl;
@@ -44,6 +44,8 @@ started content stores sorted shape region waiting same apart none = record {
       waits = λ key.
           ap (λ l. option_map (source_row sorted.shape content.shown (regions_of stores)) (source_at l key)) none
           ∙ sym (ap (λ l. newest_row l key) (none_gathered sorted.shape content.shown (regions_of stores) 0));
+      last = λ key some. absurd (cc);
+      next = λ bytes some. absurd (cc);
       passes = λ place below. sym (le-ltb place 0 (omega arith));
     };
     writes = none_written shape region content.shown ∙ sym (take_all shape.sorted_capacity [] (omega arith));
@@ -72,7 +74,7 @@ after_last store slot slots = elim (cases_Bool (eqb (slot + 1) slots)) [
 ]
 
 -- a row that waits names a slot of the stores
-kept_inside : (merge : MergeState) (row : Option Row) (after : List (Key × Source)) → IsHeldMerge merge → merge.store < merge.stores → Keeps merge.store merge.slot row merge.waiting after
+kept_inside : (merge : MergeState) (row : Option Row) (after : List (Key × Source)) → IsHeldMerge merge → merge.store < merge.stores → Gathers merge.store merge.slot row merge.waiting after
     → (key : List ℕ) (source : Source) → source_at after key ≡ Some source → (source.store < merge.stores) × (source.slot < 4 * merge.shape.buckets)
 kept_inside merge None after held below keeps key source is = let inside = held.inside key source (sym (keeps key) ∙ is) in (inside.store, inside.slot)
 kept_inside merge (Some row) after held below keeps key source is =
@@ -89,7 +91,7 @@ kept_inside merge (Some row) after held below keeps key source is =
     own_inside false found = absurd (cc)
 
 -- a merge with one slot more
-pub gathered_held : (merge : MergeState) (row : Option Row) (after : List (Key × Source)) (next : ℕ × ℕ) → IsHeldMerge merge → merge.store < merge.stores → Keeps merge.store merge.slot row merge.waiting after
+pub gathered_held : (merge : MergeState) (row : Option Row) (after : List (Key × Source)) (next : ℕ × ℕ) → IsHeldMerge merge → merge.store < merge.stores → Gathers merge.store merge.slot row merge.waiting after
     → length after ≤ length merge.waiting + 1 → next ≡ slot_after merge.store merge.slot (4 * merge.shape.buckets) → IsHeldMerge (record merge { store = next.0; slot = next.1; waiting = after })
 gathered_held merge row after next held below keeps long is =
     let count : next.0 * (4 * merge.shape.buckets) + next.1 ≡ merge.store * (4 * merge.shape.buckets) + merge.slot + 1 =
@@ -101,6 +103,8 @@ gathered_held merge row after next held below keeps long is =
       slot = place.1;
       ended = place.2;
       gathers = λ still. held.gathers below;
+      fresh = λ still. held.fresh below;
+      above = λ key source found. ap (λ o. is_above o key) (held.fresh below);
       inside = λ key source found. let inside = kept_inside merge row after held below keeps key source found in record { store = inside.0; slot = inside.1 };
       room = held.room;
       few = omega (arith, held.few, count, long);
@@ -121,7 +125,7 @@ gathered_held merge row after next held below keeps long is =
 -- has gathered one slot more
 pub gathered_step : (content : Content) (stores : List HashState) (sorted : SortedState) (merge : MergeState) (store : HashState) (row : Option Row) (after : List (Key × Source)) (next : ℕ × ℕ) → IsHeldMerge merge
     → merge.store < merge.stores → store ≡ get_or stores merge.store store → store.shape ≡ merge.shape → (IsTrue content.honest → IsRowAt (slot_row store.shape store.region content.shown merge.slot) merge.slot row)
-    → Keeps merge.store merge.slot row merge.waiting after → next ≡ slot_after merge.store merge.slot (4 * merge.shape.buckets)
+    → Gathers merge.store merge.slot row merge.waiting after → next ≡ slot_after merge.store merge.slot (4 * merge.shape.buckets)
     → HasMerged content stores sorted merge → HasMerged content stores sorted (record merge { store = next.0; slot = next.1; waiting = after })
 gathered_step content stores sorted merge store row after next held below here shape read keeps is so_far = record {
   shape = so_far.shape;
@@ -136,8 +140,8 @@ gathered_step content stores sorted merge store row after next held below here s
       let inside : merge.store < length stores = omega (arith, below, so_far.counted) in
       let within : merge.store < length regions = omega (arith, inside, regions_count stores) in
       let slot : merge.slot < 4 * s.buckets = subst (λ (t : Shape). merge.slot < 4 * t.buckets) (sym so_far.shape) held.slot in
-      let first : (key : List ℕ) (l : List StoredRow) → cond (has_key key (decided_rows image stores sorted merge.decided)) None (newest_row l key) ≡ newest_row l key =
-      λ key l. ap (λ n. cond (has_key key (decided_rows image stores sorted n)) None (newest_row l key)) none in
+      let first : (key : List ℕ) (l : List StoredRow) → cond (has_row_with key (decided_rows image stores sorted merge.decided)) None (newest_row l key) ≡ newest_row l key =
+      λ key l. ap (λ n. cond (has_row_with key (decided_rows image stores sorted n)) None (newest_row l key)) none in
       let shown : IsRowAt (slot_row s (get_or regions merge.store 0) image merge.slot) merge.slot row =
       subst (λ r. IsRowAt (slot_row s r image merge.slot) merge.slot row) (sym (store_at stores merge.store store inside here))
       (subst (λ (t : Shape). IsRowAt (slot_row t store.region image merge.slot) merge.slot row) (shape ∙ sym so_far.shape) (read honest)) in
@@ -150,6 +154,8 @@ gathered_step content stores sorted merge store row after next held below here s
         gathered = record {
           most = was.gathered.most;
           waits = λ key. kept key ∙ ap (λ l. newest_row l key) (sym moved) ∙ sym (first key (gathered_rows s image regions next.0 next.1));
+          last = was.gathered.last;
+          next = was.gathered.next;
           passes = was.gathered.passes;
         };
         writes = was.writes;

@@ -1,16 +1,17 @@
 -- Laws of merges, for the layers above.
-use Rattle.std.specs.Prelude.{◌≡◌, ℕ, ◌+◌, ◌*◌, ◌≤◌, ◌⊎◌, IsTrue, List, [], length}
+use Rattle.std.specs.Prelude.{◌≡◌, ℕ, ◌+◌, ◌*◌, ◌≤◌, ◌⊎◌, IsTrue, List, [], ◌++◌, length, map}
 use Rattle.std.specs.FinMap.{len}
 use Rattle.std.specs.List.{All}
-use Rattle.silt_device.specs.Disk.{ChangesWithin, Content, size}
-use Rattle.silt_device.specs.Layout.{Shape, device_size, entry_len, sorted_at}
-use Rattle.silt_hash_store.specs.Laws.{IsOutsideSlots}
+use Rattle.silt_device.specs.Disk.{ChangesWithin, Content, LiesOutside, size}
+use Rattle.silt_device.specs.Layout.{Shape, device_size, entries_len, entry_len, hash_at, slots_len, sorted_at}
 use Rattle.silt_hash_store.specs.State.{HashState, IsHashStore, IsHeldHash}
-use Rattle.silt_image.specs.Meaning.{charge_of_rows, map_of_rows, sorted_findings}
-use Rattle.silt_log.specs.Rows.{StoredRow}
+use Rattle.silt_image.specs.Meaning.{IsSound, charge_of, known_rows, map_of_rows, oldest_first, rows_of, sorted_findings}
+use Rattle.silt_frame.specs.Rows.{put_count, StoredRow}
+use Rattle.silt_image.specs.Stores.{Part, Stores}
+use Rattle.silt_manifest.specs.declared.body.Body.{Body}
 use Rattle.silt_merge.specs.Merging.{AreSound, HasMerged, IsMergeOf}
 use Rattle.silt_merge.specs.Rows.{entries_in, key_count, merged_rows}
-use Rattle.silt_merge.specs.State.{IsHeldMerge, MergeState}
+use Rattle.silt_merge.specs.State.{IsHeldMerge, MergeState, oldest_stores}
 use Rattle.silt_sorted_store.specs.State.{IsHeldSorted, SortedState}
 
 -- the newest rows that are puts are a merge of all rows
@@ -19,7 +20,7 @@ MergedLaw = (rows : List StoredRow) → IsMergeOf rows (merged_rows rows)
 
 -- there are no more keys than rows, and no more entries than puts
 abbrev pub KeyCountLaw : Type 0
-KeyCountLaw = (rows : List StoredRow) → (key_count rows ≤ length rows) × (length (merged_rows rows) ≤ charge_of_rows rows)
+KeyCountLaw = (rows : List StoredRow) → (key_count rows ≤ length rows) × (length (merged_rows rows) ≤ put_count rows)
 
 -- there are as many entries as keys that have a value
 abbrev pub MergedCountLaw : Type 0
@@ -31,15 +32,39 @@ SoundStoresLaw =
     (content : Content) (stores : List HashState) (sorted : SortedState) → IsTrue content.honest → All (λ store. store.shape ≡ sorted.shape) stores
     → All IsHeldHash stores → All (IsHashStore content) stores → sorted_findings (entries_in content.shown sorted) ≡ [] → AreSound content.shown stores sorted
 
--- this range lies before the entries of a sorted region or behind them
-abbrev pub IsOutsideEntries : Shape → ℕ → ℕ → ℕ → Type 0
-IsOutsideEntries shape region at count = (at + count ≤ sorted_at shape region) ⊎ (sorted_at shape region + shape.sorted_capacity * entry_len shape ≤ at)
-
 -- a merge has gathered and written what it had, after a change outside its entries, the entries of the sorted store and the slots of the hash stores
 abbrev pub MergedElsewhereLaw : Type 0
 MergedElsewhereLaw =
     (stores : List HashState) (sorted : SortedState) (merge : MergeState) (old new : Content) (at count : ℕ) → IsHeldSorted sorted → IsHeldMerge merge
     → device_size sorted.shape ≤ size old
-    → IsOutsideEntries sorted.shape merge.region at count → IsOutsideEntries sorted.shape sorted.region at count
-    → All (λ store. IsOutsideSlots sorted.shape store.region at count) stores → ChangesWithin at count old new
+    → LiesOutside (sorted_at sorted.shape merge.region) (entries_len sorted.shape) at count → LiesOutside (sorted_at sorted.shape sorted.region) (entries_len sorted.shape) at count
+    → All (λ store. LiesOutside (hash_at sorted.shape store.region) (slots_len sorted.shape) at count) stores → ChangesWithin at count old new
     → HasMerged old stores sorted merge → HasMerged new stores sorted merge
+
+-- the stores that a merge took are the oldest ones still, after others came in front of them
+abbrev pub OldestStoresLaw : Type 0
+OldestStoresLaw = (newer stores : List HashState) (count : ℕ) → count ≤ length stores → oldest_stores count (newer ++ stores) ≡ oldest_stores count stores
+
+-- ---- a merge that is finished
+
+-- the rows that a merge takes of stores whose last hash stores are these, the oldest first
+abbrev pub taken_rows : List Part → Stores → List StoredRow
+taken_rows taken s = s.entries ++ oldest_first (map known_rows taken)
+
+-- the stores under a body that names these newer hash stores alone, and these entries
+unfoldable pub with_merged : Body → List Part → List StoredRow → Stores → Stores
+with_merged body newer entries s = record s { body = body; hashes = newer; entries = entries }
+
+-- stores with these entries in place of these rows stand for the same map, also with rows behind, are sound, and have the entries as puts
+-- in place of the rows' puts
+pub record ReplacesStores (rows entries : List StoredRow) (old new : Stores) : Type 0 where
+  pub map : map_of_rows (rows_of new) ≡ map_of_rows (rows_of old)
+  pub behind : (more : List StoredRow) → map_of_rows (rows_of new ++ more) ≡ map_of_rows (rows_of old ++ more)
+  pub sound : IsSound new
+  pub charge : charge_of new + put_count rows ≡ charge_of old + length entries
+
+-- a merge of the entries and the oldest hash stores may stand as the entries in their place
+abbrev pub MergesLaw : Type 0
+MergesLaw =
+    (s : Stores) (body : Body) (newer taken : List Part) (entries : List StoredRow) → s.hashes ≡ newer ++ taken → IsSound s → IsMergeOf (taken_rows taken s) entries
+    → ReplacesStores (taken_rows taken s) entries s (with_merged body newer entries s)

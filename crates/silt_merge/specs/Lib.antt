@@ -1,5 +1,5 @@
 pub mod Rows
 pub mod State
-pub mod Choosing
+pub mod Choice
 pub mod Merging
 pub mod Laws

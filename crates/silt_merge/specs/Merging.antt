@@ -1,5 +1,5 @@
 -- What a merge has gathered and written.
-use Rattle.std.specs.Prelude.{◌≡◌, ◌≢◌, ℕ, ◌≤◌, ◌<◌, nat_lt, cond, IsTrue, List, [], ◌++◌, filter, flat_map, get_or, length, map, take, None, option_map}
+use Rattle.std.specs.Prelude.{◌≡◌, ◌≢◌, ℕ, ◌≤◌, ◌<◌, nat_lt, cond, IsTrue, List, [], ◌++◌, filter, flat_map, get_or, length, map, slice_get, take, true, Option, Some, None, option_map}
 use Rattle.std.specs.List.{All}
 use Rattle.silt_device.specs.Disk.{Content}
 use Rattle.silt_device.specs.Layout.{Shape}
@@ -7,10 +7,11 @@ use Rattle.silt_frame.specs.Frame.{kind_byte}
 use Rattle.silt_hash_store.specs.Slots.{rows_before, slot_row}
 use Rattle.silt_hash_store.specs.State.{HashState}
 use Rattle.silt_image.specs.Laws.{newest_row}
-use Rattle.silt_image.specs.Meaning.{charge_of_rows, hash_findings, keys_of, map_of_rows, sorted_findings}
+use Rattle.silt_image.specs.Meaning.{hash_findings, map_of_rows, sorted_findings}
+use Rattle.silt_frame.specs.Rows.{StoredRow, entry_row, has_known_kind, is_put_row, keys_of, put_count}
 use Rattle.silt_image.specs.Stores.{hash_part, sorted_rows}
-use Rattle.silt_log.specs.Rows.{StoredRow, has_known_kind}
-use Rattle.silt_merge.specs.Rows.{entries_in, has_key, hashed_rows, is_put, key_count, newest_rows, regions_of, sources}
+use Rattle.silt_frame.specs.declared.key.Key.{Key}
+use Rattle.silt_merge.specs.Rows.{entries_in, has_row_with, rows_of_hashes, key_count, newest_rows, regions_of, sources}
 use Rattle.silt_merge.specs.State.{MergeState, source_at}
 use Rattle.silt_merge.specs.declared.merge.StepError.{StepError}
 use Rattle.silt_merge.specs.declared.merge.StepError.TheVariants.{Read, Write, NoMemory}
@@ -30,25 +31,28 @@ source_row shape image regions source = record (slot_row shape (get_or regions s
 -- the rows of the slots that are gathered, the oldest first: those of the stores before this one, and those of its slots before this one
 unfoldable pub gathered_rows : Shape → List ℕ → List ℕ → ℕ → ℕ → List StoredRow
 gathered_rows shape image regions store slot =
-    filter has_known_kind (rows_before shape (get_or regions store 0) image slot) ++ hashed_rows shape image (take store regions)
+    filter has_known_kind (rows_before shape (get_or regions store 0) image slot) ++ rows_of_hashes shape image (take store regions)
 
 -- the newest rows of the keys that are decided
 abbrev pub decided_rows : List ℕ → List HashState → SortedState → ℕ → List StoredRow
 decided_rows image stores sorted decided = take decided (newest_rows (sources image stores sorted))
 
--- so far the newest gathered row of each key waits until the key is decided, and the entries of decided keys are passed over
+-- so far the newest gathered row of each key waits until the key is decided, and the entries of decided keys are passed over; the last key
+-- is one of those that are decided, and the bytes of the next entry are what it has
 pub record IsGatheredIn (image : List ℕ) (stores : List HashState) (sorted : SortedState) (merge : MergeState) : Type 0 where
   pub most : merge.decided ≤ key_count (sources image stores sorted)
   pub waits : (key : List ℕ) → option_map (source_row sorted.shape image (regions_of stores)) (source_at merge.waiting key)
-      ≡ cond (has_key key (decided_rows image stores sorted merge.decided)) None (newest_row (gathered_rows sorted.shape image (regions_of stores) merge.store merge.slot) key)
+      ≡ cond (has_row_with key (decided_rows image stores sorted merge.decided)) None (newest_row (gathered_rows sorted.shape image (regions_of stores) merge.store merge.slot) key)
+  pub last : (key : Key) → merge.last ≡ Some key → has_row_with key.0 (decided_rows image stores sorted merge.decided) ≡ true
+  pub next : (bytes : List ℕ) → merge.next ≡ Some bytes → merge.passed < sorted.count → slice_get (entries_in image sorted) merge.passed ≡ Some (entry_row bytes)
   pub passes : (place : ℕ) → place < sorted.count
-      → has_key (get_or (keys_of (entries_in image sorted)) place []) (decided_rows image stores sorted merge.decided) ≡ nat_lt place merge.passed
+      → has_row_with (get_or (keys_of (entries_in image sorted)) place []) (decided_rows image stores sorted merge.decided) ≡ nat_lt place merge.passed
 
 -- and what is due for decided keys is written
 pub record IsMergedIn (image : List ℕ) (stores : List HashState) (sorted : SortedState) (merge : MergeState) : Type 0 where
   pub gathered : IsGatheredIn image stores sorted merge
   pub writes : sorted_rows merge.shape merge.region merge.written image
-      ≡ take merge.shape.sorted_capacity (filter is_put (decided_rows image stores sorted merge.decided))
+      ≡ take merge.shape.sorted_capacity (filter is_put_row (decided_rows image stores sorted merge.decided))
 
 -- So far all that is due is gathered and written: on an honest disk, where nothing is found in the stores that are merged.
 pub record HasMerged (content : Content) (stores : List HashState) (sorted : SortedState) (merge : MergeState) : Type 0 where
@@ -61,14 +65,20 @@ pub record HasMerged (content : Content) (stores : List HashState) (sorted : Sor
 pub record IsMergeOf (rows entries : List StoredRow) : Type 0 where
   pub rising : sorted_findings entries ≡ []
   pub same_map : map_of_rows entries ≡ map_of_rows rows
-  pub charge : charge_of_rows entries ≤ charge_of_rows rows
-  pub counted : length entries ≡ charge_of_rows entries
+  pub charge : put_count entries ≤ put_count rows
+  pub counted : length entries ≡ put_count entries
 
--- why a step failed: a read, or want of memory, and nothing is changed, or the write
-abbrev pub FailsMerge : {D F : Type 0} → (D → F → Type 0) → (F → Type 0) → D → D → StepError F → Type 0
-FailsMerge gave_read counts old new (Read fault) = (new ≡ old) × gave_read old fault
-FailsMerge gave_read counts old new (Write fault) = counts fault
-FailsMerge gave_read counts old new NoMemory = new ≡ old
+-- the slot that is gathered next shows a row of a known kind, and no row of its key waits
+pub record TakesMemory (content : Content) (stores : List HashState) (merge : MergeState) : Type 0 where
+  pub gathers : merge.store < merge.stores
+  pub known : IsTrue content.honest → has_known_kind (slot_row merge.shape (get_or (regions_of stores) merge.store 0) content.shown merge.slot) ≡ true
+  pub new_key : IsTrue content.honest → source_at merge.waiting (slot_row merge.shape (get_or (regions_of stores) merge.store 0) content.shown merge.slot).key ≡ None
+
+-- why a step failed: a read, or want of memory for a row that is to wait, and nothing is changed, or the write
+abbrev pub FailsMerge : {D F : Type 0} → (D → F → Type 0) → (F → Type 0) → Type 0 → D → D → StepError F → Type 0
+FailsMerge gave_read counts takes_memory old new (Read fault) = (new ≡ old) × gave_read old fault
+FailsMerge gave_read counts takes_memory old new (Write fault) = counts fault
+FailsMerge gave_read counts takes_memory old new NoMemory = (new ≡ old) × takes_memory
 
 -- the shape, the region and the number of stores of a merge stay
 pub record IsSameMerge (old new : MergeState) : Type 0 where

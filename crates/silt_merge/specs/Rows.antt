@@ -1,5 +1,5 @@
 -- The rows that a merge takes, and the entries that it makes of them.
-use Rattle.std.specs.Prelude.{ℕ, ◌==◌, Bool, List, [], ◌∷◌, ◌++◌, filter, length, map}
+use Rattle.std.specs.Prelude.{ℕ, Bool, List, [], ◌∷◌, ◌++◌, filter, length, map}
 use Rattle.std.specs.List.{list_any}
 use Rattle.std.specs.Ordering.{match_ordering, nat_cmp}
 use Rattle.std.specs.Cmp.Lexicographic.{slice_cmp}
@@ -8,7 +8,7 @@ use Rattle.silt_device.specs.Layout.{Shape}
 use Rattle.silt_hash_store.specs.State.{HashState}
 use Rattle.silt_image.specs.Meaning.{known_rows, oldest_first}
 use Rattle.silt_image.specs.Stores.{hash_part, sorted_rows}
-use Rattle.silt_log.specs.Rows.{StoredRow}
+use Rattle.silt_frame.specs.Rows.{StoredRow, is_put_row}
 use Rattle.silt_sorted_store.specs.State.{SortedState}
 
 -- a row, put among rows that rise by key, unless one of them has its key
@@ -25,25 +25,21 @@ newest_rows (row ∷ rows) = with_older row (newest_rows rows)
 abbrev pub key_count : List StoredRow → ℕ
 key_count rows = length (newest_rows rows)
 
--- a row is a put
-abbrev pub is_put : StoredRow → Bool
-is_put row = row.kind == 1
-
 -- the entries that are made of rows: the newest row of each key, where it is a put
 unfoldable pub merged_rows : List StoredRow → List StoredRow
-merged_rows rows = filter is_put (newest_rows rows)
+merged_rows rows = filter is_put_row (newest_rows rows)
 
 -- one of the rows has this key
-abbrev pub has_key : List ℕ → List StoredRow → Bool
-has_key key rows = list_any (λ row. bytes_eq row.key key) rows
+abbrev pub has_row_with : List ℕ → List StoredRow → Bool
+has_row_with key rows = list_any (λ row. bytes_eq row.key key) rows
 
 -- the regions of hash stores
 abbrev pub regions_of : List HashState → List ℕ
 regions_of stores = map (λ store. store.region) stores
 
 -- the rows of known kinds in hash regions that are listed the newest first, as one list from the oldest row on
-abbrev pub hashed_rows : Shape → List ℕ → List ℕ → List StoredRow
-hashed_rows shape image regions = oldest_first (map known_rows (map (hash_part shape image) regions))
+abbrev pub rows_of_hashes : Shape → List ℕ → List ℕ → List StoredRow
+rows_of_hashes shape image regions = oldest_first (map known_rows (map (hash_part shape image) regions))
 
 -- the entries of a sorted store in an image
 abbrev pub entries_in : List ℕ → SortedState → List StoredRow
@@ -51,4 +47,4 @@ entries_in image sorted = sorted_rows sorted.shape sorted.region sorted.count im
 
 -- the rows that are merged, the oldest first: the entries, and then the rows of the hash stores, which are listed the newest first
 unfoldable pub sources : List ℕ → List HashState → SortedState → List StoredRow
-sources image stores sorted = entries_in image sorted ++ hashed_rows sorted.shape image (regions_of stores)
+sources image stores sorted = entries_in image sorted ++ rows_of_hashes sorted.shape image (regions_of stores)

@@ -1,16 +1,19 @@
 -- A merge in memory.
-use Rattle.std.specs.Prelude.{◌≡◌, ℕ, ◌+◌, ◌*◌, ◌==◌, ◌≤◌, ◌<◌, nat_le, Bool, true, false, ◌&&◌, if◌then◌else◌, List, length, Option, Some}
+use Rattle.std.specs.Prelude.{◌≡◌, ℕ, ◌+◌, ◌*◌, ◌-◌, ◌==◌, ◌≤◌, ◌<◌, ◌⊎◌, nat_le, Bool, true, false, not, ◌&&◌, if◌then◌else◌, List, drop, length, Option, Some, None}
 use Rattle.std.specs.Map.{lookup}
 use Rattle.std.specs.Ordering.{is_eq, nat_cmp}
 use Rattle.std.specs.Cmp.Lexicographic.{slice_cmp}
 use Rattle.silt_device.specs.Layout.{Shape}
 use Rattle.silt_frame.specs.declared.key.Key.{Key}
+use Rattle.silt_hash_store.specs.State.{HashState}
+use Rattle.silt_image.specs.Meaning.{is_key_below}
 use Rattle.silt_merge.specs.declared.source.Source.{Source}
 use Rattle.silt_sorted_store.specs.State.{SortedState}
 
 -- A merge: the sorted region that is written, how many hash stores there are, the store and the slot that are gathered next, the
 -- rows that wait for their keys to be decided, how many entries of the sorted store are passed over, how many entries are written,
--- and how many keys are decided.
+-- how many keys are decided, the last of them, and the bytes of the next entry, where they are read. An entry that is passed over
+-- since its key is not above the last one counts as a key that is decided.
 pub record MergeState : Type 0 where
   pub shape : Shape
   pub region : ℕ
@@ -21,6 +24,31 @@ pub record MergeState : Type 0 where
   pub passed : ℕ
   pub written : ℕ
   pub decided : ℕ
+  pub last : Option Key
+  pub next : Option (List ℕ)
+
+-- the bytes of the next entry, where they are read
+abbrev pub next_bytes : Bool → List ℕ → Option (List ℕ)
+next_bytes true bytes = Some bytes
+next_bytes false bytes = None
+
+-- a key is above the last one that is decided
+abbrev pub is_above : Option Key → List ℕ → Bool
+is_above None key = true
+is_above (Some last) key = is_key_below last.0 key
+
+-- the next entry is not above the last key that is decided
+abbrev pub is_behind : Option Key → Option Key → Bool
+is_behind last None = false
+is_behind last (Some next) = not (is_above last next.0)
+
+-- the last key that is decided rises, or it stays and nothing is written
+abbrev pub LastRises : MergeState → MergeState → Type 0
+LastRises old new = ((new.last ≡ old.last) × (new.written ≡ old.written)) ⊎ ((key : Key) × (new.last ≡ Some key) × (is_above old.last key.0 ≡ true))
+
+-- the last of hash stores that are listed the newest first, which are the oldest: those that a merge took, whatever came meanwhile
+abbrev pub oldest_stores : ℕ → List HashState → List HashState
+oldest_stores count stores = drop (length stores - count) stores
 
 -- the row that waits for a key, none where none does
 abbrev pub source_at : List (Key × Source) → List ℕ → Option Source
@@ -34,6 +62,11 @@ slot_after store slot slots = if slot + 1 == slots then (store + 1, 0) else (sto
 abbrev pub passed_after : Bool → ℕ → ℕ
 passed_after true passed = passed + 1
 passed_after false passed = passed
+
+-- the bytes of the next entry after a key, which the next entry has or not
+abbrev pub next_after : Bool → Option (List ℕ) → Option (List ℕ)
+next_after true next = None
+next_after false next = next
 
 -- how many slots are gathered
 abbrev pub gathered_count : MergeState → ℕ
@@ -63,6 +96,8 @@ pub record IsHeldMerge (merge : MergeState) : Type 0 where
   pub slot : merge.slot < 4 * merge.shape.buckets
   pub ended : merge.store ≡ merge.stores → merge.slot ≡ 0
   pub gathers : merge.store < merge.stores → merge.decided ≡ 0
+  pub fresh : merge.store < merge.stores → merge.last ≡ None
+  pub above : (key : List ℕ) (source : Source) → source_at merge.waiting key ≡ Some source → is_above merge.last key ≡ true
   pub inside : (key : List ℕ) (source : Source) → source_at merge.waiting key ≡ Some source → IsInside merge source
   pub room : merge.written ≤ merge.shape.sorted_capacity
   pub few : merge.decided + length merge.waiting ≤ gathered_count merge + merge.passed

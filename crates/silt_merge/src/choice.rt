@@ -1,9 +1,10 @@
 // Which key is decided next, and by what.
 ghost use Rattle.std.specs.Prelude.{◌≡◌};
-ghost use Rattle.silt_merge.specs.Choosing.{choice_of, choice_puts, lower_choice, puts};
+ghost use Rattle.silt_merge.specs.Choice.{choice_of, choice_puts, lower_choice};
+ghost use Rattle.silt_merge.specs.State.{is_behind};
 
 use crate::source::Source;
-use silt_frame::{Key, Kind};
+use silt_frame::Key;
 use std::cmp::Ordering;
 
 /// The key that is decided next.
@@ -39,6 +40,17 @@ fn choose_lower(key: Key, source: Source, next: Key) -> Choice
     }
 }
 
+/// Whether the key of the next entry is not above the last one that is decided.
+pub fn is_behind(last: Option<Key>, next: Option<Key>) -> bool
+    ensures { result ≡ is_behind last next }
+{
+    match (last, next) {
+        (_, None) => false,
+        (None, Some(_)) => false,
+        (Some(last), Some(next)) => !last.cmp(&next).is_lt(),
+    }
+}
+
 /// The choice of the first gathered key with its row and the key of the next entry, none where there is neither.
 pub fn choose(first: Option<(Key, Source)>, next: Option<Key>) -> Option<Choice>
     ensures { result ≡ choice_of first next }
@@ -59,23 +71,13 @@ pub fn choose(first: Option<(Key, Source)>, next: Option<Key>) -> Option<Choice>
     }
 }
 
-/// Whether a kind is that of a put.
-pub fn is_put(kind: Kind) -> bool
-    ensures { result ≡ puts kind }
-{
-    match kind {
-        Kind::Put => true,
-        Kind::Delete => false,
-    }
-}
-
 impl Choice {
     /// Whether the key has a value: an entry decides, or a row that is a put.
     pub fn is_put(&self) -> bool
         ensures { result ≡ choice_puts self.now.source }
     {
         match self.source {
-            Some(source) => is_put(source.kind),
+            Some(source) => source.kind.is_put(),
             None => true,
         }
     }

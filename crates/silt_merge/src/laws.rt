@@ -1,5 +1,5 @@
 // Laws of merges, for the layers above.
-ghost use Rattle.silt_merge.specs.Laws.{KeyCountLaw, MergedCountLaw, MergedElsewhereLaw, MergedLaw, SoundStoresLaw};
+ghost use Rattle.silt_merge.specs.Laws.{KeyCountLaw, MergedCountLaw, MergedElsewhereLaw, MergedLaw, MergesLaw, OldestStoresLaw, SoundStoresLaw};
 
 /// The newest rows that are puts are a merge of all rows.
 pub fn merged_law()
@@ -24,4 +24,14 @@ pub fn sound_stores_law()
 /// A merge has gathered and written what it had, after a change elsewhere.
 pub fn merged_elsewhere_law()
     ensures { MergedElsewhereLaw }
+{}
+
+/// The stores that a merge took are the oldest ones still, after others came in front of them.
+pub fn oldest_stores_law()
+    ensures { OldestStoresLaw }
+{}
+
+/// A merge of the entries and the oldest hash stores may stand as the entries in their place.
+pub fn merges_law()
+    ensures { MergesLaw }
 {}

@@ -5,18 +5,20 @@
 //! first gathered key and the key of the next entry. A gathered row decides over the entry of its key. A put is written as the next
 //! entry of the region, and a key whose newest row is a delete is left out.
 //!
+//! The last key that is decided stays in memory, and an entry whose key is not above it is passed over. So what is written rises, on
+//! any disk.
+//!
 //! It writes nothing but entries of its own region. On a disk that is not honest it is safe and ends.
 #![tactic(auto)]
 
 mod choice;
 mod laws;
 mod merge;
-mod region;
 mod source;
-mod waiting;
 
 pub use laws::{
-    key_count_law, merged_count_law, merged_elsewhere_law, merged_law, sound_stores_law,
+    key_count_law, merged_count_law, merged_elsewhere_law, merged_law, merges_law,
+    oldest_stores_law, sound_stores_law,
 };
 pub use merge::{Merge, StepError};
 

@@ -5,20 +5,19 @@ ghost use Rattle.std.specs.Str.{bytes_eq};
 ghost use Rattle.silt_device.specs.Disk.{Content, ChangesWithin, CountsFault, GaveAny, size};
 ghost use Rattle.silt_device.specs.Layout.{Shape, device_size, entry_len, sorted_at, sorted_size};
 ghost use Rattle.silt_hash_store.specs.State.{HashState};
-ghost use Rattle.silt_merge.specs.Choosing.{IsNextEntry, ReadsRow};
+ghost use Rattle.silt_merge.specs.Choice.{IsNextEntry, IsOffered, ReadsRow};
 ghost use Rattle.silt_merge.specs.Rows.{regions_of};
-ghost use Rattle.silt_merge.specs.State.{passed_after, slot_after};
+ghost use Rattle.silt_merge.specs.State.{next_after, passed_after, slot_after};
 ghost use Rattle.silt_merge.specs.declared.source.Source.{Source};
+ghost use Rattle.silt_sorted_store.specs.OnlyRow.{HasEntry};
 ghost use Rattle.silt_sorted_store.specs.State.{IsHeldSorted, SortedState, entries_of};
 
-use crate::choice::{Choice, choose, is_put};
-use crate::region::SortedRegion;
-use crate::source::Source;
-use crate::waiting::{first, keep, let_go};
+use crate::choice::{Choice, choose, is_behind};
+use crate::source::{Source, first, keep, remove_waiting};
 use silt_device::Disk;
 use silt_frame::{KEY_LEN, Key};
 use silt_hash_store::HashStore;
-use silt_sorted_store::SortedStore;
+use silt_sorted_store::{SortedRegion, SortedStore};
 use std::alloc::{AllocError, Global};
 use std::collections::BTreeMap;
 use std::marker::Model;
@@ -36,24 +35,29 @@ pub enum StepError<F> {
 
 /// Hash stores and a sorted store on their way to become a new sorted store.
 ///
-/// It keeps the key and the place of each row that waits to be decided, and the bytes of one entry.
+/// It keeps the key and the place of each row that waits to be decided, the last key that was decided, and the bytes of the next entry
+/// of the sorted store, so that it is read once. Two more buffers of an entry serve each step.
 #[derive(Drop)]
 pub struct Merge {
     target: SortedRegion,
-    stores: u32,
-    store: u32,
+    stores: u16,
+    store: u16,
     slot: u32,
     waiting: BTreeMap<Key, Source>,
     passed: u32,
     written: u32,
     decided: u64,
+    last: Option<Key>,
+    is_read: bool,
+    next: Vec<u8>,
     entry: Vec<u8>,
+    made: Vec<u8>,
 }
 
 impl Model for Merge {
     ghost use Rattle.std.specs.Prelude.{◌≡◌, vec_len};
     ghost use Rattle.silt_device.specs.Layout.{entry_len};
-    ghost use Rattle.silt_merge.specs.State.{MergeState, IsHeldMerge};
+    ghost use Rattle.silt_merge.specs.State.{MergeState, IsHeldMerge, next_bytes};
 
     ghost Value = { MergeState };
 
@@ -67,6 +71,8 @@ impl Model for Merge {
       passed = a.passed;
       written = a.written;
       decided = a.decided;
+      last = a.last;
+      next = next_bytes a.is_read a.next.items;
     } };
 
     ghost invariant = { λ a. IsHeldMerge (record {
@@ -79,19 +85,36 @@ impl Model for Merge {
       passed = a.passed;
       written = a.written;
       decided = a.decided;
-    }) × (vec_len a.entry ≡ entry_len a.target.geometry) };
+      last = a.last;
+      next = next_bytes a.is_read a.next.items;
+    }) × (vec_len a.next ≡ entry_len a.target.geometry) × (vec_len a.entry ≡ entry_len a.target.geometry) × (vec_len a.made ≡ entry_len a.target.geometry) };
 }
 
-// Reads the next entry of the sorted store into a buffer, where not all are passed over. Its key.
+// The key of an entry's bytes.
+fn key_of(entry: &[u8]) -> Key
+    requires { 20 ≤ length entry.now }
+    ensures { result.0 ≡ take 20 entry.now }
+{
+    let mut key = [0; KEY_LEN];
+    key.copy_from_slice(&entry[..KEY_LEN]);
+    Key(key)
+}
+
+// Puts the bytes of the next entry of the sorted store into a buffer, where not all are passed over: those that are kept, or it reads
+// them. Its key.
 fn read_next<D: Disk>(
     sorted: &SortedStore,
     disk: &D,
     passed: u32,
+    is_read: bool,
+    kept: &[u8],
     out: &mut [u8],
 ) -> Result<Option<Key>, D::Fault>
+    requires kept { length kept.now ≡ entry_len sorted.now.shape }
     requires out { length out.old ≡ entry_len sorted.now.shape }
     requires size { device_size sorted.now.shape ≤ size (D.content disk.now) }
-    ensures next { IsTrue (D.content disk.now).honest → IfOk result (IsNextEntry (entries_of (D.content disk.now) sorted.now) passed out.new) }
+    ensures next { IsTrue (D.content disk.now).honest → (is_read ≡ true → passed < sorted.now.count → HasEntry (entries_of (D.content disk.now) sorted.now) passed kept.now)
+        → IfOk result (IsNextEntry (entries_of (D.content disk.now) sorted.now) passed out.new) }
     ensures is_some { IfOk result (λ next. is_some next ≡ nat_lt passed sorted.now.count) }
     ensures fault { IfErr result (GaveAny D.gave disk.now) }
     ensures len { length out.new ≡ length out.old }
@@ -101,10 +124,12 @@ fn read_next<D: Disk>(
     if passed >= sorted.len() {
         return Ok(None);
     }
-    sorted.read_entry(disk, passed, out)?;
-    let mut key = [0; KEY_LEN];
-    key.copy_from_slice(&out[..KEY_LEN]);
-    Ok(Some(Key(key)))
+    if is_read {
+        out.copy_from_slice(kept);
+        return Ok(Some(key_of(kept)));
+    }
+    let key = sorted.entry(disk, passed, out)?;
+    Ok(Some(key))
 }
 
 // Reads the value of a row that is a put and decides, behind its key, into a buffer. It leaves the bytes of an entry that decides.
@@ -126,7 +151,7 @@ fn read_row<D: Disk>(
     let Some(source) = choice.source else {
         return Ok(());
     };
-    if !is_put(source.kind) {
+    if !source.kind.is_put() {
         return Ok(());
     }
     let (key, value) = out.split_at_mut(KEY_LEN);
@@ -135,8 +160,8 @@ fn read_row<D: Disk>(
 }
 
 // The store and the slot after these, where a store has so many slots.
-fn slot_after(store: u32, slot: u32, slots: u32) -> (u32, u32)
-    requires store { store + 1 < 2 ^ 32 }
+fn slot_after(store: u16, slot: u32, slots: u32) -> (u16, u32)
+    requires store { store + 1 < 2 ^ 16 }
     requires slot { slot < slots }
     ensures { result ≡ slot_after store slot slots }
 {
@@ -156,17 +181,17 @@ fn passed_after(passes: bool, passed: u32) -> u32
 }
 
 impl Merge {
-    ghost use Rattle.silt_merge.specs.Merging.{AreSound, FailsMerge, HasMerged, IsMergeOf, IsSameMerge};
+    ghost use Rattle.silt_merge.specs.Merging.{AreSound, FailsMerge, HasMerged, IsMergeOf, IsSameMerge, TakesMemory};
     ghost use Rattle.silt_merge.specs.Rows.{key_count, merged_rows, sources};
-    ghost use Rattle.silt_merge.specs.State.{IsHeldMerge, MergeState, is_done, source_at, steps_for, steps_of};
-    ghost use Rattle.silt_sorted_store.specs.State.{entry_at};
+    ghost use Rattle.silt_merge.specs.State.{IsHeldMerge, MergeState, LastRises, is_done, oldest_stores, source_at, steps_for, steps_of};
+    ghost use Rattle.silt_sorted_store.specs.State.{sorted_entry_at};
 
     /// A merge of these hash stores, the newest first, and the sorted store, into the sorted region of this number, with no slot
     /// gathered.
     ///
     /// # Errors
     ///
-    /// Where the bytes of one entry find no memory.
+    /// Where the bytes of two entries find no memory.
     pub fn start(
         alloc: Global,
         stores: &[HashStore],
@@ -175,7 +200,7 @@ impl Merge {
     ) -> Result<Self, AllocError>
         requires region { region < 2 }
         requires apart { sorted.now.region ≢ region }
-        requires most { length stores.now < 2 ^ 32 }
+        requires most { length stores.now < 2 ^ 16 }
         ensures start { IfOk result (λ merge. merge ≡ record {
           shape = sorted.now.shape;
           region = region;
@@ -186,6 +211,8 @@ impl Merge {
           passed = 0;
           written = 0;
           decided = 0;
+          last = None;
+          next = None;
         }) }
         ensures held { IfOk result IsHeldMerge }
         ensures merged { (content : Content) → IfOk result (HasMerged content stores.now sorted.now) }
@@ -197,14 +224,18 @@ impl Merge {
                 geometry,
                 number: region,
             },
-            stores: stores.len() as u32,
+            stores: stores.len() as u16,
             store: 0,
             slot: 0,
             waiting: BTreeMap::new(alloc),
             passed: 0,
             written: 0,
             decided: 0,
+            last: None,
+            is_read: false,
+            next: vec![in alloc; 0; geometry.entry_len()]?,
             entry: vec![in alloc; 0; geometry.entry_len()]?,
+            made: vec![in alloc; 0; geometry.entry_len()]?,
         })
     }
 
@@ -234,8 +265,9 @@ impl Merge {
         ensures same { IsSameMerge self.old self.new }
         ensures held { IsHeldMerge self.new }
         ensures err { OnErr result (self.new ≡ self.old) }
+        ensures rises { LastRises self.old self.new }
         ensures merged { (sorted : SortedState) → HasMerged (D.content disk.now) stores.now sorted self.old → HasMerged (D.content disk.now) stores.now sorted self.new }
-        ensures failures { IfErr result (FailsMerge (GaveAny D.gave) (λ fault. ⊥) disk.now disk.now) }
+        ensures failures { IfErr result (FailsMerge (GaveAny D.gave) (λ fault. ⊥) (TakesMemory (D.content disk.now) stores.now self.old) disk.now disk.now) }
     {
         let row = match stores[self.store as usize].row_at(disk, self.slot) {
             Ok(row) => row,
@@ -249,21 +281,40 @@ impl Merge {
         Ok(())
     }
 
-    // Lets go the row of a key that is decided, and passes over the entry that has it.
-    fn pass_key(&mut self, choice: &Choice, written: u32)
+    // Marks a key as decided: no row waits for it any more, and the entry that has it is passed over.
+    fn mark_decided(&mut self, choice: &Choice, written: u32)
         requires gathered { self.old.store ≡ self.old.stores }
-        requires source { (source : Source) → choice.now.source ≡ Some source → source_at self.old.waiting choice.now.key.0 ≡ Some source }
-        requires none { choice.now.source ≡ None → choice.now.passes ≡ true }
+        requires offered { IsOffered self.old.waiting self.old.last choice.now }
         requires passed { choice.now.passes ≡ true → self.old.passed + 1 < 2 ^ 32 }
         requires room { written ≤ self.old.shape.sorted_capacity }
         ensures held { IsHeldMerge self.new }
         ensures gone { (key : List ℕ) → source_at self.new.waiting key ≡ cond (bytes_eq choice.now.key.0 key) None (source_at self.old.waiting key) }
-        ensures state { self.new ≡ record self.old { waiting = self.new.waiting; passed = passed_after choice.now.passes self.old.passed; written = written; decided = self.old.decided + 1 } }
+        ensures state { self.new ≡ record self.old {
+          waiting = self.new.waiting;
+          passed = passed_after choice.now.passes self.old.passed;
+          written = written;
+          decided = self.old.decided + 1;
+          last = Some choice.now.key;
+          next = next_after choice.now.passes self.old.next;
+        } }
     {
-        let_go(&mut self.waiting, &choice.key);
+        remove_waiting(&mut self.waiting, &choice.key);
         self.passed = passed_after(choice.passes, self.passed);
         self.written = written;
         self.decided += 1;
+        self.last = Some(choice.key);
+        self.is_read = self.is_read && !choice.passes;
+    }
+    // Passes over the next entry, whose key is not above the last one.
+    fn pass_entry(&mut self)
+        requires gathered { self.old.store ≡ self.old.stores }
+        requires passed { self.old.passed + 1 < 2 ^ 32 }
+        ensures held { IsHeldMerge self.new }
+        ensures state { self.new ≡ record self.old { passed = self.old.passed + 1; decided = self.old.decided + 1; next = None } }
+    {
+        self.passed += 1;
+        self.decided += 1;
+        self.is_read = false;
     }
 
     // Decides one key: reads the next entry, and the value of the row that decides, and writes the entry that is due.
@@ -280,37 +331,57 @@ impl Merge {
         requires shape { sorted.now.shape ≡ self.old.shape }
         requires size { device_size self.old.shape ≤ size (D.content disk.old) }
         ensures size { size (D.content disk.new) ≡ size (D.content disk.old) }
-        ensures changes { ChangesWithin (entry_at self.old.shape self.old.region self.old.written) (entry_len self.old.shape) (D.content disk.old) (D.content disk.new) }
+        ensures changes { ChangesWithin (sorted_entry_at self.old.shape self.old.region self.old.written) (entry_len self.old.shape) (D.content disk.old) (D.content disk.new) }
         ensures region { ChangesWithin (sorted_at self.old.shape self.old.region) (self.old.shape.sorted_capacity * entry_len self.old.shape) (D.content disk.old) (D.content disk.new) }
         ensures ok { OnOk result (steps_of self.new ≡ steps_of self.old + 1) }
         ensures same { IsSameMerge self.old self.new }
         ensures held { IsHeldMerge self.new }
         ensures err { OnErr result (self.new ≡ self.old) }
+        ensures rises { LastRises self.old self.new }
         ensures merged { HasMerged (D.content disk.old) stores.now sorted.now self.old → HasMerged (D.content disk.new) stores.now sorted.now self.new }
-        ensures failures { MatchResult result (λ _. D.failures disk.new ≡ D.failures disk.old) (FailsMerge (GaveAny D.gave) (CountsFault D.failures D.gave disk.old disk.new) disk.old disk.new) }
+        ensures failures { MatchResult result (λ _. D.failures disk.new ≡ D.failures disk.old) (FailsMerge (GaveAny D.gave) (CountsFault D.failures D.gave disk.old disk.new) ⊥ disk.old disk.new) }
     {
-        let next = match read_next(sorted, disk, self.passed, &mut self.entry) {
+        let next = match read_next(
+            sorted,
+            disk,
+            self.passed,
+            self.is_read,
+            &self.next,
+            &mut self.entry,
+        ) {
             Ok(next) => next,
             Err(fault) => return Err(StepError::Read(fault)),
         };
+        if is_behind(self.last, next) {
+            self.pass_entry();
+            return Ok(());
+        }
         let Some(choice) = choose(first(&self.waiting), next) else {
             return Ok(());
         };
-        if let Err(fault) = read_row(stores, disk, &choice, &mut self.entry) {
+        self.made.copy_from_slice(&self.entry);
+        if let Err(fault) = read_row(stores, disk, &choice, &mut self.made) {
             return Err(StepError::Read(fault));
         }
         match self
             .target
-            .write_due(disk, self.written, choice.is_put(), &self.entry)
+            .write_due(disk, self.written, choice.is_put(), &self.made)
         {
-            Ok(written) => self.pass_key(&choice, written),
+            Ok(written) => {
+                std::mem::swap(&mut self.next, &mut self.entry);
+                self.is_read = true;
+                self.mark_decided(&choice, written);
+            }
             Err(fault) => return Err(StepError::Write(fault)),
         }
         Ok(())
     }
 
     /// Takes the next step: gathers one slot, or decides one key. It makes at most two reads and then at most one write, of one
-    /// entry, and takes memory for at most one row.
+    /// entry, and takes memory for at most one row. The next entry of the sorted store is read once, and anew after a step that failed.
+    ///
+    /// The stores are those that stand, the newest first: the last of them are those that the merge took, whatever stands in front of
+    /// them since.
     ///
     /// # Errors
     ///
@@ -322,35 +393,43 @@ impl Merge {
         disk: &mut D,
     ) -> Result<(), StepError<D::Fault>>
         requires more { is_done self.old sorted.now ≡ false }
-        requires count { length stores.now ≡ self.old.stores }
-        requires shapes { All (λ store. store.shape ≡ self.old.shape) stores.now }
+        requires count { self.old.stores ≤ length stores.now }
+        requires shapes { All (λ store. store.shape ≡ self.old.shape) (oldest_stores self.old.stores stores.now) }
         requires shape { sorted.now.shape ≡ self.old.shape }
         requires size { device_size self.old.shape ≤ size (D.content disk.old) }
         ensures size { size (D.content disk.new) ≡ size (D.content disk.old) }
-        ensures changes { ChangesWithin (entry_at self.old.shape self.old.region self.old.written) (entry_len self.old.shape) (D.content disk.old) (D.content disk.new) }
+        ensures changes { ChangesWithin (sorted_entry_at self.old.shape self.old.region self.old.written) (entry_len self.old.shape) (D.content disk.old) (D.content disk.new) }
         ensures region { ChangesWithin (sorted_at self.old.shape self.old.region) (sorted_size self.old.shape) (D.content disk.old) (D.content disk.new) }
         ensures ok { OnOk result (steps_of self.new ≡ steps_of self.old + 1) }
         ensures same { IsSameMerge self.old self.new }
         ensures held { IsHeldMerge self.new }
         ensures err { OnErr result (self.new ≡ self.old) }
-        ensures merged { HasMerged (D.content disk.old) stores.now sorted.now self.old → HasMerged (D.content disk.new) stores.now sorted.now self.new }
-        ensures failures { MatchResult result (λ _. D.failures disk.new ≡ D.failures disk.old) (FailsMerge (GaveAny D.gave) (CountsFault D.failures D.gave disk.old disk.new) disk.old disk.new) }
+        ensures rises { LastRises self.old self.new }
+        ensures merged { HasMerged (D.content disk.old) (oldest_stores self.old.stores stores.now) sorted.now self.old
+            → HasMerged (D.content disk.new) (oldest_stores self.old.stores stores.now) sorted.now self.new }
+        ensures failures { MatchResult result (λ _. D.failures disk.new ≡ D.failures disk.old)
+            (FailsMerge (GaveAny D.gave) (CountsFault D.failures D.gave disk.old disk.new) (TakesMemory (D.content disk.old) (oldest_stores self.old.stores stores.now) self.old) disk.old disk.new) }
     {
+        let (_newer, taken) = stores.split_at(stores.len() - self.stores as usize);
         if self.store < self.stores {
-            return self.gather(stores, disk);
+            return self.gather(taken, disk);
         }
-        self.decide(stores, sorted, disk)
+        self.decide(taken, sorted, disk)
     }
 
     /// The sorted store of the entries that are written.
-    pub fn finish(&self) -> SortedStore
-        ensures store { result ≡ record { shape = self.now.shape; region = self.now.region; count = self.now.written } }
+    ///
+    /// # Errors
+    ///
+    /// Where what the store keeps finds no memory.
+    pub fn finish(&self) -> Result<SortedStore, AllocError>
+        ensures store { IfOk result (λ store. store ≡ record { shape = self.now.shape; region = self.now.region; count = self.now.written }) }
         ensures entries { (content : Content) (stores : List HashState) (sorted : SortedState) → is_done self.now sorted ≡ true → HasMerged content stores sorted self.now → IsTrue content.honest
-            → AreSound content.shown stores sorted → entries_of content result ≡ take self.now.shape.sorted_capacity (merged_rows (sources content.shown stores sorted)) }
+            → AreSound content.shown stores sorted → IfOk result (λ store. entries_of content store ≡ take self.now.shape.sorted_capacity (merged_rows (sources content.shown stores sorted))) }
         ensures merge { (content : Content) (stores : List HashState) (sorted : SortedState) → is_done self.now sorted ≡ true → HasMerged content stores sorted self.now → IsTrue content.honest
             → AreSound content.shown stores sorted → length (merged_rows (sources content.shown stores sorted)) ≤ self.now.shape.sorted_capacity
-            → IsMergeOf (sources content.shown stores sorted) (entries_of content result) }
+            → IfOk result (λ store. IsMergeOf (sources content.shown stores sorted) (entries_of content store)) }
     {
-        SortedStore::new(self.target.geometry, self.target.number, self.written)
+        Ok(SortedStore::new(self.target.geometry, self.target.number, self.written))
     }
 }

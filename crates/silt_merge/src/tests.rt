@@ -5,6 +5,7 @@ ghost use Rattle.silt_device.specs.Disk.{size};
 ghost use Rattle.silt_device.specs.Layout.{device_size};
 ghost use Rattle.silt_device.specs.Memory.{memory_content};
 ghost use Rattle.silt_merge.specs.Merging.{IsSameMerge};
+ghost use Rattle.silt_merge.specs.State.{oldest_stores};
 
 use super::*;
 use silt_device::{BadGeometry, Call, Disk, FaultDisk, Geometry, MemDisk};
@@ -113,8 +114,8 @@ fn run_step<D: Disk>(
     sorted: &SortedStore,
     disk: &mut D,
 ) -> Outcome
-    requires count { length stores.now ≡ merge.old.stores }
-    requires shapes { All (λ store. store.shape ≡ merge.old.shape) stores.now }
+    requires count { merge.old.stores ≤ length stores.now }
+    requires shapes { All (λ store. store.shape ≡ merge.old.shape) (oldest_stores merge.old.stores stores.now) }
     requires shape { sorted.now.shape ≡ merge.old.shape }
     requires size { device_size merge.old.shape ≤ size (D.content disk.old) }
     ensures same { IsSameMerge merge.old merge.new }
@@ -145,8 +146,8 @@ fn run_steps<D: Disk>(
     sorted: &SortedStore,
     disk: &mut D,
 ) -> Outcome
-    requires count { length stores.now ≡ merge.old.stores }
-    requires shapes { All (λ store. store.shape ≡ merge.old.shape) stores.now }
+    requires count { merge.old.stores ≤ length stores.now }
+    requires shapes { All (λ store. store.shape ≡ merge.old.shape) (oldest_stores merge.old.stores stores.now) }
     requires shape { sorted.now.shape ≡ merge.old.shape }
     requires size { device_size merge.old.shape ≤ size (D.content disk.old) }
     ensures same { IsSameMerge merge.old merge.new }
@@ -168,11 +169,7 @@ fn run_steps<D: Disk>(
 
 // Merges hash region 0, the newest store, hash region 1, and four entries of sorted region 0 into sorted region 1: what the steps
 // came to, and the new store, none where they left the merge undone.
-fn merge_all<D: Disk>(
-    alloc: Global,
-    disk: &mut D,
-    geometry: Geometry,
-) -> Option<(Outcome, SortedStore)>
+fn merge_all<D: Disk>(alloc: Global, disk: &mut D, geometry: Geometry) -> Option<(Outcome, u32)>
     requires hashes { geometry.hashes ≡ 2 }
     requires capacity { 4 ≤ geometry.sorted_capacity }
     requires size { device_size geometry ≤ size (D.content disk.old) }
@@ -187,7 +184,8 @@ fn merge_all<D: Disk>(
     if !merge.is_done(&sorted) {
         return None;
     }
-    Some((outcome, merge.finish()))
+    let store = merge.finish().ok()?;
+    Some((outcome, store.len()))
 }
 
 // The first and the last byte of the key, and the last byte of the value of an entry of sorted region 1.
@@ -199,7 +197,7 @@ fn entry<D: Disk>(disk: &D, geometry: Geometry, place: u32) -> Option<(u8, u8, u
 {
     let mut entry = [0; 22];
     SortedStore::new(geometry, 1, 8)
-        .read_entry(disk, place, &mut entry)
+        .entry(disk, place, &mut entry)
         .ok()?;
     Some((entry[0], entry[19], entry[21]))
 }
@@ -218,10 +216,7 @@ fn merges_two_hash_stores_and_a_sorted_store(rt: HostRuntime) -> Result<(), Fail
         reads: 0,
         writes: 0,
     };
-    assert_eq!(rt;
-        merge_all(alloc, &mut disk, geometry),
-        Some((outcome, SortedStore::new(geometry, 1, 5)))
-    );
+    assert_eq!(rt; merge_all(alloc, &mut disk, geometry), Some((outcome, 5)));
     assert_eq!(rt; entry(&disk, geometry, 0), Some((10, 0, 3)));
     assert_eq!(rt; entry(&disk, geometry, 1), Some((15, 0, 8)));
     assert_eq!(rt; entry(&disk, geometry, 2), Some((30, 0, 1)));
@@ -245,12 +240,41 @@ fn leaves_out_what_finds_no_place(rt: HostRuntime) -> Result<(), Fail> {
         reads: 0,
         writes: 0,
     };
-    assert_eq!(rt;
-        merge_all(alloc, &mut disk, geometry),
-        Some((outcome, SortedStore::new(geometry, 1, 4)))
-    );
+    assert_eq!(rt; merge_all(alloc, &mut disk, geometry), Some((outcome, 4)));
     assert_eq!(rt; &disk.shown()[41_026..41_028], [40, 0].as_slice());
     assert_eq!(rt; &disk.shown()[41_048..41_050], [0, 0].as_slice());
+    Ok(())
+}
+
+// An entry whose key is not above the last one that was decided is passed over: here the third one, 12 after 30.
+#[test]
+fn passes_over_what_does_not_rise(rt: HostRuntime) -> Result<(), Fail> {
+    let alloc = rt.alloc();
+    let geometry = small(8)?;
+    let mut disk = MemDisk::new(alloc, geometry.size() as usize)?;
+    fill_newest(&mut disk)?;
+    fill_older(&mut disk)?;
+    fill_sorted(&mut disk)?;
+    fill_entry(&mut disk, 2, 12, 10)?;
+    let outcome = Outcome {
+        steps: 24,
+        reads: 0,
+        writes: 0,
+    };
+    assert_eq!(rt; merge_all(alloc, &mut disk, geometry), Some((outcome, 5)));
+    assert_eq!(rt; entry(&disk, geometry, 0), Some((10, 0, 3)));
+    assert_eq!(rt; entry(&disk, geometry, 1), Some((15, 0, 8)));
+    assert_eq!(rt; entry(&disk, geometry, 2), Some((30, 0, 1)));
+    assert_eq!(rt; entry(&disk, geometry, 3), Some((40, 0, 6)));
+    assert_eq!(rt; entry(&disk, geometry, 4), Some((60, 0, 11)));
+    Ok(())
+}
+
+// A row that waits is a key of 20 bytes and a source of eight.
+#[test]
+fn a_source_takes_eight_bytes(rt: HostRuntime) -> Result<(), Fail> {
+    assert_eq!(rt; size_of::<crate::source::Source>(), 8);
+    assert_eq!(rt; size_of::<Key>(), 20);
     Ok(())
 }
 
@@ -268,13 +292,14 @@ fn merge_with_fault(
     requires size { device_size geometry ≤ size (memory_content disk) }
 {
     let mut disk = FaultDisk::new(disk, call, number);
-    let (outcome, _store) = merge_all(alloc, &mut disk, geometry)?;
+    let (outcome, _count) = merge_all(alloc, &mut disk, geometry)?;
     let last = entry(&disk, geometry, 4)?;
     Some((outcome, last))
 }
 
-// A step after one that failed does what the failed one was to do. The rebuilds make 25 reads; the steps read 16 heads, an entry for
-// each of the 7 keys and the 3 values of the rows that are written, and write 5 entries.
+// A step after one that failed does what the failed one was to do. The rebuilds make 25 reads; the steps read 16 heads, each of the 4
+// entries once and the 3 values of the rows that are written, so read 48 is the last one, and they write 5 entries. Read 49 is that of the
+// last entry afterwards.
 #[test]
 fn goes_on_after_a_failed_step(rt: HostRuntime) -> Result<(), Fail> {
     let alloc = rt.alloc();
@@ -284,7 +309,8 @@ fn goes_on_after_a_failed_step(rt: HostRuntime) -> Result<(), Fail> {
         (Call::Read, 41, 1, 0),
         (Call::Read, 42, 1, 0),
         (Call::Read, 43, 1, 0),
-        (Call::Read, 51, 1, 0),
+        (Call::Read, 48, 1, 0),
+        (Call::Read, 50, 0, 0),
         (Call::Write, 1, 0, 1),
         (Call::Write, 5, 0, 1),
         (Call::Write, 6, 0, 0),

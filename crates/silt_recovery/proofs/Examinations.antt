@@ -8,11 +8,12 @@ use Rattle.std.proofs.lemmas.List.Sums.{sum_by-cons}
 use Rattle.silt_device.specs.Disk.{Content, Rests, size}
 use Rattle.silt_device.specs.Layout.{Shape, InLimits, device_size}
 use Rattle.silt_hash_store.specs.State.{HashState, IsHashStore}
-use Rattle.silt_image.specs.Meaning.{IsSound, charge_of, charge_of_rows, sorted_findings}
+use Rattle.silt_image.specs.Meaning.{IsSound, charge_of, sorted_findings}
+use Rattle.silt_frame.specs.Rows.{put_count}
 use Rattle.silt_image.specs.Stores.{Stores, image_stores, sorted_rows, stores_named}
-use Rattle.silt_image.specs.declared.finding.Finding.{Finding}
-use Rattle.silt_image.specs.declared.finding.Finding.TheVariants.{Damaged}
-use Rattle.silt_image.specs.declared.finding.Place.TheVariants.{Charge}
+use Rattle.silt_image.specs.declared.damage.Finding.{Finding}
+use Rattle.silt_image.specs.declared.damage.Finding.TheVariants.{Damaged}
+use Rattle.silt_event.specs.declared.place.Place.TheVariants.{Charge}
 use Rattle.silt_image.proofs.Search.{charge_found_law}
 use Rattle.silt_image.proofs.Sound.{parts_law}
 use Rattle.silt_log.specs.Rows.{log_rows}
@@ -63,7 +64,7 @@ module _ (content : Content) (shape : Shape) (body : Body) (named : IsTrue conte
           (subst (λ (hashed : List ℕ). HasFirstSlot shape content.shown hashed finding) named_ids (found h)))
 
       module _ (no_entries : body.sorted_count ≡ 0) (ids : List ℕ) (named_ids : ids ≡ body.hashed) (hashes : List HashState) (hash_puts hash_rows : ℕ) (hashed : AreReadHashes content shape ids hashes hash_puts hash_rows)
-          (newest : ℕ) (counted : IsTrue content.honest → newest ≡ charge_of_rows (log_rows shape body.active content.shown)) where
+          (newest : ℕ) (counted : IsTrue content.honest → newest ≡ put_count (log_rows shape body.active content.shown)) where
         -- nothing is found in any hash store
         hashes_sound : IsTrue content.honest → AreSoundHashes shape content.shown body.hashed
         hashes_sound h = subst (λ (all : List ℕ). AreSoundHashes shape content.shown all) named_ids (hashed.sound h)
@@ -76,7 +77,7 @@ module _ (content : Content) (shape : Shape) (body : Body) (named : IsTrue conte
         -- the puts that were counted are all
         charge_is : IsTrue content.honest → newest + older + hash_puts ≡ charge_of (stores_named shape body content.shown)
         charge_is h =
-            let puts : ℕ → ℕ = λ (region : ℕ). charge_of_rows (log_rows shape region content.shown) in
+            let puts : ℕ → ℕ = λ (region : ℕ). put_count (log_rows shape region content.shown) in
             let in_logs : newest + older ≡ put_rows shape content.shown (body.active ∷ body.frozen) =
             ap (λ (n : ℕ). n + older) (counted h) ∙ ap (λ (n : ℕ). puts body.active + n) (read.counted h ∙ ap (put_rows shape content.shown) are) ∙ sym (sum_by-cons puts body.active body.frozen) in
             let in_hashes : hash_puts ≡ sum_by (region_puts shape content.shown) body.hashed = hashed.charged h ∙ ap (sum_by (region_puts shape content.shown)) named_ids in

@@ -5,8 +5,8 @@ use Rattle.std.proofs.lemmas.List.Elements.{All-push}
 use Rattle.std.proofs.lemmas.List.Sums.{sum_by_push}
 use Rattle.silt_device.specs.Disk.{Content}
 use Rattle.silt_device.specs.Layout.{Shape}
-use Rattle.silt_image.specs.Meaning.{charge_of_rows}
-use Rattle.silt_image.specs.declared.finding.Finding.{Finding}
+use Rattle.silt_frame.specs.Rows.{put_count}
+use Rattle.silt_image.specs.declared.damage.Finding.{Finding}
 use Rattle.silt_log.specs.Rows.{log_rows}
 use Rattle.silt_log_store.specs.State.{LogStoreState}
 use Rattle.silt_stores.specs.State.{region_of}
@@ -16,7 +16,7 @@ use Rattle.silt_recovery.proofs.Searches.{found_within, sound_both}
 -- one log more
 pub one_more_read : (content : Content) (shape : Shape) (regions : List ℕ) (i : ℕ) (stores : List LogStoreState) (puts : ℕ) (store : LogStoreState) (added : ℕ) → i < length regions → AreReadLogs content shape (take i regions) stores puts
     → store.log.region ≡ get_or regions i 0 → IsReadLog content shape store → (IsTrue content.honest → AreSoundLogs shape content.shown (get_or regions i 0 ∷ []))
-    → (IsTrue content.honest → added ≡ charge_of_rows (log_rows shape (get_or regions i 0) content.shown)) → AreReadLogs content shape (take (i + 1) regions) (stores ++ store ∷ []) (puts + added)
+    → (IsTrue content.honest → added ≡ put_count (log_rows shape (get_or regions i 0) content.shown)) → AreReadLogs content shape (take (i + 1) regions) (stores ++ store ∷ []) (puts + added)
 one_more_read content shape regions i stores puts store added before read has_region own sound counted =
     let region : ℕ = get_or regions i 0 in
     let next : take (i + 1) regions ≡ take i regions ++ region ∷ [] = take_more regions i 0 before in
@@ -26,7 +26,7 @@ one_more_read content shape regions i stores puts store added before read has_re
       sound = λ h. sound_both shape content.shown (take i regions) (region ∷ []) (read.sound h) (sound h);
       counted = λ h.
           ap (λ (n : ℕ). n + added) (read.counted h) ∙ ap (λ (n : ℕ). put_rows shape content.shown (take i regions) + n) (counted h)
-          ∙ sym (sum_by_push (λ (id : ℕ). charge_of_rows (log_rows shape id content.shown)) (take i regions) region);
+          ∙ sym (sum_by_push (λ (id : ℕ). put_count (log_rows shape id content.shown)) (take i regions) region);
     })
 
 -- a finding in the next log

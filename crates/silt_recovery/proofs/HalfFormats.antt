@@ -8,15 +8,15 @@ use Rattle.silt_device.specs.Disk.{Content, Torn, Tears, Writes, ChangesWithin, 
 use Rattle.silt_device.specs.Layout.{Shape, InLimits, device_size, slot_at}
 use Rattle.silt_device.proofs.Images.{left_at_rest, rests_leaves, sized_leaves, splice_byte, splice_slice, torn_refl, torn_slice_after, within_leaves, write_within}
 use Rattle.std.specs.Str.{bytes_eq}
+use Rattle.silt_frame.specs.Gate.{is_open}
 use Rattle.silt_image.specs.Header.{header_bytes, header_of, is_formatted, magic}
 use Rattle.silt_manifest.specs.Numbers.{number_at}
 use Rattle.silt_image.specs.Meaning.{image_verdict}
 use Rattle.silt_image.specs.Stores.{image_stores, stores_shaped}
-use Rattle.silt_image.specs.declared.finding.Finding.TheVariants.{NotFormatted}
+use Rattle.silt_image.specs.declared.damage.Finding.TheVariants.{NotFormatted}
 use Rattle.silt_image.proofs.Verdict.{no_stores_law}
 use Rattle.silt_log.specs.Rows.{log_rows}
 use Rattle.silt_log.proofs.Elsewhere.{log_rows_elsewhere}
-use Rattle.silt_manifest.specs.Ruling.{is_open}
 use Rattle.silt_manifest.specs.Standing.{IsFirst}
 use Rattle.silt_manifest.proofs.Laws.{first_elsewhere}
 use Rattle.silt_recovery.specs.Format.{HasHeaderOrNone, IsGateClosed, IsHalfFormatted}

@@ -8,14 +8,14 @@ use Rattle.silt_device.specs.Disk.{Content}
 use Rattle.silt_device.specs.Layout.{Shape}
 use Rattle.silt_hash_store.specs.Rebuild.{IsFirstUnsound}
 use Rattle.silt_hash_store.specs.State.{HashState}
-use Rattle.silt_image.specs.Meaning.{charge_of, charge_of_rows, hash_findings, image_verdict, known_rows, oldest_first, part_rows, rows_of}
+use Rattle.silt_image.specs.Meaning.{charge_of, hash_findings, image_verdict, known_rows, oldest_first, part_rows, rows_of}
+use Rattle.silt_frame.specs.Rows.{put_count, StoredRow}
 use Rattle.silt_image.specs.Stores.{Part, hash_part, image_stores, log_part, sorted_rows, stores_named}
-use Rattle.silt_image.specs.declared.finding.Finding.{Finding}
-use Rattle.silt_image.specs.declared.finding.Finding.TheVariants.{Damaged}
-use Rattle.silt_image.specs.declared.finding.Place.TheVariants.{Hash}
+use Rattle.silt_image.specs.declared.damage.Finding.{Finding}
+use Rattle.silt_image.specs.declared.damage.Finding.TheVariants.{Damaged}
+use Rattle.silt_event.specs.declared.place.Place.TheVariants.{Hash}
 use Rattle.silt_image.proofs.Rows.{count_law}
 use Rattle.silt_image.proofs.Search.{first_slot_law}
-use Rattle.silt_log.specs.Rows.{StoredRow}
 use Rattle.silt_manifest.specs.declared.body.Body.{Body}
 use Rattle.silt_stores.specs.State.{hash_region_of}
 use Rattle.silt_recovery.specs.Hashes.{AreReadHashes, AreSoundHashes, HasFirstSlot, IsReadHash, region_puts, region_rows}
@@ -61,7 +61,7 @@ slot_verdict shape body image finding stores logs found =
 -- ---- the puts
 
 -- the puts in the rows of some hash stores
-charge_of_hashes : (shape : Shape) (image regions : List ℕ) → charge_of_rows (oldest_first (map known_rows (map (hash_part shape image) regions))) ≡ sum_by (region_puts shape image) regions
+charge_of_hashes : (shape : Shape) (image regions : List ℕ) → put_count (oldest_first (map known_rows (map (hash_part shape image) regions))) ≡ sum_by (region_puts shape image) regions
 charge_of_hashes shape image [] = refl
 charge_of_hashes shape image (region ∷ regions) =
     let own : ℕ = region_puts shape image region in
@@ -89,9 +89,9 @@ unfolding rows_of stores_named sorted_rows
 charge_of_named shape body image entries =
     let hashes : List StoredRow = oldest_first (map known_rows (map (hash_part shape image) body.hashed)) in
     let logs : List StoredRow = oldest_first (map part_rows (map (log_part shape image) (body.active ∷ body.frozen))) in
-    ap (λ (n : ℕ). charge_of_rows (sorted_rows shape body.sorted n image ++ hashes ++ logs)) entries
+    ap (λ (n : ℕ). put_count (sorted_rows shape body.sorted n image ++ hashes ++ logs)) entries
     ∙ count_law hashes logs
-    ∙ ap (λ (n : ℕ). n + charge_of_rows logs) (charge_of_hashes shape image body.hashed)
+    ∙ ap (λ (n : ℕ). n + put_count logs) (charge_of_hashes shape image body.hashed)
     ∙ ap (λ (n : ℕ). sum_by (region_puts shape image) body.hashed + n) (charge_of_logs shape image (body.active ∷ body.frozen))
 
 -- ---- the hash stores so far, and one more

@@ -3,10 +3,10 @@ use Rattle.std.proofs.Common.{◌≡◌, ◌<◌, ℕ, List, Some, Ok, inl, inr,
 use Rattle.silt_device.specs.Layout.{Shape}
 use Rattle.silt_image.specs.Stores.{image_stores, stores_named}
 use Rattle.silt_image.specs.Meaning.{IsGood, image_verdict}
-use Rattle.silt_image.specs.declared.finding.Finding.{Finding}
-use Rattle.silt_image.specs.declared.finding.Finding.TheVariants as finding
-use Rattle.silt_image.specs.declared.finding.Place.{Place}
-use Rattle.silt_image.specs.declared.finding.Place.TheVariants.{Header, Length, Slot, NoSlot, Log, Hash, Sorted, Charge}
+use Rattle.silt_image.specs.declared.damage.Finding.{Finding}
+use Rattle.silt_image.specs.declared.damage.Finding.TheVariants as finding
+use Rattle.silt_event.specs.declared.place.Place.{Place}
+use Rattle.silt_event.specs.declared.place.Place.TheVariants.{Header, Length, Slot, NoSlot, Log, Hash, Sorted, Charge}
 use Rattle.silt_manifest.specs.declared.body.Body.{Body}
 use Rattle.silt_stores.specs.Calls.{HaveNoEntries}
 use Rattle.silt_recovery.specs.Refusals.{IsFound, IsRefusedLook, NamesEntries, refusal_of}

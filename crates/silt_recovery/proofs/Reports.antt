@@ -7,7 +7,7 @@ use Rattle.silt_device.specs.Disk.{Content}
 use Rattle.silt_device.specs.Layout.{Shape, InLimits}
 use Rattle.silt_device.proofs.Regions.{bucket_count_most}
 use Rattle.silt_image.specs.Stores.{Part, Stores, hash_part, log_part, stores_named}
-use Rattle.silt_image.specs.declared.finding.Report.{Report}
+use Rattle.silt_event.specs.declared.report.Report.{Report}
 use Rattle.silt_image.proofs.Verdict.{sound_law}
 use Rattle.silt_log.specs.Rows.{log_rows}
 use Rattle.silt_log_store.specs.State.{LogStoreState}

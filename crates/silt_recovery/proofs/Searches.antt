@@ -10,15 +10,16 @@ use Rattle.silt_device.specs.Disk.{Content}
 use Rattle.silt_device.specs.Layout.{Shape}
 use Rattle.silt_cuckoo.specs.Index.{index_of_keys}
 use Rattle.silt_image.specs.Laws.{FirstFinding}
-use Rattle.silt_image.specs.Meaning.{charge_of_rows, finding_if, fits_table, image_verdict, keys_of, log_findings, oldest_first, part_rows}
+use Rattle.silt_image.specs.Meaning.{finding_if, fits_table, image_verdict, log_findings, oldest_first, part_rows}
+use Rattle.silt_frame.specs.Rows.{put_count, keys_of, has_known_kind, StoredRow}
 use Rattle.silt_image.specs.Stores.{image_stores, log_part, stores_named}
-use Rattle.silt_image.specs.declared.finding.Finding.{Finding}
-use Rattle.silt_image.specs.declared.finding.Finding.TheVariants.{Damaged, Crowded}
-use Rattle.silt_image.specs.declared.finding.Place.TheVariants.{Log}
+use Rattle.silt_image.specs.declared.damage.Finding.{Finding}
+use Rattle.silt_image.specs.declared.damage.Finding.TheVariants.{Damaged, Crowded}
+use Rattle.silt_event.specs.declared.place.Place.TheVariants.{Log}
 use Rattle.silt_image.proofs.Rows.{count_law}
 use Rattle.silt_image.proofs.Search.{first_finding_law}
 use Rattle.silt_image.proofs.Sound.{log_sound_law}
-use Rattle.silt_log.specs.Rows.{StoredRow, has_known_kind, log_rows}
+use Rattle.silt_log.specs.Rows.{log_rows}
 use Rattle.silt_log_store.specs.Rebuild.{IsFirstCrowded, IsFirstDamaged, IsRebuilt, has_known_kind_at}
 use Rattle.silt_log_store.specs.State.{LogStoreState}
 use Rattle.silt_cuckoo.specs.Slots.{Slots}
@@ -116,12 +117,12 @@ log_verdict shape body image finding stores found =
 -- ---- the puts
 
 -- the puts in the rows of some logs
-pub charge_of_logs : (shape : Shape) (image regions : List ℕ) → charge_of_rows (oldest_first (map part_rows (map (log_part shape image) regions))) ≡ put_rows shape image regions
+pub charge_of_logs : (shape : Shape) (image regions : List ℕ) → put_count (oldest_first (map part_rows (map (log_part shape image) regions))) ≡ put_rows shape image regions
 charge_of_logs shape image [] = refl
 charge_of_logs shape image (region ∷ regions) =
-    let own : ℕ = charge_of_rows (log_rows shape region image) in
+    let own : ℕ = put_count (log_rows shape region image) in
     let rest : ℕ = put_rows shape image regions in
     count_law (oldest_first (map part_rows (map (log_part shape image) regions))) (log_rows shape region image)
     ∙ ap (λ (n : ℕ). n + own) (charge_of_logs shape image regions)
     ∙ (let swapped : rest + own ≡ own + rest = omega arith in swapped)
-    ∙ sym (sum_by-cons (λ (r : ℕ). charge_of_rows (log_rows shape r image)) region regions)
+    ∙ sym (sum_by-cons (λ (r : ℕ). put_count (log_rows shape r image)) region regions)

@@ -11,22 +11,23 @@ use Rattle.silt_device.specs.Layout.{Shape, InLimits, device_size, gates_at, has
 use Rattle.silt_device.proofs.Images.{left_at_rest, left_after_failed_sync, shown_left, within_wider}
 use Rattle.silt_device.proofs.Regions.{next_region, up_least}
 use Rattle.silt_cuckoo.specs.Index.{index_of_keys}
-use Rattle.silt_hash_store.specs.Converting.{ConversionState, HasWritten}
+use Rattle.silt_hash_store.specs.Conversion.{ConversionState, HasWritten}
 use Rattle.silt_hash_store.specs.State.{HashState, IsHashStore}
 use Rattle.silt_hash_store.proofs.Elsewhere.{hash_elsewhere}
 use Rattle.silt_image.specs.Header.{shape_of}
 use Rattle.silt_image.specs.Laws.{IsWhole}
-use Rattle.silt_image.specs.Meaning.{IsGood, IsSound, StandsFor, charge_of, charge_of_rows, image_map, map_of_rows, rows_of, with_log_rows}
+use Rattle.silt_image.specs.Meaning.{IsGood, IsSound, StandsFor, charge_of, image_map, map_of_rows, rows_of, with_log_rows}
+use Rattle.silt_frame.specs.Rows.{has_known_kind, StoredRow, keys_of, put_count}
 use Rattle.silt_image.specs.Stores.{Part, Stores, image_stores, log_part, stores_named}
 use Rattle.silt_image.proofs.Frame.{log_region_law}
 use Rattle.silt_image.proofs.Named.{stores_law, whole_law}
 use Rattle.silt_image.proofs.Rows.{own_rows_law}
 use Rattle.silt_image.proofs.Verdict.{rows_law, sound_law, stands_law}
-use Rattle.silt_log.specs.Rows.{StoredRow, first_rows, has_known_kind, log_rows, open_count, rows_from}
+use Rattle.silt_log.specs.Rows.{first_rows, log_rows, open_count, rows_from}
 use Rattle.silt_log.specs.State.{LogState, InBounds, all_rows, waiting_rows}
 use Rattle.silt_log.proofs.Waiting.{none_waiting}
 use Rattle.silt_log_store.specs.Calls.{SealsStore}
-use Rattle.silt_log_store.specs.State.{LogStoreState, keys_of, put_count}
+use Rattle.silt_log_store.specs.State.{LogStoreState}
 use Rattle.silt_manifest.proofs.Laws.{rules_elsewhere}
 use Rattle.silt_stores.specs.Calls.{HaveNoEntries, StandsUnsorted}
 use Rattle.silt_stores.specs.Standing.{IsFrozen, Stands, base_map, shown_stores}
@@ -248,11 +249,11 @@ module _ (old between new : Content) (s : StoresState) (settles : Settles old be
         ∙ own_rows h
         )) (holds.sound h)
 
-    all_counted : IsTrue between.honest → s.charge ≡ charge_of_rows (rows_of (shown_stores new s) ++ waiting_rows new after.log)
+    all_counted : IsTrue between.honest → s.charge ≡ put_count (rows_of (shown_stores new s) ++ waiting_rows new after.log)
     all_counted h =
         holds.counted h ∙ ap charge_of (sym (shown_same h))
-        ∙ ap charge_of_rows (sym (append-nil (rows_of (shown_stores new s))))
-        ∙ ap (λ (rows : List StoredRow). charge_of_rows (rows_of (shown_stores new s) ++ rows)) (sym (none_waiting new after.log settled))
+        ∙ ap put_count (sym (append-nil (rows_of (shown_stores new s))))
+        ∙ ap (λ (rows : List StoredRow). put_count (rows_of (shown_stores new s) ++ rows)) (sym (none_waiting new after.log settled))
 
     stands : Stands new (record s { active = after })
     stands =

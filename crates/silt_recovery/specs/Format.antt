@@ -3,9 +3,10 @@ use Rattle.std.specs.Prelude.{◌≡◌, ◌≢◌, ◌⊎◌, ℕ, ◌∷◌, L
 use Rattle.std.specs.FinMap.{empty}
 use Rattle.silt_device.specs.Disk.{Content, Left, Torn, size}
 use Rattle.silt_device.specs.Layout.{Shape, device_size}
+use Rattle.silt_frame.specs.Gate.{gate_open}
 use Rattle.silt_image.specs.Header.{header_bytes, header_of}
 use Rattle.silt_image.specs.Meaning.{image_verdict}
-use Rattle.silt_image.specs.declared.finding.Finding.TheVariants.{NotFormatted}
+use Rattle.silt_image.specs.declared.damage.Finding.TheVariants.{NotFormatted}
 use Rattle.silt_stores.specs.Calls.{StandsUnsorted}
 use Rattle.silt_recovery.specs.declared.fault.FormatError.{FormatError}
 use Rattle.silt_recovery.specs.declared.fault.FormatError.TheVariants.{BadGeometry, Device, NoMemory}
@@ -19,11 +20,11 @@ FormatCause content gave shape old new (Device fault) = (size (content old) ≡ 
 
 -- the header's gate is closed
 abbrev pub IsGateClosed : List ℕ → Type 0
-IsGateClosed image = get_or image 0 0 ≢ 167
+IsGateClosed image = get_or image 0 0 ≢ gate_open
 
 -- the header's gate is closed, or the header of this shape stands behind it
 abbrev pub HasHeaderOrNone : Shape → List ℕ → Type 0
-HasHeaderOrNone shape image = IsGateClosed image ⊎ (header_of image ≡ 167 ∷ header_bytes shape)
+HasHeaderOrNone shape image = IsGateClosed image ⊎ (header_of image ≡ gate_open ∷ header_bytes shape)
 
 -- an image that might have been left before, but for the header's gate
 pub record IsLeftButForGate (old : Content) (image : List ℕ) : Type 0 where

@@ -3,9 +3,10 @@ use Rattle.std.specs.Prelude.{◌≡◌, ℕ, IsTrue, List, [], ◌∷◌, ◌++
 use Rattle.silt_device.specs.Disk.{Content}
 use Rattle.silt_device.specs.Layout.{Shape}
 use Rattle.silt_hash_store.specs.State.{HashState, IsHashStore}
-use Rattle.silt_image.specs.Meaning.{charge_of_rows, hash_findings, known_rows}
+use Rattle.silt_image.specs.Meaning.{hash_findings, known_rows}
+use Rattle.silt_frame.specs.Rows.{put_count}
 use Rattle.silt_image.specs.Stores.{hash_part}
-use Rattle.silt_image.specs.declared.finding.Finding.{Finding}
+use Rattle.silt_image.specs.declared.damage.Finding.{Finding}
 use Rattle.silt_stores.specs.State.{IsHashOf, hash_region_of}
 
 -- nothing is found in these hash stores of an image
@@ -14,7 +15,7 @@ AreSoundHashes shape image regions = flat_map (hash_findings shape) (map (hash_p
 
 -- how many rows of a hash store of an image are puts
 abbrev pub region_puts : Shape → List ℕ → ℕ → ℕ
-region_puts shape image region = charge_of_rows (known_rows (hash_part shape image region))
+region_puts shape image region = put_count (known_rows (hash_part shape image region))
 
 -- how many rows of known kinds a hash store of an image has
 abbrev pub region_rows : Shape → List ℕ → ℕ → ℕ

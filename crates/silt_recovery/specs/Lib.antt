@@ -1,5 +1,6 @@
-pub mod Refusals
+pub mod Errors
 pub mod Format
-pub mod Logs
 pub mod Hashes
+pub mod Logs
 pub mod Opening
+pub mod Refusals

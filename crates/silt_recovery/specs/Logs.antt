@@ -3,10 +3,11 @@ use Rattle.std.specs.Prelude.{◌≡◌, ℕ, IsTrue, List, [], ◌∷◌, ◌++
 use Rattle.silt_device.specs.Disk.{Content}
 use Rattle.silt_device.specs.Layout.{Shape}
 use Rattle.silt_image.specs.Laws.{FirstFinding}
-use Rattle.silt_image.specs.Meaning.{charge_of_rows, log_findings}
+use Rattle.silt_image.specs.Meaning.{log_findings}
+use Rattle.silt_frame.specs.Rows.{put_count, StoredRow}
 use Rattle.silt_image.specs.Stores.{log_part}
-use Rattle.silt_image.specs.declared.finding.Finding.{Finding}
-use Rattle.silt_log.specs.Rows.{StoredRow, log_rows}
+use Rattle.silt_image.specs.declared.damage.Finding.{Finding}
+use Rattle.silt_log.specs.Rows.{log_rows}
 use Rattle.silt_log.specs.State.{InBounds, IsScanned}
 use Rattle.silt_log_store.specs.State.{LogStoreState, IsIndexed}
 use Rattle.silt_stores.specs.State.{region_of}
@@ -17,7 +18,7 @@ AreSoundLogs shape image regions = flat_map (log_findings shape) (map (log_part 
 
 -- how many rows of these logs of an image are puts
 abbrev pub put_rows : Shape → List ℕ → List ℕ → ℕ
-put_rows shape image regions = sum_by (λ region. charge_of_rows (log_rows shape region image)) regions
+put_rows shape image regions = sum_by (λ region. put_count (log_rows shape region image)) regions
 
 -- this is the first finding in these logs of an image, in their order
 pub record HasFirstFinding (shape : Shape) (image regions : List ℕ) (finding : Finding) : Type 0 where

@@ -6,13 +6,13 @@ use Rattle.silt_hash_store.specs.State.{IsHashStore}
 use Rattle.silt_image.specs.Header.{shape_of}
 use Rattle.silt_image.specs.Meaning.{IsGood, IsSound, charge_of, image_map, known_rows, report_of}
 use Rattle.silt_image.specs.Stores.{Stores, image_stores}
-use Rattle.silt_image.specs.declared.finding.Report.{Report}
+use Rattle.silt_event.specs.declared.report.Report.{Report}
 use Rattle.silt_manifest.specs.Standing.{Rules}
 use Rattle.silt_stores.specs.Calls.{HaveNoEntries, IsQuiet, SameDisk, StandsUnsorted}
 use Rattle.silt_stores.specs.Standing.{Stands, base_map, shown_stores}
 use Rattle.silt_stores.specs.State.{StoresState, AreWhole}
 use Rattle.silt_recovery.specs.Logs.{IsReadLog}
-use Rattle.silt_recovery.specs.declared.examining.Holding.{Holding}
+use Rattle.silt_recovery.specs.declared.examination.Holding.{Holding}
 use Rattle.silt_recovery.specs.declared.fault.OpenError.{OpenError}
 use Rattle.silt_recovery.specs.declared.fault.OpenError.TheVariants.{Device}
 

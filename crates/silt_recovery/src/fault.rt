@@ -1,9 +1,11 @@
 // Why a device was not formatted, not opened or not found whole.
 ghost use Rattle.std.specs.Prelude.{◌≡◌};
 ghost use Rattle.silt_recovery.specs.Refusals.{refusal_of};
+ghost use Rattle.silt_recovery.specs.Errors.{refusal_of_formatting, refusal_of_opening};
 
 use silt_device::Disk;
-use silt_image::{Finding, Place};
+use silt_event::{Place, Refusal};
+use silt_image::Finding;
 
 /// Why a device was not formatted. A fault is the disk's own, of a call that failed within this very call.
 #[derive(Debug, Drop)]
@@ -56,4 +58,30 @@ impl<F> From<Finding> for OpenError<F> {
 pub struct OpenFault<D: Disk> {
     pub disk: D,
     pub error: OpenError<D::Fault>,
+}
+
+impl<F> From<FormatError<F>> for Refusal<F> {
+    ghost from_gives = { λ error refusal. refusal ≡ refusal_of_formatting error };
+
+    fn from(error: FormatError<F>) -> Self {
+        match error {
+            FormatError::BadGeometry => Refusal::BadGeometry,
+            FormatError::Device(fault) => Refusal::Device(fault),
+            FormatError::NoMemory => Refusal::NoMemory,
+        }
+    }
+}
+
+impl<F> From<OpenError<F>> for Refusal<F> {
+    ghost from_gives = { λ error refusal. refusal ≡ refusal_of_opening error };
+
+    fn from(error: OpenError<F>) -> Self {
+        match error {
+            OpenError::NotFormatted => Refusal::NotFormatted,
+            OpenError::Damaged(place) => Refusal::Damaged(place),
+            OpenError::Crowded => Refusal::Crowded,
+            OpenError::Device(fault) => Refusal::Device(fault),
+            OpenError::NoMemory => Refusal::NoMemory,
+        }
+    }
 }

@@ -7,8 +7,8 @@ ghost use Rattle.silt_recovery.specs.Refusals.{IsRefusedLook};
 
 use crate::fault::OpenError;
 use silt_device::{Disk, Geometry};
+use silt_event::Place;
 use silt_hash_store::{HashStore, RebuildError, Rebuilt};
-use silt_image::Place;
 use std::alloc::Global;
 
 // As many hash stores as a device can have.

@@ -2,6 +2,7 @@
 ghost use Rattle.std.specs.Prelude.{◌≡◌, ◌∷◌, ◌≤◌, IsTrue, IfOk, IfErr, OnOk, Ok, Err};
 ghost use Rattle.silt_device.specs.Disk.{ChangesWithin, GaveAny, LeavesOnly, Rests, size};
 ghost use Rattle.silt_device.specs.Layout.{device_size};
+ghost use Rattle.silt_frame.specs.Gate.{gate_open};
 ghost use Rattle.silt_image.specs.Header.{header_bytes, header_of};
 ghost use Rattle.silt_image.specs.Stores.{shape_found};
 ghost use Rattle.silt_recovery.specs.Format.{HasHeaderOrNone, IsGateClosed};
@@ -9,13 +10,8 @@ ghost use Rattle.silt_recovery.specs.Refusals.{IsRefusedLook};
 
 use crate::fault::OpenError;
 use silt_device::{Disk, Geometry, write_synced};
+use silt_frame::GATE_OPEN;
 use silt_image::{HEADER_LEN, header_bytes, read_header};
-
-/// The byte of an open gate. Every other one is closed.
-pub const OPEN: u8 = 0xA7;
-
-/// The byte that closes a gate.
-pub const CLOSED: u8 = 0x00;
 
 // The bytes of the header.
 fn read_bytes<D: Disk>(disk: &D) -> Result<[u8; 37], D::Fault>
@@ -63,13 +59,13 @@ pub fn write_header<D: Disk>(disk: &mut D, geometry: &Geometry) -> Result<(), D:
     requires closed { LeavesOnly (D.content disk.old) IsGateClosed }
     ensures size { size (D.content disk.new) ≡ size (D.content disk.old) }
     ensures changes { ChangesWithin 0 37 (D.content disk.old) (D.content disk.new) }
-    ensures header { IsTrue (D.content disk.new).honest → OnOk result (header_of (D.content disk.new).shown ≡ 167 ∷ header_bytes geometry.now) }
+    ensures header { IsTrue (D.content disk.new).honest → OnOk result (header_of (D.content disk.new).shown ≡ gate_open ∷ header_bytes geometry.now) }
     ensures stopped { LeavesOnly (D.content disk.new) (HasHeaderOrNone geometry.now) }
     ensures rests { OnOk result (Rests (D.content disk.new)) }
     ensures fault { IfErr result (GaveAny D.gave disk.new) }
 {
     let header = header_bytes(geometry);
     write_synced(disk, 1, &header)?;
-    write_synced(disk, 0, &[OPEN])?;
+    write_synced(disk, 0, &[GATE_OPEN])?;
     Ok(())
 }

@@ -12,19 +12,19 @@
 //! In this stage a store has no sorted entries: a manifest that names some is refused.
 #![tactic(auto)]
 
-mod checking;
-mod examining;
+mod empty_store;
+mod examination;
 mod fault;
-mod formatting;
 mod hashes;
 mod header;
 mod logs;
-mod opening;
+mod recovery;
+mod report;
 
-pub use checking::check;
+pub use empty_store::format;
 pub use fault::{FormatError, FormatFault, OpenError, OpenFault};
-pub use formatting::format;
-pub use opening::{Opened, open};
+pub use recovery::{Opened, open};
+pub use report::check;
 
 #[cfg(test)]
 mod tests;

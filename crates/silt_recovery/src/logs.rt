@@ -2,14 +2,14 @@
 ghost use Rattle.std.specs.Prelude.{◌≡◌, ◌≤◌, ◌<◌, ◌^◌, [], ◌∷◌, All, IsTrue, IfOk, IfErr, OnOk, length, vec_capacity};
 ghost use Rattle.silt_device.specs.Disk.{GaveAny, size};
 ghost use Rattle.silt_device.specs.Layout.{device_size};
-ghost use Rattle.silt_image.specs.Meaning.{charge_of_rows};
+ghost use Rattle.silt_frame.specs.Rows.{put_count};
 ghost use Rattle.silt_log.specs.Rows.{log_rows};
 ghost use Rattle.silt_recovery.specs.Logs.{AreReadLogs, AreSoundLogs, HasFirstFinding, IsReadLog};
 ghost use Rattle.silt_recovery.specs.Refusals.{IsRefusedLook};
 
 use crate::fault::OpenError;
 use silt_device::{Disk, Geometry};
-use silt_image::Place;
+use silt_event::Place;
 use silt_log_store::{LogStore, RebuildError};
 use std::alloc::Global;
 
@@ -40,7 +40,7 @@ pub fn read_log<D: Disk>(
     ensures region { IfOk result (λ store. store.log.region ≡ region) }
     ensures read { IfOk result (IsReadLog (D.content disk.now) geometry) }
     ensures sound { IsTrue (D.content disk.now).honest → OnOk result (AreSoundLogs geometry (D.content disk.now).shown (region ∷ [])) }
-    ensures counted { IsTrue (D.content disk.now).honest → IfOk result (λ store. store.puts ≡ charge_of_rows (log_rows geometry region (D.content disk.now).shown)) }
+    ensures counted { IsTrue (D.content disk.now).honest → IfOk result (λ store. store.puts ≡ put_count (log_rows geometry region (D.content disk.now).shown)) }
     ensures most { IfOk result (λ store. store.puts < 2 ^ 32) }
     ensures cause { IfErr result (IsRefusedLook
         (λ finding. IsTrue (D.content disk.now).honest → HasFirstFinding geometry (D.content disk.now).shown (region ∷ []) finding)

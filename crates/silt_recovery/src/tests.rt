@@ -5,7 +5,8 @@ mod stops;
 
 use crate::{OpenError, OpenFault, check, format, open};
 use silt_device::{Geometry, MemDisk, MemFault};
-use silt_image::{Finding, Report};
+use silt_event::Report;
+use silt_image::Finding;
 use std::alloc::Global;
 use std::process::Abort;
 use std::test::Fail;

@@ -1,11 +1,11 @@
 -- A look at each key: what is found in the entries so far.
 use Rattle.std.proofs.Common.{◌≡◌, ℕ, ◌+◌, ◌-◌, ◌<◌, ◌≤◌, Bool, true, false, not, List, [], length, slice_get, Some, inl, inr, refl, ap, ◌∙◌, arith}
 use Rattle.std.proofs.lemmas.Bool.{cases_lt}
-use Rattle.silt_log.specs.Rows.{StoredRow}
+use Rattle.silt_frame.specs.Rows.{StoredRow}
 use Rattle.silt_image.specs.Meaning.{entry_findings, finding_if, is_key_below, sorted_findings}
-use Rattle.silt_image.specs.declared.finding.Finding.{Finding}
-use Rattle.silt_image.specs.declared.finding.Finding.TheVariants.{Damaged}
-use Rattle.silt_image.specs.declared.finding.Place.TheVariants.{Sorted}
+use Rattle.silt_image.specs.declared.damage.Finding.{Finding}
+use Rattle.silt_image.specs.declared.damage.Finding.TheVariants.{Damaged}
+use Rattle.silt_event.specs.declared.place.Place.TheVariants.{Sorted}
 use Rattle.silt_image.proofs.Sound.{nothing_where_passes}
 use Rattle.silt_sorted_store.specs.Rebuild.{IsFirstOutOfOrder}
 use Rattle.silt_sorted_store.proofs.Ranges.{none_of_all, first_of_range}

@@ -5,12 +5,11 @@ use Rattle.std.proofs.lemmas.List.FromFn.{length-map-range_with_len, get_or-map-
 use Rattle.std.proofs.lemmas.Option.{slice_get-get_or, get_or_from_slice_get, slice_get_within}
 use Rattle.silt_device.specs.Layout.{Shape, entry_len}
 use Rattle.silt_device.proofs.Regions.{next_region}
-use Rattle.silt_log.specs.Rows.{StoredRow}
+use Rattle.silt_frame.specs.Rows.{StoredRow, entry_row, keys_of}
 use Rattle.silt_log.proofs.Parts.{slice_of_slice, slice_to_end}
-use Rattle.silt_image.specs.Stores.{entry_row, sorted_rows}
-use Rattle.silt_image.specs.Meaning.{keys_of}
-use Rattle.silt_sorted_store.specs.State.{entry_at}
-use Rattle.silt_sorted_store.specs.Finding.{HasEntry, HasValue}
+use Rattle.silt_image.specs.Stores.{sorted_rows}
+use Rattle.silt_sorted_store.specs.State.{sorted_entry_at}
+use Rattle.silt_sorted_store.specs.OnlyRow.{HasEntry, HasValue}
 use Rattle.silt_sorted_store.specs.Laws.{EntriesLaw}
 
 -- a part of a region ends within what the region has room for
@@ -33,7 +32,7 @@ row_inside rows place inside =
 module _ (shape : Shape) (region count : ℕ) (image : List ℕ) where
   -- the bytes of an entry
   abbrev pub entry_bytes_at : ℕ → List ℕ
-  entry_bytes_at place = slice_range image (entry_at shape region place) (entry_at shape region place + entry_len shape)
+  entry_bytes_at place = slice_range image (sorted_entry_at shape region place) (sorted_entry_at shape region place + entry_len shape)
 
   -- there are so many entries
   pub entry_count : length (sorted_rows shape region count image) ≡ count
@@ -59,7 +58,7 @@ module _ (shape : Shape) (region count : ℕ) (image : List ℕ) where
       ap (λ (r : StoredRow). r.kind) one
 
   -- the key of an entry that was read
-  pub key_read : (place at : ℕ) (bytes : List ℕ) → place < count → at ≡ entry_at shape region place → at + entry_len shape ≤ length image → bytes ≡ slice_range image at (at + 20)
+  pub key_read : (place at : ℕ) (bytes : List ℕ) → place < count → at ≡ sorted_entry_at shape region place → at + entry_len shape ≤ length image → bytes ≡ slice_range image at (at + 20)
       → get_or (keys_of (sorted_rows shape region count image)) place [] ≡ bytes
   key_read place at bytes below here fits read =
       let len : ℕ = entry_len shape in
@@ -70,7 +69,7 @@ module _ (shape : Shape) (region count : ℕ) (image : List ℕ) where
       ∙ sym (read ∙ front ∙ ap (λ n. take 20 (slice_range image n (n + len))) here)
 
   -- the value of an entry that was read
-  pub value_read : (place at n : ℕ) (bytes : List ℕ) → place < count → at ≡ entry_at shape region place → at + entry_len shape ≤ length image → n ≡ shape.value_len → bytes ≡ slice_range image (at + 20) (at + 20 + n)
+  pub value_read : (place at n : ℕ) (bytes : List ℕ) → place < count → at ≡ sorted_entry_at shape region place → at + entry_len shape ≤ length image → n ≡ shape.value_len → bytes ≡ slice_range image (at + 20) (at + 20 + n)
       → HasValue (sorted_rows shape region count image) place bytes
   value_read place at n bytes below here fits long read =
       let len : ℕ = entry_len shape in (
@@ -80,7 +79,7 @@ module _ (shape : Shape) (region count : ℕ) (image : List ℕ) where
       )
 
   -- an entry that was read
-  pub entry_read : (place at n : ℕ) (bytes : List ℕ) → place < count → at ≡ entry_at shape region place → n ≡ entry_len shape → bytes ≡ slice_range image at (at + n) → HasEntry (sorted_rows shape region count image) place bytes
+  pub entry_read : (place at n : ℕ) (bytes : List ℕ) → place < count → at ≡ sorted_entry_at shape region place → n ≡ entry_len shape → bytes ≡ slice_range image at (at + n) → HasEntry (sorted_rows shape region count image) place bytes
   entry_read place at n bytes below here long read =
       entry_there place below
       ∙ ap (λ b. Some (entry_row b)) (sym (read ∙ ap (λ m. slice_range image at (at + m)) long ∙ ap (λ m. slice_range image m (m + entry_len shape)) here))

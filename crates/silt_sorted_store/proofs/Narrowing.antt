@@ -6,9 +6,9 @@ use Rattle.std.specs.declared.cmp.Ordering.TheVariants.{Less, Equal, Greater}
 use Rattle.std.proofs.lemmas.Bool.{cases_lt}
 use Rattle.std.proofs.lemmas.Cmp.{nat_list_cmp_total, tied_itself}
 use Rattle.std.proofs.lemmas.Map.Lookups.{exact_bytes}
-use Rattle.silt_log.specs.Rows.{StoredRow}
+use Rattle.silt_frame.specs.Rows.{StoredRow}
 use Rattle.silt_image.specs.Meaning.{sorted_findings}
-use Rattle.silt_sorted_store.specs.Finding.{FindsEntry}
+use Rattle.silt_sorted_store.specs.OnlyRow.{FindsEntry}
 use Rattle.silt_sorted_store.proofs.Entries.{key_of_row, row_inside}
 use Rattle.silt_sorted_store.proofs.Rising.{key_at, lower_below, one_place}
 

@@ -1,9 +1,11 @@
 -- Laws of entries, for the layers above.
-use Rattle.std.specs.Prelude.{◌≡◌, ℕ, ◌<◌, IsTrue, List, [], length, get_or, slice_get, Some}
-use Rattle.silt_device.specs.Layout.{Shape}
-use Rattle.silt_log.specs.Rows.{StoredRow}
+use Rattle.std.specs.Prelude.{◌≡◌, ℕ, ◌<◌, ◌≤◌, IsTrue, List, [], length, get_or, slice_get, Some}
+use Rattle.silt_device.specs.Disk.{ChangesWithin, Content, LiesOutside, size}
+use Rattle.silt_device.specs.Layout.{Shape, device_size, entries_len, sorted_at}
+use Rattle.silt_frame.specs.Rows.{StoredRow, keys_of}
 use Rattle.silt_image.specs.Stores.{sorted_rows}
-use Rattle.silt_image.specs.Meaning.{is_key_below, keys_of, sorted_findings}
+use Rattle.silt_image.specs.Meaning.{is_key_below, sorted_findings}
+use Rattle.silt_sorted_store.specs.State.{IsHeldSorted, SortedState, entries_of}
 
 -- so many rows, each of them a put
 pub record ArePuts (rows : List StoredRow) (count : ℕ) : Type 0 where
@@ -22,3 +24,9 @@ pub record IsRising (rows : List StoredRow) : Type 0 where
 -- entries in which nothing is found rise
 abbrev pub RisingLaw : Type 0
 RisingLaw = (rows : List StoredRow) → sorted_findings rows ≡ [] → IsRising rows
+
+-- entries stay, after a change outside them
+abbrev pub EntriesElsewhereLaw : Type 0
+EntriesElsewhereLaw =
+    (store : SortedState) (old new : Content) (at count : ℕ) → IsHeldSorted store → device_size store.shape ≤ size old → LiesOutside (sorted_at store.shape store.region) (entries_len store.shape) at count
+    → ChangesWithin at count old new → IsTrue new.honest → entries_of new store ≡ entries_of old store

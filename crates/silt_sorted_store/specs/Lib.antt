@@ -1,4 +1,5 @@
 pub mod State
-pub mod Finding
+pub mod Region
+pub mod OnlyRow
 pub mod Rebuild
 pub mod Laws

@@ -2,7 +2,7 @@
 use Rattle.std.specs.Prelude.{ℕ, ◌+◌, ◌*◌, ◌<◌, ◌≤◌, List}
 use Rattle.silt_device.specs.Disk.{Content}
 use Rattle.silt_device.specs.Layout.{Shape, entry_len, sorted_at}
-use Rattle.silt_log.specs.Rows.{StoredRow}
+use Rattle.silt_frame.specs.Rows.{StoredRow}
 use Rattle.silt_image.specs.Stores.{sorted_rows}
 
 -- so many entries of a sorted region
@@ -17,8 +17,8 @@ pub record IsHeldSorted (store : SortedState) : Type 0 where
   pub room : store.count ≤ store.shape.sorted_capacity
 
 -- where the entry at a place begins
-abbrev pub entry_at : Shape → ℕ → ℕ → ℕ
-entry_at shape region place = sorted_at shape region + place * entry_len shape
+abbrev pub sorted_entry_at : Shape → ℕ → ℕ → ℕ
+sorted_entry_at shape region place = sorted_at shape region + place * entry_len shape
 
 -- the entries that are shown, as puts
 abbrev pub entries_of : Content → SortedState → List StoredRow

@@ -1,5 +1,5 @@
 // Laws of entries, for the layers above.
-ghost use Rattle.silt_sorted_store.specs.Laws.{EntriesLaw, RisingLaw};
+ghost use Rattle.silt_sorted_store.specs.Laws.{EntriesElsewhereLaw, EntriesLaw, RisingLaw};
 
 /// The entries of a sorted region are as many as are asked for, and each is a put.
 pub fn entries_law()
@@ -9,4 +9,9 @@ pub fn entries_law()
 /// In entries in which nothing is found a lower place has a lower key, and each key stands at one place.
 pub fn rising_law()
     ensures { RisingLaw }
+{}
+
+/// Entries stay, after a change outside them.
+pub fn entries_elsewhere_law()
+    ensures { EntriesElsewhereLaw }
 {}

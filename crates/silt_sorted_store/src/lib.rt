@@ -6,12 +6,14 @@
 #![tactic(auto)]
 
 mod laws;
-mod rebuilding;
+mod order;
+mod region;
 mod search;
 mod store;
 
-pub use laws::{entries_law, rising_law};
-pub use rebuilding::RebuildError;
+pub use laws::{entries_elsewhere_law, entries_law, rising_law};
+pub use order::RebuildError;
+pub use region::SortedRegion;
 pub use store::SortedStore;
 
 #[cfg(test)]

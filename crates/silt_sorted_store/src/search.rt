@@ -4,7 +4,7 @@ ghost use Rattle.silt_device.specs.Disk.{GaveAny, size};
 ghost use Rattle.silt_device.specs.Layout.{device_size};
 ghost use Rattle.silt_image.specs.Meaning.{sorted_findings};
 ghost use Rattle.silt_sorted_store.specs.State.{IsHeldSorted, entries_of};
-ghost use Rattle.silt_sorted_store.specs.Finding.{FindsEntry};
+ghost use Rattle.silt_sorted_store.specs.OnlyRow.{FindsEntry};
 
 use crate::store::SortedStore;
 use silt_device::Disk;

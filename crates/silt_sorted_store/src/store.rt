@@ -1,23 +1,24 @@
 // The entries of a sorted region, and the calls that read them.
-ghost use Rattle.std.specs.Prelude.{◌≡◌, ◌==◌, ◌+◌, ◌<◌, ◌≤◌, ◌^◌, [], IsTrue, IfSome, IfOk, IfErr, OnOk, get_or, length};
+ghost use Rattle.std.specs.Prelude.{◌≡◌, ◌==◌, ◌+◌, ◌<◌, ◌≤◌, ◌^◌, [], IsTrue, IfSome, IfOk, IfErr, OnOk, get_or, length, take};
 ghost use Rattle.silt_device.specs.Disk.{GaveAny, size};
 ghost use Rattle.silt_device.specs.Layout.{device_size, entry_len};
-ghost use Rattle.silt_image.specs.Meaning.{keys_of, sorted_findings};
+ghost use Rattle.silt_image.specs.Meaning.{sorted_findings};
+ghost use Rattle.silt_frame.specs.Rows.{keys_of};
 ghost use Rattle.silt_image.specs.Stores.{sorted_rows};
 
-use crate::rebuilding::{RebuildError, first_out_of_order};
+use crate::order::{RebuildError, first_out_of_order};
+use crate::region::SortedRegion;
 use crate::search::find_place;
 use silt_device::{Disk, Geometry};
 use silt_frame::{KEY_LEN, Key};
 use std::marker::Model;
 
-/// The sorted store of a device: so many entries of a sorted region, strictly rising by key. It takes no memory.
+/// The sorted store of a device: so many entries of a sorted region, strictly rising by key.
 ///
 /// On a disk that is not honest, and where the entries do not rise, its calls are safe and end.
-#[derive(Clone, Copy, Debug, PartialEq, Eq)]
+#[derive(Drop)]
 pub struct SortedStore {
-    geometry: Geometry,
-    region: u32,
+    region: SortedRegion,
     count: u32,
 }
 
@@ -26,17 +27,15 @@ impl Model for SortedStore {
 
     ghost Value = { SortedState };
 
-    ghost view = { λ a. record { shape = a.geometry; region = a.region; count = a.count } };
+    ghost view = { λ a. record { shape = a.region.geometry; region = a.region.number; count = a.count } };
 
-    ghost inverse = { λ s. record { geometry = s.shape; region = s.region; count = s.count } };
-
-    ghost invariant = { λ a. IsHeldSorted (record { shape = a.geometry; region = a.region; count = a.count }) };
+    ghost invariant = { λ a. IsHeldSorted (record { shape = a.region.geometry; region = a.region.number; count = a.count }) };
 }
 
 impl SortedStore {
-    ghost use Rattle.silt_sorted_store.specs.State.{SortedState, IsHeldSorted, entry_at, entries_of};
-    ghost use Rattle.silt_sorted_store.specs.Finding.{FindsEntry, HasEntry, HasValue};
-    ghost use Rattle.silt_sorted_store.specs.Rebuild.{IsFirstOutOfOrder, IsRefusedRebuild};
+    ghost use Rattle.silt_sorted_store.specs.State.{SortedState, IsHeldSorted, sorted_entry_at, entries_of};
+    ghost use Rattle.silt_sorted_store.specs.OnlyRow.{FindsEntry, HasEntry, HasValue};
+    ghost use Rattle.silt_sorted_store.specs.Rebuild.{IsFirstOutOfOrder, IsRefusedSorted};
 
     /// The first `count` entries of this region, with no look at the device.
     pub fn new(geometry: Geometry, region: u32, count: u32) -> Self
@@ -45,8 +44,10 @@ impl SortedStore {
         ensures { result ≡ record { shape = geometry; region = region; count = count } }
     {
         SortedStore {
-            geometry,
-            region,
+            region: SortedRegion {
+                geometry,
+                number: region,
+            },
             count,
         }
     }
@@ -55,7 +56,7 @@ impl SortedStore {
     pub fn geometry(&self) -> Geometry
         ensures { result ≡ self.now.shape }
     {
-        self.geometry
+        self.region.geometry
     }
 
     /// The number of the region, 0 or 1.
@@ -63,7 +64,7 @@ impl SortedStore {
         ensures value { result ≡ self.now.region }
         ensures held { IsHeldSorted self.now }
     {
-        self.region
+        self.region.number
     }
 
     /// How many entries there are.
@@ -84,11 +85,11 @@ impl SortedStore {
     // Where the entry at a place begins.
     fn entry_at(&self, place: u32) -> u64
         requires { place < self.now.count }
-        ensures value { result ≡ entry_at self.now.shape self.now.region place }
+        ensures value { result ≡ sorted_entry_at self.now.shape self.now.region place }
         ensures fits { result + entry_len self.now.shape ≤ device_size self.now.shape }
         ensures most { device_size self.now.shape ≤ 2 ^ 39 }
     {
-        self.geometry.sorted_at(self.region) + u64::from(place) * self.geometry.entry_len() as u64
+        self.region.entry_at(place)
     }
 
     // Reads the key of the entry at a place.
@@ -119,20 +120,23 @@ impl SortedStore {
         Ok(())
     }
 
-    /// Reads the bytes of the entry at a place: the key and the value, in one read.
+    /// Reads the entry at a place in one read: its key, and into `out` the bytes of the key and of the value.
     ///
     /// # Errors
     ///
     /// The fault of the read. The bytes of `out` are then open.
-    pub fn read_entry<D: Disk>(&self, disk: &D, place: u32, out: &mut [u8]) -> Result<(), D::Fault>
+    pub fn entry<D: Disk>(&self, disk: &D, place: u32, out: &mut [u8]) -> Result<Key, D::Fault>
         requires place { place < self.now.count }
         requires out { length out.old ≡ entry_len self.now.shape }
         requires size { device_size self.now.shape ≤ size (D.content disk.now) }
         ensures entry { IsTrue (D.content disk.now).honest → OnOk result (HasEntry (entries_of (D.content disk.now) self.now) place out.new) }
+        ensures key { IfOk result (λ key. key.0 ≡ take 20 out.new) }
         ensures fault { IfErr result (GaveAny D.gave disk.now) }
     {
         disk.read(self.entry_at(place), out)?;
-        Ok(())
+        let mut key = [0; KEY_LEN];
+        key.copy_from_slice(&out[..KEY_LEN]);
+        Ok(Key(key))
     }
 
     /// The place of the entry with this key, none where no entry has it. It reads one key each time it halves what is left.
@@ -156,7 +160,7 @@ impl SortedStore {
     ///
     /// # Errors
     ///
-    /// `Damaged` with the place of that entry, `Device` with the fault of a read.
+    /// `Damaged` with the place of that entry, `Device` with the fault of a read, `NoMemory` where what it keeps finds no memory.
     pub fn rebuild<D: Disk>(
         disk: &D,
         geometry: Geometry,
@@ -168,7 +172,7 @@ impl SortedStore {
         requires size { device_size geometry ≤ size (D.content disk.now) }
         ensures store { IfOk result (λ store. store ≡ record { shape = geometry; region = region; count = count }) }
         ensures rising { IsTrue (D.content disk.now).honest → OnOk result (sorted_findings (sorted_rows geometry region count (D.content disk.now).shown) ≡ []) }
-        ensures err { IfErr result (IsRefusedRebuild
+        ensures err { IfErr result (IsRefusedSorted
             (λ place. (place < count) × (IsTrue (D.content disk.now).honest → IsFirstOutOfOrder (sorted_rows geometry region count (D.content disk.now).shown) place))
             (GaveAny D.gave disk.now)) }
     {

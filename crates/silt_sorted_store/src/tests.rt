@@ -55,6 +55,7 @@ enum Outcome {
     Rebuilt(u32),
     Damaged(u32),
     Failed,
+    NoMemory,
 }
 
 // What a rebuild of so many entries of a region comes to.
@@ -67,6 +68,7 @@ fn rebuild<D: Disk>(disk: &D, geometry: Geometry, region: u32, count: u32) -> Ou
         Ok(store) => Outcome::Rebuilt(store.len()),
         Err(RebuildError::Damaged(place)) => Outcome::Damaged(place),
         Err(RebuildError::Device(_)) => Outcome::Failed,
+        Err(RebuildError::NoMemory) => Outcome::NoMemory,
     }
 }
 
@@ -93,7 +95,7 @@ fn read_both<D: Disk>(
     let mut value = [0; 2];
     store.read_value(disk, place, &mut value)?;
     let mut entry = [0; 22];
-    store.read_entry(disk, place, &mut entry)?;
+    let _key = store.entry(disk, place, &mut entry)?;
     Ok((value, entry))
 }
 

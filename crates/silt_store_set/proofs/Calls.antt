@@ -1,21 +1,23 @@
 -- What the calls of a store do, from what the calls of its stores in memory do.
-use Rattle.std.proofs.Common.{◌≡◌, ℕ, Bool, true, false, IsTrue, List, [], ◌++◌, refl, ap, sym, ◌∙◌, subst}
+use Rattle.std.proofs.Common.{◌≡◌, ℕ, ◌+◌, ◌%◌, ◌^◌, Bool, true, false, IsTrue, List, [], ◌++◌, refl, ap, sym, ◌∙◌, subst}
 use Rattle.silt_device.specs.Disk.{Content, LeavesOnly}
-use Rattle.silt_image.specs.Commands.{Command, Map, map_after}
+use Rattle.silt_device.specs.Layout.{device_size}
+use Rattle.silt_event.specs.Commands.{Command, Map, map_after}
 use Rattle.silt_image.specs.Meaning.{image_map}
 use Rattle.silt_stores.specs.Calls.{Advances, Breaks, HasBegun, SameDisk, StandsUnsorted}
 use Rattle.silt_stores.specs.Laws.{IsGoodWith}
 use Rattle.silt_stores.specs.Standing.{Stands, base_map, full_image, waiting_commands}
 use Rattle.silt_stores.specs.State.{StoresState}
 use Rattle.silt_stores.proofs.Facts.{meaning}
-use Rattle.silt_store_set.specs.declared.event.Event.{Event}
-use Rattle.silt_store_set.specs.declared.event.Event.TheVariants.{Put, Delete, Flush, Get, Convert, Merge}
-use Rattle.silt_store_set.specs.declared.event.Refusal.{Refusal}
-use Rattle.silt_store_set.specs.declared.event.Refusal.TheVariants.{Device, Failed}
-use Rattle.silt_store_set.specs.declared.event.Reply.{Reply}
-use Rattle.silt_store_set.specs.declared.event.Reply.TheVariants.{Refused}
-use Rattle.silt_store_set.specs.Events.{Step, Counts, accepted_command, is_failed}
-use Rattle.silt_store_set.specs.CoreState.{CoreState, map_of, Cause, Settles, Does, is_convert, is_finished, is_refused, work_of}
+use Rattle.silt_event.specs.declared.event.Event.{Event}
+use Rattle.silt_event.specs.declared.event.Event.TheVariants.{Put, Delete, Flush, Get, Convert, Merge}
+use Rattle.silt_event.specs.declared.refusal.Refusal.{Refusal}
+use Rattle.silt_event.specs.declared.refusal.Refusal.TheVariants.{Device, Failed}
+use Rattle.silt_event.specs.declared.reply.Reply.{Reply}
+use Rattle.silt_event.specs.declared.reply.Reply.TheVariants.{Refused}
+use Rattle.silt_event.specs.Events.{Step, Counts, accepted_command, is_failed}
+use Rattle.silt_store_set.specs.CoreInvariant.{IsCore, LeavesBegun}
+use Rattle.silt_store_set.specs.CoreState.{CoreState, map_of, Cause, LeavesNoneWaiting, Does, is_convert, is_finished, is_refused, work_of}
 use Rattle.silt_store_set.proofs.Maps.{append_nil, map_after-append}
 
 -- what contracts see of a store with these fields
@@ -36,17 +38,52 @@ seen content disk stores count failed = record {
 -- the map is the base after the waiting commands, the numbers are the full image's, and each image stands for the base
 pub record Standing {D : Type 0} (content : D → Content) (core : CoreState D) : Type 0 where
   pub numbers : IsTrue (content core.disk).honest → IsGoodWith core.shape core.body core.charge core.full
-  pub joins : IsTrue (content core.disk).honest → map_of core ≡ map_after core.base core.waiting
+  pub has_map : IsTrue (content core.disk).honest → map_of core ≡ map_after core.base core.waiting
   pub safe : LeavesOnly (content core.disk) (StandsUnsorted core.shape core.base)
 
 -- a store that is not failed stands
 pub stands_seen : {D : Type 0} (content : D → Content) (disk : D) (stores : StoresState) (count : ℕ) (failed : Bool) → Stands (content disk) stores → Standing content (seen content disk stores count failed)
 stands_seen content disk stores count failed stands = record {
   numbers = (meaning (content disk) stores stands).numbers;
-  joins = λ h. (meaning (content disk) stores stands).full h ∙ ap (λ m. map_after m (waiting_commands (content disk) stores)) (sym ((meaning (content disk) stores stands).shown h));
+  has_map = λ h. (meaning (content disk) stores stands).full h ∙ ap (λ m. map_after m (waiting_commands (content disk) stores)) (sym ((meaning (content disk) stores stands).shown h));
   safe = record {
     each = λ h image left. subst (λ m. StandsUnsorted stores.manifest.shape m image) (sym ((meaning (content disk) stores stands).shown h)) ((meaning (content disk) stores stands).safe.each h image left);
   };
+}
+
+-- of a store as contracts see it, each image stands for the base as long as it is not failed
+pub safe_seen : {D : Type 0} (content : D → Content) (disk : D) (stores : StoresState) (count : ℕ) (failed : Bool) (core : CoreState D) → seen content disk stores count failed ≡ core
+    → IsCore (content disk) stores count failed → core.failed ≡ false → LeavesOnly (content core.disk) (StandsUnsorted core.shape core.base)
+safe_seen {D} content disk stores count failed core is holds =
+    subst (λ (c : CoreState D). c.failed ≡ false → LeavesOnly (content c.disk) (StandsUnsorted c.shape c.base)) is (λ working. (stands_seen content disk stores count failed (holds.stands working)).safe)
+
+-- each image stands for the base after a beginning of what waits, where the store is failed and where it is not
+pub left_seen : {D : Type 0} (content : D → Content) (disk : D) (stores : StoresState) (count : ℕ) (failed : Bool) → IsCore (content disk) stores count failed → LeavesBegun (content disk) stores.manifest.shape
+left_seen content disk stores count failed holds =
+    let go : (b : Bool) → failed ≡ b → LeavesBegun (content disk) stores.manifest.shape = elim [
+      | true ↦ λ fails. holds.left fails
+      | false ↦ λ working. record {
+        base = image_map (content disk).shown;
+        waiting = waiting_commands (content disk) stores;
+        begun = record {
+          each = λ h image left. record {
+            kept = [];
+            begins = record { rest = waiting_commands (content disk) stores; is = refl };
+            stands = (stands_seen content disk stores count failed (holds.stands working)).safe.each h image left;
+          };
+        };
+      }
+    ] in
+    go failed refl
+
+-- what is true of a store after a failed write or sync
+pub core_broke : (old new : Content) (stores after : StoresState) (count : ℕ) (failed : Bool) → IsCore old stores count failed → SameDisk old new → after.manifest.shape ≡ stores.manifest.shape → Breaks old new stores
+    → IsCore new after count true
+core_broke old new stores after count failed holds same shape breaks = record {
+  has_size = same.size ∙ holds.has_size ∙ ap device_size (sym shape);
+  count_most = holds.count_most;
+  stands = λ f. absurd (cc);
+  left = λ _. subst (LeavesBegun new) (sym shape) (record { base = base_map old stores; waiting = waiting_commands old stores; begun = breaks });
 }
 
 -- ---- calls that change nothing
@@ -72,7 +109,7 @@ module _ {D F : Type 0} (content : D → Content) (failures : D → ℕ) (gave :
   pub unchanged : (core : CoreState D) (event : Event) (reply : Reply F) → Counts core.count reply core.count → Cause content failures gave core core event reply
       → (core.failed ≡ true → reply ≡ Refused Failed) → (IsTrue (is_failed reply) → core.failed ≡ true)
       → (core.failed ≡ false → IsTrue (content core.disk).honest → Step (map_of core) event reply (map_of core))
-      → accepted_command event reply ≡ [] → (IsTrue (content core.disk).honest → Settles core reply)
+      → accepted_command event reply ≡ [] → (IsTrue (content core.disk).honest → LeavesNoneWaiting core reply)
       → (core.failed ≡ false → Standing content core) → Does content failures gave core core event reply
   unchanged core event reply counts cause failed told step none settles stands = record {
     disk = record { size = refl; honest = refl };
@@ -81,12 +118,14 @@ module _ {D F : Type 0} (content : D → Content) (failures : D → ℕ) (gave :
     cause = cause;
     stays = λ _ _. refl;
     failed = λ e. (refl, failed e);
-    told = told;
+    failed_only = told;
     faulted = λ a b. absurd (let no : false ≡ true = sym a ∙ b in cc);
-    names = λ _ _ _. refl;
-    works = λ _ _. refl;
+    quiet = λ _. refl;
+    counted = λ a b. absurd (let no : false ≡ true = sym a ∙ b in cc);
+    keeps_body = λ _ _ _. refl;
+    keeps_work = λ _ _. refl;
     step = step;
-    joins = λ f h. (stands f).joins h;
+    has_map = λ f h. (stands f).has_map h;
     numbers = λ f h. (stands f).numbers h;
     moves = λ f h. record { moved = []; rest = sym (append_nil core.waiting) ∙ ap (λ cs. core.waiting ++ cs) (sym none); base = refl };
     settles = settles;
@@ -113,7 +152,7 @@ module _ {D F : Type 0} (content : D → Content) (failures : D → ℕ) (gave :
       → failed ≡ false → Stands (content disk) stores → Counts count reply count → is_failed reply ≡ false → accepted_command event reply ≡ []
       → Cause content failures gave (seen content disk stores count failed) (seen content disk stores count failed) event reply
       → (IsTrue (content disk).honest → Step (image_map (full_image (content disk) stores)) event reply (image_map (full_image (content disk) stores)))
-      → (IsTrue (content disk).honest → Settles (seen content disk stores count failed) reply)
+      → (IsTrue (content disk).honest → LeavesNoneWaiting (seen content disk stores count failed) reply)
       → Does content failures gave (seen content disk stores count failed) (seen content disk stores count failed) event reply
   answered disk stores count failed event reply working stands counts other none cause step settles =
       unchanged (seen content disk stores count failed) event reply counts cause (λ f. absurd (let no : false ≡ true = sym working ∙ f in cc)) (λ t. absurd (let no : false ≡ true = sym other ∙ t in cc))
@@ -147,9 +186,9 @@ module _ {D F : Type 0} (content : D → Content) (failures : D → ℕ) (gave :
         → ((m to : Map) → to ≡ map_after m adds → Step m event reply to)
         → (adds ≡ [] → is_finished reply ≡ false → after.manifest.ruling ≡ stores.manifest.ruling)
         → (is_convert event ≡ false → after.converting ≡ stores.converting)
-        → (IsTrue (content disk).honest → Settles (seen content new after next false) reply)
+        → (IsTrue (content disk).honest → LeavesNoneWaiting (seen content new after next false) reply) → failures new ≡ failures disk
         → Does content failures gave (seen content disk stores count false) (seen content new after next false) event reply
-    advanced adds count next event reply goes counts own answers tells cause step named works settles =
+    advanced adds count next event reply goes counts own answers tells cause step named works settles none_failed =
         let standing = stands_seen content new after next false goes.stands in
         record {
           disk = same;
@@ -158,12 +197,14 @@ module _ {D F : Type 0} (content : D → Content) (failures : D → ℕ) (gave :
           cause = cause;
           stays = λ r. absurd (let no : false ≡ true = sym answers ∙ r in cc);
           failed = λ f. absurd (cc);
-          told = λ t. absurd (let no : false ≡ true = sym tells ∙ t in cc);
+          failed_only = λ t. absurd (let no : false ≡ true = sym tells ∙ t in cc);
           faulted = λ _ f. absurd (cc);
-          names = λ _ none unfinished. named (sym own ∙ none) unfinished;
-          works = λ _ other. ap work_of (works other);
+          quiet = λ _. none_failed;
+          counted = λ _ f. absurd (cc);
+          keeps_body = λ _ none unfinished. named (sym own ∙ none) unfinished;
+          keeps_work = λ _ other. ap work_of (works other);
           step = λ _ h. step _ _ (advanced_map adds goes h);
-          joins = λ _ h. standing.joins (there h);
+          has_map = λ _ h. standing.has_map (there h);
           numbers = λ _ h. standing.numbers (there h);
           moves = λ _ h.
               let moves = goes.moves h in
@@ -181,20 +222,23 @@ module _ {D F : Type 0} (content : D → Content) (failures : D → ℕ) (gave :
     pub broke : (count : ℕ) (event : Event) (fault : F) → Breaks (content disk) (content new) stores → after.manifest.shape ≡ stores.manifest.shape
         → (IsTrue (content disk).honest → image_map (full_image (content new) after) ≡ image_map (full_image (content disk) stores))
         → Cause content failures gave (seen content disk stores count false) (seen content new after count true) event (Refused (Device fault))
+        → failures new ≡ (failures disk + 1) % 2 ^ 64
         → Does content failures gave (seen content disk stores count false) (seen content new after count true) event (Refused (Device fault))
-    broke count event fault breaks shape maps cause = record {
+    broke count event fault breaks shape maps cause one_failed = record {
       disk = same;
       shape = shape;
       counts = refl;
       cause = cause;
       stays = λ _ f. absurd (cc);
       failed = λ f. absurd (cc);
-      told = λ t. absurd (cc);
+      failed_only = λ t. absurd (cc);
       faulted = λ _ _. refl;
-      names = λ f. absurd (cc);
-      works = λ f. absurd (cc);
+      quiet = λ f. absurd (cc);
+      counted = λ _ _. one_failed;
+      keeps_body = λ f. absurd (cc);
+      keeps_work = λ f. absurd (cc);
       step = λ _ h. subst (Step (image_map (full_image (content disk) stores)) event (Refused (Device fault))) (sym (maps h)) (step_refused (image_map (full_image (content disk) stores)) event (Device fault));
-      joins = λ f. absurd (cc);
+      has_map = λ f. absurd (cc);
       numbers = λ f. absurd (cc);
       moves = λ f. absurd (cc);
       settles = λ _. tt;

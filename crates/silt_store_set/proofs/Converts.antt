@@ -2,17 +2,17 @@
 use Rattle.std.proofs.Common.{◌≡◌, ℕ, ◌+◌, ◌*◌, ◌%◌, ◌^◌, inl, inr, false, true, [], length, Option, Some, None, refl, ap, sym, ◌∙◌}
 use Rattle.std.proofs.lemmas.List.{length-map}
 use Rattle.silt_device.specs.Disk.{Content}
-use Rattle.silt_hash_store.specs.Converting.{ConversionState}
+use Rattle.silt_hash_store.specs.Conversion.{ConversionState}
 use Rattle.silt_stores.specs.Calls.{Advances, Breaks, IsLastGeneration, Remaps, SameDisk}
-use Rattle.silt_stores.specs.Converting.{Converts, Finishes, IsNextStep, MovesOn, StepsOn, convert_turn, is_work, progress_due, written_by}
+use Rattle.silt_stores.specs.Conversion.{Converts, Finishes, IsNextStep, MovesOn, convert_turn, is_work, progress_due, written_by}
 use Rattle.silt_stores.specs.Standing.{Stands}
 use Rattle.silt_stores.specs.State.{StoresState, hash_region_of, region_of}
-use Rattle.silt_stores.specs.declared.converting.Progress.{Progress as ProgressOf}
-use Rattle.silt_stores.specs.declared.converting.Progress.TheVariants.{Idle, Waiting, Moved, Finished}
-use Rattle.silt_store_set.specs.declared.event.Event.TheVariants.{Convert}
-use Rattle.silt_store_set.specs.declared.event.Refusal.TheVariants.{Device, NoMemory, Spent}
-use Rattle.silt_store_set.specs.declared.event.Reply.TheVariants.{Progress, Refused}
-use Rattle.silt_store_set.specs.CoreState.{CoreState, ConvertsTo, Does, GoesOn, convert_due, is_finished, work_of, written_of}
+use Rattle.silt_event.specs.declared.progress.Progress.{Progress as ProgressOf}
+use Rattle.silt_event.specs.declared.progress.Progress.TheVariants.{Idle, Waiting, Moved, Finished}
+use Rattle.silt_event.specs.declared.event.Event.TheVariants.{Convert}
+use Rattle.silt_event.specs.declared.refusal.Refusal.TheVariants.{Device, NoMemory, Spent}
+use Rattle.silt_event.specs.declared.reply.Reply.TheVariants.{Progress, Refused}
+use Rattle.silt_store_set.specs.CoreState.{CoreState, ConvertsTo, Does, GoesOn, convert_due, work_of, written_of}
 use Rattle.silt_store_set.proofs.Calls.{seen, advanced, answered, broke, refused}
 
 -- a conversion in memory and as contracts see it have written as many slots
@@ -57,7 +57,7 @@ module _ {D F : Type 0} (content : D → Content) (failures : D → ℕ) (gave :
       let work : after.converting ≡ Some moves.conversion = ap (λ (s : StoresState). s.converting) moves.is in
       let on : GoesOn stores.manifest.shape.hashes stores.manifest.ruling (work_of stores.converting) (work_of after.converting) = rw work (goes_on stores stores.converting moves.conversion moves.step) in
       advanced content failures gave disk new stores after same stands [] count count Convert (Progress Moved) goes refl refl refl refl
-      (refl, converts.due ∙ sym due_same, (ruling, on), counted) (λ m to e. e) (λ _ _. ruling) (λ other. absurd (cc)) (λ _. tt)
+      (refl, converts.due ∙ sym due_same, (ruling, on), counted) (λ m to e. e) (λ _ _. ruling) (λ other. absurd (cc)) (λ _. tt) counted
   stepped Finished new after same goes converts quiet counted =
       let ends : Finishes stores after = converts.done in
       advanced content failures gave disk new stores after same stands [] count count Convert (Progress Finished) goes refl refl refl refl (
@@ -66,7 +66,7 @@ module _ {D F : Type 0} (content : D → Content) (failures : D → ℕ) (gave :
         record { work = record { region = ends.conversion.region; written = ends.conversion.next }; was = ap work_of ends.was; none = ap work_of ends.none; body = ends.ruling },
         counted,
       )
-      (λ m to e. e) (λ _ unfinished. absurd (cc)) (λ other. absurd (cc)) (λ _. tt)
+      (λ m to e. e) (λ _ unfinished. absurd (cc)) (λ other. absurd (cc)) (λ _. tt) counted
 
   -- ---- a step was refused
 
@@ -89,4 +89,4 @@ module _ {D F : Type 0} (content : D → Content) (failures : D → ℕ) (gave :
       → Does content failures gave before (seen content new after count true) Convert (Refused (Device fault))
   step_broke new after fault same work breaks remaps shape given counted =
       broke content failures gave disk new stores after same stands count Convert fault breaks shape remaps
-      (inr (ap is_work due_same ∙ work, record { given = given; counted = counted; failed = refl }))
+      (inr (ap is_work due_same ∙ work, record { given = given; counted = counted; failed = refl })) counted

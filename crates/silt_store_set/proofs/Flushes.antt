@@ -1,17 +1,31 @@
 -- What a flush does.
-use Rattle.std.proofs.Common.{◌≡◌, ℕ, ◌+◌, ◌%◌, ◌^◌, false, true, [], map, nat_lt, refl, ap, arith}
+use Rattle.std.proofs.Common.{◌≡◌, ◌<◌, ◌-◌, ℕ, ◌+◌, ◌%◌, ◌^◌, false, true, [], length, map, nat_lt, refl, ap, arith}
+use Rattle.std.proofs.lemmas.List.{length-map}
+use Rattle.std.proofs.lemmas.List.FromFn.{length-map-range_with_len}
 use Rattle.std.proofs.lemmas.Bool.Decides.{nat_tests}
 use Rattle.silt_device.specs.Disk.{Content}
 use Rattle.silt_image.specs.Meaning.{command_of}
+use Rattle.silt_log.specs.Rows.{row_at, rows_from}
+use Rattle.silt_log.specs.State.{LogState, waiting_rows}
 use Rattle.silt_stores.specs.Calls.{Advances, Breaks, IsQuiet, Remaps, SameDisk}
 use Rattle.silt_stores.specs.Standing.{Stands}
 use Rattle.silt_stores.specs.State.{StoresState}
-use Rattle.silt_store_set.specs.declared.event.Event.TheVariants.{Flush}
-use Rattle.silt_store_set.specs.declared.event.Refusal.TheVariants.{Device}
-use Rattle.silt_store_set.specs.declared.event.Reply.TheVariants.{Acknowledged, Refused}
+use Rattle.silt_event.specs.declared.event.Event.TheVariants.{Flush}
+use Rattle.silt_event.specs.declared.refusal.Refusal.TheVariants.{Device}
+use Rattle.silt_event.specs.declared.reply.Reply.TheVariants.{Acknowledged, Refused}
 use Rattle.silt_store_set.specs.CoreState.{Does}
 use Rattle.silt_store_set.proofs.Calls.{seen, answered, advanced, broke}
 use Rattle.silt_store_set.proofs.Openings.{none_wait}
+
+tells_below : (a b : ℕ) → nat_lt a b ≡ true → a < b
+tells_below a b some = grind (arith, nat_tests, some)
+
+-- where a row is not settled a command waits
+some_wait : (content : Content) (log : LogState) → log.settled < log.used → map command_of (waiting_rows content log) ≡ [] → ⊥
+unfolding rows_from
+some_wait content log waits none =
+    let len : length (waiting_rows content log) ≡ log.used - log.settled = length-map-range_with_len (row_at log.shape log.region content.shown) log.settled (log.used - log.settled) in
+    omega (arith, waits, len, length-map (waiting_rows content log) command_of, ap length none)
 
 module _ {D F : Type 0} (content : D → Content) (failures : D → ℕ) (gave : D → F → Type 0) (disk : D) (stores : StoresState) (count : ℕ) (stands : Stands (content disk) stores) where
   -- where no row waits nothing is done
@@ -19,16 +33,18 @@ module _ {D F : Type 0} (content : D → Content) (failures : D → ℕ) (gave :
       → Does content failures gave (seen content disk stores count failed) (seen content disk stores count failed) Flush (Acknowledged count)
   flushed_none failed working none =
       let settled : stores.active.log.settled ≡ stores.active.log.used = grind (arith, nat_tests, none, stands.active.bounds.order) in
-      answered content failures gave disk stores count failed Flush (Acknowledged count) working stands (refl, refl) refl refl (working, refl) (λ _. refl)
+      answered content failures gave disk stores count failed Flush (Acknowledged count) working stands (refl, refl) refl refl (working, refl, λ _. refl) (λ _. refl)
       (λ _. ap (map command_of) (none_wait (content disk) stores.active.log settled))
 
   -- the waiting rows are settled
-  pub flushed : (new : D) (after : StoresState) → SameDisk (content disk) (content new) → Advances [] (content disk) (content new) stores after → IsQuiet (content new) after
+  pub flushed : (new : D) (after : StoresState) → nat_lt stores.active.log.settled stores.active.log.used ≡ true → SameDisk (content disk) (content new) → Advances [] (content disk) (content new) stores after → IsQuiet (content new) after
       → after.manifest ≡ stores.manifest → after.converting ≡ stores.converting → failures new ≡ failures disk
       → Does content failures gave (seen content disk stores count false) (seen content new after count false) Flush (Acknowledged count)
-  flushed new after same goes quiet manifest work counted =
-      advanced content failures gave disk new stores after same stands [] count count Flush (Acknowledged count) goes (refl, refl) refl refl refl (refl, counted) (λ m to e. e)
-      (λ _ _. ap (λ m. m.ruling) manifest) (λ _. work) (λ _. quiet.none_wait)
+  flushed new after some same goes quiet manifest work counted =
+      let waits = tells_below stores.active.log.settled stores.active.log.used some in
+      advanced content failures gave disk new stores after same stands [] count count Flush (Acknowledged count) goes (refl, refl) refl refl refl
+      (refl, counted, λ none. absurd (some_wait (content disk) stores.active.log waits none)) (λ m to e. e)
+      (λ _ _. ap (λ m. m.ruling) manifest) (λ _. work) (λ _. quiet.none_wait) counted
 
   -- a sync or the write of the gates failed
   pub flush_broke : (new : D) (after : StoresState) (fault : F) → SameDisk (content disk) (content new) → Breaks (content disk) (content new) stores → Remaps [] (content disk) (content new) stores after
@@ -36,4 +52,4 @@ module _ {D F : Type 0} (content : D → Content) (failures : D → ℕ) (gave :
       → Does content failures gave (seen content disk stores count false) (seen content new after count true) Flush (Refused (Device fault))
   flush_broke new after fault same breaks remaps manifest given counted =
       broke content failures gave disk new stores after same stands count Flush fault breaks (ap (λ m. m.shape) manifest) remaps
-      (record { given = given; counted = counted; failed = refl })
+      (record { given = given; counted = counted; failed = refl }) counted

@@ -3,15 +3,15 @@ use Rattle.std.proofs.Common.{◌≡◌, ℕ, Bool, true, false, IsTrue, List, O
 use Rattle.std.specs.FinMap.{get}
 use Rattle.silt_device.specs.Disk.{Content}
 use Rattle.silt_frame.specs.declared.key.Key.{Key}
-use Rattle.silt_image.specs.Commands.{Map}
+use Rattle.silt_event.specs.Commands.{Map}
 use Rattle.silt_image.specs.Meaning.{image_map}
 use Rattle.silt_stores.specs.Standing.{Stands, current_map, full_image}
 use Rattle.silt_stores.specs.State.{StoresState}
 use Rattle.silt_stores.proofs.Facts.{meaning}
-use Rattle.silt_store_set.specs.declared.event.Event.TheVariants.{Get}
-use Rattle.silt_store_set.specs.declared.event.Refusal.{Refusal}
-use Rattle.silt_store_set.specs.declared.event.Refusal.TheVariants.{Device, NoMemory}
-use Rattle.silt_store_set.specs.declared.event.Reply.TheVariants.{Found, Absent, Refused}
+use Rattle.silt_event.specs.declared.event.Event.TheVariants.{Get}
+use Rattle.silt_event.specs.declared.refusal.Refusal.{Refusal}
+use Rattle.silt_event.specs.declared.refusal.Refusal.TheVariants.{Device, NoMemory}
+use Rattle.silt_event.specs.declared.reply.Reply.TheVariants.{Found, Absent, Refused}
 use Rattle.silt_store_set.specs.CoreState.{Does}
 use Rattle.silt_store_set.specs.Replies.{ReadCause, get_reply}
 use Rattle.silt_store_set.proofs.Calls.{seen, answered, refused}
@@ -23,11 +23,11 @@ module _ {D F : Type 0} (content : D → Content) (failures : D → ℕ) (gave :
 
   pub get_found : (value : List ℕ) → (IsTrue (content disk).honest → get (current_map (content disk) stores) key.0 ≡ Some value)
       → Does content failures gave (seen content disk stores count failed) (seen content disk stores count failed) (Get key) (Found value)
-  get_found value found = answered content failures gave disk stores count failed (Get key) (Found value) working stands refl refl refl working (λ h. (looked_up (Some value) found h, refl)) (λ _. tt)
+  get_found value found = answered content failures gave disk stores count failed (Get key) (Found value) working stands refl refl refl (working, refl) (λ h. (looked_up (Some value) found h, refl)) (λ _. tt)
 
   pub get_absent : (IsTrue (content disk).honest → get (current_map (content disk) stores) key.0 ≡ None)
       → Does content failures gave (seen content disk stores count failed) (seen content disk stores count failed) (Get key) Absent
-  get_absent none = answered content failures gave disk stores count failed (Get key) Absent working stands refl refl refl working (λ h. (looked_up None none h, refl)) (λ _. tt)
+  get_absent none = answered content failures gave disk stores count failed (Get key) Absent working stands refl refl refl (working, refl) (λ h. (looked_up None none h, refl)) (λ _. tt)
 
   -- a lookup was answered
   pub get_answered : (found : Bool) (out : List ℕ) → (found ≡ true → IsTrue (content disk).honest → get (current_map (content disk) stores) key.0 ≡ Some out)
@@ -41,7 +41,9 @@ module _ {D F : Type 0} (content : D → Content) (failures : D → ℕ) (gave :
   get_faulted fault given = refused content failures gave disk stores count failed (Get key) (Device fault) working stands refl (record { given = given; working = working; same = refl })
 
   -- a value was not read
-  pub get_refused : (refusal : Refusal F) → ReadCause (gave disk) refusal → Does content failures gave (seen content disk stores count failed) (seen content disk stores count failed) (Get key) (Refused refusal)
-  get_refused (Device fault) given = get_faulted fault given
-  get_refused NoMemory none = refused content failures gave disk stores count failed (Get key) NoMemory working stands refl working
-  get_refused refusal cause = absurd cause
+  pub get_refused : (refusal : Refusal F) (value : List ℕ) → (IsTrue (content disk).honest → get (current_map (content disk) stores) key.0 ≡ Some value) → ReadCause (gave disk) refusal
+      → Does content failures gave (seen content disk stores count failed) (seen content disk stores count failed) (Get key) (Refused refusal)
+  get_refused (Device fault) value found given = get_faulted fault given
+  get_refused NoMemory value found none =
+      refused content failures gave disk stores count failed (Get key) NoMemory working stands refl (working, λ h. (value, looked_up (Some value) found h))
+  get_refused refusal value found cause = absurd cause

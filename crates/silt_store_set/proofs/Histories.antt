@@ -4,14 +4,14 @@ use Rattle.std.specs.declared.alloc.Global.{Global}
 use Rattle.silt_device.specs.Disk.{Content, Left, LeavesOnly, Restarts}
 use Rattle.silt_device.specs.Layout.{Shape}
 use Rattle.silt_device.proofs.Images.{shown_left, left_at_rest}
-use Rattle.silt_store_set.specs.declared.event.Event.{Event}
-use Rattle.silt_store_set.specs.declared.event.LifeReply.{LifeReply}
-use Rattle.silt_store_set.specs.declared.event.LifeReply.TheVariants.{NotOpened, Opened}
-use Rattle.silt_store_set.specs.declared.event.Refusal.{Refusal}
-use Rattle.silt_store_set.specs.declared.event.Refusal.TheVariants.{NoMemory}
-use Rattle.silt_store_set.specs.declared.event.Reply.{Reply}
-use Rattle.silt_image.specs.Commands.{Command, Map, map_after}
-use Rattle.silt_store_set.specs.Events.{Legal, accepted_commands, LifeHistory, LivesHistory}
+use Rattle.silt_event.specs.declared.event.Event.{Event}
+use Rattle.silt_event.specs.declared.reply.LifeReply.{LifeReply}
+use Rattle.silt_event.specs.declared.reply.LifeReply.TheVariants.{NotOpened, Opened}
+use Rattle.silt_event.specs.declared.refusal.Refusal.{Refusal}
+use Rattle.silt_event.specs.declared.refusal.Refusal.TheVariants.{NoMemory}
+use Rattle.silt_event.specs.declared.reply.Reply.{Reply}
+use Rattle.silt_event.specs.Commands.{Command, Map, map_after}
+use Rattle.silt_event.specs.Events.{Legal, accepted_commands, LifeHistory, LivesHistory}
 use Rattle.silt_store_set.specs.CoreState.{CoreState, map_of, Runs, Opens}
 use Rattle.silt_store_set.specs.CoreInvariant.{IsSafe}
 use Rattle.silt_image.specs.Header.{shape_of}

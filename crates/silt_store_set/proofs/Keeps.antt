@@ -2,14 +2,14 @@
 use Rattle.std.proofs.Common.{◌≡◌, ◌≤◌, ℕ, ◌+◌, ◌||◌, Bool, true, false, IsTrue, List, [], ◌∷◌, ◌++◌, length, refl, ap, sym, ◌∙◌, subst, arith, append_assoc, length-append}
 use Rattle.silt_device.specs.Disk.{Content, Left, LeavesOnly}
 use Rattle.silt_device.specs.Layout.{Shape}
-use Rattle.silt_store_set.specs.declared.event.Event.{Event}
-use Rattle.silt_store_set.specs.declared.event.Event.TheVariants.{Put, Delete, Flush, Get, Convert, Merge}
-use Rattle.silt_store_set.specs.declared.event.Refusal.TheVariants.{Failed}
-use Rattle.silt_store_set.specs.declared.event.Reply.{Reply}
-use Rattle.silt_store_set.specs.declared.event.Reply.TheVariants.{Accepted, Acknowledged, Found, Absent, Progress, Refused}
-use Rattle.silt_image.specs.Commands.{Command, Map, map_after}
-use Rattle.silt_store_set.specs.Events.{Counts, accepted_command, accepted_commands, acknowledged_by, acknowledged_after, is_fault, is_failed, FailsAfterFault}
-use Rattle.silt_store_set.specs.CoreState.{CoreState, Cause, Does, Runs, Settles, StandsKept}
+use Rattle.silt_event.specs.declared.event.Event.{Event}
+use Rattle.silt_event.specs.declared.event.Event.TheVariants.{Put, Delete, Flush, Get, Convert, Merge}
+use Rattle.silt_event.specs.declared.refusal.Refusal.TheVariants.{Failed}
+use Rattle.silt_event.specs.declared.reply.Reply.{Reply}
+use Rattle.silt_event.specs.declared.reply.Reply.TheVariants.{Accepted, Acknowledged, Found, Absent, Progress, Refused}
+use Rattle.silt_event.specs.Commands.{Command, Map, map_after}
+use Rattle.silt_event.specs.Events.{Counts, accepted_command, accepted_commands, acknowledged_by, acknowledged_after, is_fault, is_failed, FailsAfterFault}
+use Rattle.silt_store_set.specs.CoreState.{CoreState, Cause, Does, Runs, LeavesNoneWaiting, StandsKept}
 use Rattle.silt_stores.specs.Calls.{StandsUnsorted}
 use Rattle.silt_store_set.proofs.Maps.{map_after-append, append_nil}
 use Rattle.silt_store_set.proofs.Calls.{none_refused}
@@ -94,7 +94,7 @@ pub nines : {D F : Type 0} (content : D → Content) (failures : D → ℕ) (gav
 nines content failures gave old new [] [] before working runs = tt
 nines content failures gave old new (event ∷ events) (reply ∷ replies) before working runs =
     let next = runs.0 in
-    let told : IsTrue (is_failed reply) → IsTrue before = λ t. absurd (let no : false ≡ true = sym working ∙ runs.1.told t in cc) in
+    let told : IsTrue (is_failed reply) → IsTrue before = λ t. absurd (let no : false ≡ true = sym working ∙ runs.1.failed_only t in cc) in
     let go : (b : Bool) → next.failed ≡ b → FailsAfterFault (before || is_fault reply) replies = elim [
       | false ↦ λ e. nines content failures gave next new events replies (before || is_fault reply) e runs.2
       | true ↦ λ e.
@@ -106,7 +106,7 @@ nines content failures gave old new [] (reply ∷ replies) before working runs =
 nines content failures gave old new (event ∷ events) [] before working runs = absurd runs
 
 -- what was acknowledged by one reply is settled after it
-acknowledged_one : {D F : Type 0} (old next : CoreState D) (reply : Reply F) (settled moved : ℕ) → Counts old.count reply next.count → Settles next reply → settled + moved + length next.waiting ≡ next.count → acknowledged_by settled reply ≤ settled + moved
+acknowledged_one : {D F : Type 0} (old next : CoreState D) (reply : Reply F) (settled moved : ℕ) → Counts old.count reply next.count → LeavesNoneWaiting next reply → settled + moved + length next.waiting ≡ next.count → acknowledged_by settled reply ≤ settled + moved
 acknowledged_one old next (Accepted n) settled moved counts none sum = omega arith
 acknowledged_one old next (Acknowledged n) settled moved counts none sum = omega (arith, counts.0, counts.1, ap length none)
 acknowledged_one old next (Found v) settled moved counts none sum = omega arith

@@ -8,3 +8,4 @@ pub mod Flushes
 pub mod Gets
 pub mod Rows
 pub mod Histories
+pub mod Livings

@@ -1,12 +1,12 @@
 -- What an opening answers, from what recovery finds.
 use Rattle.std.proofs.Common.{◌≡◌, ◌-◌, ℕ, inl, inr, false, IsTrue, List, [], Option, Some, None, refl, ap, sym, ◌∙◌, subst, arith}
 use Rattle.silt_device.specs.Disk.{Content}
-use Rattle.silt_image.specs.Commands.{map_after}
+use Rattle.silt_event.specs.Commands.{map_after}
 use Rattle.silt_image.specs.Meaning.{IsGood}
 use Rattle.silt_image.specs.Stores.{image_stores}
-use Rattle.silt_image.specs.declared.finding.Finding.TheVariants as finding
-use Rattle.silt_image.specs.declared.finding.Place.{Place}
-use Rattle.silt_image.specs.declared.finding.Place.TheVariants.{Header, Length, Slot, NoSlot, Log, Hash, Sorted, Charge}
+use Rattle.silt_image.specs.declared.damage.Finding.TheVariants as finding
+use Rattle.silt_event.specs.declared.place.Place.{Place}
+use Rattle.silt_event.specs.declared.place.Place.TheVariants.{Header, Length, Slot, NoSlot, Log, Hash, Sorted, Charge}
 use Rattle.silt_log.specs.Rows.{rows_from}
 use Rattle.silt_log.specs.State.{LogState, waiting_rows}
 use Rattle.silt_recovery.specs.Opening.{IsUnwrittenUnlessFailed, TakesUp}
@@ -18,11 +18,11 @@ use Rattle.silt_stores.specs.Standing.{waiting_commands}
 use Rattle.silt_stores.specs.State.{StoresState}
 use Rattle.silt_stores.proofs.Facts.{meaning}
 use Rattle.silt_store_set.specs.CoreState.{Opens, work_of}
-use Rattle.silt_store_set.specs.Events.{IsOpeningRefusal}
+use Rattle.silt_event.specs.Events.{IsOpeningRefusal}
 use Rattle.silt_store_set.specs.Opening.{OpeningCause}
-use Rattle.silt_store_set.specs.Replies.{refusal_of_opening}
-use Rattle.silt_store_set.specs.declared.event.Refusal.{Refusal}
-use Rattle.silt_store_set.specs.declared.event.Refusal.TheVariants as refusal
+use Rattle.silt_recovery.specs.Errors.{refusal_of_opening}
+use Rattle.silt_event.specs.declared.refusal.Refusal.{Refusal}
+use Rattle.silt_event.specs.declared.refusal.Refusal.TheVariants as refusal
 use Rattle.silt_store_set.proofs.Calls.{seen, stands_seen}
 
 -- ---- why an opening is refused

@@ -5,22 +5,24 @@ use Rattle.silt_device.specs.Disk.{Content}
 use Rattle.silt_frame.specs.declared.key.Key.{Key}
 use Rattle.silt_frame.specs.declared.key.Kind.{Kind}
 use Rattle.silt_frame.specs.declared.key.Kind.TheVariants as kind
+use Rattle.silt_event.specs.Commands.{Command, Map, map_after}
 use Rattle.silt_image.specs.Meaning.{command_of}
-use Rattle.silt_log.specs.Rows.{StoredRow, log_rows, stored_row}
+use Rattle.silt_log.specs.Rows.{log_rows}
+use Rattle.silt_frame.specs.Rows.{stored_row, StoredRow}
 use Rattle.silt_log.specs.State.{all_rows}
 use Rattle.silt_manifest.specs.declared.body.Body.{Body}
-use Rattle.silt_stores.specs.Calls.{Advances, AreAllInUse as AllInUse, Breaks, CannotTake, IsLastGeneration, Remaps, SameDisk}
-use Rattle.silt_stores.specs.Freezing.{IsLowestFree, next_body}
-use Rattle.silt_stores.specs.Standing.{Stands, full_image}
+use Rattle.silt_stores.specs.Calls.{Advances, HasNoFreeLog as AllInUse, Breaks, CannotTake, IsLastGeneration, Remaps, SameDisk}
+use Rattle.silt_stores.specs.NextLog.{IsLowestFree, next_body}
+use Rattle.silt_stores.specs.Standing.{Stands, full_image, waiting_commands}
 use Rattle.silt_stores.specs.State.{StoresState, region_of}
-use Rattle.silt_stores.specs.Taking.{NeedsNext, TakesKey}
+use Rattle.silt_stores.specs.RowWrite.{NeedsNext, TakesKey}
 use Rattle.silt_stores.proofs.Facts.{meaning}
-use Rattle.silt_store_set.specs.declared.event.Event.TheVariants.{Put, Delete}
-use Rattle.silt_store_set.specs.declared.event.Refusal.{Refusal}
-use Rattle.silt_store_set.specs.declared.event.Refusal.TheVariants.{Device, NoMemory, NoRoom, Spent}
-use Rattle.silt_store_set.specs.declared.event.Reply.TheVariants.{Accepted, Refused}
-use Rattle.silt_store_set.specs.Events.{is_failed}
-use Rattle.silt_store_set.specs.CoreState.{CoreState, AreAllInUse, Cause, Does, FailsBy, FailsRead, Freezes, HasFreeLog, IsStopped, MayWrite, Takes, row_event}
+use Rattle.silt_event.specs.declared.event.Event.TheVariants.{Put, Delete}
+use Rattle.silt_event.specs.declared.refusal.Refusal.{Refusal}
+use Rattle.silt_event.specs.declared.refusal.Refusal.TheVariants.{Device, NoMemory, NoRoom, Spent}
+use Rattle.silt_event.specs.declared.reply.Reply.TheVariants.{Accepted, Refused}
+use Rattle.silt_event.specs.Events.{is_failed}
+use Rattle.silt_store_set.specs.CoreState.{CoreState, AreAllInUse, Cause, Does, FailsBy, FailsRead, Freezes, HasFreeLog, IsStuck, MayWrite, Takes, row_event}
 use Rattle.silt_store_set.proofs.Calls.{seen, advanced, broke, refused}
 
 -- a store that may write is not failed
@@ -43,7 +45,7 @@ module _ {D F : Type 0} (content : D → Content) (failures : D → ℕ) (gave :
   rows_are : IsTrue (content disk).honest → all_rows (content disk) stores.active.log ≡ log_rows stores.manifest.shape stores.manifest.ruling.active (full_image (content disk) stores)
   rows_are h = sym ((meaning (content disk) stores stands).rows h)
 
-  stopped : (next : CoreState D) (key : List ℕ) → NeedsNext (content disk) stores key → IsStopped content failures gave before next key
+  stopped : (next : CoreState D) (key : List ℕ) → NeedsNext (content disk) stores key → IsStuck content failures gave before next key
   stopped next key needs = λ h. subst (λ (rows : List StoredRow). CannotTake stores.manifest.shape rows key) (rows_are h) (needs h)
 
   -- as many logs are frozen as the body names
@@ -56,24 +58,39 @@ module _ {D F : Type 0} (content : D → Content) (failures : D → ℕ) (gave :
   has_free : (AllInUse stores → ⊥) → HasFreeLog before
   has_free free = λ all. free (ap (λ (n : ℕ). n + 1) frozen_count ∙ all)
 
-  takes : (new : D) (after : StoresState) (next : ℕ) (key : List ℕ) → TakesKey (content disk) stores after key → Takes content failures gave before (seen content new after next false) key
-  takes new after next key (inl (place, same)) = inl (same, λ h cannot. place h (subst (λ (rows : List StoredRow). CannotTake stores.manifest.shape rows key) (sym (rows_are h)) cannot))
-  takes new after next key (inr turns) = inr (
-    freezes stores.manifest.shape.logs stores.manifest.ruling after.manifest.ruling turns.region turns.lowest turns.ruling,
-    stopped (seen content new after next false) key turns.needs,
+  takes : (new : D) (after : StoresState) (next : ℕ) (key : List ℕ) (command : Command) → SameDisk (content disk) (content new) → Stands (content new) after
+      → TakesKey (content disk) (content new) stores after key command → Takes content failures gave before (seen content new after next false) key command
+  takes new after next key command same stood (inl stays) = inl (
+    (stays.ruling, λ h cannot. stays.has_place h (subst (λ (rows : List StoredRow). CannotTake stores.manifest.shape rows key) (sym (rows_are h)) cannot)),
+    λ h. record {
+      waiting = (stays.waits h).waiting;
+      base = (meaning (content new) after stood).shown (same.honest ∙ h) ∙ (stays.waits h).base ∙ sym ((meaning (content disk) stores stands).shown h);
+    },
+  )
+  takes new after next key command same stood (inr turns) = inr (
+    (
+      freezes stores.manifest.shape.logs stores.manifest.ruling after.manifest.ruling turns.region turns.lowest turns.ruling,
+      stopped (seen content new after next false) key turns.needs,
+    ),
+    λ h. record {
+      waiting = (turns.waits h).waiting;
+      base =
+          (meaning (content new) after stood).shown (same.honest ∙ h) ∙ (turns.waits h).base
+          ∙ ap (λ (m : Map). map_after m (waiting_commands (content disk) stores)) (sym ((meaning (content disk) stores stands).shown h));
+    },
   )
 
   -- ---- the row was taken
 
   pub row_taken : (new : D) (after : StoresState) (k : Kind) (key : Key) (value : List ℕ) → MayWrite k before → SameDisk (content disk) (content new)
-      → Advances (command_of (stored_row k key value) ∷ []) (content disk) (content new) stores after → TakesKey (content disk) stores after key.0 → after.converting ≡ stores.converting → failures new ≡ failures disk
+      → Advances (command_of (stored_row k key value) ∷ []) (content disk) (content new) stores after → TakesKey (content disk) (content new) stores after key.0 (command_of (stored_row k key value)) → after.converting ≡ stores.converting → failures new ≡ failures disk
       → Does content failures gave before (seen content new after (count + 1) false) (row_event k key value) (Accepted (count + 1))
   row_taken new after kind.Put key value may same goes taken work counted =
       advanced content failures gave disk new stores after same stands (command_of (stored_row kind.Put key value) ∷ []) count (count + 1) (Put key value) (Accepted (count + 1)) goes (refl, refl) refl refl refl
-      (may, (takes new after (count + 1) key.0 taken, counted)) (λ m to e. e) (λ none. absurd (cc)) (λ _. work) (λ _. tt)
+      (may, (takes new after (count + 1) key.0 _ same goes.stands taken, counted)) (λ m to e. e) (λ none. absurd (cc)) (λ _. work) (λ _. tt) counted
   row_taken new after kind.Delete key value may same goes taken work counted =
       advanced content failures gave disk new stores after same stands (command_of (stored_row kind.Delete key value) ∷ []) count (count + 1) (Delete key) (Accepted (count + 1)) goes (refl, refl) refl refl refl
-      (may, (takes new after (count + 1) key.0 taken, counted)) (λ m to e. e) (λ none. absurd (cc)) (λ _. work) (λ _. tt)
+      (may, (takes new after (count + 1) key.0 _ same goes.stands taken, counted)) (λ m to e. e) (λ none. absurd (cc)) (λ _. work) (λ _. tt) counted
 
   -- ---- a call failed
 
@@ -91,7 +108,7 @@ module _ {D F : Type 0} (content : D → Content) (failures : D → ℕ) (gave :
       → Does content failures gave before (seen content new after count true) (row_event k key value) (Refused (Device fault))
   row_broke new after k key value fault may same breaks remaps shape given counted =
       broke content failures gave disk new stores after same stands count (row_event k key value) fault breaks shape remaps
-      (broke_cause (seen content new after count true) k key value fault may (record { given = given; counted = counted; failed = refl }))
+      (broke_cause (seen content new after count true) k key value fault may (record { given = given; counted = counted; failed = refl })) counted
 
   -- ---- the row was refused
 

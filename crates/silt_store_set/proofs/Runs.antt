@@ -1,10 +1,10 @@
 -- Runs of events, from what each call does.
 use Rattle.std.proofs.Common.{◌≡◌, ℕ, Bool, true, false, IsTrue, List, [], ◌∷◌, ◌++◌, refl, ap, sym, subst}
 use Rattle.silt_device.specs.Disk.{Content}
-use Rattle.silt_store_set.specs.declared.event.Event.{Event}
-use Rattle.silt_store_set.specs.declared.event.Refusal.TheVariants.{Failed}
-use Rattle.silt_store_set.specs.declared.event.Reply.{Reply}
-use Rattle.silt_store_set.specs.Events.{Step, Legal}
+use Rattle.silt_event.specs.declared.event.Event.{Event}
+use Rattle.silt_event.specs.declared.refusal.Refusal.TheVariants.{Failed}
+use Rattle.silt_event.specs.declared.reply.Reply.{Reply}
+use Rattle.silt_event.specs.Events.{Step, Legal}
 use Rattle.silt_store_set.specs.CoreState.{CoreState, map_of, Does, Runs}
 use Rattle.silt_store_set.proofs.Calls.{step_refused}
 

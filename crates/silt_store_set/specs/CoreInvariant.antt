@@ -1,28 +1,31 @@
 -- What is true of each store.
-use Rattle.std.specs.Prelude.{◌≡◌, ◌<◌, ◌^◌, ℕ, Bool, false, List}
+use Rattle.std.specs.Prelude.{◌≡◌, ◌<◌, ◌^◌, ℕ, Bool, true, false, List}
 use Rattle.std.specs.Ordering.{nat_cmp}
 use Rattle.std.specs.declared.cmp.Ordering.{Ordering}
 use Rattle.std.specs.Cmp.Lexicographic.{slice_cmp}
-use Rattle.silt_device.specs.Disk.{Content, size}
-use Rattle.silt_device.specs.Layout.{device_size}
+use Rattle.silt_device.specs.Disk.{Content, LeavesOnly, size}
+use Rattle.silt_device.specs.Layout.{Shape, device_size}
 use Rattle.silt_frame.specs.declared.key.Key.{Key}
-use Rattle.silt_image.specs.Commands.{Map}
+use Rattle.silt_event.specs.Commands.{Command, Map}
 use Rattle.silt_image.specs.Header.{shape_of}
 use Rattle.silt_image.specs.Meaning.{image_map, IsGood}
 use Rattle.silt_image.specs.Stores.{image_stores}
-use Rattle.silt_stores.specs.Calls.{HaveNoEntries}
+use Rattle.silt_stores.specs.Calls.{HasBegun, HaveNoEntries}
 use Rattle.silt_stores.specs.Standing.{Stands}
 use Rattle.silt_stores.specs.State.{StoresState}
 
--- the order of keys
-abbrev pub key_cmp : Key → Key → Ordering
-key_cmp a b = slice_cmp nat_cmp a.0 b.0
+-- There are a map and a list of commands such that each image that a stop may leave stands for the map after a beginning of the list.
+pub record LeavesBegun (content : Content) (shape : Shape) : Type 0 where
+  pub base : Map
+  pub waiting : List Command
+  pub begun : LeavesOnly content (HasBegun shape base waiting)
 
--- what is true of each store: as long as it is not failed, what it holds in memory fits its disk
+-- What is true of each store: as long as it is not failed, what it holds in memory fits its disk. Once it is failed it knows what a stop may leave.
 pub record IsCore (content : Content) (stores : StoresState) (count : ℕ) (failed : Bool) : Type 0 where
   pub has_size : size content ≡ device_size stores.manifest.shape
   pub count_most : count < 2 ^ 63
   pub stands : failed ≡ false → Stands content stores
+  pub left : failed ≡ true → LeavesBegun content stores.manifest.shape
 
 -- a good image with no sorted entries, with values of this length, stands for this map
 pub record IsSafe (value_len : ℕ) (map : Map) (image : List ℕ) : Type 0 where

@@ -1,29 +1,31 @@
 -- What contracts see of a store, and what its calls do.
 use Rattle.std.specs.Prelude.{◌≡◌, ◌≢◌, ◌≤◌, ◌<◌, ◌-◌, ◌*◌, ◌^◌, ◌%◌, ◌⊎◌, ℕ, ◌+◌, Option, Some, None, Bool, true, false, IsTrue, List, [], ◌∷◌, ◌++◌, length}
+use Rattle.std.specs.FinMap.{get}
 use Rattle.silt_device.specs.Disk.{Content, LeavesOnly}
 use Rattle.silt_device.specs.Layout.{Shape}
 use Rattle.silt_frame.specs.declared.key.Key.{Key}
 use Rattle.silt_frame.specs.declared.key.Kind.{Kind}
 use Rattle.silt_frame.specs.declared.key.Kind.TheVariants as kind
-use Rattle.silt_image.specs.Commands.{Begins, Command, Map, map_after}
+use Rattle.silt_event.specs.Commands.{Begins, Command, Map, delete, map_after, put}
 use Rattle.silt_image.specs.Header.{shape_of}
 use Rattle.silt_image.specs.Meaning.{image_map, IsGood}
-use Rattle.silt_log.specs.Rows.{StoredRow, log_rows}
+use Rattle.silt_log.specs.Rows.{log_rows}
+use Rattle.silt_frame.specs.Rows.{StoredRow}
 use Rattle.silt_manifest.specs.declared.body.Body.{Body}
 use Rattle.silt_stores.specs.Calls.{CannotTake, HasBegun, SameDisk, StandsUnsorted}
-use Rattle.silt_stores.specs.Converting.{IsLowestFreeHash, converted_body, is_work, progress_due}
-use Rattle.silt_stores.specs.Freezing.{IsLowestFree, next_body}
+use Rattle.silt_stores.specs.Conversion.{IsLowestFreeHash, converted_body, is_work, progress_due}
+use Rattle.silt_stores.specs.NextLog.{IsLowestFree, next_body}
 use Rattle.silt_stores.specs.Laws.{IsGoodWith}
-use Rattle.silt_store_set.specs.declared.event.Event.{Event}
-use Rattle.silt_store_set.specs.declared.event.Event.TheVariants.{Put, Delete, Flush, Get, Convert, Merge}
-use Rattle.silt_stores.specs.declared.converting.Progress.{Progress as ProgressOf}
-use Rattle.silt_stores.specs.declared.converting.Progress.TheVariants.{Idle, Waiting, Moved, Finished}
-use Rattle.silt_hash_store.specs.Converting.{ConversionState}
-use Rattle.silt_store_set.specs.declared.event.Refusal.{Refusal}
-use Rattle.silt_store_set.specs.declared.event.Refusal.TheVariants.{Device, NoMemory, StoreFull, NoRoom, Failed, Spent}
-use Rattle.silt_store_set.specs.declared.event.Reply.{Reply}
-use Rattle.silt_store_set.specs.declared.event.Reply.TheVariants.{Accepted, Acknowledged, Found, Absent, Progress, Refused}
-use Rattle.silt_store_set.specs.Events.{Step, Counts, accepted_command, accepted_commands, acknowledged_after, is_fault, is_failed}
+use Rattle.silt_event.specs.declared.event.Event.{Event}
+use Rattle.silt_event.specs.declared.event.Event.TheVariants.{Put, Delete, Flush, Get, Convert, Merge}
+use Rattle.silt_event.specs.declared.progress.Progress.{Progress as ProgressOf}
+use Rattle.silt_event.specs.declared.progress.Progress.TheVariants.{Idle, Waiting, Moved, Finished}
+use Rattle.silt_hash_store.specs.Conversion.{ConversionState}
+use Rattle.silt_event.specs.declared.refusal.Refusal.{Refusal}
+use Rattle.silt_event.specs.declared.refusal.Refusal.TheVariants.{Device, NoMemory, StoreFull, NoRoom, Failed, Spent}
+use Rattle.silt_event.specs.declared.reply.Reply.{Reply}
+use Rattle.silt_event.specs.declared.reply.Reply.TheVariants.{Accepted, Acknowledged, Found, Absent, Progress, Refused}
+use Rattle.silt_event.specs.Events.{Step, Counts, accepted_command, accepted_commands, acknowledged_after, is_fault, is_failed, plain, PlainReply}
 
 -- a conversion under way: the hash region that it writes, and how many of the region's slots are written
 pub record Work : Type 0 where
@@ -139,58 +141,80 @@ pub record Freezes (logs : ℕ) (old new : Body) : Type 0 where
   pub lowest : IsLowestFree logs old new.active
   pub is : new ≡ next_body old new.active
 
+-- this command waits behind those that waited, and the base is as it was
+pub record WaitsBehind {D : Type 0} (old new : CoreState D) (command : Command) : Type 0 where
+  pub waiting : new.waiting ≡ old.waiting ++ command ∷ []
+  pub base : new.base ≡ old.base
+
+-- what waited went into the base, and this command alone waits
+pub record WaitsAlone {D : Type 0} (old new : CoreState D) (command : Command) : Type 0 where
+  pub waiting : new.waiting ≡ command ∷ []
+  pub base : new.base ≡ map_after old.base old.waiting
+
 module _ {D F : Type 0} (content : D → Content) (failures : D → ℕ) (gave : D → F → Type 0) (old new : CoreState D) where
   -- the active log cannot take a row of this key: it is full, or the placing rule gives up
-  abbrev pub IsStopped : List ℕ → Type 0
-  IsStopped key = IsTrue (content old.disk).honest → CannotTake old.shape (active_rows old) key
+  abbrev pub IsStuck : List ℕ → Type 0
+  IsStuck key = IsTrue (content old.disk).honest → CannotTake old.shape (active_rows old) key
 
-  -- the active log takes the row, or it is frozen, where it cannot, and another one takes it
-  abbrev pub Takes : List ℕ → Type 0
-  Takes key = ((new.body ≡ old.body) × (IsTrue (content old.disk).honest → ¬ CannotTake old.shape (active_rows old) key)) ⊎ (Freezes old.shape.logs old.body new.body × IsStopped key)
+  -- the active log can take a row of this key, and the same regions are the store
+  abbrev pub StaysActive : List ℕ → Type 0
+  StaysActive key = (new.body ≡ old.body) × (IsTrue (content old.disk).honest → ¬ CannotTake old.shape (active_rows old) key)
 
-  -- a row of this key was written, and no call failed
-  abbrev pub WritesRow : List ℕ → Type 0
-  WritesRow key = Takes key × (failures new.disk ≡ failures old.disk)
+  -- the active log takes the row, whose command waits behind the others; or where it cannot it is frozen, and another one takes the
+  -- row, whose command alone waits
+  abbrev pub Takes : List ℕ → Command → Type 0
+  Takes key command =
+      (StaysActive key × (IsTrue (content old.disk).honest → WaitsBehind old new command))
+      ⊎ ((Freezes old.shape.logs old.body new.body × IsStuck key) × (IsTrue (content old.disk).honest → WaitsAlone old new command))
+
+  -- a row of this key, which does this command, was written, and no call failed
+  abbrev pub WritesRow : List ℕ → Command → Type 0
+  WritesRow key command = Takes key command × (failures new.disk ≡ failures old.disk)
 
   -- why a row of this key is not written: a fault, no free log, no further generation, or no memory for a new log
   abbrev pub NoRowCause : List ℕ → Refusal F → Type 0
-  NoRowCause key NoRoom = IsStopped key × AreAllInUse old
-  NoRowCause key Spent = IsStopped key × HasFreeLog old × (old.body.generation ≡ last_generation)
-  NoRowCause key NoMemory = IsStopped key × HasFreeLog old × (old.body.generation ≢ last_generation)
+  NoRowCause key NoRoom = IsStuck key × AreAllInUse old
+  NoRowCause key Spent = IsStuck key × HasFreeLog old × (old.body.generation ≡ last_generation)
+  NoRowCause key NoMemory = IsStuck key × HasFreeLog old × (old.body.generation ≢ last_generation)
   NoRowCause key (Device fault) = FailsRead gave old new fault ⊎ FailsBy failures gave old new fault
   NoRowCause key refusal = ⊥
 
   -- a put: counted, and under the greatest charge
-  abbrev pub PutCause : List ℕ → Reply F → Type 0
-  PutCause key (Accepted n) = MayPut old × WritesRow key
-  PutCause key (Refused Failed) = old.failed ≡ true
-  PutCause key (Refused StoreFull) = MayCount old × (old.charge ≡ old.shape.sorted_capacity)
-  PutCause key (Refused Spent) = (old.failed ≡ false) × ((old.count ≡ most_commands) ⊎ (MayPut old × NoRowCause key Spent))
-  PutCause key (Refused refusal) = MayPut old × NoRowCause key refusal
-  PutCause key reply = ⊥
+  abbrev pub PutCause : List ℕ → List ℕ → Reply F → Type 0
+  PutCause key value (Accepted n) = MayPut old × WritesRow key (put key value)
+  PutCause key value (Refused Failed) = old.failed ≡ true
+  PutCause key value (Refused StoreFull) = MayCount old × (old.charge ≡ old.shape.sorted_capacity)
+  PutCause key value (Refused Spent) = (old.failed ≡ false) × ((old.count ≡ most_commands) ⊎ (MayPut old × NoRowCause key Spent))
+  PutCause key value (Refused refusal) = MayPut old × NoRowCause key refusal
+  PutCause key value reply = ⊥
 
   -- a delete: as a put, whatever the charge
   abbrev pub DeleteCause : List ℕ → Reply F → Type 0
-  DeleteCause key (Accepted n) = MayCount old × WritesRow key
+  DeleteCause key (Accepted n) = MayCount old × WritesRow key (delete key)
   DeleteCause key (Refused Failed) = old.failed ≡ true
   DeleteCause key (Refused Spent) = (old.failed ≡ false) × ((old.count ≡ most_commands) ⊎ (MayCount old × NoRowCause key Spent))
   DeleteCause key (Refused refusal) = MayCount old × NoRowCause key refusal
   DeleteCause key reply = ⊥
 
+  -- where nothing waited a flush changes nothing
   abbrev pub FlushCause : Reply F → Type 0
-  FlushCause (Acknowledged n) = (old.failed ≡ false) × (failures new.disk ≡ failures old.disk)
+  FlushCause (Acknowledged n) = (old.failed ≡ false) × (failures new.disk ≡ failures old.disk) × (old.waiting ≡ [] → new ≡ old)
   FlushCause (Refused Failed) = old.failed ≡ true
   FlushCause (Refused (Device fault)) = FailsBy failures gave old new fault
   FlushCause reply = ⊥
 
-  -- a failed read changes nothing
-  abbrev pub GetCause : Reply F → Type 0
-  GetCause (Found value) = old.failed ≡ false
-  GetCause Absent = old.failed ≡ false
-  GetCause (Refused Failed) = old.failed ≡ true
-  GetCause (Refused (Device fault)) = FailsRead gave old new fault
-  GetCause (Refused NoMemory) = old.failed ≡ false
-  GetCause reply = ⊥
+  -- on an honest disk, this key has a value
+  abbrev pub HasKey : List ℕ → Type 0
+  HasKey key = IsTrue (content old.disk).honest → (value : List ℕ) × (get (map_of old) key ≡ Some value)
+
+  -- a get changes nothing, and takes memory for a value alone
+  abbrev pub GetCause : List ℕ → Reply F → Type 0
+  GetCause key (Found value) = (old.failed ≡ false) × (new ≡ old)
+  GetCause key Absent = (old.failed ≡ false) × (new ≡ old)
+  GetCause key (Refused Failed) = old.failed ≡ true
+  GetCause key (Refused (Device fault)) = FailsRead gave old new fault
+  GetCause key (Refused NoMemory) = (old.failed ≡ false) × HasKey key
+  GetCause key reply = ⊥
 
   -- what an answered step of conversion does
   abbrev pub ConvertsTo : ProgressOf → Type 0
@@ -211,16 +235,16 @@ module _ {D F : Type 0} (content : D → Content) (failures : D → ℕ) (gave :
 
   -- nothing is merged in this stage
   abbrev pub MergeCause : Reply F → Type 0
-  MergeCause (Progress progress) = (old.failed ≡ false) × (progress ≡ Idle)
+  MergeCause (Progress progress) = (old.failed ≡ false) × (progress ≡ Idle) × (new ≡ old)
   MergeCause (Refused Failed) = old.failed ≡ true
   MergeCause reply = ⊥
 
   -- what stands where an event is given this reply
   abbrev pub Cause : Event → Reply F → Type 0
-  Cause (Put key value) = PutCause key.0
+  Cause (Put key value) = PutCause key.0 value
   Cause (Delete key) = DeleteCause key.0
   Cause Flush = FlushCause
-  Cause (Get key) = GetCause
+  Cause (Get key) = GetCause key.0
   Cause Convert = ConvertCause
   Cause Merge = MergeCause
 
@@ -233,9 +257,9 @@ pub record Moves {D : Type 0} (old new : CoreState D) (adds : List Command) : Ty
   pub base : new.base ≡ map_after old.base moved
 
 -- an acknowledging reply leaves nothing waiting
-abbrev pub Settles : {D F : Type 0} → CoreState D → Reply F → Type 0
-Settles new (Acknowledged n) = new.waiting ≡ []
-Settles new reply = Unit {0}
+abbrev pub LeavesNoneWaiting : {D F : Type 0} → CoreState D → Reply F → Type 0
+LeavesNoneWaiting new (Acknowledged n) = new.waiting ≡ []
+LeavesNoneWaiting new reply = Unit {0}
 
 -- a call is refused
 abbrev pub is_refused : {F : Type 0} → Reply F → Bool
@@ -252,37 +276,43 @@ abbrev pub is_convert : Event → Bool
 is_convert Convert = true
 is_convert event = false
 
--- What one call does, whatever it answers.
+-- What one call does, whatever it answers: what it keeps, why it answers so, what becomes of the map, and what a stop may leave.
 pub record Does {D F : Type 0} (content : D → Content) (failures : D → ℕ) (gave : D → F → Type 0) (old new : CoreState D) (event : Event) (reply : Reply F) : Type 0 where
+  -- the disk is as long and as honest as before, and the store has the same shape
   pub disk : SameDisk (content old.disk) (content new.disk)
   pub shape : new.shape ≡ old.shape
+  -- an accepted command is counted, and the reply tells the count
   pub counts : Counts old.count reply new.count
-  pub cause : Cause content failures gave old new event reply
   -- a refusal by which the store does not fail changes nothing
   pub stays : IsTrue (is_refused reply) → new.failed ≡ old.failed → new ≡ old
   -- a failed store answers so and changes nothing
   pub failed : old.failed ≡ true → (new ≡ old) × (reply ≡ Refused Failed)
-  pub told : IsTrue (is_failed reply) → old.failed ≡ true
-  pub faulted : old.failed ≡ false → new.failed ≡ true → IsTrue (is_fault reply)
   -- a call that accepts nothing and finishes nothing leaves the named regions as they are
-  pub names : new.failed ≡ false → accepted_command event reply ≡ [] → is_finished reply ≡ false → new.body ≡ old.body
+  pub keeps_body : new.failed ≡ false → accepted_command event reply ≡ [] → is_finished reply ≡ false → new.body ≡ old.body
   -- only steps of conversion touch the conversion under way
-  pub works : new.failed ≡ false → is_convert event ≡ false → new.work ≡ old.work
+  pub keeps_work : new.failed ≡ false → is_convert event ≡ false → new.work ≡ old.work
+  -- the reply has its cause, and the store is then as this reply has it
+  pub cause : Cause content failures gave old new event reply
+  -- only a failed store answers Failed
+  pub failed_only : IsTrue (is_failed reply) → old.failed ≡ true
+  -- a store fails only where it answers a fault of its device
+  pub faulted : old.failed ≡ false → new.failed ≡ true → IsTrue (is_fault reply)
+  -- in a call by which the store does not fail no write or sync fails, and in one by which it does exactly one
+  pub quiet : new.failed ≡ old.failed → failures new.disk ≡ failures old.disk
+  pub counted : old.failed ≡ false → new.failed ≡ true → failures new.disk ≡ (failures old.disk + 1) % 2 ^ 64
   -- the reply is that of a map
   pub step : old.failed ≡ false → IsTrue (content old.disk).honest → Step (map_of old) event reply (map_of new)
-  pub joins : new.failed ≡ false → IsTrue (content old.disk).honest → map_of new ≡ map_after new.base new.waiting
+  -- the map is the base after the commands that wait
+  pub has_map : new.failed ≡ false → IsTrue (content old.disk).honest → map_of new ≡ map_after new.base new.waiting
   -- the numbers by which the store refuses are those of what is shown with the gates of the waiting rows open
   pub numbers : new.failed ≡ false → IsTrue (content old.disk).honest → IsGoodWith new.shape new.body new.charge new.full
+  -- a beginning of what waited, and of what is accepted behind it, goes into the base, and the rest waits
   pub moves : new.failed ≡ false → IsTrue (content old.disk).honest → Moves old new (accepted_command event reply)
-  pub settles : IsTrue (content old.disk).honest → Settles new reply
-  -- each image stands for the base, or, where the call failed, for the base as it was after a beginning of what waited
+  -- an acknowledging reply leaves nothing waiting
+  pub settles : IsTrue (content old.disk).honest → LeavesNoneWaiting new reply
+  -- whatever a stop leaves stands for the base, or, where the call failed, for the base as it was after a beginning of what waited
   pub safe : new.failed ≡ false → LeavesOnly (content new.disk) (StandsUnsorted new.shape new.base)
   pub crash : old.failed ≡ false → new.failed ≡ true → LeavesOnly (content new.disk) (HasBegun old.shape old.base old.waiting)
-
--- a put's value is as long as the store's values
-abbrev pub HasValueOf : ℕ → Event → Type 0
-HasValueOf len (Put key value) = length value ≡ len
-HasValueOf len event = Unit {0}
 
 -- why the entries are refused
 abbrev pub EntriesCause : {D F : Type 0} → (D → F → Type 0) → CoreState D → Refusal F → Type 0
@@ -325,3 +355,10 @@ pub record Opens {D : Type 0} (content : D → Content) (old : Content) (core : 
   pub has_map : IsTrue old.honest → map_of core ≡ image_map old.shown
   pub numbers : IsTrue old.honest → IsGoodWith core.shape core.body core.charge core.full
   pub safe : LeavesOnly (content core.disk) (StandsUnsorted core.shape core.base)
+
+-- ---- a store as an answerer
+
+module _ {D F : Type 0} (content : D → Content) (failures : D → ℕ) (gave : D → F → Type 0) where
+  -- a store does the event, and its reply is told without its fault
+  abbrev pub DoesPlain : CoreState D → CoreState D → Event → PlainReply → Type 0
+  DoesPlain old new event reply = (told : Reply F) × Does content failures gave old new event told × (reply ≡ plain told)

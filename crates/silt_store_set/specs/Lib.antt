@@ -1,5 +1,5 @@
 pub mod CoreInvariant
 pub mod CoreState
-pub mod Events
+pub mod Living
 pub mod Opening
 pub mod Replies

@@ -1,12 +1,12 @@
 -- Why an opening is refused, and what it leaves.
 use Rattle.std.specs.Prelude.{IsTrue}
 use Rattle.silt_device.specs.Disk.{Content}
-use Rattle.silt_image.specs.declared.finding.Finding.{Finding}
-use Rattle.silt_image.specs.declared.finding.Finding.TheVariants as finding
+use Rattle.silt_image.specs.declared.damage.Finding.{Finding}
+use Rattle.silt_image.specs.declared.damage.Finding.TheVariants as finding
 use Rattle.silt_recovery.specs.Opening.{IsUnwritten}
 use Rattle.silt_recovery.specs.Refusals.{IsFound}
-use Rattle.silt_store_set.specs.declared.event.Refusal.{Refusal}
-use Rattle.silt_store_set.specs.declared.event.Refusal.TheVariants.{NotFormatted, Damaged, Crowded, Device, NoMemory}
+use Rattle.silt_event.specs.declared.refusal.Refusal.{Refusal}
+use Rattle.silt_event.specs.declared.refusal.Refusal.TheVariants.{NotFormatted, Damaged, Crowded, Device, NoMemory}
 
 -- this is found in what is shown, and nothing was written
 abbrev pub FoundUnwritten : Content → Content → Finding → Type 0

@@ -1,14 +1,10 @@
 -- Results of calls as replies.
 use Rattle.std.specs.Prelude.{Bool, true, false, List, ℕ, Option, Some, None, Result, Ok, Err}
-use Rattle.silt_stores.specs.declared.converting.Progress.{Progress as ProgressOf}
-use Rattle.silt_store_set.specs.declared.event.Refusal.{Refusal}
-use Rattle.silt_store_set.specs.declared.event.Refusal.TheVariants.{NotFormatted, BadGeometry, Damaged, Crowded, Device, NoMemory}
-use Rattle.silt_recovery.specs.declared.fault.FormatError.{FormatError}
-use Rattle.silt_recovery.specs.declared.fault.FormatError.TheVariants as format_error
-use Rattle.silt_recovery.specs.declared.fault.OpenError.{OpenError}
-use Rattle.silt_recovery.specs.declared.fault.OpenError.TheVariants as open_error
-use Rattle.silt_store_set.specs.declared.event.Reply.{Reply}
-use Rattle.silt_store_set.specs.declared.event.Reply.TheVariants.{Accepted, Acknowledged, Found, Absent, Progress, Refused}
+use Rattle.silt_event.specs.declared.progress.Progress.{Progress as ProgressOf}
+use Rattle.silt_event.specs.declared.refusal.Refusal.{Refusal}
+use Rattle.silt_event.specs.declared.refusal.Refusal.TheVariants.{Device, NoMemory}
+use Rattle.silt_event.specs.declared.reply.Reply.{Reply}
+use Rattle.silt_event.specs.declared.reply.Reply.TheVariants.{Accepted, Acknowledged, Found, Absent, Progress, Refused}
 
 abbrev pub change_reply : {F : Type 0} → Result ℕ (Refusal F) → Reply F
 change_reply (Ok n) = Accepted n
@@ -39,17 +35,3 @@ abbrev pub ReadCause : {F : Type 0} → (F → Type 0) → Refusal F → Type 0
 ReadCause gave NoMemory = Unit {0}
 ReadCause gave (Device fault) = gave fault
 ReadCause gave refusal = ⊥
-
--- the refusal by which a formatting is told
-abbrev pub refusal_of_formatting : {F : Type 0} → FormatError F → Refusal F
-refusal_of_formatting format_error.BadGeometry = BadGeometry
-refusal_of_formatting (format_error.Device fault) = Device fault
-refusal_of_formatting format_error.NoMemory = NoMemory
-
--- the refusal by which an opening or a check is told
-abbrev pub refusal_of_opening : {F : Type 0} → OpenError F → Refusal F
-refusal_of_opening open_error.NotFormatted = NotFormatted
-refusal_of_opening (open_error.Damaged place) = Damaged place
-refusal_of_opening open_error.Crowded = Crowded
-refusal_of_opening (open_error.Device fault) = Device fault
-refusal_of_opening open_error.NoMemory = NoMemory

@@ -14,15 +14,14 @@
 //! free again. A conversion under way is not kept over a stop; it begins anew. In this stage nothing is merged.
 #![tactic(auto)]
 
-mod event;
+mod answerer;
 mod life;
 mod replies;
-mod store;
+mod store_core;
 #[cfg(test)]
 mod tests;
 
-pub use crate::store::{Core, OpenFault};
-pub use event::{Event, LifeReply, Refusal, Reply};
+pub use crate::store_core::{Core, OpenFault};
+pub use answerer::Served;
 pub use life::lives;
-pub use silt_image::Place;
-pub use silt_stores::Progress;
+pub use silt_event::{Answerer, Event, LifeReply, Place, Progress, Refusal, Reply};

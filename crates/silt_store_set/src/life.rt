@@ -1,10 +1,10 @@
 // Lives of a store, each ended by a stop.
 ghost use Rattle.std.specs.Prelude.{◌≡◌, All, IsTrue, IfOk};
-ghost use Rattle.silt_device.specs.Disk.{LeavesOnly};
-ghost use Rattle.silt_image.specs.Commands.{Map};
-ghost use Rattle.silt_store_set.specs.CoreState.{HasValueOf};
-ghost use Rattle.silt_store_set.specs.Events.{LifeHistory, LivesHistory};
+ghost use Rattle.silt_device.specs.Disk.{GaveAny, LeavesOnly, Restarts};
+ghost use Rattle.silt_event.specs.Commands.{Map};
+ghost use Rattle.silt_event.specs.Events.{HasValueOf, LifeHistory, LivesHistory};
 ghost use Rattle.silt_store_set.specs.CoreInvariant.{IsSafe};
+ghost use Rattle.silt_store_set.specs.Living.{LifeEnds, LivesRun};
 
 use crate::{Core, Event, LifeReply, OpenFault, Refusal};
 use silt_device::Stoppable;
@@ -17,8 +17,10 @@ use std::alloc::{AllocError, Global};
 /// lives kept and this life has accepted, and what a life keeps is a beginning of its accepted commands that holds every
 /// acknowledged one**, wherever each life was stopped, before or within any device call, and whatever it left.
 ///
-/// A life whose store has values of another length is `NotOpened` with `BadGeometry` and not run; a life whose replies
-/// find no memory is `NotOpened` with `NoMemory`.
+/// Whatever the device holds, each life is one of a store that was opened on what the life before left, and whose replies are its own
+/// (`LivesRun`). A life that was not opened has the cause of its refusal: a life whose store has values of another length is `NotOpened`
+/// with `BadGeometry` and not run; a life whose replies find no memory is `NotOpened` with `NoMemory`. Between two lives the device is
+/// stopped.
 ///
 /// # Errors
 ///
@@ -30,7 +32,8 @@ pub fn lives<D: Stoppable>(
     lives: &[Vec<Event>],
 ) -> Result<Vec<LifeReply<D::Fault>>, AllocError>
     requires { All (λ life. All (HasValueOf value_len) life.items) lives.now }
-    ensures { (map : Map) → IsTrue (D.content disk).honest → LeavesOnly (D.content disk) (IsSafe value_len map) → IfOk result (λ replies. (to : Map) × LivesHistory map lives.now replies.items to) }
+    ensures history { (map : Map) → IsTrue (D.content disk).honest → LeavesOnly (D.content disk) (IsSafe value_len map) → IfOk result (λ replies. (to : Map) × LivesHistory map lives.now replies.items to) }
+    ensures ran { IfOk result (λ replies. LivesRun D.content D.failures (GaveAny D.gave) value_len lives.now replies.items disk) }
 {
     let mut replies = Vec::with_capacity(alloc, lives.len())?;
     let mut disk = disk;
@@ -51,6 +54,7 @@ fn live<D: Stoppable>(
 ) -> (LifeReply<D::Fault>, D)
     requires { All (HasValueOf value_len) events.now }
     ensures honest { (D.content result.1).honest ≡ (D.content disk).honest }
+    ensures ran { LifeEnds D.content D.failures (GaveAny D.gave) value_len events.now result.0 disk result.1 }
     ensures life { (map : Map) → IsTrue (D.content disk).honest → LeavesOnly (D.content disk) (IsSafe value_len map) → (to : Map) × LifeHistory map events.now result.0 to × LeavesOnly (D.content result.1) (IsSafe value_len to) }
 {
     let mut core = match Core::open(alloc, disk) {
@@ -60,16 +64,17 @@ fn live<D: Stoppable>(
         }
     };
     if core.geometry().value_len() != value_len {
-        return (
-            LifeReply::NotOpened(Refusal::BadGeometry),
-            core.close().restart(),
-        );
+        return (LifeReply::NotOpened(Refusal::BadGeometry), stop(core));
     }
     match core.run(alloc, events) {
-        Ok(replies) => (LifeReply::Opened(replies), core.close().restart()),
-        Err(_) => (
-            LifeReply::NotOpened(Refusal::NoMemory),
-            core.close().restart(),
-        ),
+        Ok(replies) => (LifeReply::Opened(replies), stop(core)),
+        Err(_) => (LifeReply::NotOpened(Refusal::NoMemory), stop(core)),
     }
+}
+
+// Stops a store, and gives its device as the stop left it.
+fn stop<D: Stoppable>(core: Core<D>) -> D
+    ensures { Restarts (D.content core.disk) (D.content result) }
+{
+    core.close().restart()
 }

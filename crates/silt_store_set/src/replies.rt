@@ -1,14 +1,15 @@
 // Results as replies, and values as they are read.
-ghost use Rattle.std.specs.Prelude.{◌≡◌, ◌<◌, ◌≤◌, ℕ, length, slice_index, IsTrue, IfOk, IfErr};
+ghost use Rattle.std.specs.Prelude.{◌≡◌, ◌<◌, ◌≤◌, length, IsTrue, IfOk, IfErr};
 ghost use Rattle.silt_device.specs.Disk.{GaveAny, size};
 ghost use Rattle.silt_device.specs.Layout.{device_size};
+ghost use Rattle.silt_frame.specs.declared.key.Kind.TheVariants.{Delete};
+ghost use Rattle.silt_log.specs.Rows.{IsValueOf};
 ghost use Rattle.silt_stores.specs.Lookup.{IsLocation, value_at};
-ghost use Rattle.silt_store_set.specs.Replies.{ReadCause, change_reply, progress_reply, refusal_of_formatting, refusal_of_opening};
+ghost use Rattle.silt_store_set.specs.Replies.{ReadCause, change_reply, progress_reply};
 
 use crate::{Progress, Refusal, Reply};
 use silt_device::Disk;
 use silt_frame::Value;
-use silt_recovery::{FormatError, OpenError};
 use silt_stores::{Location, Stores};
 use std::alloc::Global;
 
@@ -18,7 +19,7 @@ static ZEROS: [u8; 4096] = [0; 4096];
 pub fn zeros(len: u32) -> &'static [u8]
     requires { len ≤ 4096 }
     ensures len { length result.now ≡ len }
-    ensures zero { (i : ℕ) → slice_index result.now i ≡ 0 }
+    ensures zeros { IsValueOf Delete result.now }
 {
     &ZEROS[..len as usize]
 }
@@ -42,32 +43,6 @@ pub fn copied<D: Disk>(
     match stores.read_value(disk, location, &mut bytes) {
         Ok(()) => Ok(Value::new(bytes)),
         Err(fault) => Err(Refusal::Device(fault)),
-    }
-}
-
-impl<F> From<FormatError<F>> for Refusal<F> {
-    ghost from_gives = { λ error refusal. refusal ≡ refusal_of_formatting error };
-
-    fn from(error: FormatError<F>) -> Self {
-        match error {
-            FormatError::BadGeometry => Refusal::BadGeometry,
-            FormatError::Device(fault) => Refusal::Device(fault),
-            FormatError::NoMemory => Refusal::NoMemory,
-        }
-    }
-}
-
-impl<F> From<OpenError<F>> for Refusal<F> {
-    ghost from_gives = { λ error refusal. refusal ≡ refusal_of_opening error };
-
-    fn from(error: OpenError<F>) -> Self {
-        match error {
-            OpenError::NotFormatted => Refusal::NotFormatted,
-            OpenError::Damaged(place) => Refusal::Damaged(place),
-            OpenError::Crowded => Refusal::Crowded,
-            OpenError::Device(fault) => Refusal::Device(fault),
-            OpenError::NoMemory => Refusal::NoMemory,
-        }
     }
 }
 

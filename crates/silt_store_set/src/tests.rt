@@ -1,8 +1,10 @@
 // What no contract says: that each call that takes memory succeeds where there is enough, and the bytes on the device.
 
-mod converting;
+mod conversion;
 mod damage;
 mod faults;
+mod limits;
+mod reads;
 mod reports;
 mod restarts;
 mod script;

@@ -6,20 +6,21 @@ use Rattle.silt_device.specs.Layout.{Shape, gates_at, log_size, row_len}
 use Rattle.silt_frame.specs.declared.key.Key.{Key}
 use Rattle.silt_frame.specs.declared.key.Kind.{Kind}
 use Rattle.silt_frame.specs.declared.key.Kind.TheVariants.{Put, Delete}
-use Rattle.silt_log.specs.Rows.{StoredRow, body_at, has_known_kind, log_rows, stored_row}
+use Rattle.silt_log.specs.Rows.{body_at, log_rows}
+use Rattle.silt_frame.specs.Rows.{has_known_kind, stored_row, StoredRow, keys_of, put_count, puts_of}
 use Rattle.silt_log.specs.State.{LogState, all_rows, settled_rows, waiting_rows}
 use Rattle.silt_log.proofs.Elsewhere.{all_are_settled_and_waiting, body_in_region}
-use Rattle.silt_log_store.specs.State.{IsLogStore, LogStoreState, keys_of}
+use Rattle.silt_log_store.specs.State.{IsLogStore, LogStoreState}
 use Rattle.silt_log_store.specs.Calls.{KeepsStore, TakesRow}
 use Rattle.silt_cuckoo.specs.Slots.{Slots}
 use Rattle.silt_cuckoo.specs.Index.{index_of_keys}
 use Rattle.silt_image.specs.Stores.{Stores, image_stores}
-use Rattle.silt_image.specs.Meaning.{IsSound, charge_of_rows, command_of, fits_table, map_of_rows, rows_of, with_log_rows}
+use Rattle.silt_image.specs.Meaning.{IsSound, command_of, fits_table, map_of_rows, rows_of, with_log_rows}
 use Rattle.silt_image.proofs.Rows.{count_law}
 use Rattle.silt_image.proofs.Sound.{taken_law}
 use Rattle.silt_stores.specs.State.{AreWhole, StoresState}
 use Rattle.silt_stores.specs.Standing.{Stands, shown_stores, waiting_commands}
-use Rattle.silt_stores.specs.Calls.{Advances, Breaks, Remaps, SameDisk, puts_of}
+use Rattle.silt_stores.specs.Calls.{Advances, Breaks, Remaps, SameDisk}
 use Rattle.silt_stores.proofs.Named.{named_body, named_shape, own_rows, rows_with_more}
 use Rattle.silt_stores.proofs.Facts.{active_is, base_is, has_active, rows_split}
 use Rattle.silt_stores.proofs.Chains.{advances_break, advances_remap}
@@ -36,7 +37,7 @@ module _ (old new : Content) (s : StoresState) (after : LogStoreState) (more : L
     (images : LeavesOnly new (λ image. log_rows s.active.log.shape s.active.log.region image ≡ settled_rows old s.active.log))
     (settled : IsTrue old.honest → settled_rows new after.log ≡ settled_rows old s.active.log) (all : IsTrue old.honest → all_rows new after.log ≡ all_rows old s.active.log ++ more)
     (sound : IsTrue old.honest → IsSound (with_log_rows s.manifest.ruling.active (all_rows old s.active.log ++ more) (shown_stores old s)))
-    (counted : charge ≡ s.charge + charge_of_rows more) (most : charge ≤ s.manifest.shape.sorted_capacity) where
+    (counted : charge ≡ s.charge + put_count more) (most : charge ≤ s.manifest.shape.sorted_capacity) where
   was : IsTrue new.honest → IsTrue old.honest
   was h = subst IsTrue changes.honest h
 
@@ -79,9 +80,9 @@ module _ (old new : Content) (s : StoresState) (after : LogStoreState) (more : L
     named = named;
     sound = λ h. subst (λ (rows : List StoredRow). IsSound (with_log_rows s.manifest.ruling.active rows (shown_stores old s))) (sym (all (was h))) (sound (was h));
     counted = λ h.
-        counted ∙ ap (λ (n : ℕ). n + charge_of_rows more) (stands.counted (was h))
+        counted ∙ ap (λ (n : ℕ). n + put_count more) (stands.counted (was h))
         ∙ sym (count_law (rows_of (shown_stores old s) ++ waiting_rows old s.active.log) more)
-        ∙ ap charge_of_rows (append_assoc (rows_of (shown_stores old s)) (waiting_rows old s.active.log) more ∙ ap (λ (rows : List StoredRow). rows_of (shown_stores old s) ++ rows) (sym (waits (was h))));
+        ∙ ap put_count (append_assoc (rows_of (shown_stores old s)) (waiting_rows old s.active.log) more ∙ ap (λ (rows : List StoredRow). rows_of (shown_stores old s) ++ rows) (sym (waits (was h))));
     no_entries = stands.no_entries;
   }
 
@@ -108,7 +109,7 @@ known_stored Put key value = refl
 known_stored Delete key value = refl
 
 -- and a put counts
-pub counted_stored : (kind : Kind) (key : Key) (value : List ℕ) → charge_of_rows (stored_row kind key value ∷ []) ≡ puts_of kind
+pub counted_stored : (kind : Kind) (key : Key) (value : List ℕ) → put_count (stored_row kind key value ∷ []) ≡ puts_of kind
 counted_stored Put key value = refl
 counted_stored Delete key value = refl
 
@@ -152,8 +153,8 @@ module _ (old new : Content) (s : StoresState) (after : LogStoreState) (kind : K
         ap (λ (r : List StoredRow). rows_of (with_log_rows s.manifest.ruling.active r t)) (ap (λ (r : List StoredRow). r ++ one) (rows_split old s stands) ∙ append_assoc (settled_rows old s.active.log) (waiting_rows old s.active.log) one)
         ∙ rows_with_more t s.manifest.ruling.active (settled_rows old s.active.log) [] (active_is old s stands) (has_active old s stands h) (waiting_rows old s.active.log ++ one)
         ∙ sym (append_assoc (rows_of t) (waiting_rows old s.active.log) one) in
-        let charged : charge_of_rows (rows_of (with_log_rows s.manifest.ruling.active (rows ++ one) t)) ≡ s.charge + puts_of kind =
-        ap charge_of_rows all_of ∙ count_law (rows_of t ++ waiting_rows old s.active.log) one ∙ ap (λ (n : ℕ). n + charge_of_rows one) (sym (stands.counted h)) ∙ ap (λ (n : ℕ). s.charge + n) (counted_stored kind key value) in
+        let charged : put_count (rows_of (with_log_rows s.manifest.ruling.active (rows ++ one) t)) ≡ s.charge + puts_of kind =
+        ap put_count all_of ∙ count_law (rows_of t ++ waiting_rows old s.active.log) one ∙ ap (λ (n : ℕ). n + put_count one) (sym (stands.counted h)) ∙ ap (λ (n : ℕ). s.charge + n) (counted_stored kind key value) in
         let capacity : t.shape.sorted_capacity ≡ s.manifest.shape.sorted_capacity = ap (λ (sh : Shape). sh.sorted_capacity) is_shape in
         taken_law t s.manifest.ruling.active rows (stored_row kind key value) sound (known_stored kind key value) fits (omega (arith, charged, capacity, most))
 
@@ -177,7 +178,7 @@ module _ (old new : Content) (s : StoresState) (after : LogStoreState) (kind : K
         (λ h. keeps.log.all h ∙ sym (append-nil (all_rows old s.active.log)))
         (λ h. subst (λ (rows : List StoredRow). IsSound (with_log_rows s.manifest.ruling.active rows (shown_stores old s))) (sym (append-nil (all_rows old s.active.log)))
         (subst (λ (n : ℕ). IsSound (with_log_rows n (all_rows old s.active.log) (shown_stores old s))) stands.whole.active_region (stands.sound h)))
-        (let none : charge_of_rows [] ≡ 0 = refl in omega (arith, none)) stands.whole.most
+        (let none : put_count [] ≡ 0 = refl in omega (arith, none)) stands.whole.most
 
     pub not_appended_breaks : Breaks old new s
     not_appended_breaks = advances_break old new s (with_active s after s.charge) same_disk not_appended

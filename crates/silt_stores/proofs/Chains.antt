@@ -3,12 +3,12 @@ use Rattle.std.proofs.Common.{IsTrue, List, [], ◌++◌, refl, ap, sym, ◌∙�
 use Rattle.std.proofs.lemmas.List.{append-nil}
 use Rattle.silt_device.specs.Disk.{Content}
 use Rattle.silt_device.specs.Layout.{Shape}
-use Rattle.silt_image.specs.Commands.{Command, Map, map_after}
+use Rattle.silt_event.specs.Commands.{Command, Map, map_after}
 use Rattle.silt_image.specs.Meaning.{image_map}
 use Rattle.silt_image.proofs.Rows.{map_after-append}
 use Rattle.silt_stores.specs.State.{StoresState}
 use Rattle.silt_stores.specs.Standing.{Stands, base_map, full_image, waiting_commands}
-use Rattle.silt_stores.specs.Calls.{Advances, Breaks, HasBegun, Moves, Remaps, SameDisk, StandsUnsorted}
+use Rattle.silt_stores.specs.Calls.{Advances, Breaks, HasBegun, MovesIntoBase, Remaps, SameDisk, StandsUnsorted}
 use Rattle.silt_stores.proofs.Facts.{base_safe, full_map}
 
 -- the disk after two calls
@@ -23,7 +23,7 @@ pub honest_after : (a b : Content) → SameDisk a b → IsTrue a.honest → IsTr
 honest_after a b same h = subst IsTrue (sym same.honest) h
 
 -- what two calls move
-pub moves_trans : (one two : List Command) (a b c : Content) (first second third : StoresState) → Moves one a b first second → Moves two b c second third → Moves (one ++ two) a c first third
+pub moves_trans : (one two : List Command) (a b c : Content) (first second third : StoresState) → MovesIntoBase one a b first second → MovesIntoBase two b c second third → MovesIntoBase (one ++ two) a c first third
 moves_trans one two a b c first second third m n = record {
   moved = m.moved ++ n.moved;
   rest =

@@ -1,39 +1,41 @@
--- The gate of the next body, opened.
-use Rattle.std.proofs.Common.{◌≡◌, ◌≤◌, ◌<◌, ℕ, ◌+◌, IsTrue, List, [], ◌∷◌, ◌++◌, length, map, Option, Some, None, refl, ap, sym, ◌∙◌, subst, arith}
+-- A freeze: the body that names the new log, and the stores once it rules.
+use Rattle.std.proofs.Common.{inl, ◌≡◌, ◌≤◌, ◌<◌, ℕ, ◌+◌, IsTrue, List, [], ◌∷◌, ◌++◌, length, map, refl, ap, sym, ◌∙◌, subst, arith}
 use Rattle.std.specs.Prelude.{All, IfSome}
-use Rattle.std.specs.List.{insert}
 use Rattle.std.proofs.lemmas.List.Elements.{All-cons}
-use Rattle.silt_device.specs.Disk.{ChangesWithin, Content, LeavesOnly, size}
+use Rattle.silt_device.specs.Disk.{Content, LeavesOnly, size}
 use Rattle.silt_device.specs.Layout.{Shape, device_size, slot_at}
-use Rattle.silt_device.proofs.Images.{shown_left, within_wider}
-use Rattle.silt_log.specs.Rows.{StoredRow, first_rows, log_rows, rows_from}
+use Rattle.silt_device.proofs.Images.{shown_left}
+use Rattle.silt_log.specs.Rows.{first_rows, log_rows, rows_from}
+use Rattle.silt_frame.specs.Rows.{StoredRow, put_count}
 use Rattle.silt_log.specs.State.{all_rows, waiting_rows}
 use Rattle.silt_log.proofs.Elsewhere.{all_count}
 use Rattle.silt_log.proofs.Waiting.{none_waiting}
 use Rattle.silt_log_store.specs.State.{IsLogStore, LogStoreState}
-use Rattle.silt_hash_store.specs.Converting.{HasWritten}
+use Rattle.silt_hash_store.specs.Conversion.{HasWritten}
 use Rattle.silt_hash_store.specs.State.{IsHashStore}
-use Rattle.silt_manifest.specs.Standing.{ManifestState, Rules, RulesOldOrNew, spare_slot}
+use Rattle.silt_manifest.specs.Standing.{ManifestState, spare_slot}
 use Rattle.silt_manifest.specs.declared.body.Body.{Body}
 use Rattle.silt_image.specs.Stores.{Stores, stores_named}
-use Rattle.silt_image.specs.Meaning.{HasActive, IsSound, charge_of_rows, command_of, map_of_rows, rows_of, with_log_rows, with_new_log}
-use Rattle.silt_image.specs.Laws.{Freezes}
+use Rattle.silt_image.specs.Meaning.{HasActive, IsSound, command_of, map_of_rows, rows_of, with_log_rows, with_new_log}
+use Rattle.silt_image.specs.Laws.{FreezesActive}
 use Rattle.silt_image.proofs.Frame.{freeze_law}
 use Rattle.silt_image.proofs.Named.{whole_law}
 use Rattle.silt_image.proofs.Rows.{new_active_law, new_log_law}
 use Rattle.silt_image.proofs.Sound.{frozen_law}
-use Rattle.silt_stores.specs.declared.freezing.NextLog.{NextLog}
-use Rattle.silt_stores.specs.State.{IsHashOf, IsSettled, StoresState, oldest_log, region_of}
-use Rattle.silt_stores.specs.Standing.{IsFrozen, base_map, shown_stores}
-use Rattle.silt_stores.specs.Calls.{Advances, Breaks, IsQuiet, Remaps, SameDisk}
-use Rattle.silt_stores.specs.Freezing.{HasFrozen, MayTurn, names_region, next_body, unprepared}
+use Rattle.silt_stores.specs.declared.next_log.NextLog.{NextLog}
+use Rattle.silt_stores.specs.State.{AreWhole, IsHashOf, IsSettled, StoresState, oldest_log, region_of}
+use Rattle.silt_stores.specs.Standing.{IsFrozen, Stands, shown_stores}
+use Rattle.silt_stores.specs.Calls.{Advances, IsQuiet, Remaps}
+use Rattle.silt_stores.specs.NextLog.{HasFrozen, IsEmptied, active_replaced, names_region}
+use Rattle.silt_stores.specs.Succession.{MayRule, NowRules}
 use Rattle.silt_stores.proofs.Named.{named_body, named_shape, own_rows}
 use Rattle.silt_stores.proofs.Facts.{base_is, shown_named, shown_sound}
 use Rattle.silt_stores.proofs.Elsewhere.{all_frozen_elsewhere, all_hashed_elsewhere, length-log_rows, outside_slot, written_all_elsewhere}
 use Rattle.silt_stores.proofs.Chains.{advances_remap}
 use Rattle.silt_stores.proofs.Standing.{Fits}
 use Rattle.silt_stores.proofs.Wholes.{oldest_behind, under_way_in, written_in}
-use Rattle.silt_stores.proofs.NextBodies.{gate_breaks, now_named, quiet_gate_map, turned_with}
+use Rattle.silt_stores.proofs.NextBodies.{now_named, succeeds}
+use Rattle.silt_stores.proofs.Holdings.{may_follow}
 use Rattle.silt_stores.proofs.Flushes.{quiet}
 use Rattle.silt_stores.proofs.Freezes.{below_two, slot_apart, slot_before_conversion, store_elsewhere}
 
@@ -55,32 +57,14 @@ settled_frozen content store is settled = record {
   indexed = is.index;
 }
 
-module _ (old new : Content) (s : StoresState) (next : NextLog) (turn : MayTurn old s next) (sizes : size new ≡ size old)
-    (gate : ChangesWithin (slot_at (spare_slot s.manifest)) 1 old new) where
-  slot_below : spare_slot s.manifest < 2
-  slot_below = below_two (s.manifest.ruling.generation + 1)
+-- ---- the body that names the new log
 
-  changed : ChangesWithin (slot_at (spare_slot s.manifest)) 4096 old new
-  changed = within_wider (slot_at (spare_slot s.manifest)) 4096 (omega arith) (omega arith) gate
-
-  back : IsTrue new.honest → IsTrue old.honest
-  back h = subst IsTrue gate.honest h
-
-  quiet_before : IsQuiet old (unprepared s)
-  quiet_before = quiet old (unprepared s) turn.quiet.settled
-
-  -- the next body
-  body_is : next.body ≡ next_body s.manifest.ruling turn.emptied.follows.region
-  body_is = turn.emptied.follows.body
-
+module _ (old : Content) (s : StoresState) (next : NextLog) (stands : Stands old s) (is_quiet : IsQuiet old s) (emptied : IsEmptied old s next) where
   store_shape : next.store.log.shape ≡ s.manifest.shape
-  store_shape = ap (λ (t : LogStoreState). t.log.shape) turn.emptied.follows.store
+  store_shape = ap (λ (t : LogStoreState). t.log.shape) emptied.follows.store
 
   store_region : next.store.log.region ≡ next.body.active
-  store_region = ap (λ (t : LogStoreState). t.log.region) turn.emptied.follows.store ∙ ap (λ (b : Body). b.active) (sym body_is)
-
-  none_sorted : next.body.sorted_count ≡ 0
-  none_sorted = ap (λ (b : Body). b.sorted_count) body_is ∙ turn.stands.no_entries
+  store_region = ap (λ (t : LogStoreState). t.log.region) emptied.follows.store ∙ ap (λ (b : Body). b.active) (sym emptied.follows.body)
 
   t_shape : (shown_stores old s).shape ≡ s.manifest.shape
   t_shape = named_shape s.manifest.shape s.manifest.ruling old.shown
@@ -88,173 +72,147 @@ module _ (old new : Content) (s : StoresState) (next : NextLog) (turn : MayTurn 
   t_body : (shown_stores old s).body ≡ s.manifest.ruling
   t_body = named_body s.manifest.shape s.manifest.ruling old.shown
 
-  freezes : Freezes (shown_stores old s).body next.body
-  freezes = subst (λ (b : Body). Freezes b next.body) (sym t_body) (record {
-    frozen = ap (λ (b : Body). b.frozen) body_is;
-    hashed = ap (λ (b : Body). b.hashed) body_is;
-    sorted = ap (λ (b : Body). b.sorted) body_is;
-    sorted_count = ap (λ (b : Body). b.sorted_count) body_is;
+  freezes : FreezesActive (shown_stores old s).body next.body
+  freezes = subst (λ (b : Body). FreezesActive b next.body) (sym t_body) (record {
+    frozen = ap (λ (b : Body). b.frozen) emptied.follows.body;
+    hashed = ap (λ (b : Body). b.hashed) emptied.follows.body;
+    sorted = ap (λ (b : Body). b.sorted) emptied.follows.body;
+    sorted_count = ap (λ (b : Body). b.sorted_count) emptied.follows.body;
   })
 
-  -- the stores under the next body
-  abbrev now : Stores
-  now = with_new_log next.body (shown_stores old s)
+  -- the stores under it
+  abbrev frozen_stores : Stores
+  frozen_stores = with_new_log next.body (shown_stores old s)
 
-  now_sound : IsTrue old.honest → IsSound now
-  now_sound h = frozen_law (shown_stores old s) next.body (shown_sound old (unprepared s) turn.stands h)
+  frozen_rows : rows_of frozen_stores ≡ rows_of (shown_stores old s)
+  frozen_rows = new_log_law (shown_stores old s) next.body
 
-  now_rows : rows_of now ≡ rows_of (shown_stores old s)
-  now_rows = new_log_law (shown_stores old s) next.body
-
-  now_map : IsTrue old.honest → map_of_rows (rows_of now) ≡ base_map old (unprepared s)
-  now_map h = ap map_of_rows now_rows ∙ sym (base_is old (unprepared s))
-
-  now_shape : now.shape ≡ s.manifest.shape
-  now_shape = new_shape next.body (shown_stores old s) ∙ t_shape
-
-  now_body : now.body ≡ next.body
-  now_body = new_body next.body (shown_stores old s)
-
-  -- the next body names them in each image
-  names : LeavesOnly old (λ image. stores_named s.manifest.shape next.body image ≡ now)
+  -- it names them in each image
+  names : LeavesOnly old (λ image. stores_named s.manifest.shape next.body image ≡ frozen_stores)
   names = record {
     each = λ h image left.
         ap (λ (sh : Shape). stores_named sh next.body image) (sym t_shape)
-        ∙ freeze_law image (shown_stores old s) next.body (turn.stands.named.each h image left) freezes
-        (ap (λ (sh : Shape). log_rows sh next.body.active image) t_shape ∙ ap (λ (n : ℕ). log_rows s.manifest.shape n image) (sym store_region) ∙ turn.emptied.images.each h image left);
+        ∙ freeze_law image (shown_stores old s) next.body (stands.named.each h image left) freezes
+        (ap (λ (sh : Shape). log_rows sh next.body.active image) t_shape ∙ ap (λ (n : ℕ). log_rows s.manifest.shape n image) (sym store_region) ∙ emptied.images.each h image left);
   }
 
-  -- ---- at every exit
+  pub frozen_may_rule : MayRule old s next.body
+  frozen_may_rule = record {
+    follows = λ sound. may_follow s next sound emptied.follows;
+    stores = frozen_stores;
+    has_shape = new_shape next.body (shown_stores old s) ∙ t_shape;
+    has_body = new_body next.body (shown_stores old s);
+    names = names;
+    sound = λ h. frozen_law (shown_stores old s) next.body (shown_sound old s stands h);
+    same_map = λ h. ap map_of_rows frozen_rows ∙ sym (base_is old s);
+    no_entries = ap (λ (b : Body). b.sorted_count) emptied.follows.body ∙ stands.no_entries;
+    waiting = inl is_quiet;
+  }
 
-  module _ (each : LeavesOnly new (RulesOldOrNew s.manifest)) where
-    pub commit_breaks : Breaks old new (unprepared s)
-    commit_breaks = gate_breaks old new s next.body now turn.stands turn.prepared sizes gate names now_shape now_body now_sound now_map none_sorted each
+  -- ---- once it rules
 
-    pub commit_map : (after : StoresState) → after.active.log.settled ≡ after.active.log.used → Remaps [] old new s after
-    commit_map after settled = quiet_gate_map old new s next.body now turn.stands turn.prepared sizes gate names now_shape now_body now_sound now_map each quiet_before after settled
+  module _ (new : Content) (sizes : size new ≡ size old) (m : ManifestState) (now : NowRules old new s next.body m) where
+    slot_below : spare_slot s.manifest < 2
+    slot_below = below_two (s.manifest.ruling.generation + 1)
 
-  -- ---- where it was opened
+    back : IsTrue new.honest → IsTrue old.honest
+    back h = subst IsTrue now.changes.honest h
 
-  module _ (m : ManifestState) (rules : Rules m new) (same_shape : m.shape ≡ s.manifest.shape) (ruling : m.ruling ≡ next.body) (idle : m.prepared ≡ None) where
     -- the stores in memory afterwards
-    abbrev pub after : StoresState
-    after = record { manifest = m; active = next.store; frozen = s.active ∷ s.frozen; hashes = s.hashes; converting = s.converting; charge = s.charge }
+    abbrev after : StoresState
+    after = active_replaced s m next.store
+
+    pub frozen_whole : AreWhole (active_replaced s m next.store)
+    frozen_whole = record {
+      has_shape = store_shape ∙ sym now.has_shape;
+      active_region = store_region ∙ ap (λ (b : Body). b.active) (sym now.has_body);
+      frozen_regions =
+          ap (λ (n : ℕ). n ∷ map region_of s.frozen) stands.whole.active_region
+          ∙ ap (λ (ids : List ℕ). s.manifest.ruling.active ∷ ids) stands.whole.frozen_regions
+          ∙ ap (λ (b : Body). b.frozen) (sym emptied.follows.body) ∙ ap (λ (b : Body). b.frozen) (sym now.has_body);
+      settled = subst (λ (sh : Shape). All (IsSettled sh) (s.active ∷ s.frozen)) (sym now.has_shape)
+          (All-cons (IsSettled s.manifest.shape) s.active s.frozen (record { has_shape = stands.whole.has_shape; settled = is_quiet.settled }) stands.whole.settled);
+      hash_regions = stands.whole.hash_regions ∙ ap (λ (b : Body). b.hashed) (sym emptied.follows.body) ∙ ap (λ (b : Body). b.hashed) (sym now.has_body);
+      hashed = subst (λ (sh : Shape). All (IsHashOf sh) s.hashes) (sym now.has_shape) stands.whole.hashed;
+      under_way = under_way_in s after s.converting now.has_shape (ap (λ (b : Body). b.hashed) now.has_body ∙ ap (λ (b : Body). b.hashed) emptied.follows.body) (omega arith) stands.whole.under_way;
+      most = subst (λ (sh : Shape). s.charge ≤ sh.sorted_capacity) (sym now.has_shape) stands.whole.most;
+    }
 
     -- the new log has no rows
     none_used : next.store.log.settled ≡ next.store.log.used
-    none_used = ap (λ (t : LogStoreState). t.log.settled) turn.emptied.follows.store ∙ sym (ap (λ (t : LogStoreState). t.log.used) turn.emptied.follows.store)
+    none_used = ap (λ (t : LogStoreState). t.log.settled) emptied.follows.store ∙ sym (ap (λ (t : LogStoreState). t.log.used) emptied.follows.store)
 
     new_rows : all_rows new next.store.log ≡ []
     unfolding rows_from
-    new_rows = ap (λ (n : ℕ). first_rows next.store.log.shape next.store.log.region new.shown n) (ap (λ (t : LogStoreState). t.log.used) turn.emptied.follows.store)
+    new_rows = ap (λ (n : ℕ). first_rows next.store.log.shape next.store.log.region new.shown n) (ap (λ (t : LogStoreState). t.log.used) emptied.follows.store)
 
-    now_active : IsTrue old.honest → HasActive [] now
+    now_active : IsTrue old.honest → HasActive [] frozen_stores
     now_active h = new_active_law (shown_stores old s) next.body (
-        (whole_law old.shown (shown_stores old s) (shown_named old (unprepared s) turn.stands h)).names next.body.active
+        (whole_law old.shown (shown_stores old s) (shown_named old s stands h)).names next.body.active
         ∙ ap (λ (b : Body). names_region b next.body.active) t_body
-        ∙ ap (λ (b : Body). names_region s.manifest.ruling b.active) body_is
-        ∙ turn.emptied.follows.lowest.free
+        ∙ ap (λ (b : Body). names_region s.manifest.ruling b.active) emptied.follows.body
+        ∙ emptied.follows.lowest.free
         )
 
     old_active : IsLogStore new s.active
-    old_active = store_elsewhere old new s.active (slot_at (spare_slot s.manifest)) 4096 (record { log = turn.stands.active; index = turn.stands.indexed })
-        (turn.stands.has_size ∙ ap device_size (sym turn.stands.whole.has_shape)) sizes (outside_slot s.active.log.shape s.active.log.region (spare_slot s.manifest) slot_below) changed
+    old_active = store_elsewhere old new s.active (slot_at (spare_slot s.manifest)) 4096 (record { log = stands.active; index = stands.indexed })
+        (stands.has_size ∙ ap device_size (sym stands.whole.has_shape)) sizes (outside_slot s.active.log.shape s.active.log.region (spare_slot s.manifest) slot_below) now.changes
 
     next_active : IsLogStore new next.store
-    next_active = store_elsewhere old new next.store (slot_at (spare_slot s.manifest)) 4096 turn.emptied.stands
-        (turn.stands.has_size ∙ ap device_size (sym store_shape)) sizes (outside_slot next.store.log.shape next.store.log.region (spare_slot s.manifest) slot_below) changed
+    next_active = store_elsewhere old new next.store (slot_at (spare_slot s.manifest)) 4096 emptied.stands
+        (stands.has_size ∙ ap device_size (sym store_shape)) sizes (outside_slot next.store.log.shape next.store.log.region (spare_slot s.manifest) slot_below) now.changes
 
     frozen_after : All (IsFrozen new) s.frozen
-    frozen_after = all_frozen_elsewhere old new (unprepared s) (slot_at (spare_slot s.manifest)) 4096 turn.stands changed (λ h. (slot_apart s.manifest.shape s.manifest.ruling (spare_slot s.manifest) slot_below).frozen)
+    frozen_after = all_frozen_elsewhere old new s (slot_at (spare_slot s.manifest)) 4096 stands now.changes (λ h. (slot_apart s.manifest.shape s.manifest.ruling (spare_slot s.manifest) slot_below).frozen)
 
     hashed_after : All (IsHashStore new) s.hashes
-    hashed_after = all_hashed_elsewhere old new (unprepared s) (slot_at (spare_slot s.manifest)) 4096 turn.stands changed (λ h. (slot_apart s.manifest.shape s.manifest.ruling (spare_slot s.manifest) slot_below).hashed)
+    hashed_after = all_hashed_elsewhere old new s (slot_at (spare_slot s.manifest)) 4096 stands now.changes (λ h. (slot_apart s.manifest.shape s.manifest.ruling (spare_slot s.manifest) slot_below).hashed)
 
     written_after : IfSome s.converting (HasWritten new (oldest_log after))
-    written_after = written_in new (unprepared s) (oldest_log after) s.converting (oldest_behind s.active s.frozen next.store s.active) turn.stands.whole.under_way
-        (written_all_elsewhere old new (unprepared s) (slot_at (spare_slot s.manifest)) 4096 s.converting turn.stands changed
+    written_after = written_in new s (oldest_log after) s.converting (oldest_behind s.active s.frozen next.store s.active) stands.whole.under_way
+        (written_all_elsewhere old new s (slot_at (spare_slot s.manifest)) 4096 s.converting stands now.changes
         (λ h. (slot_apart s.manifest.shape s.manifest.ruling (spare_slot s.manifest) slot_below).frozen)
-        (λ h. slot_before_conversion (unprepared s) (spare_slot s.manifest) slot_below) turn.stands.whole.under_way turn.stands.written)
+        (λ h. slot_before_conversion s (spare_slot s.manifest) slot_below) stands.whole.under_way stands.written)
 
-    fits : Fits new after now
+    fits : Fits new after frozen_stores
+    unfolding with_new_log frozen_may_rule
     fits = record {
-      has_size = sizes ∙ turn.stands.has_size ∙ ap device_size (sym same_shape);
-      whole = record {
-        has_shape = store_shape ∙ sym same_shape;
-        active_region = store_region ∙ ap (λ (b : Body). b.active) (sym ruling);
-        frozen_regions =
-            ap (λ (n : ℕ). n ∷ map region_of s.frozen) turn.stands.whole.active_region
-            ∙ ap (λ (ids : List ℕ). s.manifest.ruling.active ∷ ids) turn.stands.whole.frozen_regions
-            ∙ ap (λ (b : Body). b.frozen) (sym body_is) ∙ ap (λ (b : Body). b.frozen) (sym ruling);
-        settled = subst (λ (sh : Shape). All (IsSettled sh) (s.active ∷ s.frozen)) (sym same_shape)
-            (All-cons (IsSettled s.manifest.shape) s.active s.frozen (record { has_shape = turn.stands.whole.has_shape; settled = turn.quiet.settled }) turn.stands.whole.settled);
-        hash_regions = turn.stands.whole.hash_regions ∙ ap (λ (b : Body). b.hashed) (sym body_is) ∙ ap (λ (b : Body). b.hashed) (sym ruling);
-        hashed = subst (λ (sh : Shape). All (IsHashOf sh) s.hashes) (sym same_shape) turn.stands.whole.hashed;
-        under_way = under_way_in (unprepared s) after s.converting same_shape (ap (λ (b : Body). b.hashed) ruling ∙ ap (λ (b : Body). b.hashed) body_is) (omega arith) turn.stands.whole.under_way;
-        most = subst (λ (sh : Shape). s.charge ≤ sh.sorted_capacity) (sym same_shape) turn.stands.whole.most;
-      };
-      idle = idle;
-      rules = rules;
+      has_size = sizes ∙ stands.has_size ∙ ap device_size (sym now.has_shape);
+      whole = frozen_whole;
+      idle = now.idle;
+      rules = now.rules;
       active = next_active;
-      frozen = All-cons (IsFrozen new) s.active s.frozen (settled_frozen new s.active old_active turn.quiet.settled) frozen_after;
+      frozen = All-cons (IsFrozen new) s.active s.frozen (settled_frozen new s.active old_active is_quiet.settled) frozen_after;
       hashed = hashed_after;
       written = written_after;
-      same_shape = now_shape ∙ sym same_shape;
-      same_body = now_body ∙ sym ruling;
-      named = now_named old new s next.body now turn.stands turn.prepared sizes gate names m rules same_shape ruling;
+      same_shape = frozen_may_rule.has_shape ∙ sym now.has_shape;
+      same_body = frozen_may_rule.has_body ∙ sym now.has_body;
+      named = now_named old new s next.body stands frozen_may_rule sizes m now;
       sound = λ h.
-          let own : with_log_rows m.ruling.active [] now ≡ now = own_rows now m.ruling.active [] [] (ap (λ (b : Body). b.active) (now_body ∙ sym ruling)) (now_active (back h)) in
-          subst (λ (rows : List StoredRow). IsSound (with_log_rows m.ruling.active rows now)) (sym new_rows) (subst IsSound (sym own) (now_sound (back h)));
+          let own : with_log_rows m.ruling.active [] frozen_stores ≡ frozen_stores = own_rows frozen_stores m.ruling.active [] [] (ap (λ (b : Body). b.active) (frozen_may_rule.has_body ∙ sym now.has_body)) (now_active (back h)) in
+          subst (λ (rows : List StoredRow). IsSound (with_log_rows m.ruling.active rows frozen_stores)) (sym new_rows) (subst IsSound (sym own) (frozen_may_rule.sound (back h)));
       counted = λ h.
-          turn.stands.counted (back h)
-          ∙ ap (λ (rows : List StoredRow). charge_of_rows (rows_of (shown_stores old s) ++ rows)) (none_waiting old s.active.log turn.quiet.settled ∙ sym (none_waiting new next.store.log none_used))
-          ∙ ap (λ (rows : List StoredRow). charge_of_rows (rows ++ waiting_rows new next.store.log)) (sym now_rows);
-      no_entries = ap (λ (b : Body). b.sorted_count) ruling ∙ none_sorted;
+          stands.counted (back h)
+          ∙ ap (λ (rows : List StoredRow). put_count (rows_of (shown_stores old s) ++ rows)) (none_waiting old s.active.log is_quiet.settled ∙ sym (none_waiting new next.store.log none_used))
+          ∙ ap (λ (rows : List StoredRow). put_count (rows ++ waiting_rows new next.store.log)) (sym frozen_rows);
+      no_entries = ap (λ (b : Body). b.sorted_count) now.has_body ∙ frozen_may_rule.no_entries;
     }
 
-    pub turned : Advances [] old new (unprepared s) after
-    turned = turned_with old new s next.body now turn.stands turn.prepared sizes gate names now_shape now_body now_sound now_map after fits same_shape
-        (λ h. ap (map command_of) (none_waiting new next.store.log none_used) ∙ ap (map command_of) (sym (none_waiting old s.active.log turn.quiet.settled)))
+    pub frozen_advances : Advances [] old new s (active_replaced s m next.store)
+    unfolding frozen_may_rule
+    frozen_advances = succeeds old new s next.body stands frozen_may_rule sizes m now after fits now.has_shape
+        (λ h. ap (map command_of) (none_waiting new next.store.log none_used) ∙ ap (map command_of) (sym (none_waiting old s.active.log is_quiet.settled)))
 
-    pub commit_disk : SameDisk old new
-    commit_disk = record { size = sizes; honest = gate.honest }
+    pub frozen_map : Remaps [] old new s (active_replaced s m next.store)
+    frozen_map = advances_remap [] old new s after (record { size = sizes; honest = now.changes.honest }) stands frozen_advances
 
-    pub turned_map : Remaps [] old new s after
-    turned_map = advances_remap [] old new (unprepared s) after commit_disk turn.stands turned
-
-    pub has_frozen : HasFrozen next new s after
+    pub has_frozen : HasFrozen next new s (active_replaced s m next.store)
     has_frozen = record {
       quiet = quiet new after none_used;
       active = refl;
-      ruling = ruling;
+      ruling = now.has_body;
       frozen = omega arith;
       hashes = refl;
       converting = refl;
       charge = refl;
     }
-
-    -- the stores with these parts in memory
-    module _ (active : LogStoreState) (frozen : List LogStoreState) (active_is : active ≡ next.store) (frozen_is : frozen ≡ s.active ∷ s.frozen) where
-      parts_are : after ≡ record { manifest = m; active = active; frozen = frozen; hashes = s.hashes; converting = s.converting; charge = s.charge }
-      parts_are =
-          let one : StoresState = record { manifest = m; active = active; frozen = s.active ∷ s.frozen; hashes = s.hashes; converting = s.converting; charge = s.charge } in
-          let step : after ≡ one = ap (λ (t : LogStoreState). let r : StoresState = record { manifest = m; active = t; frozen = s.active ∷ s.frozen; hashes = s.hashes; converting = s.converting; charge = s.charge } in r) (sym active_is) in
-          step ∙ ap (λ (l : List LogStoreState). let r : StoresState = record { manifest = m; active = active; frozen = l; hashes = s.hashes; converting = s.converting; charge = s.charge } in r) (sym frozen_is)
-
-      pub turned_parts : Advances [] old new (unprepared s) (record { manifest = m; active = active; frozen = frozen; hashes = s.hashes; converting = s.converting; charge = s.charge })
-      turned_parts = subst (λ (st : StoresState). Advances [] old new (unprepared s) st) parts_are turned
-
-      pub turned_parts_map : Remaps [] old new s (record { manifest = m; active = active; frozen = frozen; hashes = s.hashes; converting = s.converting; charge = s.charge })
-      turned_parts_map = subst (λ (st : StoresState). Remaps [] old new s st) parts_are turned_map
-
-      pub parts_have_frozen : HasFrozen next new s (record { manifest = m; active = active; frozen = frozen; hashes = s.hashes; converting = s.converting; charge = s.charge })
-      parts_have_frozen = subst (λ (st : StoresState). HasFrozen next new s st) parts_are has_frozen
-
--- the body that was prepared
-pub same_some : (a b : Body) (o : Option Body) → Some a ≡ o → o ≡ Some b → a ≡ b
-same_some a b o first second = let e : Some a ≡ Some b = first ∙ second in cc
-
--- a list with an element put in front
-pub in_front : {X : Type 0} (xs : List X) (x : X) → insert xs 0 x ≡ x ∷ xs
-in_front [] x = refl
-in_front (y ∷ ys) x = refl

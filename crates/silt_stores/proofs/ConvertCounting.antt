@@ -12,8 +12,8 @@ use Rattle.silt_manifest.specs.Standing.{IsNext, ruling_slot, spare_slot}
 use Rattle.silt_manifest.specs.declared.body.Body.{Body}
 use Rattle.silt_manifest.proofs.SoundBodies.{sound_parts}
 use Rattle.silt_stores.specs.State.{AreWhole, IsUnderWay, StoresState, hash_region_of, names_hash}
-use Rattle.silt_hash_store.specs.Converting.{ConversionState}
-use Rattle.silt_stores.specs.Converting.{AreAllHashesNamed, EndsConversion, converted_body}
+use Rattle.silt_hash_store.specs.Conversion.{ConversionState}
+use Rattle.silt_stores.specs.Conversion.{AreAllHashesNamed, EndsConversion, converted_body}
 use Rattle.silt_stores.proofs.Counting.{all_among, at_most}
 
 -- what a well-formed body says of its hash stores

@@ -5,23 +5,24 @@ use Rattle.std.proofs.lemmas.List.{get_or-map, length-map}
 use Rattle.silt_cuckoo.specs.Slots.{IsBucketCount}
 use Rattle.silt_device.specs.Disk.{Content}
 use Rattle.silt_device.specs.Layout.{Shape}
-use Rattle.silt_log.specs.Rows.{StoredRow, has_known_kind, log_rows}
+use Rattle.silt_log.specs.Rows.{log_rows}
+use Rattle.silt_frame.specs.Rows.{has_known_kind, StoredRow, put_count}
 use Rattle.silt_log.specs.State.{all_rows, waiting_rows}
 use Rattle.silt_log_store.specs.State.{IsFrozenStore}
 use Rattle.silt_log_store.proofs.Buckets.{bucket_count_is}
 use Rattle.silt_manifest.specs.declared.body.Body.{Body}
 use Rattle.silt_image.specs.Stores.{Part, Stores, hash_rows, image_stores}
-use Rattle.silt_image.specs.Meaning.{IsSound, charge_of_rows, known_rows, map_of_rows, rows_of, with_log_rows}
+use Rattle.silt_image.specs.Meaning.{IsSound, known_rows, map_of_rows, rows_of, with_log_rows}
 use Rattle.silt_image.proofs.Named.{whole_law}
 use Rattle.silt_image.proofs.Rows.{count_law}
-use Rattle.silt_hash_store.specs.Converting.{ConversionState, HasWritten, converted_rows}
+use Rattle.silt_hash_store.specs.Conversion.{ConversionState, HasWritten, converted_rows}
 use Rattle.silt_hash_store.specs.Laws.{HasOldest, IsTableOf, ReplacesLog, with_converted}
 use Rattle.silt_hash_store.proofs.Charging.{converted_charge}
 use Rattle.silt_hash_store.proofs.Replacing.{converts}
 use Rattle.silt_hash_store.proofs.Writing.{all_charged, all_due}
 use Rattle.silt_stores.specs.State.{IsUnderWay, StoresState, oldest_log, region_of}
 use Rattle.silt_stores.specs.Standing.{IsFrozen, Stands, base_map, shown_stores}
-use Rattle.silt_stores.specs.Converting.{converted_body}
+use Rattle.silt_stores.specs.Conversion.{converted_body}
 use Rattle.silt_stores.proofs.Named.{named_body, named_here, named_shape, with_shape}
 use Rattle.silt_stores.proofs.Facts.{base_is, shown_named, shown_sound}
 use Rattle.silt_stores.proofs.Elsewhere.{frozen_named, not_active, scanned_all}
@@ -173,13 +174,13 @@ module _ (content : Content) (s : StoresState) (stands : Stands content s) (conv
         ∙ ap (λ (sh : Shape). converted_rows sh (oldest_log s).table rows) same_shape
 
     -- the puts that went away do not count
-    pub ending_counted : IsTrue content.honest → (charge : ℕ) → charge ≡ s.charge - ((oldest_log s).puts - conversion.puts) → charge ≡ charge_of_rows (rows_of ending_stores ++ waiting_rows content s.active.log)
+    pub ending_counted : IsTrue content.honest → (charge : ℕ) → charge ≡ s.charge - ((oldest_log s).puts - conversion.puts) → charge ≡ put_count (rows_of ending_stores ++ waiting_rows content s.active.log)
     ending_counted h charge is =
         let waiting : List StoredRow = waiting_rows content s.active.log in
-        let log_puts : (oldest_log s).puts ≡ charge_of_rows rows = (oldest_frozen content s stands way.some_frozen).indexed.counted h in
-        let part_puts : conversion.puts ≡ charge_of_rows (known_rows ending_part) =
+        let log_puts : (oldest_log s).puts ≡ put_count rows = (oldest_frozen content s stands way.some_frozen).indexed.counted h in
+        let part_puts : conversion.puts ≡ put_count (known_rows ending_part) =
         all_charged content (oldest_log s) conversion done has_written h
-        ∙ ap (λ (sh : Shape). charge_of_rows (filter has_known_kind (converted_rows sh (oldest_log s).table rows))) same_shape in
+        ∙ ap (λ (sh : Shape). put_count (filter has_known_kind (converted_rows sh (oldest_log s).table rows))) same_shape in
         let fewer = converted_charge t.shape rows (oldest_log s).table (table_of h) in
         let moved = (replaces h).charge in
         let behind = count_law (rows_of ending_stores) waiting in

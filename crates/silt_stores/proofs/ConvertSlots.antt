@@ -1,18 +1,16 @@
 -- A slot of a conversion, written, and the slots settled.
 use Rattle.std.proofs.Common.{◌≡◌, ◌≢◌, ◌≤◌, ◌<◌, ℕ, ◌+◌, ◌*◌, false, IsTrue, List, [], Option, Some, None, Ok, inl, inr, refl, ap, sym, ◌∙◌, subst, arith}
 use Rattle.std.specs.Prelude.{IfSome}
-use Rattle.silt_device.specs.Disk.{ChangesWithin, Content, LeavesOnly, Settles, Stays, Torn, size}
-use Rattle.silt_device.specs.Layout.{Shape, hash_at, hash_size, row_len}
+use Rattle.silt_device.specs.Disk.{ChangesWithin, Content, LeavesOnly, LiesOutside, Settles, Stays, Torn, size}
+use Rattle.silt_device.specs.Layout.{Shape, gates_at, hash_at, hash_size, log_len, row_len, slots_len}
 use Rattle.silt_device.proofs.Images.{failed_sync_within, left_after_failed_sync, left_after_sync, shown_left, sync_within, torn_wider}
 use Rattle.silt_device.proofs.Regions.{up_least}
-use Rattle.silt_log.proofs.Elsewhere.{IsOutside}
 use Rattle.silt_manifest.proofs.Laws.{rules_elsewhere}
 use Rattle.silt_manifest.specs.declared.body.Body.{Body}
 use Rattle.silt_image.specs.Stores.{Stores, image_stores}
 use Rattle.silt_image.proofs.Frame.{free_hash_law, pieces_apart}
-use Rattle.silt_hash_store.specs.Converting.{ConversionState, HasWritten}
-use Rattle.silt_hash_store.specs.Laws.{IsOutsideSlots}
-use Rattle.silt_hash_store.specs.Slots.{slot_at}
+use Rattle.silt_hash_store.specs.Conversion.{ConversionState, HasWritten}
+use Rattle.silt_hash_store.specs.Slots.{hash_slot_at}
 use Rattle.silt_hash_store.proofs.Reading.{slot_inside}
 use Rattle.silt_hash_store.proofs.Writing.{behind_logs}
 use Rattle.silt_stores.specs.State.{IsUnderWay, StoresState, names_hash, oldest_log}
@@ -27,26 +25,26 @@ use Rattle.silt_stores.proofs.Freezes.{IsApart, stays_on, stays_with}
 -- ---- places
 
 -- a slot of another hash region
-slot_elsewhere : (shape : Shape) (region other slot : ℕ) → region ≢ other → slot < 4 * shape.buckets → IsOutsideSlots shape region (slot_at shape other slot) (row_len shape)
+slot_elsewhere : (shape : Shape) (region other slot : ℕ) → region ≢ other → slot < 4 * shape.buckets → LiesOutside (hash_at shape region) (slots_len shape) (hash_slot_at shape other slot) (row_len shape)
 slot_elsewhere shape region other slot differ below =
     let rows = up_least (4 * shape.buckets * row_len shape) in
-    let ends : slot_at shape other slot + row_len shape ≤ hash_at shape other + 4 * shape.buckets * row_len shape = slot_inside shape other slot (hash_at shape other + 4 * shape.buckets * row_len shape) (omega arith) below in
+    let ends : hash_slot_at shape other slot + row_len shape ≤ hash_at shape other + 4 * shape.buckets * row_len shape = slot_inside shape other slot (hash_at shape other + 4 * shape.buckets * row_len shape) (omega arith) below in
     elim (pieces_apart (hash_at shape 0) region other (hash_size shape) differ) [
       | inl before ↦ inr (omega (arith, before, rows))
       | inr behind ↦ inl (omega (arith, behind, rows, ends))
     ]
 
 -- a slot lies in its region
-in_region : (shape : Shape) (region slot : ℕ) (before image : List ℕ) → slot < 4 * shape.buckets → Torn (slot_at shape region slot) (row_len shape) before image → Torn (hash_at shape region) (hash_size shape) before image
+in_region : (shape : Shape) (region slot : ℕ) (before image : List ℕ) → slot < 4 * shape.buckets → Torn (hash_slot_at shape region slot) (row_len shape) before image → Torn (hash_at shape region) (hash_size shape) before image
 in_region shape region slot before image below torn =
     let rows = up_least (4 * shape.buckets * row_len shape) in
-    let ends : slot_at shape region slot + row_len shape ≤ hash_at shape region + 4 * shape.buckets * row_len shape = slot_inside shape region slot (hash_at shape region + 4 * shape.buckets * row_len shape) (omega arith) below in
+    let ends : hash_slot_at shape region slot + row_len shape ≤ hash_at shape region + 4 * shape.buckets * row_len shape = slot_inside shape region slot (hash_at shape region + 4 * shape.buckets * row_len shape) (omega arith) below in
     torn_wider (hash_at shape region) (hash_size shape) (omega arith) (omega (arith, ends, rows)) torn
 
 -- ---- a slot is written
 
 module _ (old new : Content) (s : StoresState) (region slot : ℕ) (stands : Stands old s) (free : names_hash s.manifest.ruling region ≡ false) (there : region < s.manifest.shape.hashes) (below : slot < 4 * s.manifest.shape.buckets)
-    (sizes : size new ≡ size old) (changes : ChangesWithin (slot_at s.manifest.shape region slot) (row_len s.manifest.shape) old new) where
+    (sizes : size new ≡ size old) (changes : ChangesWithin (hash_slot_at s.manifest.shape region slot) (row_len s.manifest.shape) old new) where
   slot_disk : SameDisk old new
   slot_disk = record { size = sizes; honest = changes.honest }
 
@@ -63,24 +61,24 @@ module _ (old new : Content) (s : StoresState) (region slot : ℕ) (stands : Sta
         (subst (λ (sh : Shape). Torn (hash_at sh region) (hash_size sh) from.0 image) (sym t_shape) (in_region s.manifest.shape region slot from.0 image below from.2));
   }
 
-  slot_apart : IsTrue old.honest → IsApart s.manifest.shape s.manifest.ruling (slot_at s.manifest.shape region slot) (row_len s.manifest.shape)
+  slot_apart : IsTrue old.honest → IsApart s.manifest.shape s.manifest.ruling (hash_slot_at s.manifest.shape region slot) (row_len s.manifest.shape)
   slot_apart h = record {
     active = behind_logs s.manifest.shape s.manifest.ruling.active region slot (active_below old s stands);
     frozen = λ id named. behind_logs s.manifest.shape id region slot (named_below old s stands h id named);
     hashed = λ id named. slot_elsewhere s.manifest.shape id region slot (not_among s.manifest.ruling.hashed region id free named) below;
   }
 
-  outside_active : IsOutside s.active.log.shape s.active.log.region (slot_at s.manifest.shape region slot) (row_len s.manifest.shape)
+  outside_active : LiesOutside (gates_at s.active.log.shape s.active.log.region) (log_len s.active.log.shape) (hash_slot_at s.manifest.shape region slot) (row_len s.manifest.shape)
   outside_active =
-      subst (λ (sh : Shape). IsOutside sh s.active.log.region (slot_at s.manifest.shape region slot) (row_len s.manifest.shape)) (sym stands.whole.has_shape)
-      (subst (λ (n : ℕ). IsOutside s.manifest.shape n (slot_at s.manifest.shape region slot) (row_len s.manifest.shape)) (sym stands.whole.active_region)
+      subst (λ (sh : Shape). LiesOutside (gates_at sh s.active.log.region) (log_len sh) (hash_slot_at s.manifest.shape region slot) (row_len s.manifest.shape)) (sym stands.whole.has_shape)
+      (subst (λ (n : ℕ). LiesOutside (gates_at s.manifest.shape n) (log_len s.manifest.shape) (hash_slot_at s.manifest.shape region slot) (row_len s.manifest.shape)) (sym stands.whole.active_region)
       (behind_logs s.manifest.shape s.manifest.ruling.active region slot (active_below old s stands)))
 
   -- the stores stand on, with the conversion as it is then
   pub slot_advances : (converting : Option ConversionState) → IfSome converting (IsUnderWay s) → IfSome converting (HasWritten new (oldest_log s)) → Advances [] old new s (record s { converting = converting })
-  slot_advances converting under_way written = stays_with old new s (slot_at s.manifest.shape region slot) (row_len s.manifest.shape) stands sizes changes slot_apart outside_active
+  slot_advances converting under_way written = stays_with old new s (hash_slot_at s.manifest.shape region slot) (row_len s.manifest.shape) stands sizes changes slot_apart outside_active
       s.manifest converting refl refl stands.idle
-      (rules_elsewhere s.manifest (slot_at s.manifest.shape region slot) (row_len s.manifest.shape) old new (omega (arith, stands.has_size)) (inr (omega arith)) changes stands.rules)
+      (rules_elsewhere s.manifest (hash_slot_at s.manifest.shape region slot) (row_len s.manifest.shape) old new (omega (arith, stands.has_size)) (inr (omega arith)) changes stands.rules)
       slot_named under_way written
 
   pub slot_map : (converting : Option ConversionState) → IfSome converting (IsUnderWay s) → IfSome converting (HasWritten new (oldest_log s)) → Remaps [] old new s (record s { converting = converting })
@@ -99,7 +97,7 @@ module _ (old new : Content) (s : StoresState) (stands : Stands old s) (sizes : 
       (λ h. nowhere s.converting) s.manifest refl refl stands.idle
       (rules_elsewhere s.manifest 0 0 old new (omega (arith, stands.has_size)) (inl (omega arith)) changes stands.rules) named
     where
-      nowhere : (o : Option ConversionState) → IfSome o (λ conversion. IsOutsideSlots s.manifest.shape conversion.region 0 0)
+      nowhere : (o : Option ConversionState) → IfSome o (λ conversion. LiesOutside (hash_at s.manifest.shape conversion.region) (slots_len s.manifest.shape) 0 0)
       nowhere None = tt
       nowhere (Some conversion) = inl (omega arith)
 

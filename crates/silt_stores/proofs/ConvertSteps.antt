@@ -11,17 +11,17 @@ use Rattle.silt_log_store.proofs.Buckets.{bucket_count_is}
 use Rattle.silt_manifest.specs.Body.{is_well_formed}
 use Rattle.silt_manifest.specs.Standing.{ruling_slot}
 use Rattle.silt_manifest.specs.declared.body.Body.{Body}
-use Rattle.silt_hash_store.specs.Converting.{ConversionState, FailsStep, HasWritten, Steps}
-use Rattle.silt_hash_store.specs.Slots.{slot_at}
+use Rattle.silt_hash_store.specs.Conversion.{ConversionState, FailsStep, HasWritten, Steps}
+use Rattle.silt_hash_store.specs.Slots.{hash_slot_at}
 use Rattle.silt_hash_store.specs.declared.conversion.StepError.{StepError}
 use Rattle.silt_hash_store.specs.declared.conversion.StepError.TheVariants as step_error
-use Rattle.silt_stores.specs.declared.converting.ConvertError.{ConvertError}
-use Rattle.silt_stores.specs.declared.converting.Progress.{Progress}
-use Rattle.silt_stores.specs.declared.converting.Progress.TheVariants.{Finished, Idle, Moved, Waiting}
+use Rattle.silt_stores.specs.declared.conversion.ConvertError.{ConvertError}
+use Rattle.silt_event.specs.declared.progress.Progress.{Progress}
+use Rattle.silt_event.specs.declared.progress.Progress.TheVariants.{Finished, Idle, Moved, Waiting}
 use Rattle.silt_stores.specs.State.{AreWhole, IsUnderWay, StoresState, names_hash, oldest_log}
 use Rattle.silt_stores.specs.Standing.{Stands}
 use Rattle.silt_stores.specs.Calls.{Advances, Breaks, Remaps}
-use Rattle.silt_stores.specs.Converting.{AreAllHashesNamed, ConvertCause, Converts, IsLowestFreeHash, IsNextStep, convert_turn, is_work, progress_due, refusal_of_step, written_by}
+use Rattle.silt_stores.specs.Conversion.{AreAllHashesNamed, ConvertErrorCause, Converts, IsLowestFreeHash, IsNextStep, convert_turn, is_work, progress_due, refusal_of_step, written_by}
 use Rattle.silt_stores.proofs.ConvertCounting.{hash_free, no_hash_free}
 use Rattle.silt_stores.proofs.ConvertDone.{has_written, oldest_stands, way}
 use Rattle.silt_stores.proofs.ConvertSlots.{slot_advances, slot_breaks, slot_map}
@@ -65,13 +65,13 @@ module _ (s : StoresState) where
 
 module _ (old new : Content) (s : StoresState) (log : LogStoreState) (before after : ConversionState) (stands : Stands old s) (log_is : log ≡ oldest_log s) (way : IsUnderWay s before)
     (below : before.next < 4 * before.shape.buckets) (was_written : HasWritten old log before) (sizes : size new ≡ size old)
-    (changes : ChangesWithin (slot_at before.shape before.region before.next) (row_len before.shape) old new) where
+    (changes : ChangesWithin (hash_slot_at before.shape before.region before.next) (row_len before.shape) old new) where
   -- in the words of the stores
   next_below : before.next < 4 * s.manifest.shape.buckets
   next_below = subst (λ (sh : Shape). before.next < 4 * sh.buckets) way.has_shape below
 
-  slot_changes : ChangesWithin (slot_at s.manifest.shape before.region before.next) (row_len s.manifest.shape) old new
-  slot_changes = subst (λ (sh : Shape). ChangesWithin (slot_at sh before.region before.next) (row_len sh) old new) way.has_shape changes
+  slot_changes : ChangesWithin (hash_slot_at s.manifest.shape before.region before.next) (row_len s.manifest.shape) old new
+  slot_changes = subst (λ (sh : Shape). ChangesWithin (hash_slot_at sh before.region before.next) (row_len sh) old new) way.has_shape changes
 
   -- ---- it was not written
 
@@ -106,7 +106,7 @@ module _ (old new : Content) (s : StoresState) (log : LogStoreState) (before aft
 -- ---- the next slot of the conversion under way
 
 module _ (old new : Content) (s : StoresState) (log : LogStoreState) (before after : ConversionState) (stands : Stands old s) (read : Some log ≡ slice_get s.frozen (length s.frozen - 1))
-    (was : s.converting ≡ Some before) (turn : convert_turn s ≡ Moved) (sizes : size new ≡ size old) (changes : ChangesWithin (slot_at before.shape before.region before.next) (row_len before.shape) old new) where
+    (was : s.converting ≡ Some before) (turn : convert_turn s ≡ Moved) (sizes : size new ≡ size old) (changes : ChangesWithin (hash_slot_at before.shape before.region before.next) (row_len before.shape) old new) where
   going : IsUnderWay s before
   going = way old s stands before was
 
@@ -196,7 +196,7 @@ module _ (s : StoresState) (log : LogStoreState) (ruling : Body) (hashes region 
         }
 
       module _ (old new : Content) (after : ConversionState) (stands : Stands old s) (wrote : HasWritten old log started) (sizes : size new ≡ size old)
-          (changes : ChangesWithin (slot_at started.shape started.region started.next) (row_len started.shape) old new) where
+          (changes : ChangesWithin (hash_slot_at started.shape started.region started.next) (row_len started.shape) old new) where
         pub first_failed_breaks : Breaks old new s
         first_failed_breaks = failed_breaks old new s log started after stands (last_log s log read).1 started_way started_below wrote sizes changes
 
@@ -215,7 +215,7 @@ module _ (s : StoresState) (log : LogStoreState) (ruling : Body) (hashes region 
 module _ {D F : Type 0} (content : D → Content) (gave : D → F → Type 0) (counted : D → D → F → Type 0) (old new : D) (before after : StoresState) where
   -- the cause in place of that of the step
   pub step_cause : (error : StepError F) → FailsStep gave (counted old new) old new error → after ≡ before → convert_turn before ≡ Moved → Breaks (content old) (content new) before
-      → Remaps [] (content old) (content new) before after → ConvertCause content gave counted old new before after (refusal_of_step error)
+      → Remaps [] (content old) (content new) before after → ConvertErrorCause content gave counted old new before after (refusal_of_step error)
   step_cause (step_error.Read fault) fails same turn breaks remaps = (same, fails.0, turn, fails.1)
   step_cause (step_error.Write fault) fails same turn breaks remaps = (ap is_work turn, fails, breaks, remaps)
 

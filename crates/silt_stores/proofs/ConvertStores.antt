@@ -3,13 +3,14 @@ use Rattle.std.proofs.Common.{◌≡◌, ◌≢◌, ◌<◌, ℕ, ◌+◌, ◌-�
 use Rattle.std.proofs.lemmas.Bool.{ne_eqb}
 use Rattle.std.proofs.lemmas.List.{get_or-map, length-map, map-append, take_all, take_more, take-map}
 use Rattle.silt_device.specs.Layout.{Shape}
-use Rattle.silt_log.specs.Rows.{StoredRow, log_rows}
+use Rattle.silt_log.specs.Rows.{log_rows}
+use Rattle.silt_frame.specs.Rows.{StoredRow}
 use Rattle.silt_manifest.specs.declared.body.Body.{Body}
 use Rattle.silt_image.specs.Stores.{Part, Stores, hash_part, hash_rows, log_part, sorted_rows, stores_named}
 use Rattle.silt_image.specs.Meaning.{part_rows, with_log_rows, with_part_rows}
 use Rattle.silt_image.proofs.Rows.{keeps_rows}
 use Rattle.silt_hash_store.specs.Laws.{HasOldest, with_converted}
-use Rattle.silt_stores.specs.Converting.{converted_body}
+use Rattle.silt_stores.specs.Conversion.{converted_body}
 
 -- ---- lists without their last element
 

@@ -10,7 +10,7 @@ use Rattle.std.proofs.lemmas.Map.Steps.{length-le_from_distinct_below}
 use Rattle.silt_device.specs.Layout.{Shape}
 use Rattle.silt_manifest.specs.Body.{all_below, has_sound_logs, is_distinct, is_well_formed}
 use Rattle.silt_manifest.specs.declared.body.Body.{Body}
-use Rattle.silt_stores.specs.Freezing.{AreAllNamed, IsLowestFree, next_body}
+use Rattle.silt_stores.specs.NextLog.{AreAllNamed, IsLowestFree, next_body}
 
 -- numbers that differ
 pub told_apart : (a b : ℕ) → a ≢ b → eqb a b ≡ false

@@ -6,18 +6,18 @@ use Rattle.std.proofs.lemmas.List.{get_or-map, length-map}
 use Rattle.std.proofs.lemmas.List.Folds.{list_any_at}
 use Rattle.std.proofs.lemmas.List.FromFn.{length-map-range_with_len}
 use Rattle.std.proofs.lemmas.Bool.Decides.{nat_tests}
-use Rattle.silt_device.specs.Disk.{Content, ChangesWithin, size}
-use Rattle.silt_device.specs.Layout.{Shape, device_size, gates_at, hash_size, log_size, row_len, slot_at}
+use Rattle.silt_device.specs.Disk.{ChangesWithin, Content, LiesOutside, size}
+use Rattle.silt_device.specs.Layout.{Shape, device_size, gates_at, hash_at, hash_size, log_len, log_size, row_len, slot_at, slots_len}
 use Rattle.silt_device.proofs.Regions.{next_region, regions_apart, up_least}
-use Rattle.silt_log.specs.Rows.{StoredRow, first_rows, has_known_kind, log_rows, open_count, row_at, rows_from}
+use Rattle.silt_log.specs.Rows.{first_rows, log_rows, open_count, row_at, rows_from}
+use Rattle.silt_frame.specs.Rows.{has_known_kind, StoredRow, keys_of, put_count}
 use Rattle.silt_log.specs.State.{InBounds, LogState, all_rows}
 use Rattle.silt_log.proofs.Counts.{count_most}
 use Rattle.silt_log.proofs.Exits.{log_inside}
-use Rattle.silt_log.proofs.Elsewhere.{IsOutside, log_rows_elsewhere}
-use Rattle.silt_log_store.specs.State.{IsIndexed, LogStoreState, keys_of, put_count}
+use Rattle.silt_log.proofs.Elsewhere.{log_rows_elsewhere}
+use Rattle.silt_log_store.specs.State.{IsIndexed, LogStoreState}
 use Rattle.silt_cuckoo.specs.Index.{index_of_keys}
-use Rattle.silt_hash_store.specs.Converting.{ConversionState, HasWritten}
-use Rattle.silt_hash_store.specs.Laws.{IsOutsideSlots}
+use Rattle.silt_hash_store.specs.Conversion.{ConversionState, HasWritten}
 use Rattle.silt_hash_store.specs.State.{HashState, IsHashStore}
 use Rattle.silt_hash_store.proofs.Elsewhere.{hash_elsewhere, written_elsewhere}
 use Rattle.silt_image.specs.Laws.{IsWhole}
@@ -33,7 +33,7 @@ use Rattle.silt_stores.proofs.Named.{named_body, named_shape}
 -- ---- places
 
 -- another log region lies outside
-pub outside_other : (shape : Shape) (region other : ℕ) → region ≢ other → IsOutside shape region (gates_at shape other) (log_size shape)
+pub outside_other : (shape : Shape) (region other : ℕ) → region ≢ other → LiesOutside (gates_at shape region) (log_len shape) (gates_at shape other) (log_size shape)
 outside_other shape region other differ =
     let bodies = up_least (shape.log_capacity * row_len shape) in
     elim (pieces_apart 12288 region other (log_size shape) differ) [
@@ -42,18 +42,18 @@ outside_other shape region other differ =
     ]
 
 -- a manifest slot lies outside each log region
-pub outside_slot : (shape : Shape) (region slot : ℕ) → slot < 2 → IsOutside shape region (slot_at slot) 4096
+pub outside_slot : (shape : Shape) (region slot : ℕ) → slot < 2 → LiesOutside (gates_at shape region) (log_len shape) (slot_at slot) 4096
 outside_slot shape region slot below = inl (omega (arith, below))
 
 -- a log region lies before the slots of each hash store
 log_ends : (size logs region rest : ℕ) → region < logs → 12288 + region * size + size ≤ 12288 + logs * size + rest
 log_ends size logs region rest below = omega (arith, next_region region logs size below)
 
-pub slots_behind_log : (shape : Shape) (region hash : ℕ) → region < shape.logs → IsOutsideSlots shape hash (gates_at shape region) (log_size shape)
+pub slots_behind_log : (shape : Shape) (region hash : ℕ) → region < shape.logs → LiesOutside (hash_at shape hash) (slots_len shape) (gates_at shape region) (log_size shape)
 slots_behind_log shape region hash below = inl (log_ends (log_size shape) shape.logs region (hash * hash_size shape) below)
 
 -- and so does a manifest slot
-pub slots_behind_manifest : (shape : Shape) (hash slot : ℕ) → slot < 2 → IsOutsideSlots shape hash (slot_at slot) 4096
+pub slots_behind_manifest : (shape : Shape) (hash slot : ℕ) → slot < 2 → LiesOutside (hash_at shape hash) (slots_len shape) (slot_at slot) 4096
 slots_behind_manifest shape hash slot below = inl (omega (arith, below))
 
 -- ---- frozen logs
@@ -78,7 +78,7 @@ indexed_same old new store back same indexed = record {
 
 -- a change outside a frozen log's region leaves the log
 pub frozen_elsewhere : (old new : Content) (store : LogStoreState) (at count : ℕ) → size old ≡ device_size store.log.shape → ChangesWithin at count old new
-    → (IsTrue old.honest → (store.log.region < store.log.shape.logs) × IsOutside store.log.shape store.log.region at count) → IsFrozen old store → IsFrozen new store
+    → (IsTrue old.honest → (store.log.region < store.log.shape.logs) × LiesOutside (gates_at store.log.shape store.log.region) (log_len store.log.shape) at count) → IsFrozen old store → IsFrozen new store
 frozen_elsewhere old new store at count sized changes lies frozen =
     let s : Shape = store.log.shape in
     let r : ℕ = store.log.region in
@@ -130,14 +130,14 @@ module _ (content : Content) (s : StoresState) (stands : Stands content s) (hone
 
 -- a change outside the regions of the frozen logs leaves these
 pub all_frozen_elsewhere : (old new : Content) (s : StoresState) (at count : ℕ) → Stands old s → ChangesWithin at count old new
-    → (IsTrue old.honest → (region : ℕ) → Contains s.manifest.ruling.frozen region → IsOutside s.manifest.shape region at count) → All (IsFrozen new) s.frozen
+    → (IsTrue old.honest → (region : ℕ) → Contains s.manifest.ruling.frozen region → LiesOutside (gates_at s.manifest.shape region) (log_len s.manifest.shape) at count) → All (IsFrozen new) s.frozen
 all_frozen_elsewhere old new s at count stands changes outside k d inside =
     let store : LogStoreState = get_or s.frozen k d in
     let is_shape : store.log.shape ≡ s.manifest.shape = (stands.whole.settled k d inside).has_shape in
     frozen_elsewhere old new store at count (stands.has_size ∙ ap device_size (sym is_shape)) changes
     (λ h. (
       subst (λ (sh : Shape). store.log.region < sh.logs) (sym is_shape) (named_below old s stands h store.log.region (frozen_named s stands.whole.frozen_regions k d inside)),
-      subst (λ (sh : Shape). IsOutside sh store.log.region at count) (sym is_shape) (outside h store.log.region (frozen_named s stands.whole.frozen_regions k d inside)),
+      subst (λ (sh : Shape). LiesOutside (gates_at sh store.log.region) (log_len sh) at count) (sym is_shape) (outside h store.log.region (frozen_named s stands.whole.frozen_regions k d inside)),
     ))
     (stands.frozen k d inside)
 
@@ -153,14 +153,14 @@ hash_named s are k d inside = (
 
 -- a change outside the slots of the hash stores leaves these
 pub all_hashed_elsewhere : (old new : Content) (s : StoresState) (at count : ℕ) → Stands old s → ChangesWithin at count old new
-    → (IsTrue old.honest → (region : ℕ) → Contains s.manifest.ruling.hashed region → IsOutsideSlots s.manifest.shape region at count) → All (IsHashStore new) s.hashes
+    → (IsTrue old.honest → (region : ℕ) → Contains s.manifest.ruling.hashed region → LiesOutside (hash_at s.manifest.shape region) (slots_len s.manifest.shape) at count) → All (IsHashStore new) s.hashes
 all_hashed_elsewhere old new s at count stands changes outside k d inside =
     let store : HashState = get_or s.hashes k d in
     let is : IsHashOf s.manifest.shape store = stands.whole.hashed k d inside in
     let back : IsTrue new.honest → IsTrue old.honest = λ h. subst IsTrue changes.honest h in
     let fits : device_size store.shape ≤ size old = subst (λ (sh : Shape). device_size sh ≤ size old) (sym is.has_shape) (omega (arith, stands.has_size)) in
     let stays : IsTrue old.honest → IsHashStore new store =
-    λ h. hash_elsewhere store old new at count is.held fits (subst (λ (sh : Shape). IsOutsideSlots sh store.region at count) (sym is.has_shape) (outside h store.region (hash_named s stands.whole.hash_regions k d inside))) changes (stands.hashed k d inside) in
+    λ h. hash_elsewhere store old new at count is.held fits (subst (λ (sh : Shape). LiesOutside (hash_at sh store.region) (slots_len sh) at count) (sym is.has_shape) (outside h store.region (hash_named s stands.whole.hash_regions k d inside))) changes (stands.hashed k d inside) in
     record {
       sound = λ h. (stays (back h)).sound h;
       tagged = λ h. (stays (back h)).tagged h;
@@ -176,7 +176,7 @@ open_most shape region image fits = count_most (gates_at shape region) shape.log
 -- a change outside a frozen log and the slots of its conversion leaves what this has written
 pub log_written_elsewhere : (old new : Content) (store : LogStoreState) (conversion : ConversionState) (at count : ℕ) → device_size store.log.shape ≤ size old → conversion.region < conversion.shape.hashes
     → conversion.next ≤ 4 * conversion.shape.buckets → IsFrozen old store → ChangesWithin at count old new
-    → (IsTrue old.honest → (store.log.region < store.log.shape.logs) × IsOutside store.log.shape store.log.region at count × IsOutsideSlots conversion.shape conversion.region at count)
+    → (IsTrue old.honest → (store.log.region < store.log.shape.logs) × LiesOutside (gates_at store.log.shape store.log.region) (log_len store.log.shape) at count × LiesOutside (hash_at conversion.shape conversion.region) (slots_len conversion.shape) at count)
     → HasWritten old store conversion → HasWritten new store conversion
 log_written_elsewhere old new store conversion at count fits there most frozen changes lies is =
     let plain : LogStoreState = record store { log = record store.log { settled = store.log.used; loose = false } } in
@@ -200,8 +200,8 @@ log_written_elsewhere old new store conversion at count fits there most frozen c
 
 -- a conversion under way has written what it had after a change outside the frozen logs and its slots
 pub written_all_elsewhere : (old new : Content) (s : StoresState) (at count : ℕ) (o : Option ConversionState) → Stands old s → ChangesWithin at count old new
-    → (IsTrue old.honest → (region : ℕ) → Contains s.manifest.ruling.frozen region → IsOutside s.manifest.shape region at count)
-    → (IsTrue old.honest → IfSome o (λ conversion. IsOutsideSlots s.manifest.shape conversion.region at count))
+    → (IsTrue old.honest → (region : ℕ) → Contains s.manifest.ruling.frozen region → LiesOutside (gates_at s.manifest.shape region) (log_len s.manifest.shape) at count)
+    → (IsTrue old.honest → IfSome o (λ conversion. LiesOutside (hash_at s.manifest.shape conversion.region) (slots_len s.manifest.shape) at count))
     → IfSome o (IsUnderWay s) → IfSome o (HasWritten old (oldest_log s)) → IfSome o (HasWritten new (oldest_log s))
 written_all_elsewhere old new s at count None stands changes outside apart under_way is = tt
 written_all_elsewhere old new s at count (Some conversion) stands changes outside apart under_way is =
@@ -216,7 +216,7 @@ written_all_elsewhere old new s at count (Some conversion) stands changes outsid
     (stands.frozen (length s.frozen - 1) s.active inside) changes
     (λ h. (
       subst (λ (sh : Shape). log.log.region < sh.logs) (sym is_shape) (named_below old s stands h log.log.region named),
-      subst (λ (sh : Shape). IsOutside sh log.log.region at count) (sym is_shape) (outside h log.log.region named),
-      subst (λ (sh : Shape). IsOutsideSlots sh conversion.region at count) (sym way.has_shape) (apart h),
+      subst (λ (sh : Shape). LiesOutside (gates_at sh log.log.region) (log_len sh) at count) (sym is_shape) (outside h log.log.region named),
+      subst (λ (sh : Shape). LiesOutside (hash_at sh conversion.region) (slots_len sh) at count) (sym way.has_shape) (apart h),
     ))
     is

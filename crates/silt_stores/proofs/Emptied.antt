@@ -6,11 +6,11 @@ use Rattle.silt_log.specs.Rows.{log_rows}
 use Rattle.silt_log.specs.State.{LogState}
 use Rattle.silt_log_store.specs.State.{IsLogStore, LogStoreState}
 use Rattle.silt_log_store.specs.Calls.{EmptiesStore}
-use Rattle.silt_stores.specs.declared.freezing.NextLog.{NextLog}
+use Rattle.silt_stores.specs.declared.next_log.NextLog.{NextLog}
 use Rattle.silt_stores.specs.State.{StoresState}
 use Rattle.silt_stores.specs.Standing.{Stands}
 use Rattle.silt_stores.specs.Calls.{Advances, Breaks, Remaps}
-use Rattle.silt_stores.specs.Freezing.{IsEmptied, IsNextLog}
+use Rattle.silt_stores.specs.NextLog.{IsEmptied, IsNextLog}
 use Rattle.silt_stores.proofs.Freezes.{cleared, cleared_breaks, cleared_map}
 
 module _ (old new : Content) (s : StoresState) (next : NextLog) where

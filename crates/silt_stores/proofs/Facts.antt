@@ -5,19 +5,20 @@ use Rattle.silt_device.specs.Disk.{Content, Torn, LeavesOnly, size}
 use Rattle.silt_device.specs.Layout.{Shape, device_size, gates_at, log_size}
 use Rattle.silt_device.proofs.Images.{shown_left, torn_splice, torn_wider}
 use Rattle.silt_device.proofs.Regions.{regions_apart, up_least}
-use Rattle.silt_log.specs.Rows.{StoredRow, log_rows}
+use Rattle.silt_log.specs.Rows.{log_rows}
+use Rattle.silt_frame.specs.Rows.{StoredRow, put_count}
 use Rattle.silt_log.specs.State.{InBounds, LogState, all_rows, settled_rows, waiting_rows}
 use Rattle.silt_log.specs.State as log
 use Rattle.silt_log.proofs.Elsewhere.{all_are_settled_and_waiting}
 use Rattle.silt_log.proofs.Exits.{log_inside}
-use Rattle.silt_image.specs.Commands.{Map, map_after}
+use Rattle.silt_event.specs.Commands.{Map, map_after}
 use Rattle.silt_image.specs.Stores.{Stores, image_stores}
-use Rattle.silt_image.specs.Meaning.{HasActive, IsSound, charge_of_rows, command_of, image_charge, image_map, map_of_rows, rows_of, with_log_rows}
+use Rattle.silt_image.specs.Meaning.{HasActive, IsSound, command_of, image_charge, image_map, map_of_rows, rows_of, with_log_rows}
 use Rattle.silt_image.proofs.Verdict.{rows_law, stands_law}
 use Rattle.silt_stores.specs.State.{StoresState}
 use Rattle.silt_stores.specs.Standing.{Stands, base_map, current_map, full_image, shown_stores}
 use Rattle.silt_stores.specs.Calls.{StandsUnsorted}
-use Rattle.silt_stores.specs.Laws.{IsGoodWith, MeaningLaw}
+use Rattle.silt_stores.specs.Laws.{IsGoodWith, StandingLaw}
 use Rattle.silt_stores.proofs.Named.{active_named, map_with_more, named_body, named_here, named_shape, region_torn, rows_with_more, sound_settled, stands_unsorted, stores_map, with_body, with_shape}
 
 -- the map of the settled rows
@@ -26,12 +27,12 @@ unfolding base_map
 base_is content s = refl
 
 -- the charge of an image is that of its stores
-charge_is : (image : List ℕ) (t : Stores) → image_stores image ≡ Ok t → image_charge image ≡ charge_of_rows (rows_of t)
+charge_is : (image : List ℕ) (t : Stores) → image_stores image ≡ Ok t → image_charge image ≡ put_count (rows_of t)
 unfolding image_charge
-charge_is image t is = ap charge_of_rows (rows_law image t is)
+charge_is image t is = ap put_count (rows_law image t is)
 
 -- opening the gates of the waiting rows changes their log's region alone
-pub full_torn : (content : Content) (l : LogState) → InBounds l → size content ≡ device_size l.shape → Torn (gates_at l.shape l.region) (log_size l.shape) content.shown (log.full_image content l)
+pub full_torn : (content : Content) (l : LogState) → InBounds l → size content ≡ device_size l.shape → Torn (gates_at l.shape l.region) (log_size l.shape) content.shown (log.opened_image content l)
 full_torn content l bounds sized =
     let ones : List ℕ = replicate (l.used - l.settled) 167 in
     let long : length ones ≡ l.used - l.settled = length-replicate (l.used - l.settled) 167 in
@@ -43,16 +44,16 @@ full_torn content l bounds sized =
 
 -- with the gates of a log's waiting rows open, the map of the stores that are shown, of which it is the active one, is that after their commands
 pub opened_map : (content : Content) (l : LogState) (t : Stores) → log.IsLog content l → size content ≡ device_size l.shape → t.shape ≡ l.shape → t.body.active ≡ l.region → IsTrue content.honest → image_stores content.shown ≡ Ok t
-    → image_map (log.full_image content l) ≡ map_after (map_of_rows (rows_of t)) (map command_of (waiting_rows content l))
+    → image_map (log.opened_image content l) ≡ map_after (map_of_rows (rows_of t)) (map command_of (waiting_rows content l))
 opened_map content l t is sized same_shape same_region honest named =
     let settled : List StoredRow = settled_rows content l in
     let waiting : List StoredRow = waiting_rows content l in
     let shown : log_rows l.shape l.region content.shown ≡ settled = is.images.each honest content.shown (shown_left content) in
     let has : HasActive settled t = active_named l.shape t.body t settled content.shown named same_shape refl (ap (λ (n : ℕ). log_rows l.shape n content.shown) same_region ∙ shown) in
-    let all : image_stores (log.full_image content l) ≡ Ok (with_log_rows l.region (settled ++ waiting) t) =
-    region_torn l.shape t l.region (settled ++ waiting) content.shown (log.full_image content l) same_shape named is.bounds.region (full_torn content l is.bounds sized)
+    let all : image_stores (log.opened_image content l) ≡ Ok (with_log_rows l.region (settled ++ waiting) t) =
+    region_torn l.shape t l.region (settled ++ waiting) content.shown (log.opened_image content l) same_shape named is.bounds.region (full_torn content l is.bounds sized)
     (is.full honest ∙ all_are_settled_and_waiting content l is.bounds.order) in
-    stores_map (with_log_rows l.region (settled ++ waiting) t) (log.full_image content l) all ∙ map_with_more t l.region settled waiting same_region has waiting
+    stores_map (with_log_rows l.region (settled ++ waiting) t) (log.opened_image content l) all ∙ map_with_more t l.region settled waiting same_region has waiting
 
 module _ (content : Content) (s : StoresState) (stands : Stands content s) where
   -- the active log's region
@@ -140,8 +141,8 @@ module _ (content : Content) (s : StoresState) (stands : Stands content s) where
             (with_shape s.manifest.ruling.active (all_rows content s.active.log) (shown_stores content s) ∙ named_shape s.manifest.shape s.manifest.ruling content.shown)
             (with_body s.manifest.ruling.active (all_rows content s.active.log) (shown_stores content s) ∙ named_body s.manifest.shape s.manifest.ruling content.shown)));
         good = (stands_law (full_image content s) t is (subst IsSound (sym split) (all_sound honest))).good;
-        charged = charge_is (full_image content s) t is ∙ ap (λ (u : Stores). charge_of_rows (rows_of u)) split
-            ∙ ap charge_of_rows (rows_with_more (shown_stores content s) s.manifest.ruling.active (settled_rows content s.active.log) (waiting_rows content s.active.log) active_is (has_active honest) (waiting_rows content s.active.log))
+        charged = charge_is (full_image content s) t is ∙ ap (λ (u : Stores). put_count (rows_of u)) split
+            ∙ ap put_count (rows_with_more (shown_stores content s) s.manifest.ruling.active (settled_rows content s.active.log) (waiting_rows content s.active.log) active_is (has_active honest) (waiting_rows content s.active.log))
             ∙ sym (stands.counted honest);
       }
 
@@ -173,7 +174,7 @@ module _ (content : Content) (s : StoresState) (stands : Stands content s) where
       stands.no_entries
 
 -- what all images mean
-pub meaning : MeaningLaw
+pub meaning : StandingLaw
 meaning content s stands = record {
   full = full_map content s stands;
   shown = shown_map content s stands;

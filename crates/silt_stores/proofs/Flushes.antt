@@ -4,16 +4,17 @@ use Rattle.std.proofs.lemmas.Bool.{ltb-false}
 use Rattle.std.proofs.lemmas.List.{append-nil, map-append, take-append-drop}
 use Rattle.silt_device.specs.Disk.{ChangesWithin, Content, LeavesOnly, size}
 use Rattle.silt_device.specs.Layout.{Shape, gates_at, log_size}
-use Rattle.silt_log.specs.Rows.{StoredRow, log_rows}
+use Rattle.silt_log.specs.Rows.{log_rows}
+use Rattle.silt_frame.specs.Rows.{StoredRow, put_count}
 use Rattle.silt_log.specs.State.{LogState, all_rows, settled_rows, waiting_rows}
 use Rattle.silt_log.specs.Calls.{HasBeginning}
 use Rattle.silt_log.proofs.Elsewhere.{gates_in_region}
 use Rattle.silt_log.proofs.Waiting.{none_waiting}
 use Rattle.silt_log_store.specs.State.{LogStoreState}
 use Rattle.silt_log_store.specs.Calls.{OpensSomeOfStore, OpensStore}
-use Rattle.silt_image.specs.Commands.{Map, map_after}
+use Rattle.silt_event.specs.Commands.{Map, map_after}
 use Rattle.silt_image.specs.Stores.{Stores, image_stores}
-use Rattle.silt_image.specs.Meaning.{IsSound, charge_of_rows, command_of, image_map, map_of_rows, rows_of, with_log_rows}
+use Rattle.silt_image.specs.Meaning.{IsSound, command_of, image_map, map_of_rows, rows_of, with_log_rows}
 use Rattle.silt_image.proofs.Rows.{again_law}
 use Rattle.silt_stores.specs.State.{StoresState}
 use Rattle.silt_stores.specs.Standing.{Stands, full_image, shown_stores, waiting_commands}
@@ -107,7 +108,7 @@ module _ (old new : Content) (s : StoresState) (after : LogStoreState) (stands :
           (subst IsSound (sym (again_law (shown_stores old s) s.manifest.ruling.active (settled_rows old s.active.log ++ waiting_rows old s.active.log) (all_rows new after.log)))
           (subst (λ (rows : List StoredRow). IsSound (with_log_rows s.manifest.ruling.active rows (shown_stores old s))) (sym (opens.log.all (was h) ∙ rows_split old s stands)) (all_sound old s stands (was h))));
       counted = λ h.
-          stands.counted (was h) ∙ ap charge_of_rows (sym (now_rows (was h)) ∙ sym (append-nil (rows_of now)) ∙ ap (λ (rows : List StoredRow). rows_of now ++ rows) (sym none));
+          stands.counted (was h) ∙ ap put_count (sym (now_rows (was h)) ∙ sym (append-nil (rows_of now)) ∙ ap (λ (rows : List StoredRow). rows_of now ++ rows) (sym none));
       no_entries = stands.no_entries;
     }
 

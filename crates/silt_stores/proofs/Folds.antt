@@ -13,13 +13,13 @@ use Rattle.silt_device.specs.Layout.{Shape}
 use Rattle.silt_frame.specs.declared.key.Key.{Key}
 use Rattle.silt_hash_store.specs.Slots.{rows_before, slot_row}
 use Rattle.silt_hash_store.proofs.Slotting.{all_before, before_more}
-use Rattle.silt_image.specs.Commands.{Command, Map, changed, delete, map_after, put}
+use Rattle.silt_event.specs.Commands.{Command, Map, changed, delete, map_after, put}
 use Rattle.silt_image.specs.Meaning.{command_of, oldest_first}
 use Rattle.silt_image.specs.Stores.{hash_rows}
 use Rattle.silt_image.proofs.Rows.{map_after-append}
-use Rattle.silt_log.specs.Rows.{StoredRow, has_known_kind}
-use Rattle.silt_stores.specs.Lookup.{AreEntriesOf, key_cmp}
-use Rattle.silt_stores.specs.Folding.{DoesRows}
+use Rattle.silt_frame.specs.Rows.{has_known_kind, StoredRow, key_cmp}
+use Rattle.silt_stores.specs.Lookup.{AreEntriesOf}
+use Rattle.silt_stores.specs.Entries.{DoesRows}
 
 -- which of two keys is named first does not matter
 tied : (a b : List ℕ) → eq_by_cmp (slice_cmp nat_cmp) a b ≡ eq_by_cmp (slice_cmp nat_cmp) b a

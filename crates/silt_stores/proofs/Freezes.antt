@@ -3,32 +3,32 @@ use Rattle.std.proofs.Common.{◌≡◌, ◌≢◌, ◌<◌, ℕ, ◌+◌, ◌-�
 use Rattle.std.specs.Prelude.{Contains, IfSome}
 use Rattle.std.proofs.lemmas.List.{append-nil, take-append-drop}
 use Rattle.std.proofs.Math.Nat.{mod-lt}
-use Rattle.silt_device.specs.Disk.{ChangesWithin, Content, LeavesOnly, size}
-use Rattle.silt_device.specs.Layout.{Shape, device_size, gates_at, log_size, slot_at}
+use Rattle.silt_device.specs.Disk.{ChangesWithin, Content, LeavesOnly, LiesOutside, size}
+use Rattle.silt_device.specs.Layout.{Shape, device_size, gates_at, hash_at, log_len, log_size, slot_at, slots_len}
 use Rattle.silt_device.proofs.Images.{within_wider}
 use Rattle.silt_device.proofs.Regions.{up_least}
-use Rattle.silt_log.specs.Rows.{StoredRow, log_rows}
+use Rattle.silt_log.specs.Rows.{log_rows}
+use Rattle.silt_frame.specs.Rows.{StoredRow, put_count}
 use Rattle.silt_log.specs.State.{all_rows}
-use Rattle.silt_log.specs.Calls.{Keeps}
-use Rattle.silt_log.proofs.Elsewhere.{IsOutside, log_elsewhere}
+use Rattle.silt_log.specs.Calls.{KeepsRows}
+use Rattle.silt_log.proofs.Elsewhere.{log_elsewhere}
 use Rattle.silt_log.proofs.Waiting.{waiting_kept}
 use Rattle.silt_log_store.specs.State.{IsLogStore, LogStoreState}
-use Rattle.silt_hash_store.specs.Converting.{ConversionState, HasWritten}
-use Rattle.silt_hash_store.specs.Laws.{IsOutsideSlots}
+use Rattle.silt_hash_store.specs.Conversion.{ConversionState, HasWritten}
 use Rattle.silt_manifest.specs.Ruling.{where_found}
 use Rattle.silt_manifest.specs.Standing.{ManifestState, Rules}
 use Rattle.silt_manifest.specs.declared.body.Body.{Body}
 use Rattle.silt_manifest.specs.declared.slot.Damage.{Damage}
 use Rattle.silt_manifest.proofs.Laws.{rules_elsewhere}
-use Rattle.silt_image.specs.Commands.{map_after}
+use Rattle.silt_event.specs.Commands.{map_after}
 use Rattle.silt_image.specs.Stores.{Stores, image_stores}
-use Rattle.silt_image.specs.Meaning.{IsSound, charge_of_rows, command_of, map_of_rows, names_log, rows_of, with_log_rows}
+use Rattle.silt_image.specs.Meaning.{IsSound, command_of, map_of_rows, names_log, rows_of, with_log_rows}
 use Rattle.silt_image.proofs.Named.{whole_law}
 use Rattle.silt_image.proofs.Rows.{unnamed_law}
 use Rattle.silt_stores.specs.State.{IsUnderWay, StoresState, oldest_log}
 use Rattle.silt_stores.specs.Standing.{Stands, base_map, current_map, full_image, shown_stores, waiting_commands}
 use Rattle.silt_stores.specs.Calls.{Advances, Breaks, IsQuiet, Remaps, SameDisk}
-use Rattle.silt_stores.specs.Freezing.{names_region}
+use Rattle.silt_stores.specs.NextLog.{names_region}
 use Rattle.silt_stores.proofs.Named.{named_body, named_shape, region_torn}
 use Rattle.silt_stores.proofs.Facts.{active_size, base_is, shown_named}
 use Rattle.silt_stores.proofs.Elsewhere.{all_frozen_elsewhere, all_hashed_elsewhere, indexed_same, not_among, outside_other, outside_slot, slots_behind_log, slots_behind_manifest, written_all_elsewhere}
@@ -40,30 +40,30 @@ use Rattle.silt_stores.proofs.Wholes.{whole_with}
 
 -- outside the regions of all logs and the slots of all hash stores
 pub record IsApart (shape : Shape) (body : Body) (at count : ℕ) : Type 0 where
-  pub active : IsOutside shape body.active at count
-  pub frozen : (region : ℕ) → Contains body.frozen region → IsOutside shape region at count
-  pub hashed : (region : ℕ) → Contains body.hashed region → IsOutsideSlots shape region at count
+  pub active : LiesOutside (gates_at shape body.active) (log_len shape) at count
+  pub frozen : (region : ℕ) → Contains body.frozen region → LiesOutside (gates_at shape region) (log_len shape) at count
+  pub hashed : (region : ℕ) → Contains body.hashed region → LiesOutside (hash_at shape region) (slots_len shape) at count
 
 -- outside the slots of a conversion under way
 abbrev pub IsOutsideConversion : StoresState → ℕ → ℕ → Type 0
-IsOutsideConversion s at count = IfSome s.converting (λ conversion. IsOutsideSlots s.manifest.shape conversion.region at count)
+IsOutsideConversion s at count = IfSome s.converting (λ conversion. LiesOutside (hash_at s.manifest.shape conversion.region) (slots_len s.manifest.shape) at count)
 
 -- a log store under a change elsewhere
 pub store_elsewhere : (old new : Content) (store : LogStoreState) (at count : ℕ) → IsLogStore old store → size old ≡ device_size store.log.shape → size new ≡ size old
-    → IsOutside store.log.shape store.log.region at count → ChangesWithin at count old new → IsLogStore new store
+    → LiesOutside (gates_at store.log.shape store.log.region) (log_len store.log.shape) at count → ChangesWithin at count old new → IsLogStore new store
 store_elsewhere old new store at count stands sized sizes outside changes =
-    let keeps : Keeps old new store.log store.log = log_elsewhere old new store.log at count stands.log (omega (arith, sized)) sizes outside changes in
+    let keeps : KeepsRows old new store.log store.log = log_elsewhere old new store.log at count stands.log (omega (arith, sized)) sizes outside changes in
     record {
       log = keeps.stands;
       index = indexed_same old new store (λ h. subst IsTrue changes.honest h) (λ h. keeps.all (subst IsTrue changes.honest h)) stands.index;
     }
 
 module _ (old new : Content) (s : StoresState) (at count : ℕ) (stands : Stands old s) (sizes : size new ≡ size old) (changes : ChangesWithin at count old new)
-    (apart : IsTrue old.honest → IsApart s.manifest.shape s.manifest.ruling at count) (outside : IsOutside s.active.log.shape s.active.log.region at count) where
+    (apart : IsTrue old.honest → IsApart s.manifest.shape s.manifest.ruling at count) (outside : LiesOutside (gates_at s.active.log.shape s.active.log.region) (log_len s.active.log.shape) at count) where
   pub same_here : SameDisk old new
   same_here = record { size = sizes; honest = changes.honest }
 
-  pub kept : Keeps old new s.active.log s.active.log
+  pub kept : KeepsRows old new s.active.log s.active.log
   kept = log_elsewhere old new s.active.log at count stands.active (omega (arith, active_size old s stands)) sizes outside changes
 
   -- the stores that stand in this state, with rows that wait as they waited
@@ -100,7 +100,7 @@ module _ (old new : Content) (s : StoresState) (at count : ℕ) (stands : Stands
           subst (λ (rows : List StoredRow). IsSound (with_log_rows m.ruling.active rows (shown_stores old s))) (sym (kept.all (back h)))
           (subst (λ (n : ℕ). IsSound (with_log_rows n (all_rows old s.active.log) (shown_stores old s))) active_of (stands.sound (back h)));
       counted = λ h.
-          stands.counted (back h) ∙ ap (λ (rows : List StoredRow). charge_of_rows (rows_of (shown_stores old s) ++ rows)) (sym (waiting_kept old new s.active.log s.active.log stands.active (back h) kept));
+          stands.counted (back h) ∙ ap (λ (rows : List StoredRow). put_count (rows_of (shown_stores old s) ++ rows)) (sym (waiting_kept old new s.active.log s.active.log stands.active (back h) kept));
       no_entries = ap (λ (b : Body). b.sorted_count) same_ruling ∙ stands.no_entries;
     }
 
@@ -147,7 +147,7 @@ region_apart shape body region below free = record {
 pub region_before_conversion : (s : StoresState) (region : ℕ) → region < s.manifest.shape.logs → IsOutsideConversion s (gates_at s.manifest.shape region) (log_size s.manifest.shape)
 region_before_conversion s region below = behind s.converting
   where
-    behind : (o : Option ConversionState) → IfSome o (λ conversion. IsOutsideSlots s.manifest.shape conversion.region (gates_at s.manifest.shape region) (log_size s.manifest.shape))
+    behind : (o : Option ConversionState) → IfSome o (λ conversion. LiesOutside (hash_at s.manifest.shape conversion.region) (slots_len s.manifest.shape) (gates_at s.manifest.shape region) (log_size s.manifest.shape))
     behind None = tt
     behind (Some conversion) = slots_behind_log s.manifest.shape region conversion.region below
 
@@ -168,10 +168,10 @@ module _ (old new : Content) (s : StoresState) (region : ℕ) (stands : Stands o
         ∙ ap Ok (unnamed_law t region (log_rows s.manifest.shape region image) names);
   }
 
-  outside_active : IsOutside s.active.log.shape s.active.log.region (gates_at s.manifest.shape region) (log_size s.manifest.shape)
+  outside_active : LiesOutside (gates_at s.active.log.shape s.active.log.region) (log_len s.active.log.shape) (gates_at s.manifest.shape region) (log_size s.manifest.shape)
   outside_active =
-      subst (λ (sh : Shape). IsOutside sh s.active.log.region (gates_at s.manifest.shape region) (log_size s.manifest.shape)) (sym stands.whole.has_shape)
-      (subst (λ (n : ℕ). IsOutside s.manifest.shape n (gates_at s.manifest.shape region) (log_size s.manifest.shape)) (sym stands.whole.active_region) (region_apart s.manifest.shape s.manifest.ruling region below free).active)
+      subst (λ (sh : Shape). LiesOutside (gates_at sh s.active.log.region) (log_len sh) (gates_at s.manifest.shape region) (log_size s.manifest.shape)) (sym stands.whole.has_shape)
+      (subst (λ (n : ℕ). LiesOutside (gates_at s.manifest.shape n) (log_len s.manifest.shape) (gates_at s.manifest.shape region) (log_size s.manifest.shape)) (sym stands.whole.active_region) (region_apart s.manifest.shape s.manifest.ruling region below free).active)
 
   -- the stores stand on
   pub cleared : Advances [] old new s s
@@ -225,7 +225,7 @@ slot_apart shape body slot below = record {
 pub slot_before_conversion : (s : StoresState) (slot : ℕ) → slot < 2 → IsOutsideConversion s (slot_at slot) 4096
 slot_before_conversion s slot below = behind s.converting
   where
-    behind : (o : Option ConversionState) → IfSome o (λ conversion. IsOutsideSlots s.manifest.shape conversion.region (slot_at slot) 4096)
+    behind : (o : Option ConversionState) → IfSome o (λ conversion. LiesOutside (hash_at s.manifest.shape conversion.region) (slots_len s.manifest.shape) (slot_at slot) 4096)
     behind None = tt
     behind (Some conversion) = slots_behind_manifest s.manifest.shape conversion.region slot below
 

@@ -3,22 +3,13 @@ use Rattle.std.proofs.Common.{◌≡◌, ◌≢◌, ◌≤◌, ◌<◌, ℕ, ◌
 use Rattle.std.proofs.lemmas.List.{length-map}
 use Rattle.silt_device.specs.Layout.{Shape}
 use Rattle.silt_manifest.specs.Body.{is_well_formed}
-use Rattle.silt_manifest.specs.Standing.{IsNext, ManifestState, ruling_slot, spare_slot}
+use Rattle.silt_manifest.specs.Standing.{IsNext, ruling_slot, spare_slot}
 use Rattle.silt_manifest.specs.declared.body.Body.{Body}
-use Rattle.silt_stores.specs.declared.freezing.NextLog.{NextLog}
-use Rattle.silt_stores.specs.State.{AreHeld, AreWhole, StoresState, region_of}
-use Rattle.silt_stores.specs.Freezing.{AreAllNamed, IsLowestFree, IsNextLog, empty_store, next_body}
-use Rattle.silt_stores.specs.Calls.{AreAllInUse}
-use Rattle.silt_stores.proofs.Wholes.{whole_with}
+use Rattle.silt_stores.specs.declared.next_log.NextLog.{NextLog}
+use Rattle.silt_stores.specs.State.{AreWhole, StoresState, region_of}
+use Rattle.silt_stores.specs.NextLog.{AreAllNamed, IsLowestFree, IsNextLog, empty_store, next_body}
+use Rattle.silt_stores.specs.Calls.{HasNoFreeLog}
 use Rattle.silt_stores.proofs.Counting.{all_in_use, next_sound, one_to_spare, sound_logs}
-
--- with another manifest of the same shape and the same ruling body
-pub held_with : (s : StoresState) (m : ManifestState) (room hash_room : ℕ) → m.shape ≡ s.manifest.shape → m.ruling ≡ s.manifest.ruling → AreHeld s room hash_room → AreHeld (record s { manifest = m }) room hash_room
-held_with s m room hash_room same_shape same_ruling held = record {
-  whole = whole_with s m s.converting same_shape same_ruling held.whole.under_way held.whole;
-  enough = held.enough;
-  enough_hashes = held.enough_hashes;
-}
 
 -- the next log's body may follow the one that rules
 pub may_follow : (s : StoresState) (next : NextLog) → is_well_formed s.manifest.shape (ruling_slot s.manifest) s.manifest.ruling ≡ true → IsNextLog s next → IsNext s.manifest next.body
@@ -32,7 +23,7 @@ pub frozen_count : (s : StoresState) → AreWhole s → length s.frozen ≡ leng
 frozen_count s whole = sym (length-map s.frozen region_of) ∙ ap length whole.frozen_regions
 
 -- the stores where every region is named
-pub no_room : (s : StoresState) (slot logs : ℕ) → logs ≡ s.manifest.shape.logs → AreWhole s → is_well_formed s.manifest.shape slot s.manifest.ruling ≡ true → AreAllNamed logs s.manifest.ruling → AreAllInUse s
+pub no_room : (s : StoresState) (slot logs : ℕ) → logs ≡ s.manifest.shape.logs → AreWhole s → is_well_formed s.manifest.shape slot s.manifest.ruling ≡ true → AreAllNamed logs s.manifest.ruling → HasNoFreeLog s
 no_room s slot logs is whole sound named =
     let all = all_in_use s.manifest.shape slot s.manifest.ruling sound (subst (λ (n : ℕ). AreAllNamed n s.manifest.ruling) is named) in
     omega (arith, all, frozen_count s whole)
@@ -44,7 +35,7 @@ has_room s slot logs region is whole sound lowest =
     let spare = one_to_spare s.manifest.shape slot region s.manifest.ruling sound (subst (λ (n : ℕ). IsLowestFree n s.manifest.ruling region) is lowest) in
     omega (arith, spare, frozen_count s whole)
 
-pub not_all : (s : StoresState) → length s.frozen + 1 < s.manifest.shape.logs → AreAllInUse s → ⊥
+pub not_all : (s : StoresState) → length s.frozen + 1 < s.manifest.shape.logs → HasNoFreeLog s → ⊥
 not_all s room all = absurd (omega (arith, room, all))
 
 -- the next log is made

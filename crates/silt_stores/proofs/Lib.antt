@@ -13,6 +13,7 @@ pub mod Freezes
 pub mod Turns
 pub mod NextBodies
 pub mod Commits
+pub mod Swaps
 pub mod Counting
 pub mod Holdings
 pub mod Emptied

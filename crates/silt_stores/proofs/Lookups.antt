@@ -13,31 +13,32 @@ use Rattle.std.proofs.lemmas.Slice.Eq.{bytes_eq-Decides}
 use Rattle.silt_device.specs.Disk.{Content}
 use Rattle.silt_device.specs.Layout.{Shape}
 use Rattle.silt_device.proofs.Images.{shown_left}
-use Rattle.silt_frame.specs.Frame.{kind_byte, kind_of}
+use Rattle.silt_frame.specs.Frame.{is_put, kind_byte, kind_of}
 use Rattle.silt_frame.specs.declared.key.Kind.{Kind}
 use Rattle.silt_frame.specs.declared.key.Kind.TheVariants.{Put, Delete}
 use Rattle.silt_hash_store.specs.Slots.{is_row_of, rows_before, slot_row}
 use Rattle.silt_hash_store.specs.State.{HashState}
 use Rattle.silt_hash_store.proofs.Growing.{all_sound}
 use Rattle.silt_hash_store.proofs.Slotting.{all_before, before_at, before_count, before_taken, before_there, unsound_twice}
-use Rattle.silt_log.specs.Rows.{StoredRow, has_known_kind, log_rows, row_at}
+use Rattle.silt_log.specs.Rows.{log_rows, row_at}
+use Rattle.silt_frame.specs.Rows.{has_known_kind, StoredRow}
 use Rattle.silt_log.specs.State.{all_rows, settled_rows, waiting_rows}
 use Rattle.silt_log.proofs.Elsewhere.{row_of_all, all_count}
 use Rattle.silt_log_store.specs.State.{LogStoreState}
-use Rattle.silt_log_store.specs.Finding.{FindsLast, HasNoRow, IsLastRow}
+use Rattle.silt_log_store.specs.LastRow.{FindsLast, HasNoRow, IsLastRow}
 use Rattle.silt_log_store.specs.declared.store.Found.{Found}
 use Rattle.silt_manifest.specs.declared.body.Body.{Body}
-use Rattle.silt_image.specs.Commands.{Map, map_after}
+use Rattle.silt_event.specs.Commands.{Map, map_after}
 use Rattle.silt_image.specs.Stores.{hash_part, hash_rows, log_part, sorted_rows, stores_named}
 use Rattle.silt_image.specs.Meaning.{hash_findings, holds_key, known_rows, map_of_rows, oldest_first, part_rows, rows_of}
-use Rattle.silt_image.specs.Laws.{newest_row, value_of}
+use Rattle.silt_image.specs.Laws.{newest_row, value_given}
 use Rattle.silt_image.proofs.Rows.{map_law, newest_law}
-use Rattle.silt_stores.specs.declared.lookup.Holder.{Holder}
-use Rattle.silt_stores.specs.declared.lookup.Holder.TheVariants.{Active, Frozen, Hashed}
+use Rattle.silt_stores.specs.declared.location.Holder.{Holder}
+use Rattle.silt_stores.specs.declared.location.Holder.TheVariants.{Active, Frozen, Hashed}
 use Rattle.silt_stores.specs.State.{StoresState, hash_region_of, region_of}
 use Rattle.silt_stores.specs.Standing.{Stands, current_map, shown_stores, waiting_commands}
-use Rattle.silt_stores.specs.Folding.{hashed_rows}
-use Rattle.silt_stores.specs.Lookup.{FindsFrozen, FindsHashed, frozen_at, hash_at, hash_rows_of, is_put, located, row_in, value_at}
+use Rattle.silt_stores.specs.Entries.{hashed_rows}
+use Rattle.silt_stores.specs.Lookup.{FindsFrozen, FindsHashed, frozen_at, hash_store_at, hash_rows_of, located, row_in, value_at}
 use Rattle.silt_stores.proofs.Facts.{active_rows, base_is, rows_split}
 use Rattle.silt_stores.proofs.Elsewhere.{scanned_all}
 
@@ -281,12 +282,12 @@ module _ (content : Content) (s : StoresState) (stands : Stands content s) (hone
 
   -- what it has for a key
   current_get : (key : List ℕ) → get (current_map content s) key
-      ≡ option_and_then value_of (option_or (newest_row (all_rows content s.active.log) key) (option_or (newest_row (oldest_first (map (rows_in content) s.frozen)) key) (newest_row (hashed_rows content s) key)))
+      ≡ option_and_then value_given (option_or (newest_row (all_rows content s.active.log) key) (option_or (newest_row (oldest_first (map (rows_in content) s.frozen)) key) (newest_row (hashed_rows content s) key)))
   current_get key =
       let frozen : List StoredRow = oldest_first (map (rows_in content) s.frozen) in
       ap (λ (m : Map). get m key) current_is
       ∙ newest_law (hashed_rows content s ++ frozen ++ all_rows content s.active.log) key
-      ∙ ap (option_and_then value_of) (newest_append (hashed_rows content s ++ frozen) (all_rows content s.active.log) key
+      ∙ ap (option_and_then value_given) (newest_append (hashed_rows content s ++ frozen) (all_rows content s.active.log) key
       ∙ ap (option_or (newest_row (all_rows content s.active.log) key)) (newest_append (hashed_rows content s) frozen key))
 
   -- ---- a row that is found
@@ -297,9 +298,9 @@ module _ (content : Content) (s : StoresState) (stands : Stands content s) (hone
       let inside = slice_get_within (all_rows content store.log) place row is.there in
       sym (get_or_from_slice_get (all_rows content store.log) place row row is.there) ∙ row_of_all content store.log place row (omega (arith, inside, all_count content store.log))
 
-  located_value : (holder : Holder) (found : Found) (row : StoredRow) → kind_byte found.kind ≡ row.kind → row ≡ row_in content s holder found.place → value_of row ≡ option_map (value_at content s) (located holder found)
+  located_value : (holder : Holder) (found : Found) (row : StoredRow) → kind_byte found.kind ≡ row.kind → row ≡ row_in content s holder found.place → value_given row ≡ option_map (value_at content s) (located holder found)
   located_value holder found row kind is =
-      let go : (k : Kind) → found.kind ≡ k → value_of row ≡ option_map (value_at content s) (located holder found) = elim [
+      let go : (k : Kind) → found.kind ≡ k → value_given row ≡ option_map (value_at content s) (located holder found) = elim [
         | Put ↦ λ e.
             let one : row.kind ≡ 1 = sym kind ∙ ap kind_byte e in
             ap (λ (n : ℕ). if n == 1 then Some row.value else None) one
@@ -316,16 +317,16 @@ module _ (content : Content) (s : StoresState) (stands : Stands content s) (hone
   pub found_active : (key : List ℕ) (found : Found) → FindsLast (all_rows content s.active.log) key (Some found) → get (current_map content s) key ≡ option_map (value_at content s) (located Active found)
   found_active key found (row, is, kind) =
       current_get key
-      ∙ ap (λ (o : Option StoredRow). option_and_then value_of (option_or o (option_or (newest_row (oldest_first (map (rows_in content) s.frozen)) key) (newest_row (hashed_rows content s) key))))
+      ∙ ap (λ (o : Option StoredRow). option_and_then value_given (option_or o (option_or (newest_row (oldest_first (map (rows_in content) s.frozen)) key) (newest_row (hashed_rows content s) key))))
       (newest_last (all_rows content s.active.log) key found.place row is)
       ∙ located_value Active found row kind (row_value s.active key found.place row is)
 
   -- the active log has none
   past_active : (key : List ℕ) → HasNoRow (all_rows content s.active.log) key
-      → get (current_map content s) key ≡ option_and_then value_of (option_or (newest_row (oldest_first (map (rows_in content) s.frozen)) key) (newest_row (hashed_rows content s) key))
+      → get (current_map content s) key ≡ option_and_then value_given (option_or (newest_row (oldest_first (map (rows_in content) s.frozen)) key) (newest_row (hashed_rows content s) key))
   past_active key none =
       current_get key
-      ∙ ap (λ (o : Option StoredRow). option_and_then value_of (option_or o (option_or (newest_row (oldest_first (map (rows_in content) s.frozen)) key) (newest_row (hashed_rows content s) key))))
+      ∙ ap (λ (o : Option StoredRow). option_and_then value_given (option_or o (option_or (newest_row (oldest_first (map (rows_in content) s.frozen)) key) (newest_row (hashed_rows content s) key))))
       (newest_none (all_rows content s.active.log) key none)
 
   -- the rows of a frozen log, by its number
@@ -341,36 +342,36 @@ module _ (content : Content) (s : StoresState) (stands : Stands content s) (hone
       → get (current_map content s) key ≡ option_map (value_at content s) (located (Frozen number) found)
   found_frozen key number found inside none (before, (row, is, kind)) =
       past_active key none
-      ∙ ap (λ (o : Option StoredRow). option_and_then value_of (option_or o (newest_row (hashed_rows content s) key)))
+      ∙ ap (λ (o : Option StoredRow). option_and_then value_given (option_or o (newest_row (hashed_rows content s) key)))
       (walk_some (map (rows_in content) s.frozen) key number row (omega (arith, inside, length-map s.frozen (rows_in content)))
       (λ index below. frozen_lacks key index (omega (arith, below, inside)) (before index below))
       (ap (λ (rows : List StoredRow). newest_row rows key) (rows_at number inside) ∙ newest_last (all_rows content (frozen_at s number).log) key found.place row is))
       ∙ located_value (Frozen number) found row kind (row_value (frozen_at s number) key found.place row is)
 
   -- no log has one
-  past_frozen : (key : List ℕ) → HasNoRow (all_rows content s.active.log) key → FindsFrozen content s key None → get (current_map content s) key ≡ option_and_then value_of (newest_row (hashed_rows content s) key)
+  past_frozen : (key : List ℕ) → HasNoRow (all_rows content s.active.log) key → FindsFrozen content s key None → get (current_map content s) key ≡ option_and_then value_given (newest_row (hashed_rows content s) key)
   past_frozen key none frozen =
       past_active key none
-      ∙ ap (λ (o : Option StoredRow). option_and_then value_of (option_or o (newest_row (hashed_rows content s) key)))
+      ∙ ap (λ (o : Option StoredRow). option_and_then value_given (option_or o (newest_row (hashed_rows content s) key)))
       (walk_none (map (rows_in content) s.frozen) key
       (λ index inside. let here : index < length s.frozen = omega (arith, inside, length-map s.frozen (rows_in content)) in frozen_lacks key index here (frozen index here)))
 
   -- the rows of a hash store, by its number
-  known_at : (index : ℕ) → index < length s.hashes → get_or (map (known_in content) s.hashes) index [] ≡ known_in content (hash_at s index)
+  known_at : (index : ℕ) → index < length s.hashes → get_or (map (known_in content) s.hashes) index [] ≡ known_in content (hash_store_at s index)
   known_at index inside = get_or-map (known_in content) s.hashes index (record { shape = s.manifest.shape; region = 0; tags = [] }) [] inside
 
   -- one that has no row of a key
-  hash_lacks : (key : List ℕ) (index : ℕ) → index < length s.hashes → holds_key key (hash_rows_of content (hash_at s index)) ≡ false → newest_row (get_or (map (known_in content) s.hashes) index []) key ≡ None
-  hash_lacks key index inside none = ap (λ (rows : List StoredRow). newest_row rows key) (known_at index inside) ∙ newest_known_none (hash_rows_of content (hash_at s index)) key none
+  hash_lacks : (key : List ℕ) (index : ℕ) → index < length s.hashes → holds_key key (hash_rows_of content (hash_store_at s index)) ≡ false → newest_row (get_or (map (known_in content) s.hashes) index []) key ≡ None
+  hash_lacks key index inside none = ap (λ (rows : List StoredRow). newest_row rows key) (known_at index inside) ∙ newest_known_none (hash_rows_of content (hash_store_at s index)) key none
 
   -- the row is in a hash store
   pub found_hashed : (key : List ℕ) (number : ℕ) (found : Found) → number < length s.hashes → HasNoRow (all_rows content s.active.log) key → FindsFrozen content s key None
       → FindsHashed content s key (Some (number, found)) → get (current_map content s) key ≡ option_map (value_at content s) (located (Hashed number) found)
   found_hashed key number found inside none frozen (before, (row, there, has_key, kind)) =
-      let store : HashState = hash_at s number in
+      let store : HashState = hash_store_at s number in
       let stands_there = stands.hashed number (record { shape = s.manifest.shape; region = 0; tags = [] }) inside in
       past_frozen key none frozen
-      ∙ ap (option_and_then value_of)
+      ∙ ap (option_and_then value_given)
       (walk_some (map (known_in content) s.hashes) key number row (omega (arith, inside, length-map s.hashes (known_in content)))
       (λ index below. hash_lacks key index (omega (arith, below, inside)) (before index below))
       (ap (λ (rows : List StoredRow). newest_row rows key) (known_at number inside) ∙ newest_found store.shape store.region content.shown key (stands_there.sound honest) found row there has_key kind))
@@ -380,5 +381,5 @@ module _ (content : Content) (s : StoresState) (stands : Stands content s) (hone
   pub found_nowhere : (key : List ℕ) → HasNoRow (all_rows content s.active.log) key → FindsFrozen content s key None → FindsHashed content s key None → get (current_map content s) key ≡ None
   found_nowhere key none frozen hashed =
       past_frozen key none frozen
-      ∙ ap (option_and_then value_of) (walk_none (map (known_in content) s.hashes) key
+      ∙ ap (option_and_then value_given) (walk_none (map (known_in content) s.hashes) key
       (λ index inside. let here : index < length s.hashes = omega (arith, inside, length-map s.hashes (known_in content)) in hash_lacks key index here (hashed index here)))

@@ -3,9 +3,10 @@ use Rattle.std.proofs.Common.{◌≡◌, ◌<◌, ℕ, List, [], ◌++◌, map, 
 use Rattle.std.proofs.lemmas.List.{append-nil}
 use Rattle.silt_device.specs.Disk.{Torn}
 use Rattle.silt_device.specs.Layout.{Shape, gates_at, log_size}
-use Rattle.silt_log.specs.Rows.{StoredRow, log_rows}
+use Rattle.silt_log.specs.Rows.{log_rows}
+use Rattle.silt_frame.specs.Rows.{StoredRow}
 use Rattle.silt_manifest.specs.declared.body.Body.{Body}
-use Rattle.silt_image.specs.Commands.{Map, map_after}
+use Rattle.silt_event.specs.Commands.{Map, map_after}
 use Rattle.silt_image.specs.Stores.{Stores, image_stores, stores_named}
 use Rattle.silt_image.specs.Meaning.{HasActive, IsSound, StandsFor, command_of, image_map, map_of_rows, rows_of, with_log_rows}
 use Rattle.silt_image.proofs.Named.{stores_law, whole_law}

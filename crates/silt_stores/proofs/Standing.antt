@@ -1,18 +1,18 @@
 -- When stores stand on a disk, from the stores that its images have.
 use Rattle.std.proofs.Common.{◌≡◌, ℕ, IsTrue, List, [], ◌∷◌, ◌++◌, Option, Some, None, Ok, inr, ap, sym, ◌∙◌, subst, arith}
 use Rattle.std.specs.Prelude.{All, IfSome}
-use Rattle.silt_device.specs.Disk.{ChangesWithin, Content, LeavesOnly, Torn, size}
-use Rattle.silt_device.specs.Layout.{Shape, device_size, gates_at, log_size}
+use Rattle.silt_device.specs.Disk.{ChangesWithin, Content, LeavesOnly, LiesOutside, Torn, size}
+use Rattle.silt_device.specs.Layout.{Shape, device_size, gates_at, hash_at, log_size, slots_len}
 use Rattle.silt_device.proofs.Images.{shown_left, torn_trans}
-use Rattle.silt_log.specs.Rows.{StoredRow, log_rows}
+use Rattle.silt_log.specs.Rows.{log_rows}
+use Rattle.silt_frame.specs.Rows.{StoredRow, put_count}
 use Rattle.silt_log.specs.State.{LogState, all_rows, settled_rows, waiting_rows}
 use Rattle.silt_log.specs.State as log
 use Rattle.silt_log_store.specs.State.{IsLogStore}
-use Rattle.silt_hash_store.specs.Converting.{ConversionState, HasWritten}
-use Rattle.silt_hash_store.specs.Laws.{IsOutsideSlots}
+use Rattle.silt_hash_store.specs.Conversion.{ConversionState, HasWritten}
 use Rattle.silt_hash_store.specs.State.{IsHashStore}
 use Rattle.silt_image.specs.Stores.{Stores, image_stores}
-use Rattle.silt_image.specs.Meaning.{IsSound, charge_of_rows, rows_of, with_log_rows}
+use Rattle.silt_image.specs.Meaning.{IsSound, rows_of, with_log_rows}
 use Rattle.silt_manifest.specs.Standing.{Rules}
 use Rattle.silt_manifest.proofs.Laws.{rules_elsewhere}
 use Rattle.silt_stores.specs.State.{AreWhole, StoresState, oldest_log}
@@ -39,7 +39,7 @@ pub record Fits (content : Content) (s : StoresState) (t : Stores) : Type 0 wher
   pub same_body : t.body ≡ s.manifest.ruling
   pub named : LeavesOnly content (λ image. image_stores image ≡ Ok t)
   pub sound : IsTrue content.honest → IsSound (with_log_rows s.manifest.ruling.active (all_rows content s.active.log) t)
-  pub counted : IsTrue content.honest → s.charge ≡ charge_of_rows (rows_of t ++ waiting_rows content s.active.log)
+  pub counted : IsTrue content.honest → s.charge ≡ put_count (rows_of t ++ waiting_rows content s.active.log)
   pub no_entries : s.manifest.ruling.sorted_count ≡ 0
 
 pub fits_stand : (content : Content) (s : StoresState) (t : Stores) → Fits content s t → Stands content s
@@ -58,7 +58,7 @@ fits_stand content s t fits =
       named = record { each = λ h image left. fits.named.each h image left ∙ ap Ok (sym (is h)) };
       sound = λ h. subst (λ (u : Stores). IsSound (with_log_rows s.active.log.region (all_rows content s.active.log) u)) (sym (is h))
           (subst (λ (n : ℕ). IsSound (with_log_rows n (all_rows content s.active.log) t)) (sym fits.whole.active_region) (fits.sound h));
-      counted = λ h. fits.counted h ∙ ap (λ (u : Stores). charge_of_rows (rows_of u ++ waiting_rows content s.active.log)) (sym (is h));
+      counted = λ h. fits.counted h ∙ ap (λ (u : Stores). put_count (rows_of u ++ waiting_rows content s.active.log)) (sym (is h));
       no_entries = fits.no_entries;
     }
 
@@ -100,7 +100,7 @@ module _ (old new : Content) (s : StoresState) (stands : Stands old s) (sizes : 
       (λ h. behind s.converting)
       stands.whole.under_way stands.written
     where
-      behind : (o : Option ConversionState) → IfSome o (λ conversion. IsOutsideSlots s.manifest.shape conversion.region (gates_at s.manifest.shape s.manifest.ruling.active) (log_size s.manifest.shape))
+      behind : (o : Option ConversionState) → IfSome o (λ conversion. LiesOutside (hash_at s.manifest.shape conversion.region) (slots_len s.manifest.shape) (gates_at s.manifest.shape s.manifest.ruling.active) (log_size s.manifest.shape))
       behind None = tt
       behind (Some conversion) = slots_behind_log s.manifest.shape s.manifest.ruling.active conversion.region (active_below old s stands)
 
@@ -115,11 +115,11 @@ module _ (old new : Content) (s : StoresState) (stands : Stands old s) (sizes : 
 
   -- with these rows of the log in the full image, that has the stores with them
   pub full_with : IsTrue new.honest → (l : LogState) (rows : List StoredRow) → l.shape ≡ s.active.log.shape → l.region ≡ s.active.log.region → log.InBounds l
-      → log_rows s.active.log.shape s.active.log.region (log.full_image new l) ≡ rows
-      → image_stores (log.full_image new l) ≡ Ok (with_log_rows s.manifest.ruling.active rows (shown_stores old s))
+      → log_rows s.active.log.shape s.active.log.region (log.opened_image new l) ≡ rows
+      → image_stores (log.opened_image new l) ≡ Ok (with_log_rows s.manifest.ruling.active rows (shown_stores old s))
   full_with h l rows same_shape same_region bounds are =
-      let opened : Torn (gates_at l.shape l.region) (log_size l.shape) new.shown (log.full_image new l) = full_torn new l bounds (sizes ∙ stands.has_size ∙ ap device_size (sym stands.whole.has_shape ∙ sym same_shape)) in
-      let here : Torn (gates_at s.active.log.shape s.active.log.region) (log_size s.active.log.shape) new.shown (log.full_image new l) =
-      subst (λ (n : ℕ). Torn (gates_at s.active.log.shape n) (log_size s.active.log.shape) new.shown (log.full_image new l)) same_region
-      (subst (λ (sh : Shape). Torn (gates_at sh l.region) (log_size sh) new.shown (log.full_image new l)) same_shape opened) in
-      torn_active old s stands old.shown (log.full_image new l) rows (stands.named.each (back h) old.shown (shown_left old)) (torn_trans (changes.shown (back h)) here) are
+      let opened : Torn (gates_at l.shape l.region) (log_size l.shape) new.shown (log.opened_image new l) = full_torn new l bounds (sizes ∙ stands.has_size ∙ ap device_size (sym stands.whole.has_shape ∙ sym same_shape)) in
+      let here : Torn (gates_at s.active.log.shape s.active.log.region) (log_size s.active.log.shape) new.shown (log.opened_image new l) =
+      subst (λ (n : ℕ). Torn (gates_at s.active.log.shape n) (log_size s.active.log.shape) new.shown (log.opened_image new l)) same_region
+      (subst (λ (sh : Shape). Torn (gates_at sh l.region) (log_size sh) new.shown (log.opened_image new l)) same_shape opened) in
+      torn_active old s stands old.shown (log.opened_image new l) rows (stands.named.each (back h) old.shown (shown_left old)) (torn_trans (changes.shown (back h)) here) are

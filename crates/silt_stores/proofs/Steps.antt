@@ -3,9 +3,9 @@ use Rattle.std.proofs.Common.{◌≡◌, ◌<◌, ◌+◌, ◌-◌, ◌^◌, Lis
 use Rattle.silt_device.specs.Disk.{Content}
 use Rattle.silt_log_store.specs.State.{LogStoreState}
 use Rattle.silt_manifest.specs.Standing.{ManifestState}
-use Rattle.silt_stores.specs.declared.freezing.NextLog.{NextLog}
+use Rattle.silt_stores.specs.declared.next_log.NextLog.{NextLog}
 use Rattle.silt_stores.specs.State.{StoresState}
-use Rattle.silt_stores.specs.Freezing.{HasFrozen, IsLowestFree, IsNextLog, empty_store, next_body}
+use Rattle.silt_stores.specs.NextLog.{HasFrozen, IsLowestFree, IsNextLog, empty_store, next_body}
 
 -- the next log of stores with the same manifest and as many frozen logs
 pub next_for : (s t : StoresState) (next : NextLog) → t.manifest ≡ s.manifest → t.frozen ≡ s.frozen → IsNextLog s next → IsNextLog t next

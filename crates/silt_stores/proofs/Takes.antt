@@ -1,27 +1,45 @@
 -- A row that is taken by the next log.
 use Rattle.std.proofs.Common.{◌≡◌, ℕ, ◌⊎◌, ◌↔◌, length, IsTrue, List, [], ◌∷◌, ◌++◌, Option, Some, None, ap, sym, ◌∙◌, subst}
+use Rattle.std.proofs.lemmas.List.{append_cancel_right}
 use Rattle.silt_device.specs.Disk.{Content}
+use Rattle.silt_event.specs.Commands.{Command, map_after}
 use Rattle.silt_device.specs.Layout.{Shape}
 use Rattle.silt_cuckoo.specs.Index.{index_of_keys}
-use Rattle.silt_log.specs.Rows.{StoredRow}
+use Rattle.silt_frame.specs.Rows.{StoredRow, keys_of}
 use Rattle.silt_log.specs.State.{all_rows}
 use Rattle.silt_log.proofs.Elsewhere.{all_count}
-use Rattle.silt_log_store.specs.State.{keys_of}
-use Rattle.silt_stores.specs.declared.freezing.NextLog.{NextLog}
+use Rattle.silt_stores.specs.declared.next_log.NextLog.{NextLog}
 use Rattle.silt_stores.specs.State.{StoresState}
-use Rattle.silt_stores.specs.Standing.{Stands}
-use Rattle.silt_stores.specs.Calls.{CannotTake}
-use Rattle.silt_stores.specs.Freezing.{IsNextLog}
-use Rattle.silt_stores.specs.Taking.{HasPlace, NeedsNext, TurnsFor}
+use Rattle.silt_stores.specs.Standing.{Stands, base_map, waiting_commands}
+use Rattle.silt_stores.specs.Calls.{Advances, CannotTake, MovesIntoBase, SameDisk}
+use Rattle.silt_stores.specs.NextLog.{HasFrozen, IsNextLog}
+use Rattle.silt_stores.specs.RowWrite.{HasPlace, NeedsNext, TurnsFor, WaitsAlone, WaitsBehind}
+use Rattle.silt_stores.proofs.Chains.{honest_after}
 
--- the body that rules after the next log took the row
-pub turns_for : (content : Content) (before middle after : StoresState) (next : NextLog) (key : List ℕ) → NeedsNext content before key → (is : IsNextLog before next) → middle.manifest.ruling ≡ next.body
-    → after.manifest ≡ middle.manifest → TurnsFor content before after key
-turns_for content before middle after next key needs is ruling same = record {
+-- what waits where none of it went into the base
+pub waits_behind : (command : Command) (old new : Content) (before after : StoresState) → MovesIntoBase (command ∷ []) old new before after
+    → waiting_commands new after ≡ waiting_commands old before ++ command ∷ [] → WaitsBehind command old new before after
+waits_behind command old new before after moves waits =
+    let none : moves.moved ≡ [] = append_cancel_right moves.moved [] (waiting_commands new after) (moves.rest ∙ sym waits) in
+    record { waiting = waits; base = moves.base ∙ ap (map_after (base_map old before)) none }
+
+-- what waits where all that waited went into the base
+pub waits_alone : (command : Command) (old new : Content) (before after : StoresState) → MovesIntoBase (command ∷ []) old new before after → waiting_commands new after ≡ command ∷ [] → WaitsAlone command old new before after
+waits_alone command old new before after moves waits =
+    let all : moves.moved ≡ waiting_commands old before =
+    append_cancel_right moves.moved (waiting_commands old before) (command ∷ []) (ap (λ (cs : List Command). moves.moved ++ cs) (sym waits) ∙ moves.rest) in
+    record { waiting = waits; base = moves.base ∙ ap (map_after (base_map old before)) all }
+
+-- the body that rules after the next log took the row, and what then waits
+pub turns_for : (command : Command) (old middle_content new : Content) (before middle after : StoresState) (next : NextLog) (key : List ℕ) → SameDisk old middle_content → NeedsNext old before key → (is : IsNextLog before next)
+    → HasFrozen next middle_content before middle → after.manifest ≡ middle.manifest → Advances (command ∷ []) old new before after
+    → (IsTrue middle_content.honest → waiting_commands new after ≡ waiting_commands middle_content middle ++ command ∷ []) → TurnsFor old new before after key command
+turns_for command old middle_content new before middle after next key disk needs is frozen same goes waits = record {
   needs = needs;
   region = is.region;
   lowest = is.lowest;
-  ruling = ap (λ m. m.ruling) same ∙ ruling ∙ is.body;
+  ruling = ap (λ m. m.ruling) same ∙ frozen.ruling ∙ is.body;
+  waits = λ h. waits_alone command old new before after (goes.moves h) (waits (honest_after old middle_content disk h) ∙ ap (λ (cs : List Command). cs ++ command ∷ []) frozen.quiet.none_wait);
 }
 
 -- the active log had a place for the row

@@ -10,13 +10,13 @@ use Rattle.silt_hash_store.specs.State.{HashState, IsHashStore}
 use Rattle.silt_image.specs.Meaning.{holds_key}
 use Rattle.silt_log.specs.State.{all_rows}
 use Rattle.silt_log_store.specs.State.{IsIndexed, LogStoreState}
-use Rattle.silt_log_store.specs.Finding.{FindsLast, HasNoRow}
+use Rattle.silt_log_store.specs.LastRow.{FindsLast, HasNoRow}
 use Rattle.silt_log_store.specs.declared.store.Found.{Found}
-use Rattle.silt_stores.specs.declared.lookup.Holder.TheVariants.{Active, Frozen, Hashed}
-use Rattle.silt_stores.specs.declared.lookup.Location.{Location}
+use Rattle.silt_stores.specs.declared.location.Holder.TheVariants.{Active, Frozen, Hashed}
+use Rattle.silt_stores.specs.declared.location.Location.{Location}
 use Rattle.silt_stores.specs.State.{StoresState}
 use Rattle.silt_stores.specs.Standing.{Stands}
-use Rattle.silt_stores.specs.Lookup.{FindsFrozen, FindsHashed, Locates, frozen_at, hash_at, hash_rows_of, located, value_at}
+use Rattle.silt_stores.specs.Lookup.{FindsFrozen, FindsHashed, Locates, frozen_at, hash_store_at, hash_rows_of, located, value_at}
 use Rattle.silt_stores.proofs.Lookups.{found_active, found_frozen, found_hashed, found_nowhere}
 
 -- what a frozen log finds, by its number
@@ -39,20 +39,20 @@ found_here content s items number store key o found are inside is stands honest 
 -- what a hash store finds, by its number
 hash_finds : (content : Content) (s : StoresState) (items : List HashState) (number : ℕ) (store : HashState) (key : List ℕ) (o : Option Found)
     → items ≡ s.hashes → number < length items → store ≡ get_or items number store → Stands content s → IsTrue content.honest
-    → (IsTrue content.honest → IsHashStore content store → FindsRow (hash_rows_of content store) key o) → FindsRow (hash_rows_of content (hash_at s number)) key o
+    → (IsTrue content.honest → IsHashStore content store → FindsRow (hash_rows_of content store) key o) → FindsRow (hash_rows_of content (hash_store_at s number)) key o
 hash_finds content s items number store key o are inside is stands honest finds =
     let none : HashState = record { shape = s.manifest.shape; region = 0; tags = [] } in
     let below : number < length s.hashes = subst (λ (l : List HashState). number < length l) are inside in
-    let here : store ≡ hash_at s number = is ∙ ap (λ (l : List HashState). get_or l number store) are ∙ get_or_default s.hashes number store none below in
+    let here : store ≡ hash_store_at s number = is ∙ ap (λ (l : List HashState). get_or l number store) are ∙ get_or_default s.hashes number store none below in
     subst (λ (t : HashState). FindsRow (hash_rows_of content t) key o) here (finds honest (subst (IsHashStore content) (sym here) (stands.hashed number none below)))
 
 -- a hash store has a row of the key
 pub hash_here : (content : Content) (s : StoresState) (items : List HashState) (number : ℕ) (store : HashState) (key : List ℕ) (o : Option Found) (found : Found)
     → items ≡ s.hashes → number < length items → store ≡ get_or items number store → Stands content s → IsTrue content.honest
     → (IsTrue content.honest → IsHashStore content store → FindsRow (hash_rows_of content store) key o) → o ≡ Some found
-    → ((index : ℕ) → index < number → holds_key key (hash_rows_of content (hash_at s index)) ≡ false) → FindsHashed content s key (Some (number, found))
+    → ((index : ℕ) → index < number → holds_key key (hash_rows_of content (hash_store_at s index)) ≡ false) → FindsHashed content s key (Some (number, found))
 hash_here content s items number store key o found are inside is stands honest finds some before =
-    (before, subst (FindsRow (hash_rows_of content (hash_at s number)) key) some (hash_finds content s items number store key o are inside is stands honest finds))
+    (before, subst (FindsRow (hash_rows_of content (hash_store_at s number)) key) some (hash_finds content s items number store key o are inside is stands honest finds))
 
 -- an answer that is none
 pub none_of : {X : Type 0} (o : Option X) → ((x : X) → o ≡ Some x → ⊥) → o ≡ None
@@ -79,10 +79,10 @@ log_passed content s items number store key o are inside is stands honest finds 
 pub hash_passed : (content : Content) (s : StoresState) (items : List HashState) (number : ℕ) (store : HashState) (key : List ℕ) (o : Option Found)
     → items ≡ s.hashes → number < length items → store ≡ get_or items number store → Stands content s → IsTrue content.honest
     → (IsTrue content.honest → IsHashStore content store → FindsRow (hash_rows_of content store) key o) → ((found : Found) → o ≡ Some found → ⊥)
-    → ((index : ℕ) → index < number → holds_key key (hash_rows_of content (hash_at s index)) ≡ false) → (index : ℕ) → index < number + 1 → holds_key key (hash_rows_of content (hash_at s index)) ≡ false
+    → ((index : ℕ) → index < number → holds_key key (hash_rows_of content (hash_store_at s index)) ≡ false) → (index : ℕ) → index < number + 1 → holds_key key (hash_rows_of content (hash_store_at s index)) ≡ false
 hash_passed content s items number store key o are inside is stands honest finds not_some before =
-    one_more (λ index. holds_key key (hash_rows_of content (hash_at s index)) ≡ false) number before
-    (subst (FindsRow (hash_rows_of content (hash_at s number)) key) (none_of o not_some) (hash_finds content s items number store key o are inside is stands honest finds))
+    one_more (λ index. holds_key key (hash_rows_of content (hash_store_at s index)) ≡ false) number before
+    (subst (FindsRow (hash_rows_of content (hash_store_at s number)) key) (none_of o not_some) (hash_finds content s items number store key o are inside is stands honest finds))
 
 -- the active log has a row of the key
 pub locates_active : (content : Content) (s : StoresState) (key : List ℕ) (o : Option Found) (found : Found) (location : Option Location) → Stands content s

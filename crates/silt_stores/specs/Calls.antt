@@ -4,13 +4,11 @@ use Rattle.std.specs.FinMap.{get}
 use Rattle.silt_cuckoo.specs.Index.{index_of_keys}
 use Rattle.silt_device.specs.Disk.{Content, LeavesOnly, size}
 use Rattle.silt_device.specs.Layout.{Shape}
-use Rattle.silt_frame.specs.declared.key.Kind.{Kind}
-use Rattle.silt_frame.specs.declared.key.Kind.TheVariants.{Put, Delete}
-use Rattle.silt_image.specs.Commands.{Command, Map, map_after, Begins}
+use Rattle.silt_event.specs.Commands.{Command, Map, map_after, Begins}
 use Rattle.silt_image.specs.Stores.{Stores, image_stores}
-use Rattle.silt_image.specs.Meaning.{StandsFor, image_map, keys_of}
-use Rattle.silt_image.specs.declared.finding.Finding.{Finding}
-use Rattle.silt_log.specs.Rows.{StoredRow}
+use Rattle.silt_image.specs.Meaning.{StandsFor, image_map}
+use Rattle.silt_frame.specs.Rows.{keys_of, StoredRow}
+use Rattle.silt_image.specs.declared.damage.Finding.{Finding}
 use Rattle.silt_stores.specs.State.{StoresState}
 use Rattle.silt_stores.specs.Standing.{Stands, base_map, current_map, full_image, waiting_commands}
 
@@ -20,7 +18,7 @@ pub record SameDisk (old new : Content) : Type 0 where
   pub honest : new.honest ≡ old.honest
 
 -- a beginning of what waited, and these commands behind it, went into the base
-pub record Moves (adds : List Command) (old new : Content) (before after : StoresState) : Type 0 where
+pub record MovesIntoBase (adds : List Command) (old new : Content) (before after : StoresState) : Type 0 where
   pub moved : List Command
   pub rest : moved ++ waiting_commands new after ≡ waiting_commands old before ++ adds
   pub base : base_map new after ≡ map_after (base_map old before) moved
@@ -29,7 +27,7 @@ pub record Moves (adds : List Command) (old new : Content) (before after : Store
 pub record Advances (adds : List Command) (old new : Content) (before after : StoresState) : Type 0 where
   pub stands : Stands new after
   pub shape : after.manifest.shape ≡ before.manifest.shape
-  pub moves : IsTrue old.honest → Moves adds old new before after
+  pub moves : IsTrue old.honest → MovesIntoBase adds old new before after
 
 -- the stores of an image have no sorted entries
 abbrev pub HaveNoEntries : Result Stores Finding → Type 0
@@ -60,11 +58,6 @@ pub record IsQuiet (content : Content) (s : StoresState) : Type 0 where
   pub settled : s.active.log.settled ≡ s.active.log.used
   pub none_wait : waiting_commands content s ≡ []
 
--- how many puts a row of this kind is
-abbrev pub puts_of : Kind → ℕ
-puts_of Put = 1
-puts_of Delete = 0
-
 -- a lookup of a key: its value, or none
 abbrev pub Finds : Content → StoresState → List ℕ → List ℕ → Type 0
 Finds content s key value = IsTrue content.honest → get (current_map content s) key ≡ Some value
@@ -78,8 +71,8 @@ abbrev pub CannotTake : Shape → List StoredRow → List ℕ → Type 0
 CannotTake shape rows key = (length rows ≡ shape.log_capacity) ⊎ (index_of_keys shape.buckets (keys_of rows ++ key ∷ []) ≡ None)
 
 -- every log region is in use
-abbrev pub AreAllInUse : StoresState → Type 0
-AreAllInUse s = length s.frozen + 1 ≡ s.manifest.shape.logs
+abbrev pub HasNoFreeLog : StoresState → Type 0
+HasNoFreeLog s = length s.frozen + 1 ≡ s.manifest.shape.logs
 
 -- the last generation rules
 abbrev pub IsLastGeneration : StoresState → Type 0

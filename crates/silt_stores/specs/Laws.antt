@@ -27,5 +27,5 @@ pub record Means (content : Content) (s : StoresState) : Type 0 where
   pub rows : IsTrue content.honest → log_rows s.manifest.shape s.manifest.ruling.active (full_image content s) ≡ all_rows content s.active.log
 
 -- so do all images of a disk on which stores stand
-abbrev pub MeaningLaw : Type 0
-MeaningLaw = (content : Content) (s : StoresState) → Stands content s → Means content s
+abbrev pub StandingLaw : Type 0
+StandingLaw = (content : Content) (s : StoresState) → Stands content s → Means content s

@@ -2,8 +2,9 @@ pub mod State
 pub mod Standing
 pub mod Calls
 pub mod Lookup
-pub mod Folding
-pub mod Freezing
-pub mod Converting
-pub mod Taking
+pub mod Entries
+pub mod Succession
+pub mod NextLog
+pub mod Conversion
+pub mod RowWrite
 pub mod Laws

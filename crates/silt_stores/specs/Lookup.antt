@@ -1,9 +1,6 @@
 -- Where the rows of the stores stand, and what lookups answer.
-use Rattle.std.specs.Prelude.{◌≡◌, ◌<◌, ◌*◌, ℕ, Bool, true, false, if◌then◌else◌, IsTrue, List, [], length, get_or, Option, Some, None}
+use Rattle.std.specs.Prelude.{◌≡◌, ◌<◌, ◌*◌, ℕ, false, if◌then◌else◌, IsTrue, List, [], length, get_or, Option, Some, None}
 use Rattle.std.specs.Option.{option_map}
-use Rattle.std.specs.Ordering.{nat_cmp}
-use Rattle.std.specs.declared.cmp.Ordering.{Ordering}
-use Rattle.std.specs.Cmp.Lexicographic.{slice_cmp}
 use Rattle.std.specs.BTreeMap.{BTreeMap}
 use Rattle.std.specs.BTreeMap as tree
 use Rattle.std.specs.FinMap.{get}
@@ -12,19 +9,19 @@ use Rattle.silt_frame.specs.declared.key.Key.{Key}
 use Rattle.silt_hash_store.specs.Lookup.{FindsRow}
 use Rattle.silt_hash_store.specs.Slots.{slot_row}
 use Rattle.silt_hash_store.specs.State.{HashState}
-use Rattle.silt_image.specs.Commands.{Map}
+use Rattle.silt_event.specs.Commands.{Map}
+use Rattle.silt_frame.specs.Frame.{is_put}
 use Rattle.silt_image.specs.Meaning.{holds_key}
 use Rattle.silt_image.specs.Stores.{hash_rows}
-use Rattle.silt_frame.specs.declared.key.Kind.{Kind}
-use Rattle.silt_frame.specs.declared.key.Kind.TheVariants.{Put, Delete}
-use Rattle.silt_log.specs.Rows.{StoredRow, row_at}
+use Rattle.silt_log.specs.Rows.{row_at}
+use Rattle.silt_frame.specs.Rows.{StoredRow, key_cmp}
 use Rattle.silt_log.specs.State.{all_rows}
 use Rattle.silt_log_store.specs.declared.store.Found.{Found}
-use Rattle.silt_log_store.specs.Finding.{FindsLast, HasNoRow}
+use Rattle.silt_log_store.specs.LastRow.{FindsLast, HasNoRow}
 use Rattle.silt_log_store.specs.State.{LogStoreState}
-use Rattle.silt_stores.specs.declared.lookup.Holder.{Holder}
-use Rattle.silt_stores.specs.declared.lookup.Holder.TheVariants.{Active, Frozen, Hashed}
-use Rattle.silt_stores.specs.declared.lookup.Location.{Location}
+use Rattle.silt_stores.specs.declared.location.Holder.{Holder}
+use Rattle.silt_stores.specs.declared.location.Holder.TheVariants.{Active, Frozen, Hashed}
+use Rattle.silt_stores.specs.declared.location.Location.{Location}
 use Rattle.silt_stores.specs.declared.entries.EntriesError.{EntriesError}
 use Rattle.silt_stores.specs.declared.entries.EntriesError.TheVariants.{Device, NoMemory}
 use Rattle.silt_stores.specs.State.{StoresState}
@@ -35,8 +32,8 @@ abbrev pub frozen_at : StoresState → ℕ → LogStoreState
 frozen_at s index = get_or s.frozen index s.active
 
 -- the hash store of this number, the newest first
-abbrev pub hash_at : StoresState → ℕ → HashState
-hash_at s index = get_or s.hashes index (record { shape = s.manifest.shape; region = 0; tags = [] })
+abbrev pub hash_store_at : StoresState → ℕ → HashState
+hash_store_at s index = get_or s.hashes index (record { shape = s.manifest.shape; region = 0; tags = [] })
 
 -- the rows that a hash store shows, slot by slot
 abbrev pub hash_rows_of : Content → HashState → List StoredRow
@@ -52,11 +49,6 @@ IsPlace s (Hashed index) place = (index < length s.hashes) × (place < 4 * s.man
 abbrev pub IsLocation : StoresState → Location → Type 0
 IsLocation s location = IsPlace s location.holder location.place
 
--- a row of this kind is a put
-abbrev pub is_put : Kind → Bool
-is_put Put = true
-is_put Delete = false
-
 -- the location of a row that was found in a log, where it is a put
 abbrev pub located : Holder → Found → Option Location
 located holder found = if is_put found.kind then Some (record { holder = holder; place = found.place }) else None
@@ -65,7 +57,7 @@ located holder found = if is_put found.kind then Some (record { holder = holder;
 abbrev pub row_in : Content → StoresState → Holder → ℕ → StoredRow
 row_in content s Active place = row_at s.active.log.shape s.active.log.region content.shown place
 row_in content s (Frozen index) place = row_at (frozen_at s index).log.shape (frozen_at s index).log.region content.shown place
-row_in content s (Hashed index) place = slot_row (hash_at s index).shape (hash_at s index).region content.shown place
+row_in content s (Hashed index) place = slot_row (hash_store_at s index).shape (hash_store_at s index).region content.shown place
 
 -- the value of the row at a location
 abbrev pub value_at : Content → StoresState → Location → List ℕ
@@ -80,24 +72,20 @@ FindsFrozen content s key (Some (number, found)) =
 
 -- of the hash stores this is the newest that has a row of the key, with that row; none where none has one
 abbrev pub FindsHashed : Content → StoresState → List ℕ → Option (ℕ × Found) → Type 0
-FindsHashed content s key None = (index : ℕ) → index < length s.hashes → holds_key key (hash_rows_of content (hash_at s index)) ≡ false
+FindsHashed content s key None = (index : ℕ) → index < length s.hashes → holds_key key (hash_rows_of content (hash_store_at s index)) ≡ false
 FindsHashed content s key (Some (number, found)) =
-    ((index : ℕ) → index < number → holds_key key (hash_rows_of content (hash_at s index)) ≡ false)
-    × FindsRow (hash_rows_of content (hash_at s number)) key (Some found)
+    ((index : ℕ) → index < number → holds_key key (hash_rows_of content (hash_store_at s index)) ≡ false)
+    × FindsRow (hash_rows_of content (hash_store_at s number)) key (Some found)
 
 -- the row at the location has the value that the map has for the key, and there is none where the map has none
 abbrev pub Locates : Content → StoresState → List ℕ → Option Location → Type 0
 Locates content s key location = IsTrue content.honest → get (current_map content s) key ≡ option_map (value_at content s) location
-
--- the order of keys
-abbrev pub key_cmp : Key → Key → Ordering
-key_cmp a b = slice_cmp nat_cmp a.0 b.0
 
 -- the entries are those of the map
 abbrev pub AreEntriesOf : Map → BTreeMap Key (List ℕ) → Type 0
 AreEntriesOf map entries = (key : Key) → tree.get key_cmp entries key ≡ get map key.0
 
 -- why the entries were not read: a fault of a read; want of memory says nothing
-abbrev pub EntriesCause : {F : Type 0} → (F → Type 0) → EntriesError F → Type 0
-EntriesCause WasGiven (Device fault) = WasGiven fault
-EntriesCause WasGiven NoMemory = Unit {0}
+abbrev pub EntriesErrorCause : {F : Type 0} → (F → Type 0) → EntriesError F → Type 0
+EntriesErrorCause WasGiven (Device fault) = WasGiven fault
+EntriesErrorCause WasGiven NoMemory = Unit {0}

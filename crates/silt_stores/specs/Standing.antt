@@ -2,11 +2,12 @@
 use Rattle.std.specs.Prelude.{◌≡◌, ℕ, IsTrue, List, ◌++◌, All, map, IfSome, None, Ok}
 use Rattle.silt_device.specs.Disk.{Content, LeavesOnly, size}
 use Rattle.silt_device.specs.Layout.{device_size}
-use Rattle.silt_hash_store.specs.Converting.{HasWritten}
+use Rattle.silt_hash_store.specs.Conversion.{HasWritten}
 use Rattle.silt_hash_store.specs.State.{IsHashStore}
-use Rattle.silt_image.specs.Commands.{Command, Map, map_after}
+use Rattle.silt_event.specs.Commands.{Command, Map, map_after}
 use Rattle.silt_image.specs.Stores.{Stores, image_stores, stores_named}
-use Rattle.silt_image.specs.Meaning.{IsSound, charge_of_rows, command_of, map_of_rows, rows_of, with_log_rows}
+use Rattle.silt_image.specs.Meaning.{IsSound, command_of, map_of_rows, rows_of, with_log_rows}
+use Rattle.silt_frame.specs.Rows.{put_count}
 use Rattle.silt_log.specs.Rows.{open_count}
 use Rattle.silt_log.specs.State.{IsLog, all_rows, waiting_rows}
 use Rattle.silt_log.specs.State as log
@@ -34,7 +35,7 @@ current_map content s = map_after (base_map content s) (waiting_commands content
 
 -- what is shown, with the gates of the waiting rows open
 abbrev pub full_image : Content → StoresState → List ℕ
-full_image content s = log.full_image content s.active.log
+full_image content s = log.opened_image content s.active.log
 
 -- ---- how they stand
 
@@ -57,5 +58,5 @@ pub record Stands (content : Content) (s : StoresState) : Type 0 where
   pub written : IfSome s.converting (HasWritten content (oldest_log s))
   pub named : LeavesOnly content (λ image. image_stores image ≡ Ok (shown_stores content s))
   pub sound : IsTrue content.honest → IsSound (with_log_rows s.active.log.region (all_rows content s.active.log) (shown_stores content s))
-  pub counted : IsTrue content.honest → s.charge ≡ charge_of_rows (rows_of (shown_stores content s) ++ waiting_rows content s.active.log)
+  pub counted : IsTrue content.honest → s.charge ≡ put_count (rows_of (shown_stores content s) ++ waiting_rows content s.active.log)
   pub no_entries : s.manifest.ruling.sorted_count ≡ 0

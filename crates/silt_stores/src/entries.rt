@@ -4,10 +4,10 @@ ghost use Rattle.silt_device.specs.Disk.{GaveAny, size};
 ghost use Rattle.silt_device.specs.Layout.{device_size, row_len};
 ghost use Rattle.silt_hash_store.specs.Slots.{slot_row};
 ghost use Rattle.silt_image.specs.Stores.{hash_rows};
-ghost use Rattle.silt_log.specs.Rows.{has_known_kind, row_of};
+ghost use Rattle.silt_frame.specs.Rows.{has_known_kind, row_of};
 ghost use Rattle.silt_log.specs.State.{all_rows};
-ghost use Rattle.silt_stores.specs.Folding.{DoesRows, IsPutOf, hashed_rows};
-ghost use Rattle.silt_stores.specs.Lookup.{EntriesCause};
+ghost use Rattle.silt_stores.specs.Entries.{DoesRows, IsPutOf, hashed_rows};
+ghost use Rattle.silt_stores.specs.Lookup.{EntriesErrorCause};
 
 use crate::stores::Stores;
 use silt_device::Disk;
@@ -57,7 +57,7 @@ fn do_rows<D: Disk>(
     requires size { device_size store.now.log.shape ≤ size (D.content disk.now) }
     requires bytes { length bytes.old ≡ row_len store.now.log.shape }
     ensures ok { IsTrue (D.content disk.now).honest → OnOk result (DoesRows (all_rows (D.content disk.now) store.now.log) entries.old entries.new) }
-    ensures cause { IfErr result (EntriesCause (GaveAny D.gave disk.now)) }
+    ensures cause { IfErr result (EntriesErrorCause (GaveAny D.gave disk.now)) }
 {
     for place in 0..store.len() {
         if let Err(fault) = store.read_row(disk, place, bytes) {
@@ -79,7 +79,7 @@ pub fn do_log<D: Disk>(
 ) -> Result<(), EntriesError<D::Fault>>
     requires { device_size store.now.log.shape ≤ size (D.content disk.now) }
     ensures ok { IsTrue (D.content disk.now).honest → OnOk result (DoesRows (all_rows (D.content disk.now) store.now.log) entries.old entries.new) }
-    ensures cause { IfErr result (EntriesCause (GaveAny D.gave disk.now)) }
+    ensures cause { IfErr result (EntriesErrorCause (GaveAny D.gave disk.now)) }
 {
     let Ok(mut bytes) = vec![in alloc; 0u8; store.geometry().row_len()] else {
         return Err(EntriesError::NoMemory);
@@ -100,7 +100,7 @@ fn put_slot<D: Disk>(
     requires size { device_size store.now.shape ≤ size (D.content disk.now) }
     ensures ok { IsTrue (D.content disk.now).honest → IsPutOf (slot_row store.now.shape store.now.region (D.content disk.now).shown slot) key.0
         → OnOk result (DoesRows (slot_row store.now.shape store.now.region (D.content disk.now).shown slot ∷ []) entries.old entries.new) }
-    ensures cause { IfErr result (EntriesCause (GaveAny D.gave disk.now)) }
+    ensures cause { IfErr result (EntriesErrorCause (GaveAny D.gave disk.now)) }
 {
     let Ok(mut value) = vec![in alloc; 0u8; store.geometry().value_len() as usize] else {
         return Err(EntriesError::NoMemory);
@@ -125,7 +125,7 @@ fn do_slot<D: Disk>(
     requires slot { slot < 4 * store.now.shape.buckets }
     requires size { device_size store.now.shape ≤ size (D.content disk.now) }
     ensures ok { IsTrue (D.content disk.now).honest → OnOk result (DoesRows (filter has_known_kind (slot_row store.now.shape store.now.region (D.content disk.now).shown slot ∷ [])) entries.old entries.new) }
-    ensures cause { IfErr result (EntriesCause (GaveAny D.gave disk.now)) }
+    ensures cause { IfErr result (EntriesErrorCause (GaveAny D.gave disk.now)) }
 {
     let row = match store.row_at(disk, slot) {
         Ok(Some(row)) => row,
@@ -142,7 +142,7 @@ fn do_slot<D: Disk>(
 }
 
 // Does all rows of a hash store, slot by slot.
-pub fn do_hash<D: Disk>(
+pub fn do_hash_store<D: Disk>(
     alloc: Global,
     disk: &D,
     store: &HashStore,
@@ -150,7 +150,7 @@ pub fn do_hash<D: Disk>(
 ) -> Result<(), EntriesError<D::Fault>>
     requires { device_size store.now.shape ≤ size (D.content disk.now) }
     ensures ok { IsTrue (D.content disk.now).honest → OnOk result (DoesRows (filter has_known_kind (hash_rows store.now.shape store.now.region (D.content disk.now).shown)) entries.old entries.new) }
-    ensures cause { IfErr result (EntriesCause (GaveAny D.gave disk.now)) }
+    ensures cause { IfErr result (EntriesErrorCause (GaveAny D.gave disk.now)) }
 {
     for slot in 0..4 * store.geometry().buckets() {
         do_slot(alloc, disk, store, slot, entries)?;
@@ -163,7 +163,7 @@ impl Stores {
     ghost use Rattle.silt_stores.specs.Standing.{Stands, current_map};
 
     // Does all rows of the hash stores, the oldest store first.
-    fn do_hashes<D: Disk>(
+    fn do_hash_stores<D: Disk>(
         &self,
         alloc: Global,
         disk: &D,
@@ -171,10 +171,10 @@ impl Stores {
     ) -> Result<(), EntriesError<D::Fault>>
         requires size { device_size self.now.manifest.shape ≤ size (D.content disk.now) }
         ensures ok { IsTrue (D.content disk.now).honest → OnOk result (DoesRows (hashed_rows (D.content disk.now) self.now) entries.old entries.new) }
-        ensures cause { IfErr result (EntriesCause (GaveAny D.gave disk.now)) }
+        ensures cause { IfErr result (EntriesErrorCause (GaveAny D.gave disk.now)) }
     {
         for index in (0..self.hashes.len()).rev() {
-            do_hash(alloc, disk, &self.hashes[index], entries)?;
+            do_hash_store(alloc, disk, &self.hashes[index], entries)?;
         }
         Ok(())
     }
@@ -191,10 +191,10 @@ impl Stores {
     ) -> Result<BTreeMap<Key, Value>, EntriesError<D::Fault>>
         requires size { device_size self.now.manifest.shape ≤ size (D.content disk.now) }
         ensures entries { Stands (D.content disk.now) self.now → IsTrue (D.content disk.now).honest → IfOk result (AreEntriesOf (current_map (D.content disk.now) self.now)) }
-        ensures cause { IfErr result (EntriesCause (GaveAny D.gave disk.now)) }
+        ensures cause { IfErr result (EntriesErrorCause (GaveAny D.gave disk.now)) }
     {
         let mut entries = BTreeMap::new(alloc);
-        self.do_hashes(alloc, disk, &mut entries)?;
+        self.do_hash_stores(alloc, disk, &mut entries)?;
         for index in (0..self.frozen.len()).rev() {
             do_log(alloc, disk, &self.frozen[index], &mut entries)?;
         }

@@ -16,19 +16,19 @@
 //! settled rows, after a beginning of those that waited.
 #![tactic(auto)]
 
-mod converting;
+mod conversion;
 mod entries;
-mod finding;
-mod freezing;
 mod laws;
+mod location;
 mod lookup;
+mod next_log;
+mod row_write;
 mod stores;
-mod taking;
 
 pub use crate::stores::Stores;
-pub use converting::{ConvertError, Progress};
+pub use conversion::ConvertError;
 pub use entries::EntriesError;
-pub use freezing::{NextLog, NoNextLog};
-pub use laws::meaning_law;
-pub use lookup::Location;
-pub use taking::TakeError;
+pub use laws::standing_law;
+pub use location::Location;
+pub use next_log::{NextLog, NoNextLog};
+pub use row_write::TakeError;

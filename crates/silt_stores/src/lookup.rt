@@ -1,37 +1,134 @@
-// Where a row stands that a lookup found.
-ghost use Rattle.std.specs.Prelude.{◌≡◌};
-ghost use Rattle.silt_stores.specs.Lookup.{located};
+// The lookup of a key: the active log, then the frozen ones, then the hash stores.
+ghost use Rattle.std.specs.Prelude.{◌≡◌, ◌<◌, ◌≤◌, ◌*◌, ℕ, length, true, false, Ok, IsTrue, IfOk, IfErr, IfSome, OnOk};
+ghost use Rattle.silt_device.specs.Disk.{GaveAny, size};
+ghost use Rattle.silt_device.specs.Layout.{device_size};
+ghost use Rattle.silt_log.specs.Rows.{row_at};
+ghost use Rattle.silt_stores.specs.Calls.{Finds, FindsNone};
+ghost use Rattle.silt_stores.specs.Lookup.{FindsFrozen, FindsHashed, IsLocation, Locates, frozen_at, value_at};
+ghost use Rattle.silt_stores.specs.Standing.{Stands};
 
-use silt_frame::Kind;
-use silt_log_store::Found;
+use crate::location::{Holder, Location, located};
+use crate::stores::Stores;
+use silt_device::Disk;
+use silt_frame::Key;
+use silt_log_store::{Found, LogStore};
 
-/// One of the stores.
-#[derive(Clone, Copy, Debug, PartialEq, Eq)]
-pub enum Holder {
-    /// The log that takes writes.
-    Active,
-    /// A full log, by its place among the frozen ones, the newest first.
-    Frozen(usize),
-    /// A hash store, by its place among these, the newest first.
-    Hashed(usize),
-}
-
-/// Where a row stands: its store, and its place or its slot there.
-#[derive(Clone, Copy, Debug, PartialEq, Eq)]
-pub struct Location {
-    pub(crate) holder: Holder,
-    pub(crate) place: u32,
-}
-
-// The location of a row that was found in a store, where it is a put.
-pub fn located(holder: Holder, found: Found) -> Option<Location>
-    ensures { result ≡ located holder found }
+// Reads the value of a row of a log.
+fn read_log_value<D: Disk>(
+    disk: &D,
+    store: &LogStore,
+    place: u32,
+    out: &mut [u8],
+) -> Result<(), D::Fault>
+    requires place { place < store.now.log.used }
+    requires out { length out.old ≡ store.now.log.shape.value_len }
+    requires size { device_size store.now.log.shape ≤ size (D.content disk.now) }
+    ensures value { IsTrue (D.content disk.now).honest → OnOk result (out.new ≡ (row_at store.now.log.shape store.now.log.region (D.content disk.now).shown place).value) }
+    ensures fault { IfErr result (GaveAny D.gave disk.now) }
 {
-    match found.kind {
-        Kind::Put => Some(Location {
-            holder,
-            place: found.place,
-        }),
-        Kind::Delete => None,
+    let _held = store.len(); // at most as many as the log has room for
+    store.read_value(disk, place, out)
+}
+
+impl Stores {
+    // The last row of a key among the rows of the newest frozen log that has one, with the number of that log.
+    fn find_frozen<D: Disk>(&self, disk: &D, key: &Key) -> Result<Option<(usize, Found)>, D::Fault>
+        requires size { device_size self.now.manifest.shape ≤ size (D.content disk.now) }
+        ensures found { Stands (D.content disk.now) self.now → IsTrue (D.content disk.now).honest → IfOk result (FindsFrozen (D.content disk.now) self.now key.now.0) }
+        ensures there { IfOk result (λ found. IfSome found (λ row. (row.0 < length self.now.frozen) × (row.1.place < (frozen_at self.now row.0).log.used))) }
+        ensures fault { IfErr result (GaveAny D.gave disk.now) }
+    {
+        for (index, log) in self.frozen.iter().enumerate() {
+            if let Some(found) = log.find(disk, key)? {
+                return Ok(Some((index, found)));
+            }
+        }
+        Ok(None)
+    }
+
+    // The row of a key in the newest hash store that has one, with the number of that store.
+    fn find_hashed<D: Disk>(&self, disk: &D, key: &Key) -> Result<Option<(usize, Found)>, D::Fault>
+        requires size { device_size self.now.manifest.shape ≤ size (D.content disk.now) }
+        ensures found { Stands (D.content disk.now) self.now → IsTrue (D.content disk.now).honest → IfOk result (FindsHashed (D.content disk.now) self.now key.now.0) }
+        ensures there { IfOk result (λ found. IfSome found (λ row. (row.0 < length self.now.hashes) × (row.1.place < 4 * self.now.manifest.shape.buckets))) }
+        ensures fault { IfErr result (GaveAny D.gave disk.now) }
+    {
+        for (index, store) in self.hashes.iter().enumerate() {
+            if let Some(found) = store.find(disk, key)? {
+                return Ok(Some((index, found)));
+            }
+        }
+        Ok(None)
+    }
+
+    /// Where the row stands that has a key's value: the active log, then the frozen ones and then the hash stores are gone
+    /// through, each the newest first, and the first row of the key that is found decides. A delete ends the lookup with none.
+    ///
+    /// # Errors
+    ///
+    /// The fault of a read.
+    pub fn find<D: Disk>(&self, disk: &D, key: &Key) -> Result<Option<Location>, D::Fault>
+        requires size { device_size self.now.manifest.shape ≤ size (D.content disk.now) }
+        ensures located { Stands (D.content disk.now) self.now → IfOk result (Locates (D.content disk.now) self.now key.now.0) }
+        ensures there { IfOk result (λ location. IfSome location (IsLocation self.now)) }
+        ensures fault { IfErr result (GaveAny D.gave disk.now) }
+    {
+        if let Some(found) = self.active.find(disk, key)? {
+            return Ok(located(Holder::Active, found));
+        }
+        if let Some((index, found)) = self.find_frozen(disk, key)? {
+            return Ok(located(Holder::Frozen(index), found));
+        }
+        match self.find_hashed(disk, key)? {
+            Some((index, found)) => Ok(located(Holder::Hashed(index), found)),
+            None => Ok(None),
+        }
+    }
+
+    /// Reads the value of the row at a location.
+    ///
+    /// # Errors
+    ///
+    /// The fault of the read. The bytes of `out` are then open.
+    pub fn read_value<D: Disk>(
+        &self,
+        disk: &D,
+        location: Location,
+        out: &mut [u8],
+    ) -> Result<(), D::Fault>
+        requires location { IsLocation self.now location }
+        requires out { length out.old ≡ self.now.manifest.shape.value_len }
+        requires size { device_size self.now.manifest.shape ≤ size (D.content disk.now) }
+        ensures value { IsTrue (D.content disk.now).honest → OnOk result (out.new ≡ value_at (D.content disk.now) self.now location) }
+        ensures fault { IfErr result (GaveAny D.gave disk.now) }
+    {
+        match location.holder {
+            Holder::Active => read_log_value(disk, &self.active, location.place, out),
+            Holder::Frozen(index) => read_log_value(disk, &self.frozen[index], location.place, out),
+            Holder::Hashed(index) => self.hashes[index].read_value(disk, location.place, out),
+        }
+    }
+
+    /// Writes a key's value over `out`, and answers whether there is one. Where there is none `out` stays as it was. It takes no
+    /// memory.
+    ///
+    /// # Errors
+    ///
+    /// The fault of a read. The bytes of `out` are then open.
+    pub fn get<D: Disk>(&self, disk: &D, key: &Key, out: &mut [u8]) -> Result<bool, D::Fault>
+        requires out { length out.old ≡ self.now.manifest.shape.value_len }
+        requires size { device_size self.now.manifest.shape ≤ size (D.content disk.now) }
+        ensures found { Stands (D.content disk.now) self.now → result ≡ Ok true → Finds (D.content disk.now) self.now key.now.0 out.new }
+        ensures none { Stands (D.content disk.now) self.now → result ≡ Ok false → FindsNone (D.content disk.now) self.now key.now.0 }
+        ensures absent { result ≡ Ok false → out.new ≡ out.old }
+        ensures fault { IfErr result (GaveAny D.gave disk.now) }
+    {
+        match self.find(disk, key)? {
+            Some(location) => {
+                self.read_value(disk, location, out)?;
+                Ok(true)
+            }
+            None => Ok(false),
+        }
     }
 }

@@ -4,16 +4,16 @@ ghost use Rattle.silt_device.specs.Disk.{Content, CountsFault, GaveAny, LeavesOn
 ghost use Rattle.silt_device.specs.Layout.{device_size};
 ghost use Rattle.silt_frame.specs.declared.key.Kind.{Kind};
 ghost use Rattle.silt_image.specs.Meaning.{command_of};
-ghost use Rattle.silt_log.specs.Rows.{stored_row};
+ghost use Rattle.silt_log.specs.Rows.{IsValueOf};
+ghost use Rattle.silt_frame.specs.Rows.{stored_row, puts_of};
 ghost use Rattle.silt_log.specs.State.{all_rows};
-ghost use Rattle.silt_stores.specs.Calls.{puts_of};
 
-use crate::freezing::{NextLog, NoNextLog, lowest_free, next_body};
+use crate::next_log::{NextLog, NoNextLog, lowest_free, next_body};
 use silt_device::{Disk, Geometry};
 use silt_frame::{Key, Kind};
 use silt_hash_store::{Conversion, HashStore};
 use silt_log_store::{LogStore, Placing};
-use silt_manifest::Manifest;
+use silt_manifest::{Body, Manifest};
 use std::alloc::Global;
 use std::marker::Model;
 use std::mem;
@@ -48,23 +48,14 @@ impl Model for Stores {
     ghost invariant = { λ a. AreHeld (record { manifest = a.manifest; active = a.active; frozen = a.frozen.items; hashes = a.hashes.items; converting = a.converting; charge = a.charge }) (vec_capacity a.frozen) (vec_capacity a.hashes) };
 }
 
-// How many puts a row of this kind is.
-fn puts_of(kind: Kind) -> u32
-    ensures { result ≡ puts_of kind }
-{
-    match kind {
-        Kind::Put => 1,
-        Kind::Delete => 0,
-    }
-}
-
 impl Stores {
     ghost use Rattle.silt_cuckoo.specs.Slots.{empty_slots};
     ghost use Rattle.silt_log_store.specs.Calls.{IsPlacingFor};
     ghost use Rattle.silt_stores.specs.State.{StoresState, AreHeld, AreWhole};
     ghost use Rattle.silt_stores.specs.Standing.{Stands, waiting_commands};
     ghost use Rattle.silt_stores.specs.Calls.{Advances, Breaks, CannotTake, IsQuiet, Remaps, SameDisk};
-    ghost use Rattle.silt_stores.specs.Freezing.{HasFrozen, IsEmptied, IsNextLog, MayTurn, NoNextCause, empty_store, unprepared};
+    ghost use Rattle.silt_stores.specs.NextLog.{HasFrozen, IsEmptied, IsNextLog, NoNextCause, active_replaced, empty_store};
+    ghost use Rattle.silt_stores.specs.Succession.{MayRule, NowRules};
 
     /// The stores with these parts, where the frozen logs and the hash stores stand the newest first, in `Vec`s with room for seven
     /// and for sixteen. No conversion is under way.
@@ -153,6 +144,7 @@ impl Stores {
         requires stands { Stands (D.content disk.old) self.old }
         requires placing { IsPlacingFor (D.content disk.old) self.old.active key.now.0 placing }
         requires value { length value.now ≡ self.old.manifest.shape.value_len }
+        requires zeros { IsValueOf kind value.now }
         requires charge { self.old.charge + puts_of kind ≤ self.old.manifest.shape.sorted_capacity }
         ensures same { SameDisk (D.content disk.old) (D.content disk.new) }
         ensures failures { MatchResult result (λ _. D.failures disk.new ≡ D.failures disk.old) (CountsFault D.failures D.gave disk.old disk.new) }
@@ -166,7 +158,7 @@ impl Stores {
     {
         let _limits = self.manifest.geometry().sorted_capacity(); // so the charge fits its word
         self.active.take(disk, kind, key, value, placing)?;
-        self.charge += puts_of(kind);
+        self.charge += kind.puts();
         Ok(())
     }
 
@@ -251,41 +243,38 @@ impl Stores {
         Ok(())
     }
 
-    // Writes the body that names the new log, behind a closed gate.
-    fn write_body<D: Disk>(&mut self, disk: &mut D, next: &NextLog) -> Result<(), D::Fault>
-        requires stands { Stands (D.content disk.old) self.old }
-        requires quiet { IsQuiet (D.content disk.old) self.old }
-        requires emptied { IsEmptied (D.content disk.old) self.old next.now }
+    // Changes the manifest of the disk: writes the next body behind a closed gate, and opens that gate. In memory nothing changes
+    // until the manifest that it answers is taken, together with the stores that the body names.
+    pub(crate) fn change_manifest<D: Disk>(
+        &self,
+        disk: &mut D,
+        next: &Body,
+    ) -> Result<Manifest, D::Fault>
+        requires stands { Stands (D.content disk.old) self.now }
+        requires next { MayRule (D.content disk.old) self.now next.now }
         ensures same { SameDisk (D.content disk.old) (D.content disk.new) }
         ensures failures { MatchResult result (λ _. D.failures disk.new ≡ D.failures disk.old) (CountsFault D.failures D.gave disk.old disk.new) }
-        ensures ok { OnOk result (Advances [] (D.content disk.old) (D.content disk.new) self.old (unprepared self.new)) }
-        ensures turn { OnOk result (MayTurn (D.content disk.new) self.new next.now) }
-        ensures map { Remaps [] (D.content disk.old) (D.content disk.new) self.old self.new }
-        ensures state { (self.new.active ≡ self.old.active) × (self.new.frozen ≡ self.old.frozen) × (self.new.hashes ≡ self.old.hashes) × (self.new.converting ≡ self.old.converting) × (self.new.charge ≡ self.old.charge) × (self.new.manifest.shape ≡ self.old.manifest.shape) × (self.new.manifest.ruling ≡ self.old.manifest.ruling) }
-        ensures err { OnErr result (Breaks (D.content disk.old) (D.content disk.new) self.old) }
+        ensures ok { IfOk result (NowRules (D.content disk.old) (D.content disk.new) self.now next.now) }
+        ensures map { Remaps [] (D.content disk.old) (D.content disk.new) self.now self.now }
+        ensures err { OnErr result (Breaks (D.content disk.old) (D.content disk.new) self.now) }
     {
         let _sound = self.manifest.ruling(); // the next body is well formed as it is
-        self.manifest.prepare_next(disk, next.body)?;
-        Ok(())
+        let mut manifest = self.manifest;
+        manifest.prepare_next(disk, *next)?;
+        manifest.commit_next(disk)?;
+        Ok(manifest)
     }
 
-    // Opens the gate of the body that names the new log, which then is the active one.
-    fn turn<D: Disk>(&mut self, disk: &mut D, next: NextLog) -> Result<(), D::Fault>
-        requires { MayTurn (D.content disk.old) self.old next }
-        ensures same { SameDisk (D.content disk.old) (D.content disk.new) }
-        ensures failures { MatchResult result (λ _. D.failures disk.new ≡ D.failures disk.old) (CountsFault D.failures D.gave disk.old disk.new) }
-        ensures ok { OnOk result (Advances [] (D.content disk.old) (D.content disk.new) (unprepared self.old) self.new) }
-        ensures map { Remaps [] (D.content disk.old) (D.content disk.new) self.old self.new }
-        ensures frozen { OnOk result (HasFrozen next (D.content disk.new) self.old self.new) }
-        ensures shape { self.new.manifest.shape ≡ self.old.manifest.shape }
-        ensures err { OnErr result (Breaks (D.content disk.old) (D.content disk.new) (unprepared self.old)) }
+    // Takes a manifest and the log that it names first, which then is the active one.
+    fn replace_active(&mut self, manifest: Manifest, log: LogStore)
+        requires { AreWhole (active_replaced self.old manifest log) }
+        ensures { self.new ≡ active_replaced self.old manifest log }
     {
-        self.manifest.commit_next(disk)?;
-        let full = mem::replace(&mut self.active, next.store);
+        self.manifest = manifest;
+        let full = mem::replace(&mut self.active, log);
         let Ok(()) = self.frozen.insert(0, full) else {
             unreachable!()
         };
-        Ok(())
     }
 
     /// Freezes the active log: settles what waits, closes the gates of the new log's region, and writes the manifest's next body,
@@ -307,8 +296,8 @@ impl Stores {
     {
         self.settle(disk)?;
         self.clear_region(disk, &mut next)?;
-        self.write_body(disk, &next)?;
-        self.turn(disk, next)?;
+        let manifest = self.change_manifest(disk, &next.body)?;
+        self.replace_active(manifest, next.store);
         Ok(())
     }
 }

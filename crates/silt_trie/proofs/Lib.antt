@@ -4,3 +4,4 @@ pub mod Sides
 pub mod Codes
 pub mod Pending
 pub mod Gathered
+pub mod MarkedKeys

@@ -7,19 +7,30 @@
 //!
 //! A [`Trie`] has bits of its own. Where there are many, `write_code` puts their codes one behind
 //! the other into one `BitWriter`, and `locate_in` takes a reader from the place of one of them on.
+//!
+//! A look walks half of a code, so a [`MarkedTrie`] keeps marks: for each prefix of some bits where
+//! the code of the keys with that prefix begins, and how many keys stand before them. A look then
+//! walks the code of these keys alone. Its keys are in groups, whose codes stand one behind the
+//! other; marks of the groups' own bits are a table of the groups.
 #![tactic(auto)]
 
-mod codable;
-mod encode;
+mod code_of_keys;
+mod coded_keys;
 mod key;
+mod key_place;
 mod laws;
-mod locate;
+mod marked_code;
+mod marked_trie;
+mod marks;
 mod trie;
 
-pub use codable::{follows, is_codable};
-pub use encode::write_code;
+pub use code_of_keys::write_code;
+pub use coded_keys::{follows, is_codable};
+pub use key_place::locate_in;
 pub use laws::{group_law, order_law};
-pub use locate::locate_in;
+pub use marked_code::{push_mark, write_marked};
+pub use marked_trie::{MarkedTrie, levels_for, locate_between};
+pub use marks::{MOST_LEVELS, Mark, groups_law, mark_law};
 pub use trie::Trie;
 
 #[cfg(test)]

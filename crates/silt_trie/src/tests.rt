@@ -1,5 +1,5 @@
 //! Worked examples of codes and places.
-use crate::{Trie, is_codable, locate_in, write_code};
+use crate::{MarkedTrie, Trie, is_codable, levels_for, locate_in, write_code};
 use sha1::Sha1;
 use silt_frame::Key;
 use silt_gamma::BitWriter;
@@ -156,4 +156,58 @@ fn locates_in_one_buffer(rt: HostRuntime) -> Result<(), Fail> {
         }
     }
     Ok(())
+}
+
+/// So many pseudo-random keys, in their order.
+fn random_keys(alloc: Global, count: u32) -> Result<Vec<Key>, AllocError> {
+    let mut keys = Vec::new(alloc);
+    for number in 0..count {
+        keys.push(Key(Sha1::digest(&number.to_be_bytes())))?;
+    }
+    keys.sort_unstable();
+    Ok(keys)
+}
+
+#[test]
+fn marks_locate_as_a_search_does(rt: HostRuntime) -> Result<(), Fail> {
+    let alloc = rt.alloc();
+    let keys = random_keys(alloc, 6_000)?;
+    assert!(rt; is_codable(&keys, 0));
+    for levels in [8, 11] {
+        let marked = MarkedTrie::encode(alloc, &keys, 0, 8, levels)?;
+        assert_eq!(rt; marked.len(), 6_000);
+        for number in 0..12_000u32 {
+            let key = Key(Sha1::digest(&number.to_be_bytes()));
+            let place = marked.locate_marked(&key);
+            match keys.binary_search(&key) {
+                Ok(at) => assert_eq!(rt; place, Some(at)),
+                Err(_) => assert!(rt; place.unwrap_or(0) < 6_000),
+            }
+        }
+    }
+    Ok(())
+}
+
+#[test]
+fn marks_few_keys(rt: HostRuntime) -> Result<(), Fail> {
+    let alloc = rt.alloc();
+    let keys = [key(0, 0), key(0, 0x40), key(0, 0x80)];
+    assert!(rt; is_codable(&keys, 0));
+    let marked = MarkedTrie::encode(alloc, &keys, 0, 8, 9)?;
+    assert_eq!(rt; marked.code_len(), 6);
+    assert_eq!(rt; marked.locate_marked(&key(0, 0)), Some(0));
+    assert_eq!(rt; marked.locate_marked(&key(0, 0x40)), Some(1));
+    assert_eq!(rt; marked.locate_marked(&key(0, 0x80)), Some(2));
+    assert_eq!(rt; marked.locate_marked(&key(1, 0)), None);
+    assert_eq!(rt; marked.locate_marked(&key(0xff, 0xff)), None);
+    Ok(())
+}
+
+#[test]
+fn chooses_levels(rt: HostRuntime) {
+    assert_eq!(rt; levels_for(0), 8);
+    assert_eq!(rt; levels_for(16_384), 8);
+    assert_eq!(rt; levels_for(16_385), 9);
+    assert_eq!(rt; levels_for(1_000_000), 14);
+    assert_eq!(rt; levels_for(usize::MAX), 24);
 }

@@ -1,11 +1,11 @@
 //! A coded trie with bits of its own.
 ghost use Rattle.std.specs.Prelude.{◌≡◌, ◌+◌, ◌^◌, ◌<◌, length, IfOk};
-ghost use Rattle.silt_gamma.specs.Bits.{IsFilled};
+ghost use Rattle.silt_gamma.specs.Bits.{HoldsBits};
 ghost use Rattle.silt_trie.specs.Code.{IsCodable, trie_code};
 ghost use Rattle.silt_trie.specs.Coded.{Coded, IsPlaceIn, bytes_of};
 
-use super::encode::write_code;
-use super::locate::locate_in;
+use super::code_of_keys::write_code;
+use super::key_place::locate_in;
 use silt_frame::Key;
 use silt_gamma::BitWriter;
 use std::alloc::{AllocError, Global};
@@ -60,7 +60,7 @@ impl Trie {
 
     /// The bytes that the code fills; the last one ends in zeros.
     pub fn as_bytes(&self) -> &[u8]
-        ensures { IsFilled result.now self.now.code }
+        ensures { HoldsBits result.now self.now.code }
     {
         self.bits.as_bytes()
     }

@@ -5,7 +5,7 @@ use Rattle.std.specs.List.{position, position_or_len, slice_split}
 use Rattle.std.proofs.lemmas.Grind.{common_steps}
 use Rattle.std.proofs.lemmas.List.Sums.{fails_before_first}
 use Rattle.std.proofs.lemmas.List.Splits.{slice_split_first, slice_split_none, length-slice_split}
-use Rattle.silt_store_set.specs.declared.event.Event.{Event}
+use Rattle.silt_event.specs.declared.event.Event.{Event}
 use Rattle.silt_wire.specs.declared.line.LineFault.{LineFault}
 use Rattle.silt_wire.specs.declared.line.LineFault.TheVariants.{BadLine}
 use Rattle.silt_wire.specs.Stops.{stop_of_words, told_stop}

@@ -1,3 +1,4 @@
+pub mod Answering
 pub mod Cuts
 pub mod Digits
 pub mod Streams

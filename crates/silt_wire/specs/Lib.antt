@@ -1,6 +1,6 @@
 pub mod Lines
 pub mod Numbers
-pub mod Pending
+pub mod LineBuffer
 pub mod Replies
 pub mod Reports
 pub mod Sessions

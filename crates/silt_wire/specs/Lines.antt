@@ -8,8 +8,8 @@ use Rattle.std.specs.Str.Lines.{strip_carriage_return}
 use Rattle.hex.specs.Hex.{decode_sized}
 use Rattle.sha1.specs.Sha1.{sha1}
 use Rattle.silt_frame.specs.declared.key.Key.{Key}
-use Rattle.silt_store_set.specs.declared.event.Event.{Event}
-use Rattle.silt_store_set.specs.declared.event.Event.TheVariants.{Put, Delete, Flush, Get, Convert, Merge}
+use Rattle.silt_event.specs.declared.event.Event.{Event}
+use Rattle.silt_event.specs.declared.event.Event.TheVariants.{Put, Delete, Flush, Get, Convert, Merge}
 use Rattle.silt_wire.specs.declared.line.LineFault.{LineFault}
 use Rattle.silt_wire.specs.declared.line.LineFault.TheVariants.{BadLine, BadKey, BadValue, LineTooLong, NoMemory}
 

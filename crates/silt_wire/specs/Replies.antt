@@ -1,18 +1,18 @@
 -- The texts of replies.
-use Rattle.std.specs.Prelude.{ℕ, List, ◌++◌, codes}
+use Rattle.std.specs.Prelude.{ℕ, List, ◌++◌, codes, ◌∷◌, []}
 use Rattle.std.specs.Fmt.{decimal}
 use Rattle.hex.specs.Hex.{encode_lower}
-use Rattle.silt_image.specs.declared.finding.Place.{Place}
-use Rattle.silt_image.specs.declared.finding.Place.TheVariants.{Header, Length, Slot, NoSlot, Log, Hash, Sorted, Charge}
-use Rattle.silt_stores.specs.declared.converting.Progress.{Progress as ProgressOf}
-use Rattle.silt_stores.specs.declared.converting.Progress.TheVariants.{Idle, Waiting, Moved, Finished}
-use Rattle.silt_store_set.specs.declared.event.Refusal.{Refusal}
-use Rattle.silt_store_set.specs.declared.event.Refusal.TheVariants.{Damaged, NoMemory, BadLine, BadKey, BadValue, LineTooLong}
-use Rattle.silt_store_set.specs.declared.event.Reply.{Reply}
-use Rattle.silt_store_set.specs.declared.event.Reply.TheVariants.{Accepted, Acknowledged, Found, Absent, Progress, Refused}
-use Rattle.silt_store_set.specs.Events.{refusal_number, refusal_name}
+use Rattle.silt_event.specs.declared.place.Place.{Place}
+use Rattle.silt_event.specs.declared.place.Place.TheVariants.{Header, Length, Slot, NoSlot, Log, Hash, Sorted, Charge}
+use Rattle.silt_event.specs.declared.progress.Progress.{Progress as ProgressOf}
+use Rattle.silt_event.specs.declared.progress.Progress.TheVariants.{Idle, Waiting, Moved, Finished}
+use Rattle.silt_event.specs.declared.refusal.Refusal.{Refusal}
+use Rattle.silt_event.specs.declared.refusal.Refusal.TheVariants.{Damaged}
+use Rattle.silt_event.specs.declared.reply.Reply.{Reply}
+use Rattle.silt_event.specs.declared.reply.Reply.TheVariants.{Accepted, Acknowledged, Found, Absent, Progress, Refused}
+use Rattle.silt_event.specs.Events.{refusal_label}
 use Rattle.silt_wire.specs.declared.line.LineFault.{LineFault}
-use Rattle.silt_wire.specs.declared.line.LineFault.TheVariants as Fault
+use Rattle.silt_wire.specs.declared.line.LineFault.TheVariants.{BadLine, BadKey, BadValue, LineTooLong, NoMemory}
 
 -- which part of a device is damaged
 abbrev pub place_text : Place → List ℕ
@@ -25,14 +25,14 @@ place_text (Hash i j) = codes "hash " ++ (decimal i ++ (codes " slot " ++ decima
 place_text (Sorted j) = codes "sorted " ++ decimal j
 place_text Charge = codes "charge"
 
--- the number and the name of a refusal
-abbrev pub numbered_name : {F : Type 0} → Refusal F → List ℕ
-numbered_name refusal = decimal (refusal_number refusal) ++ (codes " " ++ refusal_name refusal)
+-- a number and a name in a text
+abbrev pub label_text : ℕ × List ℕ → List ℕ
+label_text label = decimal label.0 ++ (codes " " ++ label.1)
 
 -- the number and the name of a refusal, and for a damaged device the place
 abbrev pub refusal_text : {F : Type 0} → Refusal F → List ℕ
-refusal_text {F} (Damaged place) = numbered_name {F = F} (Damaged place) ++ (codes " " ++ place_text place)
-refusal_text refusal = numbered_name refusal
+refusal_text {F} (Damaged place) = label_text (refusal_label {F = F} (Damaged place)) ++ (codes " " ++ place_text place)
+refusal_text refusal = label_text (refusal_label refusal)
 
 abbrev pub progress_text : ProgressOf → List ℕ
 progress_text Idle = codes "idle"
@@ -49,10 +49,18 @@ reply_text Absent = codes "absent"
 reply_text (Progress progress) = progress_text progress
 reply_text (Refused refusal) = codes "refused " ++ refusal_text refusal
 
--- the refusal of a line that asks for nothing, each fault by its own
-abbrev pub fault_refusal : {F : Type 0} → LineFault → Refusal F
-fault_refusal Fault.BadLine = BadLine
-fault_refusal Fault.BadKey = BadKey
-fault_refusal Fault.BadValue = BadValue
-fault_refusal Fault.LineTooLong = LineTooLong
-fault_refusal Fault.NoMemory = NoMemory
+-- the number and the name of a line's fault in texts
+abbrev pub fault_label : LineFault → ℕ × List ℕ
+fault_label BadLine = (20, codes "BadLine")
+fault_label BadKey = (21, codes "BadKey")
+fault_label BadValue = (22, codes "BadValue")
+fault_label LineTooLong = (23, codes "LineTooLong")
+fault_label NoMemory = (6, codes "NoMemory")
+
+-- the reply to a line that asks for nothing, without its line feed
+abbrev pub fault_text : LineFault → List ℕ
+fault_text fault = codes "refused " ++ label_text (fault_label fault)
+
+-- the reply to a line that asks for nothing, as a line
+abbrev pub fault_line : LineFault → List ℕ
+fault_line fault = fault_text fault ++ 10 ∷ []

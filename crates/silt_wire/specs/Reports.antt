@@ -1,7 +1,7 @@
 -- The text of a report.
 use Rattle.std.specs.Prelude.{List, ℕ, ◌++◌, codes}
 use Rattle.std.specs.Fmt.{decimal}
-use Rattle.silt_image.specs.declared.finding.Report.{Report}
+use Rattle.silt_event.specs.declared.report.Report.{Report}
 
 -- a line of one number
 unfoldable pub number_line : List ℕ → ℕ → List ℕ

@@ -1,14 +1,17 @@
--- What is written for the lines that are read.
-use Rattle.std.specs.Prelude.{◌≡◌, ◌==◌, ℕ, List, [], ◌∷◌, ◌++◌, Option, Result, Ok, Err, MatchBool, if◌then◌else◌}
-use Rattle.std.specs.Io.KnownBytes.{Appends}
-use Rattle.silt_device.specs.Disk.{Content}
-use Rattle.silt_store_set.specs.declared.event.Event.{Event}
-use Rattle.silt_store_set.specs.declared.event.Reply.{Reply}
-use Rattle.silt_store_set.specs.declared.event.Reply.TheVariants.{Refused}
-use Rattle.silt_store_set.specs.CoreState.{CoreState, Does}
+-- What a session answers, and what it writes.
+use Rattle.std.specs.Prelude.{◌≡◌, ◌==◌, ℕ, List, [], ◌∷◌, ◌++◌, Option, Result, Ok, Err, if◌then◌else◌}
+use Rattle.std.specs.Io.KnownBytes.{Appends, Consumes, IsAtEnd}
+use Rattle.silt_event.specs.declared.event.Event.{Event}
+use Rattle.silt_event.specs.Events.{PlainReply}
 use Rattle.silt_wire.specs.declared.line.LineFault.{LineFault}
-use Rattle.silt_wire.specs.Lines.{Parses, asked_by, is_blank}
-use Rattle.silt_wire.specs.Replies.{fault_refusal, reply_text}
+use Rattle.silt_wire.specs.declared.sessions.SessionEnd.{SessionEnd}
+use Rattle.silt_wire.specs.declared.sessions.SessionEnd.TheVariants.{End, ReadFault, WriteFault, NoMemory}
+use Rattle.silt_wire.specs.Lines.{asked_by, is_blank}
+use Rattle.silt_wire.specs.Replies.{fault_line, reply_text}
+
+-- these are the first of all
+abbrev pub IsBeginning : {X : Type 0} → List X → List X → Type 0
+IsBeginning {X} some all = (rest : List X) × (some ++ rest ≡ all)
 
 -- ---- the lines of a stream
 
@@ -22,26 +25,71 @@ abbrev pub rest_after : List ℕ → List ℕ → List ℕ
 rest_after pending [] = pending
 rest_after pending (b ∷ bytes) = if b == 10 then rest_after [] bytes else rest_after (pending ++ b ∷ []) bytes
 
--- ---- the answers of a store
+-- ---- what bytes ask, and how it is answered
 
-module _ {D F : Type 0} (content : D → Content) (failures : D → ℕ) (gave : D → F → Type 0) where
-  -- what a line asks for is done and replied to, and a line that asks for nothing is refused and changes nothing
-  abbrev pub RepliesTo : CoreState D → Result Event LineFault → Reply F → CoreState D → Type 0
-  RepliesTo old (Ok event) reply new = Does content failures gave old new event reply
-  RepliesTo old (Err fault) reply new = (new ≡ old) × (reply ≡ Refused (fault_refusal fault))
+-- what each line asks for, or why it asks for nothing; a blank line is passed over
+abbrev pub asks : ℕ → List (List ℕ) → List (Result Event LineFault)
+asks value_len [] = []
+asks value_len (line ∷ lines) = if is_blank line then asks value_len lines else asked_by value_len line ∷ asks value_len lines
 
-  -- a line has the text of one reply and a line feed, and a blank one has none
-  abbrev pub AnswersLine : CoreState D → List ℕ → List ℕ → CoreState D → Type 0
-  AnswersLine old line text new =
-      MatchBool (is_blank line) ((text ≡ []) × (new ≡ old))
-      ((asked : Result Event LineFault) × (reply : Reply F) × Parses (asked_by old.shape.value_len line) asked × RepliesTo old asked reply new × (text ≡ reply_text reply ++ 10 ∷ []))
+-- the events among what is asked
+abbrev pub events_of : List (Result Event LineFault) → List Event
+events_of [] = []
+events_of (Ok event ∷ more) = event ∷ events_of more
+events_of (Err fault ∷ more) = events_of more
 
-  -- the texts of the lines, one after the other
-  abbrev pub AnswersLines : CoreState D → List (List ℕ) → List ℕ → CoreState D → Type 0
-  AnswersLines old [] out new = (out ≡ []) × (new ≡ old)
-  AnswersLines old (line ∷ lines) out new =
-      (mid : CoreState D) × (text : List ℕ) × (rest : List ℕ) × AnswersLine old line text mid × AnswersLines mid lines rest new × (out ≡ text ++ rest)
+-- a reply as a line
+abbrev pub line_of : PlainReply → List ℕ
+line_of reply = reply_text reply ++ 10 ∷ []
 
-  -- where some bytes were pending, these bytes were taken, and the answers of the lines that they end were written and nothing else
-  abbrev pub Takes : List ℕ → CoreState D → List ℕ → Option (List ℕ) → Option (List ℕ) → CoreState D → Type 0
-  Takes pending old bytes before after new = (out : List ℕ) × AnswersLines old (lines_after pending bytes) out new × Appends before after out
+-- what is written for what is asked: a refusal for what asks for nothing, and else the next reply, as far as there is one
+abbrev pub texts_of : List (Result Event LineFault) → List PlainReply → List ℕ
+texts_of [] replies = []
+texts_of (Err fault ∷ more) replies = fault_line fault ++ texts_of more replies
+texts_of (Ok event ∷ more) [] = []
+texts_of (Ok event ∷ more) (reply ∷ replies) = line_of reply ++ texts_of more replies
+
+-- ---- what an answerer does
+
+module _ {A : Type 0} (answers : A → A → Event → PlainReply → Type 0) where
+  -- each event is given its reply, one after the other
+  abbrev pub AnswersEach : A → List Event → List PlainReply → A → Type 0
+  AnswersEach old [] [] new = new ≡ old
+  AnswersEach old (event ∷ events) (reply ∷ replies) new = (mid : A) × answers old mid event reply × AnswersEach mid events replies new
+  AnswersEach old events replies new = ⊥
+
+  -- all that is asked was answered, and exactly this was written
+  abbrev pub AnswersAll : List (Result Event LineFault) → A → A → Option (List ℕ) → Option (List ℕ) → Type 0
+  AnswersAll asked old new before after =
+      (replies : List PlainReply) × AnswersEach old (events_of asked) replies new × Appends before after (texts_of asked replies)
+
+  -- the first events that are asked for were answered, and a beginning of what is due for them was written
+  abbrev pub AnswersSome : List (Result Event LineFault) → A → A → Option (List ℕ) → Option (List ℕ) → Type 0
+  AnswersSome asked old new before after =
+      (events : List Event) × (replies : List PlainReply) × (out : List ℕ) × IsBeginning events (events_of asked) × AnswersEach old events replies new
+      × IsBeginning out (texts_of asked replies) × Appends before after out
+
+  -- all that these bytes ask was answered, behind those of a line that had begun, and exactly the answers were written
+  abbrev pub ServesAll : ℕ → List ℕ → List ℕ → A → A → Option (List ℕ) → Option (List ℕ) → Type 0
+  ServesAll value_len begun bytes old new before after = AnswersAll (asks value_len (lines_after begun bytes)) old new before after
+
+  -- a beginning of what they ask was answered, and a beginning of the answers was written
+  abbrev pub ServesSome : ℕ → List ℕ → List ℕ → A → A → Option (List ℕ) → Option (List ℕ) → Type 0
+  ServesSome value_len begun bytes old new before after = AnswersSome (asks value_len (lines_after begun bytes)) old new before after
+
+  -- what a session did that ends so: which bytes it took from the reader, and what it answered and wrote for them
+  abbrev pub Ends : SessionEnd → ℕ → A → A → Option (List ℕ) → Option (List ℕ) → Option (List ℕ) → Option (List ℕ) → Type 0
+  Ends End value_len old new remaining left before after =
+      (read : List ℕ) × Consumes remaining left read × IsAtEnd left × ServesAll value_len [] read old new before after
+  Ends ReadFault value_len old new remaining left before after =
+      (read : List ℕ) × Consumes remaining left read × ServesAll value_len [] read old new before after
+  Ends WriteFault value_len old new remaining left before after =
+      (read : List ℕ) × Consumes remaining left read × ServesSome value_len [] read old new before after
+  Ends NoMemory value_len old new remaining left before after =
+      (read : List ℕ) × Consumes remaining left read × ServesSome value_len [] read old new before after
+
+-- the ends at which what was written may be cut
+abbrev pub IsCut : SessionEnd → Type 0
+IsCut WriteFault = Unit {0}
+IsCut NoMemory = Unit {0}
+IsCut end = ⊥

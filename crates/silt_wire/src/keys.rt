@@ -5,7 +5,7 @@ ghost use Rattle.silt_wire.specs.Lines.{is_name, is_name_byte, key_bytes, key_of
 
 use hex::FromHex;
 use sha1::Sha1;
-use silt_frame::Key;
+use silt_frame::{KEY_LEN, Key};
 
 /// The most bytes that a name may have.
 const LONGEST_NAME: usize = 8000;
@@ -23,7 +23,7 @@ fn is_name(text: &[u8]) -> bool
     1 <= text.len() && text.len() <= LONGEST_NAME && has_name_bytes(text)
 }
 
-fn key_bytes(word: &[u8]) -> Option<[u8; 20]>
+fn key_bytes(word: &[u8]) -> Option<[u8; KEY_LEN]>
     ensures { result ≡ key_bytes word.now }
 {
     match word {
@@ -35,7 +35,7 @@ fn key_bytes(word: &[u8]) -> Option<[u8; 20]>
                 None
             }
         }
-        _ => <[u8; 20] as FromHex>::from_hex(word).ok(),
+        _ => <[u8; KEY_LEN] as FromHex>::from_hex(word).ok(),
     }
 }
 

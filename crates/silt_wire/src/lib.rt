@@ -2,26 +2,27 @@
 //!
 //! A line ends with a line feed; one carriage return before it is taken off, and a line that is then empty is not answered. Words
 //! stand between single spaces and are in lower case. `parse_line` says what a line asks of a store, `print_reply` what the reply
-//! to it reads as, `print_report` what a report does, `stop_of` which stop a line tells. `Pending` keeps what was read of a line
-//! that has not ended, and `answer_lines` answers the lines of any reader by a store to any writer.
+//! to it reads as, `print_report` what a report does, `stop_of` which stop a line tells. `LineBuffer` keeps what was read of a line
+//! that has not ended, and `session` answers the lines of any reader by a store, or another `Answerer`, to any writer.
 #![tactic(auto)]
 
 mod keys;
 mod line;
+mod line_buffer;
 mod number;
-mod pending;
 mod reply;
 mod report;
-mod session;
+mod sessions;
 mod stop;
 #[cfg(test)]
 mod tests;
 
 pub use keys::key_of;
 pub use line::{LONGEST_LINE, LineFault, is_blank, parse_line, without_carriage_return};
+pub use line_buffer::LineBuffer;
 pub use number::number_of;
-pub use pending::Pending;
-pub use reply::{print_refusal, print_reply};
+pub use reply::{print_fault, print_refusal, print_reply, refuse_line, write_refusal, write_reply};
 pub use report::{print_report, write_report};
-pub use session::{answer_lines, refusal_of, write_refusal, write_reply};
+pub use sessions::{SessionEnd, session};
+pub use silt_event::Answerer;
 pub use stop::stop_of;

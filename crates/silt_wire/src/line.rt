@@ -1,12 +1,12 @@
 // Lines to events.
 ghost use Rattle.std.specs.Prelude.{◌≡◌, ◌⊎◌, ◌==◌, ◌∷◌, [], length, position, IfSome, IfNone, IfOk, IfErr};
 ghost use Rattle.std.specs.Str.Lines.{strip_carriage_return};
-ghost use Rattle.silt_store_set.specs.CoreState.{HasValueOf};
+ghost use Rattle.silt_event.specs.Events.{HasValueOf};
 ghost use Rattle.silt_wire.specs.Lines.{Parses, words_of, value_of, bare_event, key_event, value_event, event_of, asked_by, is_blank};
 
 use crate::keys::key_of;
+use silt_event::Event;
 use silt_frame::Value;
-use silt_store_set::Event;
 use std::alloc::{AllocError, Global};
 
 /// The most bytes that a line may have, its carriage return counted.
@@ -25,6 +25,24 @@ pub enum LineFault {
     LineTooLong,
     /// A growth of memory was refused.
     NoMemory,
+}
+
+impl LineFault {
+    ghost use Rattle.silt_wire.specs.Replies.{fault_label};
+
+    /// The number and the name by which a fault is known in texts.
+    pub fn label(self) -> (u32, &'static str)
+        ensures number { result.0 ≡ (fault_label self).0 }
+        ensures name { result.1.now ≡ (fault_label self).1 }
+    {
+        match self {
+            LineFault::BadLine => (20, "BadLine"),
+            LineFault::BadKey => (21, "BadKey"),
+            LineFault::BadValue => (22, "BadValue"),
+            LineFault::LineTooLong => (23, "LineTooLong"),
+            LineFault::NoMemory => (6, "NoMemory"),
+        }
+    }
 }
 
 impl From<AllocError> for LineFault {

@@ -1,10 +1,13 @@
 // Replies to text.
-ghost use Rattle.std.specs.Prelude.{◌≡◌, IfOk, string_bytes};
-ghost use Rattle.silt_store_set.specs.declared.event.Reply.TheVariants.{Refused};
-ghost use Rattle.silt_wire.specs.Replies.{place_text, numbered_name, refusal_text, progress_text, reply_text};
+ghost use Rattle.std.specs.Prelude.{◌≡◌, ◌++◌, ◌∷◌, [], IfOk, OnOk, string_bytes};
+ghost use Rattle.std.specs.Io.KnownBytes.{Appends};
+ghost use Rattle.silt_event.specs.declared.reply.Reply.TheVariants.{Refused};
+ghost use Rattle.silt_wire.specs.Replies.{place_text, refusal_text, progress_text, reply_text, fault_line, fault_text, label_text};
 
-use silt_store_set::{Place, Progress, Refusal, Reply};
+use crate::line::LineFault;
+use silt_event::{Place, Progress, Refusal, Reply};
 use std::alloc::{AllocError, Global};
+use std::io::{self, Write};
 
 // Which part of a device is damaged.
 fn place_text(alloc: Global, place: &Place) -> Result<String, AllocError>
@@ -22,12 +25,10 @@ fn place_text(alloc: Global, place: &Place) -> Result<String, AllocError>
     }
 }
 
-// The number and the name of a refusal.
-fn numbered_name<F: Drop>(alloc: Global, refusal: &Refusal<F>) -> Result<String, AllocError>
-    ensures { IfOk result (λ text. string_bytes text ≡ numbered_name refusal.now) }
+// A number and a name.
+fn label_text(alloc: Global, number: u32, name: &str) -> Result<String, AllocError>
+    ensures { IfOk result (λ text. string_bytes text ≡ label_text (number, name.now)) }
 {
-    let number = refusal.number();
-    let name = refusal.name();
     format!(in alloc; "{number} {name}")
 }
 
@@ -35,7 +36,8 @@ fn numbered_name<F: Drop>(alloc: Global, refusal: &Refusal<F>) -> Result<String,
 fn refusal_text<F: Drop>(alloc: Global, refusal: &Refusal<F>) -> Result<String, AllocError>
     ensures { IfOk result (λ text. string_bytes text ≡ refusal_text refusal.now) }
 {
-    let text = numbered_name(alloc, refusal)?;
+    let (number, name) = refusal.label();
+    let text = label_text(alloc, number, name)?;
     match refusal {
         Refusal::Damaged(place) => {
             let place = place_text(alloc, place)?;
@@ -64,6 +66,15 @@ pub fn print_refusal<F: Drop>(alloc: Global, refusal: &Refusal<F>) -> Result<Str
     format!(in alloc; "refused {text}")
 }
 
+/// The text of the reply to a line that asks for nothing, one line without its line feed.
+pub fn print_fault(alloc: Global, fault: LineFault) -> Result<String, AllocError>
+    ensures { IfOk result (λ text. string_bytes text ≡ fault_text fault) }
+{
+    let (number, name) = fault.label();
+    let text = label_text(alloc, number, name)?;
+    format!(in alloc; "refused {text}")
+}
+
 /// The text of a reply, one line without its line feed. Values are in lower case hexadecimal digits, numbers in decimal.
 pub fn print_reply<F: Drop>(alloc: Global, reply: &Reply<F>) -> Result<String, AllocError>
     ensures { IfOk result (λ text. string_bytes text ≡ reply_text reply.now) }
@@ -79,4 +90,39 @@ pub fn print_reply<F: Drop>(alloc: Global, reply: &Reply<F>) -> Result<String, A
         Reply::Progress(progress) => String::from_str(alloc, progress_text(*progress)),
         Reply::Refused(refusal) => print_refusal(alloc, refusal),
     }
+}
+
+/// Writes a reply and a line feed.
+pub fn write_reply<F: Drop, W: Write>(
+    alloc: Global,
+    reply: &Reply<F>,
+    writer: &mut W,
+) -> io::Result<()>
+    ensures { OnOk result (Appends (W.contents writer.old) (W.contents writer.new) (reply_text reply.now ++ 10 ∷ [])) }
+{
+    let mut line = print_reply(alloc, reply)?;
+    line.push('\n')?;
+    writer.write_all(line.as_bytes())
+}
+
+/// Writes a refusal as a reply, and a line feed.
+pub fn write_refusal<F: Drop, W: Write>(
+    alloc: Global,
+    refusal: &Refusal<F>,
+    writer: &mut W,
+) -> io::Result<()>
+    ensures { OnOk result (Appends (W.contents writer.old) (W.contents writer.new) (reply_text (Refused refusal.now) ++ 10 ∷ [])) }
+{
+    let mut line = print_refusal(alloc, refusal)?;
+    line.push('\n')?;
+    writer.write_all(line.as_bytes())
+}
+
+/// Writes the reply to a line that asks for nothing, and a line feed.
+pub fn refuse_line<W: Write>(alloc: Global, fault: LineFault, writer: &mut W) -> io::Result<()>
+    ensures { OnOk result (Appends (W.contents writer.old) (W.contents writer.new) (fault_line fault)) }
+{
+    let mut line = print_fault(alloc, fault)?;
+    line.push('\n')?;
+    writer.write_all(line.as_bytes())
 }

@@ -3,7 +3,7 @@ ghost use Rattle.std.specs.Prelude.{◌≡◌, IfOk, OnOk, string_bytes};
 ghost use Rattle.std.specs.Io.KnownBytes.{Appends};
 ghost use Rattle.silt_wire.specs.Reports.{number_line, rows_line, report_text};
 
-use silt_image::Report;
+use silt_event::Report;
 use std::alloc::{AllocError, Global};
 use std::io::{self, Write};
 

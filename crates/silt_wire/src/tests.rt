@@ -1,8 +1,9 @@
 // What no contract says: texts, letter for letter.
 
-use crate::{print_reply, print_report};
-use silt_image::Report;
-use silt_store_set::{Place, Progress, Refusal, Reply};
+mod sessions;
+
+use crate::{LineFault, print_fault, print_reply, print_report};
+use silt_event::{Place, Progress, Refusal, Reply, Report};
 use std::process::Abort;
 use std::test::Fail;
 
@@ -34,13 +35,23 @@ fn prints_replies(rt: HostRuntime) -> Result<(), Fail> {
         (Refusal::NoRoom, "refused 8 NoRoom"),
         (Refusal::Failed, "refused 9 Failed"),
         (Refusal::Spent, "refused 10 Spent"),
-        (Refusal::HistoryFull, "refused 11 HistoryFull"),
-        (Refusal::BadKey, "refused 21 BadKey"),
-        (Refusal::BadValue, "refused 22 BadValue"),
-        (Refusal::LineTooLong, "refused 23 LineTooLong"),
     ] {
         let reply = Reply::Refused(refusal);
         assert_eq!(rt; print_reply(rt.alloc(), &reply)?.as_str(), text);
+    }
+    Ok(())
+}
+
+#[test]
+fn prints_faults(rt: HostRuntime) -> Result<(), Fail> {
+    for (fault, text) in [
+        (LineFault::NoMemory, "refused 6 NoMemory"),
+        (LineFault::BadLine, "refused 20 BadLine"),
+        (LineFault::BadKey, "refused 21 BadKey"),
+        (LineFault::BadValue, "refused 22 BadValue"),
+        (LineFault::LineTooLong, "refused 23 LineTooLong"),
+    ] {
+        assert_eq!(rt; print_fault(rt.alloc(), fault)?.as_str(), text);
     }
     Ok(())
 }

@@ -1,10 +1,10 @@
 // The jobs on files, letter for letter, through the program. Each test has a folder of its own, in the folder that it runs in.
 
 use crate::program::program;
-use crate::tests::freezing::{FIVE_PUTS, with_keys};
+use crate::tests::freeze::{FIVE_PUTS, with_keys};
 use crate::tests::lines::{BAD_KEYS, BAD_LINES, BAD_VALUES};
 use crate::tests::{Pieces, Short, answers, words};
-use silt_device::{Disk, FileDisk};
+use silt_device::{Disk, FileDisk, FileDisks};
 use std::fs::{self, File};
 use std::io::{self, Cursor};
 use std::process::Abort;
@@ -45,7 +45,16 @@ fn formats_a_file_again(rt: HostRuntime) -> Result<(), Fail> {
         let words = words(&rt, &call)?;
         let mut out = Vec::new(rt.alloc());
         let mut reader = Cursor::new(b"".as_slice());
-        assert_eq!(rt; program(&rt, words.as_slice(), &mut reader, &mut out), 0);
+        assert_eq!(rt;
+            program(
+                rt.alloc(),
+                FileDisks::new(&rt),
+                words.as_slice(),
+                &mut reader,
+                &mut out
+            ),
+            0
+        );
         let output = b"opened\nabsent\naccepted 1\nacknowledged 1\n";
         answers(&rt, run, b"get =abc\nput =abc 0102\nflush\n", 0, output)?;
     }
@@ -197,10 +206,20 @@ fn ends_a_life_by_a_fault(rt: HostRuntime) -> Result<(), Fail> {
     let mut reader = Pieces {
         text: b"put =abc 0102\nflush\nget",
         most: 9,
+        is_interrupted: false,
         fails: true,
     };
     let mut out = Vec::new(rt.alloc());
-    assert_eq!(rt; program(&rt, words.as_slice(), &mut reader, &mut out), 1);
+    assert_eq!(rt;
+        program(
+            rt.alloc(),
+            FileDisks::new(&rt),
+            words.as_slice(),
+            &mut reader,
+            &mut out
+        ),
+        1
+    );
     let output = b"opened\naccepted 1\nacknowledged 1\n";
     assert_eq!(rt; out.as_slice(), output.as_slice());
     for room in [0, 6, 7, 17] {
@@ -209,7 +228,16 @@ fn ends_a_life_by_a_fault(rt: HostRuntime) -> Result<(), Fail> {
             taken: Vec::new(rt.alloc()),
             room,
         };
-        assert_eq!(rt; program(&rt, words.as_slice(), &mut reader, &mut writer), 1);
+        assert_eq!(rt;
+            program(
+                rt.alloc(),
+                FileDisks::new(&rt),
+                words.as_slice(),
+                &mut reader,
+                &mut writer
+            ),
+            1
+        );
         assert_eq!(rt;
             writer.taken.as_slice(),
             &b"opened\nvalue 0102\nacknowledged 0\n"[..room]

@@ -1,8 +1,11 @@
 // The jobs on a disk in memory, letter for letter, as they are done on files.
 
+use crate::files::{check_file, format_file, run_file};
 use crate::jobs::{check_on, format_on, run_on};
-use crate::tests::freezing::{FIVE_PUTS, with_keys};
-use silt_device::{Call, Disk, FaultDisk, Geometry, MemDisk};
+use crate::tests::freeze::{FIVE_PUTS, with_keys};
+use silt_device::{Call, Disk, FaultDisk, Geometry, MemDisk, NamedDisk};
+use silt_store_set::Served;
+use silt_words::Numbers;
 use std::io::Cursor;
 use std::process::Abort;
 use std::test::Fail;
@@ -23,7 +26,7 @@ fn formats<S: AllocGlobal + Abort, D: Disk>(
 }
 
 // Runs one life on a disk, and compares the status and what is written.
-fn runs<S: AllocGlobal + Abort, D: Disk>(
+fn runs<S: AllocGlobal + Abort, D: Served>(
     rt: &S,
     disk: D,
     text: &[u8],
@@ -110,5 +113,70 @@ fn tells_device_faults(rt: HostRuntime) -> Result<(), Fail> {
         reply,
     )?;
     runs(&rt, disk, b"flush\n", 0, b"opened\nacknowledged 0\n")?;
+    Ok(())
+}
+
+// A disk under this name, the only one of its source.
+fn named<S: AllocGlobal, D: Disk>(rt: &S, disk: D) -> Result<NamedDisk<D>, Fail> {
+    Ok(NamedDisk::new(String::from_str(rt.alloc(), "disk")?, disk))
+}
+
+// Formats the disk of a path, and compares the status and what is written.
+fn formats_path<S: AllocGlobal + Abort>(
+    rt: &S,
+    path: &str,
+    bytes: usize,
+    status: u8,
+    output: &[u8],
+) -> Result<Option<MemDisk>, Fail> {
+    let numbers = Numbers {
+        value_len: 2,
+        buckets: 2,
+        log_capacity: 4,
+        logs: 2,
+        hashes: 2,
+        sorted_capacity: 8,
+    };
+    let source = named(rt, MemDisk::new(rt.alloc(), bytes)?)?;
+    let mut out = Vec::new(rt.alloc());
+    let (disk, code) = format_file(rt.alloc(), source, path, &numbers, &mut out);
+    assert_eq!(rt; out.as_slice(), output);
+    assert_eq!(rt; code?, status);
+    Ok(disk)
+}
+
+// The disk of the path is formatted, run and checked, and given back.
+#[test]
+fn works_on_the_disk_of_a_path(rt: HostRuntime) -> Result<(), Fail> {
+    let made = formats_path(&rt, "disk", 45_056, 0, b"formatted 45056\n")?;
+    let Some(disk) = made else {
+        return Err(Fail::new("no disk"));
+    };
+    let mut reader = Cursor::new(b"put =abc 0102\nflush\n".as_slice());
+    let mut out = Vec::new(rt.alloc());
+    let (left, code) = run_file(rt.alloc(), named(&rt, disk)?, "disk", &mut reader, &mut out);
+    assert_eq!(rt; code?, 0);
+    assert_eq!(rt;
+        out.as_slice(),
+        b"opened\naccepted 1\nacknowledged 1\n".as_slice()
+    );
+    let Some(disk) = left else {
+        return Err(Fail::new("no disk"));
+    };
+    let mut report = Vec::new(rt.alloc());
+    let (_, code) = check_file(rt.alloc(), named(&rt, disk)?, "disk", &mut report);
+    assert_eq!(rt; code?, 0);
+    let output =
+        b"generation 0\nactive log 0 rows 1\nfrozen logs 0 rows 0\nhash stores 0 rows 0\nsorted entries 0\ncharge 1\n";
+    assert_eq!(rt; report.as_slice(), output.as_slice());
+    Ok(())
+}
+
+// Where the source has no disk of the path, or one of another length, the job is refused, and gives none back.
+#[test]
+fn refuses_other_paths(rt: HostRuntime) -> Result<(), Fail> {
+    let reply = b"refused 5 Device\n";
+    assert!(rt; formats_path(&rt, "other", 45_056, 1, reply)?.is_none());
+    assert!(rt; formats_path(&rt, "disk", 45_055, 1, reply)?.is_none());
     Ok(())
 }

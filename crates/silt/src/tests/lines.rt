@@ -1,6 +1,6 @@
 // What is wrong with a line is told by its number, letter for letter. A key `01..` is these digits and zeros up to forty.
 
-use crate::tests::freezing::with_keys;
+use crate::tests::freeze::with_keys;
 use crate::tests::{SMALL, answers};
 use std::fs::File;
 use std::process::Abort;

@@ -3,7 +3,8 @@
 use crate::tests::{EMPTY, checked, formatted, small};
 use crate::{FormatError, FormatFault, OpenError, OpenFault, check, format, open};
 use silt_device::{Call, FaultDisk, Fill, MemDisk, Stop, Stoppable};
-use silt_image::{Finding, Report};
+use silt_event::Report;
+use silt_image::Finding;
 use std::alloc::Global;
 use std::process::Abort;
 use std::test::Fail;
@@ -146,6 +147,37 @@ fn hands_on_each_fault_of_a_hash_slot(rt: HostRuntime) -> Result<(), Fail> {
         let is_fault = matches!(&answer, Err(OpenError::Device(_)));
         assert_eq!(rt; is_fault, number < 13, "{number}");
         assert_eq!(rt; answer.is_ok(), number == 13, "{number}");
+    }
+    Ok(())
+}
+
+// What the gates of the header, of the manifest's slots and of the first log are after a stop at each call of a formatting, on a device
+// of ones whose pending bytes are then all new: a gate is closed with a zero, and opened with 0xA7.
+#[test]
+fn closes_gates_with_zeros(rt: HostRuntime) -> Result<(), Fail> {
+    let alloc = rt.alloc();
+    let ones = vec![in alloc; 0xFFu8; 45_056]?;
+    for k in 1..FORMAT_CALLS + 1 {
+        let Err(FormatFault { disk, .. }) = format(
+            alloc,
+            stopping(alloc, &ones, k, Fill::New)?,
+            small()?,
+        ) else {
+            return Err("is not stopped".into());
+        };
+        let disk = disk.restart();
+        let shown = disk.shown();
+        assert_eq!(rt; shown.len(), 45_056);
+        let header = if k < 14 { 0x00 } else { 0xA7 };
+        let first = match k {
+            0..6 => 0xFF,
+            6..10 => 0x00,
+            _ => 0xA7,
+        };
+        let second = if k < 3 { 0xFF } else { 0x00 };
+        let log = if k < 4 { 0xFF } else { 0x00 };
+        let gates = [shown[0], shown[4096], shown[8192], shown[12_288]];
+        assert_eq!(rt; gates, [header, first, second, log], "{k}");
     }
     Ok(())
 }

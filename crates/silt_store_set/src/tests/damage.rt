@@ -104,7 +104,7 @@ fn find_damage(rt: &impl Abort, alloc: Global, bytes: &[u8]) -> Result<Finding, 
             match refusal {
                 Refusal::NotFormatted => Ok(Finding::NotFormatted),
                 Refusal::Damaged(place) => Ok(Finding::Damaged(place)),
-                other => Ok(Finding::Other(other.number())),
+                other => Ok(Finding::Other(other.label().0)),
             }
         }
     }

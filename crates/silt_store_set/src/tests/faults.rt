@@ -29,7 +29,7 @@ fn of_capacity(alloc: Global, sorted_capacity: u32) -> Result<Core<MemDisk>, Fai
 fn answer<T>(answered: Result<T, Refusal<MemFault>>) -> Result<T, u32> {
     match answered {
         Ok(count) => Ok(count),
-        Err(refusal) => Err(refusal.number()),
+        Err(refusal) => Err(refusal.label().0),
     }
 }
 
@@ -150,7 +150,7 @@ fn a_read_that_fails_changes_nothing(rt: HostRuntime) -> Result<(), Fail> {
     for number in 1..16u64 {
         let inner = MemDisk::with_bytes(alloc, disk.shown())?;
         match Core::open(alloc, FaultDisk::new(inner, Call::Read, number)) {
-            Err(fault) => assert_eq!(rt; fault.refusal.number(), 5),
+            Err(fault) => assert_eq!(rt; fault.refusal.label().0, 5),
             Ok(core) => {
                 if is_read_again(&rt, &core) {
                     refused = refused.saturating_add(1);

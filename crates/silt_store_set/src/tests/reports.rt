@@ -3,8 +3,8 @@
 use crate::Core;
 use crate::tests::{key, opened, stands_at};
 use silt_device::{Geometry, MemDisk};
+use silt_event::Report;
 use silt_frame::Key;
-use silt_image::Report;
 use silt_recovery::{check, format};
 use std::alloc::Global;
 use std::process::Abort;

@@ -1,10 +1,10 @@
 // Lives as the tests write them, and what is told of their replies.
 ghost use Rattle.std.specs.Prelude.{All, IfOk};
-ghost use Rattle.silt_store_set.specs.CoreState.{HasValueOf};
+ghost use Rattle.silt_event.specs.Events.{HasValueOf};
 
 use crate::tests::key;
 use crate::{Core, Event, LifeReply, OpenFault, Progress, Reply, lives};
-use silt_device::{MemDisk, MemFault};
+use silt_device::{Disk, FaultDisk, MemDisk, MemFault};
 use silt_frame::Value;
 use std::alloc::{AllocError, Global};
 
@@ -83,7 +83,7 @@ fn tell_reply(reply: &Reply<MemFault>) -> Told {
         Reply::Found(value) => told_value(value.as_slice()),
         Reply::Absent => Told::Absent,
         Reply::Progress(progress) => Told::Progress(*progress),
-        Reply::Refused(refusal) => Told::Refused(refusal.number()),
+        Reply::Refused(refusal) => Told::Refused(refusal.label().0),
     }
 }
 
@@ -98,7 +98,7 @@ fn tell(told_before: &mut Vec<Told>, replies: &[Reply<MemFault>]) -> Result<(), 
 // Tells a life after what was told before.
 fn tell_life(told: &mut Vec<Told>, life: &LifeReply<MemFault>) -> Result<(), AllocError> {
     match life {
-        LifeReply::NotOpened(refusal) => told.push(Told::NotOpened(refusal.number()))?,
+        LifeReply::NotOpened(refusal) => told.push(Told::NotOpened(refusal.label().0))?,
         LifeReply::Opened(replies) => {
             told.push(Told::Opened)?;
             tell(told, replies)?;
@@ -123,18 +123,31 @@ pub(crate) fn told_lives(
 }
 
 // The replies to these events, none where the store has values of another length.
-fn answered(
+fn answered<D: Disk>(
     alloc: Global,
-    core: &mut Core<MemDisk>,
+    core: &mut Core<D>,
     value_len: u32,
     events: &[Event],
-) -> Result<Vec<Reply<MemFault>>, AllocError>
+) -> Result<Vec<Reply<D::Fault>>, AllocError>
     requires { All (HasValueOf value_len) events.now }
 {
     if core.geometry().value_len() != value_len {
         return Ok(Vec::new(alloc));
     }
     core.run(alloc, events)
+}
+
+/// What is told of events, in an opened store of values of two bytes on a disk on which one call fails.
+pub(crate) fn replies_of(
+    alloc: Global,
+    core: &mut Core<FaultDisk>,
+    lines: &[Line],
+) -> Result<Vec<Told>, AllocError> {
+    let mut told = Vec::new(alloc);
+    let events = events(alloc, lines)?;
+    let replies = answered(alloc, core, 2, &events)?;
+    tell(&mut told, &replies)?;
+    Ok(told)
 }
 
 /// One life of values of two bytes, on this disk: the disk after it, as yet without a stop, and what is told.
@@ -147,7 +160,7 @@ pub(crate) fn live(
     let mut core = match Core::open(alloc, disk) {
         Ok(core) => core,
         Err(OpenFault { disk, refusal }) => {
-            told.push(Told::NotOpened(refusal.number()))?;
+            told.push(Told::NotOpened(refusal.label().0))?;
             return Ok((disk, told));
         }
     };

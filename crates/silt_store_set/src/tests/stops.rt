@@ -207,7 +207,7 @@ fn keys_found(alloc: Global, disk: MemDisk) -> Result<Result<usize, u32>, Fail> 
             let entries = core.entries(alloc).ok().ok_or("has entries")?;
             Ok(Ok(entries.len()))
         }
-        Err(fault) => Ok(Err(fault.refusal.number())),
+        Err(fault) => Ok(Err(fault.refusal.label().0)),
     }
 }
 

@@ -1,10 +1,13 @@
-use Rattle.silt_store_set.specs.declared.event.Refusal.TheVariants.{Device}
-use Rattle.silt.specs.Files.{OpenFileCause}
-use Rattle.silt.proofs.FileRefusals.{check_told, file_told}
+use Rattle.std.proofs.Common.{refl, inl, inr}
+use Rattle.silt_event.specs.declared.refusal.Refusal.TheVariants.{Device}
+use Rattle.silt.proofs.FileRefusals.{told_refusal, told_weaker}
 use Rattle.silt.proofs.files.check_file.Goals as goal
 
 pub returns-in-Ok-clause-told : goal.returns-in-Ok-clause-told
-returns-in-Ok-clause-told g c = check_told c.in-Ok.disk c.check_on.result _ _ c.check_on.ensures.told
+returns-in-Ok-clause-told g c = told_weaker c.check_on-status.result (λ told. inr (c.in-Ok.disk, c.in-Ok.ensures.opened, refl, told)) c.check_on-status.ensures.told
 
-pub returns-in-Err-clause-told : goal.returns-in-Err-clause-told
-returns-in-Err-clause-told g c = file_told OpenFileCause c.refuse.result (Device tt) _ _ tt c.refuse.ensures
+pub returns-in-Ok-clause-reported : goal.returns-in-Ok-clause-reported
+returns-in-Ok-clause-reported g c = λ is. (c.in-Ok.disk, c.in-Ok.ensures.opened, refl, c.check_on-status.ensures.reported is)
+
+pub returns-clause-told : goal.returns-clause-told
+returns-clause-told g c = told_refusal {F = Unit {0}} c.refuse.result (Device tt) _ _ (λ told. inl (c.in-Err.field-0, c.in-Err.ensures.not_opened, told)) c.refuse.ensures

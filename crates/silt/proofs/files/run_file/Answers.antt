@@ -1,13 +1,13 @@
-use Rattle.silt_store_set.specs.declared.event.Refusal.TheVariants.{Device}
-use Rattle.silt.specs.Files.{OpenFileCause}
-use Rattle.silt.proofs.FileRefusals.{file_told, run_told}
+use Rattle.std.proofs.Common.{inl, inr}
+use Rattle.silt_event.specs.declared.refusal.Refusal.TheVariants.{Device}
+use Rattle.silt.proofs.FileRefusals.{told_refusal, told_weaker}
 use Rattle.silt.proofs.files.run_file.Goals as goal
 
 pub returns-in-Ok-clause-told : goal.returns-in-Ok-clause-told
-returns-in-Ok-clause-told g c = run_told c.in-Ok.disk c.run_on.result.0 c.run_on.result.1 _ _ c.run_on.ensures.told
+returns-in-Ok-clause-told g c = told_weaker c.run_on-disk.result.1 (λ told. inr (c.in-Ok.disk, c.in-Ok.ensures.opened, told)) c.run_on-disk.ensures.told
 
 pub returns-in-Ok-clause-answered : goal.returns-in-Ok-clause-answered
-returns-in-Ok-clause-answered g c = λ is. (c.in-Ok.disk, c.run_on.result.0, c.run_on.ensures.answered is)
+returns-in-Ok-clause-answered g c = λ is. (c.in-Ok.disk, c.in-Ok.ensures.opened, c.run_on-disk.ensures.answered is)
 
-pub returns-in-Err-clause-told : goal.returns-in-Err-clause-told
-returns-in-Err-clause-told g c = file_told OpenFileCause c.refuse.result (Device tt) _ _ tt c.refuse.ensures
+pub returns-clause-told : goal.returns-clause-told
+returns-clause-told g c = told_refusal {F = Unit {0}} c.refuse.result (Device tt) _ _ (λ told. inl (c.in-Err.field-0, c.in-Err.ensures.not_opened, told)) c.refuse.ensures

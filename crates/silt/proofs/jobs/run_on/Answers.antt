@@ -1,11 +1,13 @@
-use Rattle.silt.proofs.Outcomes.{on_ok-is}
+use Rattle.silt_device.specs.Disk.{GaveAny}
+use Rattle.silt.proofs.Outcomes.{ran_done, ran_told, unopened_told}
 use Rattle.silt.proofs.jobs.run_on.Goals as goal
 
+pub returns-in-Ok-clause-told : goal.returns-in-Ok-clause-told
+returns-in-Ok-clause-told g c =
+    ran_told g.D.Disk.content g.D.Disk.failures (GaveAny g.D.Disk.gave) c.answer_reader-status.result c.args.disk c.close.result c.in-Ok.core c.answer_reader-status.new.core _ _ _ _
+    c.in-Ok.ensures.ok c.close.ensures.disk c.answer_reader-status.ensures
+
 pub returns-in-Ok-clause-answered : goal.returns-in-Ok-clause-answered
-returns-in-Ok-clause-answered g c = λ is. (
-  c.in-Ok.core,
-  c.answer_reader-status.new.core,
-  c.in-Ok.ensures.ok,
-  on_ok-is c.answer_reader-status.result 0 is c.answer_reader-status.ensures.answered,
-  c.close.ensures,
-)
+returns-in-Ok-clause-answered g c =
+    ran_done g.D.Disk.content g.D.Disk.failures (GaveAny g.D.Disk.gave) c.answer_reader-status.result c.args.disk c.close.result c.in-Ok.core c.answer_reader-status.new.core _ _ _ _
+    c.in-Ok.ensures.ok c.close.ensures.disk c.answer_reader-status.ensures

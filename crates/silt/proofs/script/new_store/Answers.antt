@@ -1,11 +1,6 @@
 use Rattle.std.proofs.Common.{◌∙◌}
-use Rattle.silt_device.specs.Memory.{memory_content}
-use Rattle.silt.proofs.Lives.{new_is_safe}
 use Rattle.silt.proofs.NewStores.{fresh_size, format_cause}
 use Rattle.silt.proofs.script.new_store.Goals as goal
-
-pub returns-in-Ok-format-clause-images : goal.returns-in-Ok-format-clause-images
-returns-in-Ok-format-clause-images c = new_is_safe (memory_content c.in-Ok-format.disk) c.args.geometry c.in-Ok-format.ensures.images
 
 pub returns-in-Err-clause-cause : goal.returns-in-Err-clause-cause
 returns-in-Err-clause-cause c =

@@ -1,8 +1,7 @@
 use Rattle.std.proofs.Common.{ℕ, List, Some, sym, ◌∙◌, subst}
 use Rattle.std.specs.BTreeMap as tree
 use Rattle.silt_frame.specs.declared.key.Key.{Key}
-use Rattle.silt_log.specs.Rows.{row_of}
-use Rattle.silt_stores.specs.Lookup.{key_cmp}
+use Rattle.silt_frame.specs.Rows.{row_of, key_cmp}
 use Rattle.silt_stores.proofs.Counting.{told_apart}
 use Rattle.silt_stores.proofs.Folds.{bytes_from, does_delete, does_put}
 use Rattle.silt_stores.proofs.entries.do_row.Goals as goal

@@ -1,5 +1,5 @@
 use Rattle.std.proofs.Common.{sym, ◌∙◌, arith}
-use Rattle.silt_log.specs.Rows.{row_of}
+use Rattle.silt_frame.specs.Rows.{row_of}
 use Rattle.silt_log.specs.State.{all_rows}
 use Rattle.silt_log.proofs.Elsewhere.{all_count, row_of_all}
 use Rattle.silt_stores.proofs.Folds.{does_next, does_whole}

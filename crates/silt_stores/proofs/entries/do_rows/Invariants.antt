@@ -1,6 +1,6 @@
 use Rattle.std.proofs.Common.{IsTrue, take}
 use Rattle.silt_log.specs.State.{all_rows}
-use Rattle.silt_stores.specs.Folding.{DoesRows}
+use Rattle.silt_stores.specs.Entries.{DoesRows}
 use Rattle.silt_stores.proofs.entries.do_rows.Given as goal
 
 -- the rows that were read are done

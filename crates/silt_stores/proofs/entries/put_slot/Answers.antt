@@ -2,8 +2,7 @@ use Rattle.std.proofs.Common.{◌≡◌, List, ℕ, length, drop, Some, ◌∙�
 use Rattle.std.specs.BTreeMap as tree
 use Rattle.std.proofs.lemmas.List.{take-append-le, take_all}
 use Rattle.silt_hash_store.specs.Slots.{slot_row}
-use Rattle.silt_log.specs.Rows.{StoredRow}
-use Rattle.silt_stores.specs.Lookup.{key_cmp}
+use Rattle.silt_frame.specs.Rows.{StoredRow, key_cmp}
 use Rattle.silt_stores.proofs.Folds.{does_put}
 use Rattle.silt_stores.proofs.entries.put_slot.Goals as goal
 

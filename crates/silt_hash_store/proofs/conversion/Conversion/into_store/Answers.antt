@@ -1,5 +1,5 @@
 use Rattle.silt_log_store.proofs.Buckets.{bucket_count_is}
-use Rattle.silt_hash_store.specs.Converting.{ConversionState}
+use Rattle.silt_hash_store.specs.Conversion.{ConversionState}
 use Rattle.silt_hash_store.proofs.Writing.{all_charged, all_due, store_stands}
 use Rattle.silt_hash_store.proofs.conversion.Conversion.into_store.Goals as goal
 

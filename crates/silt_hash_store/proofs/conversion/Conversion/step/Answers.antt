@@ -2,11 +2,10 @@ use Rattle.std.proofs.Common.{◌≡◌, ◌+◌, ℕ, IsTrue, List, [], ◌∷�
 use Rattle.std.proofs.lemmas.List.{take_at}
 use Rattle.silt_cuckoo.specs.Slots.{entry_at}
 use Rattle.silt_device.specs.Layout.{Shape}
-use Rattle.silt_image.specs.Meaning.{charge_of_rows}
-use Rattle.silt_log.specs.Rows.{StoredRow, has_known_kind, row_of}
+use Rattle.silt_frame.specs.Rows.{put_count, has_known_kind, row_of, StoredRow}
 use Rattle.silt_log.specs.State.{all_rows}
 use Rattle.silt_log_store.specs.State.{IsFrozenStore}
-use Rattle.silt_hash_store.specs.Converting.{ConversionState, Steps, converted_row, with_entry}
+use Rattle.silt_hash_store.specs.Conversion.{ConversionState, Steps, converted_row, with_entry}
 use Rattle.silt_hash_store.proofs.Writing.{frozen_kept, held_as, written_kept, written_step}
 use Rattle.silt_hash_store.proofs.conversion.Conversion.step.Goals as goal
 
@@ -46,7 +45,7 @@ returns-clause-written g c =
       next = ap (λ (t : List (Option ℕ)). let made : ConversionState = record conversion { next = conversion.next + 1; tags = t; puts = after.puts } in made) tags;
       shows = λ honest frozen.
           c.in_default.ensures.written honest ∙ ap row_of (c.deref.ensures.value ∙ take_at c.read_due.new.out (drop (length c.read_due.new.out) c.self.inside.row.items) c.self.inside.row.len (omega arith)) ∙ due honest frozen;
-      added = λ honest frozen. ap (λ n. conversion.puts + n) (c.in-Ok.ensures.puts ∙ ap (λ (row : StoredRow). charge_of_rows (filter has_known_kind (row ∷ []))) (due honest frozen));
+      added = λ honest frozen. ap (λ n. conversion.puts + n) (c.in-Ok.ensures.puts ∙ ap (λ (row : StoredRow). put_count (filter has_known_kind (row ∷ []))) (due honest frozen));
     } in
     rw (← c.self.view_is)
     (λ frozen. written_step _ _ c.args.log.now conversion c.read_due.ensures.held.bounds same fits c.write_slot.ensures.changes after c.self.invariant.there below c.self.invariant.long (c.self.invariant.later conversion.next (omega arith)) steps frozen)

@@ -11,4 +11,4 @@ pub returns : goal.returns
 returns c =
     let at : c.len-place.result ≡ length c.args.self.now.keys.items = c.len-place.ensures ∙ c.args.self.now.keys.ok.0 in
     key_added c.args.kind c.args.key.now.0 c.args.self.now _ c.len-place.result c.requires.index at (rw c.slot_of-standing.ensures.slot at c.if-not-place_key.ensures.placed)
-    c.place_key.ensures.buckets c.in_ok-push.ensures.items (ap (λ n. c.args.self.now.puts + n) c.puts_of.ensures.value)
+    c.place_key.ensures.buckets c.in_ok-push.ensures.items (ap (λ n. c.args.self.now.puts + n) c.puts.ensures.value)

@@ -5,7 +5,7 @@ use Rattle.silt_manifest.specs.Body.{FitsSlot, is_well_formed}
 use Rattle.silt_manifest.specs.Standing.{spare_slot, ruling_slot}
 use Rattle.silt_manifest.proofs.RoundTrip.{fitting_length}
 use Rattle.silt_manifest.proofs.SoundBodies.{fits_slot}
-use Rattle.silt_manifest.proofs.PrepareExits.{close_fails, body_fails, all_prepared, prepared_state}
+use Rattle.silt_manifest.proofs.PrepareExits.{close_fails, body_fails, next_written, all_prepared, prepared_state}
 use Rattle.silt_manifest.proofs.manifest.Manifest.prepare_next.Goals as goal
 
 pub to_bytes-requires : goal.to_bytes-requires
@@ -49,6 +49,11 @@ returns-clause-each g c =
     let start = ap (λ slot. slot_at slot + 1) c.spare_slot-slot.ensures.value in
     body_fails c.args.self.now c.closing_place.result (slot_at c.spare_slot-slot.result + 1) 120 _ _ _ c.requires.size sound c.requires.rules c.closing_place.ensures.value start refl
     c.in_ok-write_synced.ensures.written c.in_ok-write_synced.ensures.rests c.in_ok-write_body.ensures.changes
+
+pub returns-clause-written : goal.returns-clause-written
+returns-clause-written g c =
+    let start = ap (λ slot. slot_at slot + 1) c.spare_slot-slot.ensures.value in
+    next_written c.args.self.now c.closing_place.result (slot_at c.spare_slot-slot.result + 1) c.to_bytes.result c.args.next _ _ _ c.closing_place.ensures.value start c.to_bytes.ensures c.in_ok-write_synced.ensures.written c.in_ok-write_body.ensures.written
 
 pub returns-clause-ready : goal.returns-clause-ready
 returns-clause-ready g c =

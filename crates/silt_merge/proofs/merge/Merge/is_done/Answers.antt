@@ -1,37 +1,18 @@
 use Rattle.std.proofs.Common.{nat_le, ap, ◌∙◌, arith}
 use Rattle.silt_merge.specs.State.{MergeState}
 use Rattle.silt_merge.proofs.Ending.{done_steps, entries_decide, not_decided}
+use Rattle.silt_merge.proofs.Viewing.{state_of}
 use Rattle.silt_merge.proofs.merge.Merge.is_done.Goals as goal
 
 pub returns-then-not-is_empty-clause-steps : goal.returns-then-not-is_empty-clause-steps
 returns-then-not-is_empty-clause-steps c =
-    let merge : MergeState = record {
-      shape = c.self.inside.target.geometry;
-      region = c.self.inside.target.number;
-      stores = c.self.inside.stores;
-      store = c.self.inside.store;
-      slot = c.self.inside.slot;
-      waiting = c.self.inside.waiting.entries;
-      passed = c.self.inside.passed;
-      written = c.self.inside.written;
-      decided = c.self.inside.decided;
-    } in
+    let merge : MergeState = state_of c.self.inside in
     rw (← c.self.view_is) (λ content stores is honest sound.
     done_steps merge c.args.sorted.now content stores _ (not_decided merge c.args.sorted.now (λ none. let full = c.is_empty.ensures.1 none in absurd (cc))) c.self.invariant.0 is honest sound)
 
 pub returns-clause-steps : goal.returns-clause-steps
 returns-clause-steps c =
-    let merge : MergeState = record {
-      shape = c.self.inside.target.geometry;
-      region = c.self.inside.target.number;
-      stores = c.self.inside.stores;
-      store = c.self.inside.store;
-      slot = c.self.inside.slot;
-      waiting = c.self.inside.waiting.entries;
-      passed = c.self.inside.passed;
-      written = c.self.inside.written;
-      decided = c.self.inside.decided;
-    } in
+    let merge : MergeState = state_of c.self.inside in
     rw (← c.self.view_is) (λ content stores is honest sound.
     done_steps merge c.args.sorted.now content stores _
     (ap (λ n. nat_le n c.self.inside.passed) c.len.ensures.value ∙ entries_decide merge c.args.sorted.now (omega (arith, c.self.invariant.0.store)) (c.is_empty.ensures.0 c.if-not-is_empty.false)) c.self.invariant.0 is honest sound)

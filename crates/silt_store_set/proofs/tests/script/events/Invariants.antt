@@ -1,5 +1,5 @@
 use Rattle.std.specs.Prelude.{All}
-use Rattle.silt_store_set.specs.CoreState.{HasValueOf}
+use Rattle.silt_event.specs.Events.{HasValueOf}
 use Rattle.silt_store_set.proofs.tests.script.events.Given as goal
 
 -- the events so far put values of two bytes

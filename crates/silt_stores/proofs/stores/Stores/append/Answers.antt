@@ -1,7 +1,7 @@
 use Rattle.std.proofs.Common.{◌<◌, ◌≤◌, ◌+◌, ℕ, ap, sym, subst}
 use Rattle.silt_stores.specs.State.{StoresState}
 use Rattle.silt_stores.specs.Standing.{Stands}
-use Rattle.silt_stores.specs.Calls.{puts_of}
+use Rattle.silt_frame.specs.Rows.{puts_of}
 use Rattle.silt_stores.proofs.Appends.{appended, appended_map, appended_waits, not_appended_breaks, not_appended_map}
 use Rattle.silt_stores.proofs.Exits.{on_err}
 use Rattle.silt_stores.proofs.stores.Stores.append.Goals as goal
@@ -23,18 +23,18 @@ returns-clause-ok g c =
     let stands = subst (λ (v : StoresState). Stands (g.D.Disk.content c.args.disk.now) v) (sym c.self.view_is) c.requires.stands in
     let room = subst (λ (v : StoresState). v.active.log.used < v.active.log.shape.log_capacity) (sym c.self.view_is) c.requires.placing.room in
     let most = subst (λ (v : StoresState). v.charge + puts_of c.args.kind ≤ v.manifest.shape.sorted_capacity) (sym c.self.view_is) c.requires.charge in
-    rw (← c.self.view_is) (appended _ _ _ c.take.new.self c.args.kind c.args.key.now c.args.value.now _ stands c.take.ensures.size room c.take.ensures.changes c.take.ensures.images c.in_ok-take.ensures.ok (ap (λ (n : ℕ). c.self.inside.charge + n) c.puts_of.ensures) most)
+    rw (← c.self.view_is) (appended _ _ _ c.take.new.self c.args.kind c.args.key.now c.args.value.now _ stands c.take.ensures.size room c.take.ensures.changes c.take.ensures.images c.in_ok-take.ensures.ok (ap (λ (n : ℕ). c.self.inside.charge + n) c.puts.ensures.value) most)
 
 pub returns-clause-map : goal.returns-clause-map
 returns-clause-map g c =
     let stands = subst (λ (v : StoresState). Stands (g.D.Disk.content c.args.disk.now) v) (sym c.self.view_is) c.requires.stands in
     let room = subst (λ (v : StoresState). v.active.log.used < v.active.log.shape.log_capacity) (sym c.self.view_is) c.requires.placing.room in
     let most = subst (λ (v : StoresState). v.charge + puts_of c.args.kind ≤ v.manifest.shape.sorted_capacity) (sym c.self.view_is) c.requires.charge in
-    rw (← c.self.view_is) (appended_map _ _ _ c.take.new.self c.args.kind c.args.key.now c.args.value.now _ stands c.take.ensures.size room c.take.ensures.changes c.take.ensures.images c.in_ok-take.ensures.ok (ap (λ (n : ℕ). c.self.inside.charge + n) c.puts_of.ensures) most)
+    rw (← c.self.view_is) (appended_map _ _ _ c.take.new.self c.args.kind c.args.key.now c.args.value.now _ stands c.take.ensures.size room c.take.ensures.changes c.take.ensures.images c.in_ok-take.ensures.ok (ap (λ (n : ℕ). c.self.inside.charge + n) c.puts.ensures.value) most)
 
 pub returns-clause-waits : goal.returns-clause-waits
 returns-clause-waits g c =
     let stands = subst (λ (v : StoresState). Stands (g.D.Disk.content c.args.disk.now) v) (sym c.self.view_is) c.requires.stands in
     let room = subst (λ (v : StoresState). v.active.log.used < v.active.log.shape.log_capacity) (sym c.self.view_is) c.requires.placing.room in
     let most = subst (λ (v : StoresState). v.charge + puts_of c.args.kind ≤ v.manifest.shape.sorted_capacity) (sym c.self.view_is) c.requires.charge in
-    rw (← c.self.view_is) (appended_waits _ _ _ c.take.new.self c.args.kind c.args.key.now c.args.value.now _ stands c.take.ensures.size room c.take.ensures.changes c.take.ensures.images c.in_ok-take.ensures.ok (ap (λ (n : ℕ). c.self.inside.charge + n) c.puts_of.ensures) most)
+    rw (← c.self.view_is) (appended_waits _ _ _ c.take.new.self c.args.kind c.args.key.now c.args.value.now _ stands c.take.ensures.size room c.take.ensures.changes c.take.ensures.images c.in_ok-take.ensures.ok (ap (λ (n : ℕ). c.self.inside.charge + n) c.puts.ensures.value) most)

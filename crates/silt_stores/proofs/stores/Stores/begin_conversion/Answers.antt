@@ -6,8 +6,8 @@ use Rattle.silt_device.specs.Layout.{InLimits, Shape, device_size}
 use Rattle.silt_log_store.specs.State.{LogStoreState}
 use Rattle.silt_stores.specs.State.{StoresState}
 use Rattle.silt_stores.specs.Standing.{Stands}
-use Rattle.silt_stores.specs.Converting.{convert_turn}
-use Rattle.silt_stores.specs.declared.converting.Progress.TheVariants.{Moved}
+use Rattle.silt_stores.specs.Conversion.{convert_turn}
+use Rattle.silt_event.specs.declared.progress.Progress.TheVariants.{Moved}
 use Rattle.silt_stores.proofs.ConvertSteps.{begin_converts, begin_turn, begin_waits, err_of, first_advances, first_failed_breaks, first_failed_map, first_map, started_shape, step_cause}
 use Rattle.silt_stores.proofs.stores.Stores.begin_conversion.Goals as goal
 

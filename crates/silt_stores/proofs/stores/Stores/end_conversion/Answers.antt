@@ -1,27 +1,27 @@
-use Rattle.std.proofs.Common.{[]}
-use Rattle.silt_stores.specs.Freezing.{unprepared}
-use Rattle.silt_stores.proofs.Chains.{advances_trans, breaks_after, same_trans}
+use Rattle.std.proofs.Common.{◌≡◌, [], Option, subst}
+use Rattle.std.specs.Prelude.{IfSome}
+use Rattle.silt_hash_store.specs.Conversion.{ConversionState}
+use Rattle.silt_stores.specs.Conversion.{oldest_replaced}
+use Rattle.silt_stores.proofs.Chains.{advances_trans, breaks_after}
 use Rattle.silt_stores.proofs.Exits.{on_err}
+use Rattle.silt_stores.proofs.ConvertTurns.{converted_advances, converted_may_rule, may_replace}
 use Rattle.silt_stores.proofs.stores.Stores.end_conversion.Goals as goal
 
-pub returns-in_err-write_converted-clause-err : goal.returns-in_err-write_converted-clause-err
-returns-in_err-write_converted-clause-err g c =
-    on_err c.from_residual-in_err-write_converted.result
-    (breaks_after (g.D.Disk.content c.args.disk.now) (g.D.Disk.content c.settle_slots.new.disk) (g.D.Disk.content c.write_converted.new.disk) c.args.self.now c.args.self.now
-    c.settle_slots.ensures.same c.write_converted.ensures.same c.in_ok-settle_slots.ensures.ok c.in_err-write_converted.ensures.err)
+pub change_manifest-requires-clause-next : goal.change_manifest-requires-clause-next
+change_manifest-requires-clause-next g c κs within = converted_may_rule (g.D.Disk.content c.settle_slots.new.disk) c.args.self.now c.args.body.now c.in_ok-settle_slots.ensures.ok.stands c.in_ok-settle_slots.ensures.rests c.requires.ends
 
-pub returns-in_err-turn_to_hash-clause-err : goal.returns-in_err-turn_to_hash-clause-err
-returns-in_err-turn_to_hash-clause-err g c =
-    let one = advances_trans [] [] (g.D.Disk.content c.args.disk.now) (g.D.Disk.content c.settle_slots.new.disk) (g.D.Disk.content c.write_converted.new.disk) c.args.self.now c.args.self.now (unprepared c.write_converted.new.self)
-    c.settle_slots.ensures.same c.in_ok-settle_slots.ensures.ok c.in_ok-write_converted.ensures.ok in
-    on_err c.from_residual-in_err-turn_to_hash.result
-    (breaks_after (g.D.Disk.content c.args.disk.now) (g.D.Disk.content c.write_converted.new.disk) (g.D.Disk.content c.turn_to_hash.new.disk) c.args.self.now (unprepared c.write_converted.new.self)
-    (same_trans (g.D.Disk.content c.args.disk.now) (g.D.Disk.content c.settle_slots.new.disk) (g.D.Disk.content c.write_converted.new.disk) c.settle_slots.ensures.same c.write_converted.ensures.same)
-    c.turn_to_hash.ensures.same one c.in_err-turn_to_hash.ensures.err)
+pub returns-in_err-manifest-clause-err : goal.returns-in_err-manifest-clause-err
+returns-in_err-manifest-clause-err g c =
+    on_err c.from_residual-in_err-manifest.result
+    (breaks_after (g.D.Disk.content c.args.disk.now) (g.D.Disk.content c.settle_slots.new.disk) (g.D.Disk.content c.change_manifest.new.disk) c.args.self.now c.args.self.now c.settle_slots.ensures.same c.change_manifest.ensures.same c.in_ok-settle_slots.ensures.ok c.in_err-manifest.ensures.err)
+
+pub replace_oldest-requires : goal.replace_oldest-requires
+replace_oldest-requires g c = may_replace (g.D.Disk.content c.settle_slots.new.disk) c.args.self.now c.args.body.now c.in_ok-settle_slots.ensures.ok.stands c.in_ok-settle_slots.ensures.rests c.requires.ends
+    (g.D.Disk.content c.change_manifest.new.disk) c.change_manifest.ensures.same.size c.in_ok-manifest.manifest c.in_ok-manifest.ensures.ok
 
 pub returns-clause-ok : goal.returns-clause-ok
 returns-clause-ok g c =
-    let one = advances_trans [] [] (g.D.Disk.content c.args.disk.now) (g.D.Disk.content c.settle_slots.new.disk) (g.D.Disk.content c.write_converted.new.disk) c.args.self.now c.args.self.now (unprepared c.write_converted.new.self)
-    c.settle_slots.ensures.same c.in_ok-settle_slots.ensures.ok c.in_ok-write_converted.ensures.ok in
-    advances_trans [] [] (g.D.Disk.content c.args.disk.now) (g.D.Disk.content c.write_converted.new.disk) (g.D.Disk.content c.turn_to_hash.new.disk) c.args.self.now (unprepared c.write_converted.new.self) c.turn_to_hash.new.self
-    (same_trans (g.D.Disk.content c.args.disk.now) (g.D.Disk.content c.settle_slots.new.disk) (g.D.Disk.content c.write_converted.new.disk) c.settle_slots.ensures.same c.write_converted.ensures.same) one c.in_ok-turn_to_hash.ensures.ok
+    let is = subst (λ (o : Option ConversionState). IfSome o (λ conversion. c.replace_oldest.new.self ≡ oldest_replaced c.args.self.now c.in_ok-manifest.manifest conversion)) c.requires.ends.was c.replace_oldest.ensures.replaced in
+    let two = converted_advances (g.D.Disk.content c.settle_slots.new.disk) c.args.self.now c.args.body.now c.in_ok-settle_slots.ensures.ok.stands c.in_ok-settle_slots.ensures.rests c.requires.ends
+    (g.D.Disk.content c.change_manifest.new.disk) c.change_manifest.ensures.same.size c.in_ok-manifest.manifest c.in_ok-manifest.ensures.ok c.replace_oldest.new.self c.replace_oldest.ensures.whole is in
+    advances_trans [] [] (g.D.Disk.content c.args.disk.now) (g.D.Disk.content c.settle_slots.new.disk) (g.D.Disk.content c.change_manifest.new.disk) c.args.self.now c.args.self.now c.replace_oldest.new.self c.settle_slots.ensures.same c.in_ok-settle_slots.ensures.ok two

@@ -1,9 +1,9 @@
 use Rattle.std.proofs.Common.{◌≡◌, ◌-◌, ◌++◌, ℕ, List, drop, map, sym, subst, arith}
-use Rattle.silt_image.specs.Commands.{Map}
+use Rattle.silt_event.specs.Commands.{Map}
 use Rattle.silt_image.specs.Meaning.{oldest_first}
-use Rattle.silt_log.specs.Rows.{StoredRow}
+use Rattle.silt_frame.specs.Rows.{StoredRow}
 use Rattle.silt_log.specs.State.{all_rows}
-use Rattle.silt_stores.specs.Folding.{DoesRows, hashed_rows}
+use Rattle.silt_stores.specs.Entries.{DoesRows, hashed_rows}
 use Rattle.silt_stores.specs.Lookup.{AreEntriesOf}
 use Rattle.silt_stores.specs.State.{StoresState}
 use Rattle.silt_stores.proofs.Folds.{does_all, does_log, does_more}
@@ -12,7 +12,7 @@ use Rattle.silt_stores.proofs.stores.Stores.entries.Goals as goal
 
 pub loop-index-preserved : goal.loop-index-preserved
 loop-index-preserved g c = λ honest.
-    does_log (rows_in (g.D.Disk.content c.args.disk.now)) c.self.inside.frozen.items (c.loop-index.index - 1) c.loop-index.index c.index.result.now c.do_hashes.new.entries c.loop-index.entries c.do_log.new.entries
+    does_log (rows_in (g.D.Disk.content c.args.disk.now)) c.self.inside.frozen.items (c.loop-index.index - 1) c.loop-index.index c.index.result.now c.do_hash_stores.new.entries c.loop-index.entries c.do_log.new.entries
     (omega (arith, c.loop-index-test.true)) (omega (arith, c.loop-index-test.true, c.loop-index.auto.index, c.len-index.ensures, c.self.inside.frozen.ok)) (sym c.index.ensures)
     (c.loop-index.invariant honest) (c.in_ok-do_log.ensures.ok honest)
 
@@ -22,11 +22,11 @@ returns-clause-entries g c = rw (← c.self.view_is) (λ stands honest.
     let none : c.loop-index.index ≡ 0 = omega (arith, c.loop-index-test.false) in
     let hashed : List StoredRow = hashed_rows content (record { manifest = c.self.inside.manifest; active = c.self.inside.active; frozen = c.self.inside.frozen.items; hashes = c.self.inside.hashes.items; converting = c.self.inside.converting; charge = c.self.inside.charge }) in
     let logs : List StoredRow = oldest_first (map (rows_in content) c.self.inside.frozen.items) in
-    let hashes : DoesRows hashed c.new-entries.result c.do_hashes.new.entries =
-    subst (λ (v : StoresState). DoesRows (hashed_rows content v) c.new-entries.result c.do_hashes.new.entries) (sym c.self.view_is) (c.in_ok-do_hashes.ensures.ok honest) in
-    let older : DoesRows logs c.do_hashes.new.entries c.loop-index.entries =
-    subst (λ (n : ℕ). DoesRows (oldest_first (map (rows_in content) (drop n c.self.inside.frozen.items))) c.do_hashes.new.entries c.loop-index.entries) none (c.loop-index.invariant honest) in
-    let both = does_more hashed logs c.new-entries.result c.do_hashes.new.entries c.loop-index.entries hashes older in
+    let hashes : DoesRows hashed c.new-entries.result c.do_hash_stores.new.entries =
+    subst (λ (v : StoresState). DoesRows (hashed_rows content v) c.new-entries.result c.do_hash_stores.new.entries) (sym c.self.view_is) (c.in_ok-do_hash_stores.ensures.ok honest) in
+    let older : DoesRows logs c.do_hash_stores.new.entries c.loop-index.entries =
+    subst (λ (n : ℕ). DoesRows (oldest_first (map (rows_in content) (drop n c.self.inside.frozen.items))) c.do_hash_stores.new.entries c.loop-index.entries) none (c.loop-index.invariant honest) in
+    let both = does_more hashed logs c.new-entries.result c.do_hash_stores.new.entries c.loop-index.entries hashes older in
     let all = does_more (hashed ++ logs) (all_rows content c.self.inside.active.log) c.new-entries.result c.loop-index.entries c.do_log-2.new.entries both (c.in_ok-do_log-2.ensures.ok honest) in
     subst (λ (m : Map). AreEntriesOf m c.do_log-2.new.entries) (sym (current_is content _ stands honest))
     (does_all (hashed ++ logs ++ all_rows content c.self.inside.active.log) c.new-entries.result c.do_log-2.new.entries c.new-entries.ensures.empty all))

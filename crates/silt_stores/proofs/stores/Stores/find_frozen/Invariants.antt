@@ -1,6 +1,6 @@
 use Rattle.std.proofs.Common.{◌<◌, ℕ, IsTrue}
 use Rattle.silt_log.specs.State.{all_rows}
-use Rattle.silt_log_store.specs.Finding.{HasNoRow}
+use Rattle.silt_log_store.specs.LastRow.{HasNoRow}
 use Rattle.silt_stores.specs.Standing.{Stands}
 use Rattle.silt_stores.specs.Lookup.{frozen_at}
 use Rattle.silt_stores.proofs.stores.Stores.find_frozen.Given as goal

@@ -1,9 +1,12 @@
-use Rattle.std.proofs.Common.{[], ◌∙◌, subst}
-use Rattle.silt_stores.specs.declared.freezing.NextLog.{NextLog}
-use Rattle.silt_stores.specs.Freezing.{HasFrozen, unprepared}
+use Rattle.std.proofs.Common.{[], sym, subst}
+use Rattle.silt_stores.specs.declared.next_log.NextLog.{NextLog}
+use Rattle.silt_stores.specs.State.{StoresState}
+use Rattle.silt_stores.specs.Calls.{Advances, Remaps}
+use Rattle.silt_stores.specs.NextLog.{HasFrozen}
 use Rattle.silt_stores.proofs.Chains.{advances_trans, breaks_after, remaps_trans, same_trans}
 use Rattle.silt_stores.proofs.Exits.{on_err}
 use Rattle.silt_stores.proofs.Steps.{frozen_from, next_for}
+use Rattle.silt_stores.proofs.Commits.{frozen_advances, frozen_map, frozen_may_rule, frozen_whole, has_frozen}
 use Rattle.silt_stores.proofs.stores.Stores.freeze.Goals as goal
 
 pub clear_region-requires-clause-next : goal.clear_region-requires-clause-next
@@ -15,49 +18,44 @@ returns-in_err-clear_region-clause-map g c = remaps_trans [] [] (g.D.Disk.conten
 pub returns-in_err-clear_region-clause-err : goal.returns-in_err-clear_region-clause-err
 returns-in_err-clear_region-clause-err g c = on_err c.from_residual-in_err-clear_region.result (breaks_after (g.D.Disk.content c.args.disk.now) (g.D.Disk.content c.settle.new.disk) (g.D.Disk.content c.clear_region.new.disk) c.args.self.now c.settle.new.self c.settle.ensures.same c.clear_region.ensures.same c.in_ok-settle.ensures.ok c.in_err-clear_region.ensures.err)
 
-pub returns-in_err-write_body-clause-map : goal.returns-in_err-write_body-clause-map
-returns-in_err-write_body-clause-map g c =
-    let one = remaps_trans [] [] (g.D.Disk.content c.args.disk.now) (g.D.Disk.content c.settle.new.disk) (g.D.Disk.content c.clear_region.new.disk) c.args.self.now c.settle.new.self c.settle.new.self c.settle.ensures.same c.settle.ensures.map c.clear_region.ensures.map in
-    remaps_trans [] [] (g.D.Disk.content c.args.disk.now) (g.D.Disk.content c.clear_region.new.disk) (g.D.Disk.content c.write_body.new.disk) c.args.self.now c.settle.new.self c.write_body.new.self (same_trans (g.D.Disk.content c.args.disk.now) (g.D.Disk.content c.settle.new.disk) (g.D.Disk.content c.clear_region.new.disk) c.settle.ensures.same c.clear_region.ensures.same) one c.write_body.ensures.map
+pub change_manifest-requires-clause-next : goal.change_manifest-requires-clause-next
+change_manifest-requires-clause-next g c κs within = frozen_may_rule (g.D.Disk.content c.clear_region.new.disk) c.settle.new.self c.clear_region.new.next c.in_ok-clear_region.ensures.ok.stands c.in_ok-clear_region.ensures.quiet c.in_ok-clear_region.ensures.emptied
 
-pub returns-in_err-write_body-clause-err : goal.returns-in_err-write_body-clause-err
-returns-in_err-write_body-clause-err g c =
-    let one = advances_trans [] [] (g.D.Disk.content c.args.disk.now) (g.D.Disk.content c.settle.new.disk) (g.D.Disk.content c.clear_region.new.disk) c.args.self.now c.settle.new.self c.settle.new.self c.settle.ensures.same c.in_ok-settle.ensures.ok c.in_ok-clear_region.ensures.ok in
-    on_err c.from_residual-in_err-write_body.result (breaks_after (g.D.Disk.content c.args.disk.now) (g.D.Disk.content c.clear_region.new.disk) (g.D.Disk.content c.write_body.new.disk) c.args.self.now c.settle.new.self (same_trans (g.D.Disk.content c.args.disk.now) (g.D.Disk.content c.settle.new.disk) (g.D.Disk.content c.clear_region.new.disk) c.settle.ensures.same c.clear_region.ensures.same) c.write_body.ensures.same one c.in_err-write_body.ensures.err)
-
-pub returns-in_err-turn-clause-map : goal.returns-in_err-turn-clause-map
-returns-in_err-turn-clause-map g c =
+pub returns-in_err-manifest-clause-map : goal.returns-in_err-manifest-clause-map
+returns-in_err-manifest-clause-map g c =
     let same_two = same_trans (g.D.Disk.content c.args.disk.now) (g.D.Disk.content c.settle.new.disk) (g.D.Disk.content c.clear_region.new.disk) c.settle.ensures.same c.clear_region.ensures.same in
     let one = remaps_trans [] [] (g.D.Disk.content c.args.disk.now) (g.D.Disk.content c.settle.new.disk) (g.D.Disk.content c.clear_region.new.disk) c.args.self.now c.settle.new.self c.settle.new.self c.settle.ensures.same c.settle.ensures.map c.clear_region.ensures.map in
-    let two = remaps_trans [] [] (g.D.Disk.content c.args.disk.now) (g.D.Disk.content c.clear_region.new.disk) (g.D.Disk.content c.write_body.new.disk) c.args.self.now c.settle.new.self c.write_body.new.self same_two one c.write_body.ensures.map in
-    remaps_trans [] [] (g.D.Disk.content c.args.disk.now) (g.D.Disk.content c.write_body.new.disk) (g.D.Disk.content c.turn.new.disk) c.args.self.now c.write_body.new.self c.turn.new.self (same_trans (g.D.Disk.content c.args.disk.now) (g.D.Disk.content c.clear_region.new.disk) (g.D.Disk.content c.write_body.new.disk) same_two c.write_body.ensures.same) two c.turn.ensures.map
+    remaps_trans [] [] (g.D.Disk.content c.args.disk.now) (g.D.Disk.content c.clear_region.new.disk) (g.D.Disk.content c.change_manifest.new.disk) c.args.self.now c.settle.new.self c.settle.new.self same_two one c.change_manifest.ensures.map
 
-pub returns-in_err-turn-clause-err : goal.returns-in_err-turn-clause-err
-returns-in_err-turn-clause-err g c =
+pub returns-in_err-manifest-clause-err : goal.returns-in_err-manifest-clause-err
+returns-in_err-manifest-clause-err g c =
     let same_two = same_trans (g.D.Disk.content c.args.disk.now) (g.D.Disk.content c.settle.new.disk) (g.D.Disk.content c.clear_region.new.disk) c.settle.ensures.same c.clear_region.ensures.same in
     let one = advances_trans [] [] (g.D.Disk.content c.args.disk.now) (g.D.Disk.content c.settle.new.disk) (g.D.Disk.content c.clear_region.new.disk) c.args.self.now c.settle.new.self c.settle.new.self c.settle.ensures.same c.in_ok-settle.ensures.ok c.in_ok-clear_region.ensures.ok in
-    let two = advances_trans [] [] (g.D.Disk.content c.args.disk.now) (g.D.Disk.content c.clear_region.new.disk) (g.D.Disk.content c.write_body.new.disk) c.args.self.now c.settle.new.self (unprepared c.write_body.new.self) same_two one c.in_ok-write_body.ensures.ok in
-    on_err c.from_residual-in_err-turn.result (breaks_after (g.D.Disk.content c.args.disk.now) (g.D.Disk.content c.write_body.new.disk) (g.D.Disk.content c.turn.new.disk) c.args.self.now (unprepared c.write_body.new.self) (same_trans (g.D.Disk.content c.args.disk.now) (g.D.Disk.content c.clear_region.new.disk) (g.D.Disk.content c.write_body.new.disk) same_two c.write_body.ensures.same) c.turn.ensures.same two c.in_err-turn.ensures.err)
+    on_err c.from_residual-in_err-manifest.result (breaks_after (g.D.Disk.content c.args.disk.now) (g.D.Disk.content c.clear_region.new.disk) (g.D.Disk.content c.change_manifest.new.disk) c.args.self.now c.settle.new.self same_two c.change_manifest.ensures.same one c.in_err-manifest.ensures.err)
+
+pub replace_active-requires : goal.replace_active-requires
+replace_active-requires g c = frozen_whole (g.D.Disk.content c.clear_region.new.disk) c.settle.new.self c.clear_region.new.next c.in_ok-clear_region.ensures.ok.stands c.in_ok-clear_region.ensures.quiet c.in_ok-clear_region.ensures.emptied
+    (g.D.Disk.content c.change_manifest.new.disk) c.change_manifest.ensures.same.size c.in_ok-manifest.manifest c.in_ok-manifest.ensures.ok
 
 pub returns-clause-ok : goal.returns-clause-ok
 returns-clause-ok g c =
     let same_two = same_trans (g.D.Disk.content c.args.disk.now) (g.D.Disk.content c.settle.new.disk) (g.D.Disk.content c.clear_region.new.disk) c.settle.ensures.same c.clear_region.ensures.same in
     let one = advances_trans [] [] (g.D.Disk.content c.args.disk.now) (g.D.Disk.content c.settle.new.disk) (g.D.Disk.content c.clear_region.new.disk) c.args.self.now c.settle.new.self c.settle.new.self c.settle.ensures.same c.in_ok-settle.ensures.ok c.in_ok-clear_region.ensures.ok in
-    let two = advances_trans [] [] (g.D.Disk.content c.args.disk.now) (g.D.Disk.content c.clear_region.new.disk) (g.D.Disk.content c.write_body.new.disk) c.args.self.now c.settle.new.self (unprepared c.write_body.new.self) same_two one c.in_ok-write_body.ensures.ok in
-    advances_trans [] [] (g.D.Disk.content c.args.disk.now) (g.D.Disk.content c.write_body.new.disk) (g.D.Disk.content c.turn.new.disk) c.args.self.now (unprepared c.write_body.new.self) c.turn.new.self (same_trans (g.D.Disk.content c.args.disk.now) (g.D.Disk.content c.clear_region.new.disk) (g.D.Disk.content c.write_body.new.disk) same_two c.write_body.ensures.same) two c.in_ok-turn.ensures.ok
+    let two = subst (λ (t : StoresState). Advances [] (g.D.Disk.content c.clear_region.new.disk) (g.D.Disk.content c.change_manifest.new.disk) c.settle.new.self t) (sym c.replace_active.ensures) (frozen_advances (g.D.Disk.content c.clear_region.new.disk) c.settle.new.self c.clear_region.new.next c.in_ok-clear_region.ensures.ok.stands c.in_ok-clear_region.ensures.quiet c.in_ok-clear_region.ensures.emptied
+    (g.D.Disk.content c.change_manifest.new.disk) c.change_manifest.ensures.same.size c.in_ok-manifest.manifest c.in_ok-manifest.ensures.ok) in
+    advances_trans [] [] (g.D.Disk.content c.args.disk.now) (g.D.Disk.content c.clear_region.new.disk) (g.D.Disk.content c.change_manifest.new.disk) c.args.self.now c.settle.new.self c.replace_active.new.self same_two one two
 
 pub returns-clause-map : goal.returns-clause-map
 returns-clause-map g c =
     let same_two = same_trans (g.D.Disk.content c.args.disk.now) (g.D.Disk.content c.settle.new.disk) (g.D.Disk.content c.clear_region.new.disk) c.settle.ensures.same c.clear_region.ensures.same in
     let one = remaps_trans [] [] (g.D.Disk.content c.args.disk.now) (g.D.Disk.content c.settle.new.disk) (g.D.Disk.content c.clear_region.new.disk) c.args.self.now c.settle.new.self c.settle.new.self c.settle.ensures.same c.settle.ensures.map c.clear_region.ensures.map in
-    let two = remaps_trans [] [] (g.D.Disk.content c.args.disk.now) (g.D.Disk.content c.clear_region.new.disk) (g.D.Disk.content c.write_body.new.disk) c.args.self.now c.settle.new.self c.write_body.new.self same_two one c.write_body.ensures.map in
-    remaps_trans [] [] (g.D.Disk.content c.args.disk.now) (g.D.Disk.content c.write_body.new.disk) (g.D.Disk.content c.turn.new.disk) c.args.self.now c.write_body.new.self c.turn.new.self (same_trans (g.D.Disk.content c.args.disk.now) (g.D.Disk.content c.clear_region.new.disk) (g.D.Disk.content c.write_body.new.disk) same_two c.write_body.ensures.same) two c.turn.ensures.map
+    let two = subst (λ (t : StoresState). Remaps [] (g.D.Disk.content c.clear_region.new.disk) (g.D.Disk.content c.change_manifest.new.disk) c.settle.new.self t) (sym c.replace_active.ensures) (frozen_map (g.D.Disk.content c.clear_region.new.disk) c.settle.new.self c.clear_region.new.next c.in_ok-clear_region.ensures.ok.stands c.in_ok-clear_region.ensures.quiet c.in_ok-clear_region.ensures.emptied
+    (g.D.Disk.content c.change_manifest.new.disk) c.change_manifest.ensures.same.size c.in_ok-manifest.manifest c.in_ok-manifest.ensures.ok) in
+    remaps_trans [] [] (g.D.Disk.content c.args.disk.now) (g.D.Disk.content c.clear_region.new.disk) (g.D.Disk.content c.change_manifest.new.disk) c.args.self.now c.settle.new.self c.replace_active.new.self same_two one two
 
 pub returns-clause-frozen : goal.returns-clause-frozen
 returns-clause-frozen g c =
-    let frozen = c.write_body.ensures.state.1 ∙ c.settle.ensures.state.1 in
-    let hashes = c.write_body.ensures.state.2 ∙ c.settle.ensures.state.2 in
-    let converting = c.write_body.ensures.state.3 ∙ c.settle.ensures.state.3 in
-    let charge = c.write_body.ensures.state.4 ∙ c.settle.ensures.state.4 in
-    subst (λ (n : NextLog). HasFrozen n (g.D.Disk.content c.turn.new.disk) c.args.self.now c.turn.new.self) c.clear_region.ensures.next
-    (frozen_from c.clear_region.new.next _ c.args.self.now c.write_body.new.self c.turn.new.self frozen hashes converting charge c.in_ok-turn.ensures.frozen)
+    let has = subst (λ (t : StoresState). HasFrozen c.clear_region.new.next (g.D.Disk.content c.change_manifest.new.disk) c.settle.new.self t) (sym c.replace_active.ensures) (has_frozen (g.D.Disk.content c.clear_region.new.disk) c.settle.new.self c.clear_region.new.next c.in_ok-clear_region.ensures.ok.stands c.in_ok-clear_region.ensures.quiet c.in_ok-clear_region.ensures.emptied
+    (g.D.Disk.content c.change_manifest.new.disk) c.change_manifest.ensures.same.size c.in_ok-manifest.manifest c.in_ok-manifest.ensures.ok) in
+    subst (λ (n : NextLog). HasFrozen n (g.D.Disk.content c.change_manifest.new.disk) c.args.self.now c.replace_active.new.self) c.clear_region.ensures.next
+    (frozen_from c.clear_region.new.next (g.D.Disk.content c.change_manifest.new.disk) c.args.self.now c.settle.new.self c.replace_active.new.self c.settle.ensures.state.1 c.settle.ensures.state.2 c.settle.ensures.state.3 c.settle.ensures.state.4 has)

@@ -1,9 +1,9 @@
 use Rattle.std.proofs.Common.{ap, sym, ◌∙◌, subst}
 use Rattle.silt_device.specs.Layout.{Shape}
 use Rattle.silt_manifest.specs.declared.body.Body.{Body}
-use Rattle.silt_stores.specs.declared.freezing.NextLog.{NextLog}
+use Rattle.silt_stores.specs.declared.next_log.NextLog.{NextLog}
 use Rattle.silt_stores.specs.State.{StoresState}
-use Rattle.silt_stores.specs.Freezing.{AreAllNamed, IsLowestFree, empty_store, next_body}
+use Rattle.silt_stores.specs.NextLog.{AreAllNamed, IsLowestFree, empty_store, next_body}
 use Rattle.silt_stores.proofs.Holdings.{has_room, is_next, no_room, not_all}
 use Rattle.silt_stores.proofs.stores.Stores.next_log.Goals as goal
 

@@ -3,11 +3,11 @@ use Rattle.std.specs.Prelude.{slice_get}
 use Rattle.std.specs.Option.{option_copied}
 use Rattle.silt_device.specs.Disk.{CountsFault, GaveAny}
 use Rattle.silt_log_store.specs.State.{LogStoreState}
-use Rattle.silt_hash_store.specs.Converting.{ConversionState}
+use Rattle.silt_hash_store.specs.Conversion.{ConversionState}
 use Rattle.silt_stores.specs.State.{StoresState}
 use Rattle.silt_stores.specs.Standing.{Stands}
-use Rattle.silt_stores.specs.Converting.{convert_turn}
-use Rattle.silt_stores.specs.declared.converting.Progress.TheVariants.{Moved}
+use Rattle.silt_stores.specs.Conversion.{convert_turn}
+use Rattle.silt_event.specs.declared.progress.Progress.TheVariants.{Moved}
 use Rattle.silt_stores.proofs.ConvertSteps.{err_of, next_advances, next_failed_breaks, next_failed_map, next_map, step_cause}
 use Rattle.silt_stores.proofs.stores.Stores.step_conversion.Goals as goal
 

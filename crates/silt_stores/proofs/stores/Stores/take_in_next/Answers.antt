@@ -1,7 +1,8 @@
 use Rattle.std.proofs.Common.{◌+◌, ◌%◌, ◌^◌, ℕ, [], ◌∷◌, ap, ◌∙◌}
 use Rattle.silt_image.specs.Meaning.{command_of}
-use Rattle.silt_log.specs.Rows.{stored_row}
+use Rattle.silt_frame.specs.Rows.{stored_row}
 use Rattle.silt_stores.proofs.Chains.{advances_trans, breaks_after, remaps_trans}
+use Rattle.silt_stores.proofs.Takes.{turns_for}
 use Rattle.silt_stores.proofs.stores.Stores.take_in_next.Goals as goal
 
 pub append-requires-clause-placing : goal.append-requires-clause-placing
@@ -11,6 +12,12 @@ pub returns-in-Ok-append-clause-ok : goal.returns-in-Ok-append-clause-ok
 returns-in-Ok-append-clause-ok g c =
     advances_trans [] (command_of (stored_row c.args.kind c.args.key.now c.args.value.now) ∷ []) (g.D.Disk.content c.args.disk.now) (g.D.Disk.content c.freeze.new.disk) (g.D.Disk.content c.append.new.disk) c.args.self.now c.freeze.new.self c.append.new.self
     c.freeze.ensures.same c.in_default.ensures.ok c.in-Ok-append.ensures.ok
+
+pub returns-in-Ok-append-clause-ruling : goal.returns-in-Ok-append-clause-ruling
+returns-in-Ok-append-clause-ruling g c =
+    turns_for (command_of (stored_row c.args.kind c.args.key.now c.args.value.now)) (g.D.Disk.content c.args.disk.now) (g.D.Disk.content c.freeze.new.disk) (g.D.Disk.content c.append.new.disk)
+    c.args.self.now c.freeze.new.self c.append.new.self c.in-Ok.next c.args.key.now.0 c.freeze.ensures.same c.requires.needs c.in-Ok.ensures.ok c.in_default.ensures.frozen c.in-Ok-append.ensures.state.0
+    (returns-in-Ok-append-clause-ok g c) c.in-Ok-append.ensures.waits
 
 pub returns-in-Err-append-clause-err : goal.returns-in-Err-append-clause-err
 returns-in-Err-append-clause-err g c =

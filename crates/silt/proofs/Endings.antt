@@ -1,0 +1,44 @@
+-- How the program ends.
+use Rattle.std.proofs.Common.{◌≡◌, ◌∙◌, ◌⊎◌, ℕ, List, None, Option, Result, Ok, Err, ap, arith, refl, sym, subst, inl, inr, codes}
+use Rattle.std.specs.Prelude.{IfOk}
+use Rattle.std.specs.Result.{result_unwrap_or}
+use Rattle.std.specs.Io.KnownBytes.{Appends}
+use Rattle.silt_words.specs.Commands.{job_named}
+use Rattle.silt_words.specs.declared.job.WordsError.{WordsError}
+use Rattle.silt_words.specs.declared.job.WordsError.TheVariants.{Usage, NoMemory}
+use Rattle.silt.specs.Programs.{IsUnread, TellsWords}
+
+-- a job that ended well or was told to be refused, and what is known of each
+pub job_ended : {E T D : Type 0} {W : ℕ → Type 0} (result : Result ℕ E) → ((status : ℕ) → ((status ≡ 0) × D) ⊎ ((status ≡ 1) × T) → W status)
+    → IfOk result (λ status. (status ≡ 0) ⊎ ((status ≡ 1) × T)) → (result ≡ Ok 0 → D) → IfOk result W
+job_ended (Ok status) wrap (inl is) done = wrap status (inl (is, done (ap Ok is)))
+job_ended (Ok status) wrap (inr told) done = wrap status (inr told)
+job_ended (Err error) wrap told done = tt
+
+-- no job was read
+pub unread : (words : List (List ℕ)) (error : WordsError) → (error ≡ Usage → job_named words ≡ None) → IsUnread words error
+unread words Usage none = none refl
+unread words NoMemory none = tt
+
+-- what holds at a status that is no failure of the reader or the writer
+pub at_status : {E : Type 0} (P : ℕ → Type 0) (ended : Result ℕ E) (result status : ℕ) → result ≡ result_unwrap_or ended 1 → (status ≡ 1 → ⊥) → result ≡ status → IfOk ended P → P status
+at_status P (Ok known) result status is other at holds = subst P (sym is ∙ at) holds
+at_status P (Err error) result status is other at holds = absurd (other (sym at ∙ is))
+
+-- with 0 a job was done
+pub done_at_0 : {A : Type 0} (Named Done Told : A → Type 0) (Unread : WordsError → Type 0) (status : ℕ) (before after : Option (List ℕ)) → status ≡ 0
+    → ((job : A) × Named job × (((status ≡ 0) × Done job) ⊎ ((status ≡ 1) × Told job))) ⊎ ((error : WordsError) × Unread error × TellsWords error status before after)
+    → (job : A) × Named job × Done job
+done_at_0 Named Done Told Unread status before after is (inl (job, named, inl h)) = (job, named, h.1)
+done_at_0 Named Done Told Unread status before after is (inl (job, named, inr h)) = absurd (omega (arith, is, h.0))
+done_at_0 Named Done Told Unread status before after is (inr (Usage, cause, told)) = absurd (omega (arith, is, told.0))
+done_at_0 Named Done Told Unread status before after is (inr (NoMemory, cause, told)) = absurd (omega (arith, is, told.0))
+
+-- with 2 the words name no job
+pub usage_at_2 : {A : Type 0} (Named Done Told : A → Type 0) (words : List (List ℕ)) (status : ℕ) (before after : Option (List ℕ)) → status ≡ 2
+    → ((job : A) × Named job × (((status ≡ 0) × Done job) ⊎ ((status ≡ 1) × Told job))) ⊎ ((error : WordsError) × IsUnread words error × TellsWords error status before after)
+    → (job_named words ≡ None) × Appends before after (codes "usage\n")
+usage_at_2 Named Done Told words status before after is (inl (job, named, inl h)) = absurd (omega (arith, is, h.0))
+usage_at_2 Named Done Told words status before after is (inl (job, named, inr h)) = absurd (omega (arith, is, h.0))
+usage_at_2 Named Done Told words status before after is (inr (Usage, cause, told)) = (cause, told.1)
+usage_at_2 Named Done Told words status before after is (inr (NoMemory, cause, told)) = absurd (omega (arith, is, told.0))

@@ -1,0 +1,10 @@
+use Rattle.std.proofs.Common.{arith, map, refl, string_bytes}
+use Rattle.silt.proofs.Endings.{at_status, done_at_0, usage_at_2}
+use Rattle.silt.proofs.program.program.Goals as goal
+
+pub returns-clause-done : goal.returns-clause-done
+returns-clause-done g c = λ is. done_at_0 _ _ _ _ 0 _ _ refl (at_status _ c.answer.result c.status_of.result 0 c.status_of.ensures (λ no. omega (arith, no)) is c.answer.ensures)
+
+pub returns-clause-usage : goal.returns-clause-usage
+returns-clause-usage g c =
+    λ is. usage_at_2 _ _ _ (map string_bytes c.args.words.now) 2 _ _ refl (at_status _ c.answer.result c.status_of.result 2 c.status_of.ensures (λ no. omega (arith, no)) is c.answer.ensures)

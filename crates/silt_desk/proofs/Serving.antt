@@ -1,0 +1,207 @@
+-- A call at a desk, from what the store does and what is noted.
+use Rattle.std.proofs.Common.{◌≡◌, ℕ, ◌+◌, Bool, true, false, IsTrue, List, Ok, Err, Result, refl, ap, sym, ◌∙◌, subst, inr}
+use Rattle.silt_device.specs.Disk.{Content}
+use Rattle.silt_event.specs.Commands.{Map}
+use Rattle.silt_event.specs.declared.progress.Progress.{Progress as ProgressOf}
+use Rattle.silt_store_set.specs.CoreState.{CoreState, Cause, Does, map_of}
+use Rattle.silt_event.specs.Events.{Counts, Step, plain}
+use Rattle.silt_store_set.specs.Replies.{change_reply, flush_reply, get_reply, progress_reply}
+use Rattle.silt_event.specs.declared.event.Event.{Event}
+use Rattle.silt_event.specs.declared.event.Event.TheVariants.{Put, Delete, Flush, Get, Convert, Merge}
+use Rattle.silt_event.specs.declared.refusal.Refusal.{Refusal}
+use Rattle.silt_event.specs.declared.refusal.Refusal.TheVariants.{NotFormatted, BadGeometry, Damaged, Crowded, Device, NoMemory, StoreFull, NoRoom, Failed, Spent, HistoryFull}
+use Rattle.silt_event.specs.declared.reply.Reply.{Reply}
+use Rattle.silt_event.specs.declared.reply.Reply.TheVariants.{Accepted, Acknowledged, Found, Absent, Progress, Refused}
+use Rattle.silt_store_set.proofs.Calls.{step_refused}
+use Rattle.silt_desk.specs.declared.call.RecordedCall.{RecordedCall}
+use Rattle.silt_desk.specs.DeskState.{DeskState, Notes, Serves}
+use Rattle.silt_desk.specs.History.{accepted_by, call}
+use Rattle.silt_desk.specs.Notes.{plain_answer}
+use Rattle.silt_desk.specs.Seats.{SeatState, Totals}
+use Rattle.silt_desk.specs.Seeing.{SeenStep, SeenStore, seen}
+
+-- ---- answers without their faults
+
+pub change_plain : {F : Type 0} (answer : Result ℕ (Refusal F)) → change_reply (plain_answer answer) ≡ plain (change_reply answer)
+change_plain (Ok n) = refl
+change_plain (Err refusal) = refl
+
+pub flush_plain : {F : Type 0} (answer : Result ℕ (Refusal F)) → flush_reply (plain_answer answer) ≡ plain (flush_reply answer)
+flush_plain (Ok n) = refl
+flush_plain (Err refusal) = refl
+
+pub get_plain : {F : Type 0} (value : List ℕ) (answer : Result Bool (Refusal F)) → get_reply value (plain_answer answer) ≡ plain (get_reply value answer)
+get_plain value (Ok true) = refl
+get_plain value (Ok false) = refl
+get_plain value (Err refusal) = refl
+
+pub progress_plain : {F : Type 0} (answer : Result ProgressOf (Refusal F)) → progress_reply (plain_answer answer) ≡ plain (progress_reply answer)
+progress_plain (Ok progress) = refl
+progress_plain (Err refusal) = refl
+
+-- what a map answers, it answers without the fault too
+step_plain : {F : Type 0} (m : Map) (event : Event) (reply : Reply F) (to : Map) → Step m event reply to → Step m event (plain reply) to
+step_plain m (Put key value) (Accepted n) to step = step
+step_plain m (Put key value) (Acknowledged n) to step = absurd step
+step_plain m (Put key value) (Found v) to step = absurd step
+step_plain m (Put key value) Absent to step = absurd step
+step_plain m (Put key value) (Progress progress) to step = absurd step
+step_plain m (Put key value) (Refused refusal) to step = step
+step_plain m (Delete key) (Accepted n) to step = step
+step_plain m (Delete key) (Acknowledged n) to step = absurd step
+step_plain m (Delete key) (Found v) to step = absurd step
+step_plain m (Delete key) Absent to step = absurd step
+step_plain m (Delete key) (Progress progress) to step = absurd step
+step_plain m (Delete key) (Refused refusal) to step = step
+step_plain m Flush (Accepted n) to step = absurd step
+step_plain m Flush (Acknowledged n) to step = step
+step_plain m Flush (Found v) to step = absurd step
+step_plain m Flush Absent to step = absurd step
+step_plain m Flush (Progress progress) to step = absurd step
+step_plain m Flush (Refused refusal) to step = step
+step_plain m (Get key) (Accepted n) to step = absurd step
+step_plain m (Get key) (Acknowledged n) to step = absurd step
+step_plain m (Get key) (Found v) to step = step
+step_plain m (Get key) Absent to step = step
+step_plain m (Get key) (Progress progress) to step = absurd step
+step_plain m (Get key) (Refused refusal) to step = step
+step_plain m Convert (Accepted n) to step = absurd step
+step_plain m Convert (Acknowledged n) to step = absurd step
+step_plain m Convert (Found v) to step = absurd step
+step_plain m Convert Absent to step = absurd step
+step_plain m Convert (Progress progress) to step = step
+step_plain m Convert (Refused refusal) to step = step
+step_plain m Merge (Accepted n) to step = absurd step
+step_plain m Merge (Acknowledged n) to step = absurd step
+step_plain m Merge (Found v) to step = absurd step
+step_plain m Merge Absent to step = absurd step
+step_plain m Merge (Progress progress) to step = step
+step_plain m Merge (Refused refusal) to step = step
+
+counts_plain : {F : Type 0} (old new : ℕ) (reply : Reply F) → Counts old reply new → Counts old (plain reply) new
+counts_plain old new (Accepted n) counts = counts
+counts_plain old new (Acknowledged n) counts = counts
+counts_plain old new (Found v) counts = counts
+counts_plain old new Absent counts = counts
+counts_plain old new (Progress progress) counts = counts
+counts_plain old new (Refused refusal) counts = counts
+
+module _ {D F : Type 0} (content : D → Content) (failures : D → ℕ) (gave : D → F → Type 0) where
+  -- the reply is that of a map, of a failed store too
+  does_step : (old new : CoreState D) (event : Event) (reply : Reply F) → IsTrue (content old.disk).honest → Does content failures gave old new event reply → Step (map_of old) event reply (map_of new)
+  does_step old new event reply h does =
+      let go : (b : Bool) → old.failed ≡ b → Step (map_of old) event reply (map_of new) = elim [
+        | false ↦ λ working. does.step working h
+        | true ↦ λ failed.
+            let is = does.failed failed in
+            subst (λ (c : CoreState D). Step (map_of old) event reply (map_of c)) (sym is.0)
+            (subst (λ (r : Reply F). Step (map_of old) event r (map_of old)) (sym is.1) (step_refused (map_of old) event Failed))
+      ] in
+      go old.failed refl
+
+  -- what a trace is told of a call
+  pub seen_step : (old new : CoreState D) (event : Event) (reply : Reply F) → Does content failures gave old new event reply → SeenStep (seen content old) (seen content new) event (plain reply)
+  seen_step old new event reply does = record {
+    honest = does.disk.honest;
+    counts = counts_plain old.count new.count reply does.counts;
+    step = λ h. step_plain (map_of old) event reply (map_of new) (does_step old new event reply h does);
+  }
+
+  -- no store says that a history is full
+  never_full : (old new : CoreState D) (event : Event) → Cause content failures gave old new event (Refused HistoryFull) → ⊥
+  never_full old new (Put key value) cause = cause.1
+  never_full old new (Delete key) cause = cause.1
+  never_full old new Flush cause = cause
+  never_full old new (Get key) cause = cause
+  never_full old new Convert cause = cause
+  never_full old new Merge cause = cause
+
+  -- a call for which there was no memory changes nothing
+  lacks : (old new : CoreState D) (event : Event) → Does content failures gave old new event (Refused NoMemory) → new ≡ old
+  lacks old new event does =
+      let go : (b : Bool) → old.failed ≡ b → (d : Bool) → new.failed ≡ d → new ≡ old = elim [
+        | true ↦ λ failed d is. (does.failed failed).0
+        | false ↦ λ working. elim [
+          | false ↦ λ still. does.stays refl (still ∙ sym working)
+          | true ↦ λ fails. absurd (let no : false ≡ true = does.faulted working fails in cc)
+        ]
+      ] in
+      go old.failed refl new.failed refl
+
+  module _ {T : Type 0} (extends : T → RecordedCall → T → Type 0) (is_full takes_memory : T → Type 0) (c0 c1 : CoreState D) (t0 t1 : T) (totals after_totals : Totals) (seat after : SeatState) (event : Event) where
+    abbrev desk : CoreState D → T → DeskState D T
+    desk core trace = record { core = core; trace = trace }
+
+    same_desk : c1 ≡ c0 → t1 ≡ t0 → desk c1 t1 ≡ desk c0 t0
+    same_desk cores traces = ap (λ (core : CoreState D). desk core t1) cores ∙ ap (λ (trace : T). desk c0 trace) traces
+
+    serves_told : (reply : Reply F) → Does content failures gave c0 c1 event reply → Notes extends t0 t1 totals after_totals seat after event (plain reply)
+        → Serves content failures gave extends is_full takes_memory (desk c0 t0) (desk c1 t1) seat after event reply
+    serves_told (Accepted n) does notes = record { done = does; recorded = notes.0; seated = notes.1 }
+    serves_told (Acknowledged n) does notes = record { done = does; recorded = notes.0; seated = notes.1 }
+    serves_told (Found v) does notes = record { done = does; recorded = notes.0; seated = notes.1 }
+    serves_told Absent does notes = record { done = does; recorded = notes.0; seated = notes.1 }
+    serves_told (Progress progress) does notes = record { done = does; recorded = notes.0; seated = notes.1 }
+    serves_told (Refused NotFormatted) does notes = record { done = does; recorded = notes.0; seated = notes.1 }
+    serves_told (Refused BadGeometry) does notes = record { done = does; recorded = notes.0; seated = notes.1 }
+    serves_told (Refused (Damaged place)) does notes = record { done = does; recorded = notes.0; seated = notes.1 }
+    serves_told (Refused Crowded) does notes = record { done = does; recorded = notes.0; seated = notes.1 }
+    serves_told (Refused (Device fault)) does notes = record { done = does; recorded = notes.0; seated = notes.1 }
+    serves_told (Refused StoreFull) does notes = record { done = does; recorded = notes.0; seated = notes.1 }
+    serves_told (Refused NoRoom) does notes = record { done = does; recorded = notes.0; seated = notes.1 }
+    serves_told (Refused Failed) does notes = record { done = does; recorded = notes.0; seated = notes.1 }
+    serves_told (Refused Spent) does notes = record { done = does; recorded = notes.0; seated = notes.1 }
+    serves_told (Refused NoMemory) does notes =
+        let same = lacks c0 c1 event does in
+        record { same = same_desk same notes.0; seated = notes.2; cause = inr (subst (λ (c : CoreState D). Does content failures gave c0 c event (Refused NoMemory)) same does) }
+    serves_told (Refused HistoryFull) does notes = absurd (never_full c0 c1 event does.cause)
+
+    -- the store did the event, and the call was noted
+    pub serves : (reply : Reply F) (told : Reply (Unit {0})) → told ≡ plain reply → Does content failures gave c0 c1 event reply → Notes extends t0 t1 totals after_totals seat after event told
+        → Serves content failures gave extends is_full takes_memory (desk c0 t0) (desk c1 t1) seat after event reply
+    serves reply told is does notes = serves_told reply does (subst (λ r. Notes extends t0 t1 totals after_totals seat after event r) is notes)
+
+    module _ (agrees : T → SeenStore → Type 0) (law : agrees t0 (seen content c0) → (c : RecordedCall) → extends t0 c t1 → SeenStep (seen content c0) (seen content c1) c.event c.reply → agrees t1 (seen content c1)) where
+      keeps_told : (reply : Reply F) → Does content failures gave c0 c1 event reply → Notes extends t0 t1 totals after_totals seat after event (plain reply) → agrees t0 (seen content c0) → agrees t1 (seen content c1)
+      keeps_told (Accepted n) does notes held = law held (call seat.number event (plain {F = F} (Accepted n))) notes.0 (seen_step c0 c1 event (Accepted n) does)
+      keeps_told (Acknowledged n) does notes held = law held (call seat.number event (plain {F = F} (Acknowledged n))) notes.0 (seen_step c0 c1 event (Acknowledged n) does)
+      keeps_told (Found v) does notes held = law held (call seat.number event (plain {F = F} (Found v))) notes.0 (seen_step c0 c1 event (Found v) does)
+      keeps_told Absent does notes held = law held (call seat.number event (plain {F = F} Absent)) notes.0 (seen_step c0 c1 event Absent does)
+      keeps_told (Progress progress) does notes held = law held (call seat.number event (plain {F = F} (Progress progress))) notes.0 (seen_step c0 c1 event (Progress progress) does)
+      keeps_told (Refused NotFormatted) does notes held = law held (call seat.number event (plain {F = F} (Refused NotFormatted))) notes.0 (seen_step c0 c1 event (Refused NotFormatted) does)
+      keeps_told (Refused BadGeometry) does notes held = law held (call seat.number event (plain {F = F} (Refused BadGeometry))) notes.0 (seen_step c0 c1 event (Refused BadGeometry) does)
+      keeps_told (Refused (Damaged place)) does notes held = law held (call seat.number event (plain {F = F} (Refused (Damaged place)))) notes.0 (seen_step c0 c1 event (Refused (Damaged place)) does)
+      keeps_told (Refused Crowded) does notes held = law held (call seat.number event (plain {F = F} (Refused Crowded))) notes.0 (seen_step c0 c1 event (Refused Crowded) does)
+      keeps_told (Refused (Device fault)) does notes held = law held (call seat.number event (plain {F = F} (Refused (Device fault)))) notes.0 (seen_step c0 c1 event (Refused (Device fault)) does)
+      keeps_told (Refused StoreFull) does notes held = law held (call seat.number event (plain {F = F} (Refused StoreFull))) notes.0 (seen_step c0 c1 event (Refused StoreFull) does)
+      keeps_told (Refused NoRoom) does notes held = law held (call seat.number event (plain {F = F} (Refused NoRoom))) notes.0 (seen_step c0 c1 event (Refused NoRoom) does)
+      keeps_told (Refused Failed) does notes held = law held (call seat.number event (plain {F = F} (Refused Failed))) notes.0 (seen_step c0 c1 event (Refused Failed) does)
+      keeps_told (Refused Spent) does notes held = law held (call seat.number event (plain {F = F} (Refused Spent))) notes.0 (seen_step c0 c1 event (Refused Spent) does)
+      keeps_told (Refused NoMemory) does notes held =
+          subst (λ (t : T). agrees t (seen content c1)) (sym notes.0) (subst (λ (c : CoreState D). agrees t0 (seen content c)) (sym (lacks c0 c1 event does)) held)
+      keeps_told (Refused HistoryFull) does notes held = absurd (never_full c0 c1 event does.cause)
+
+      -- the trace agrees with the store on
+      pub keeps_agreeing : (reply : Reply F) (told : Reply (Unit {0})) → told ≡ plain reply → Does content failures gave c0 c1 event reply → Notes extends t0 t1 totals after_totals seat after event told → agrees t0 (seen content c0) → agrees t1 (seen content c1)
+      keeps_agreeing reply told is does notes held = keeps_told reply does (subst (λ r. Notes extends t0 t1 totals after_totals seat after event r) is notes) held
+
+module _ {T : Type 0} (counts : T → ℕ → ℕ → Type 0) (extends : T → RecordedCall → T → Type 0) (t0 t1 : T) (totals after_totals : Totals) (seat after : SeatState) (event : Event)
+    (law : (c : RecordedCall) → counts t0 totals.calls totals.accepted → extends t0 c t1 → after_totals.calls ≡ totals.calls + 1 → after_totals.accepted ≡ totals.accepted + accepted_by c.reply → counts t1 after_totals.calls after_totals.accepted) where
+  -- the trace counts on
+  pub keeps_counting : (reply : Reply (Unit {0})) → Notes extends t0 t1 totals after_totals seat after event reply → counts t0 totals.calls totals.accepted → counts t1 after_totals.calls after_totals.accepted
+  keeps_counting (Accepted n) notes held = law (call seat.number event (Accepted n)) held notes.0 notes.2 notes.3
+  keeps_counting (Acknowledged n) notes held = law (call seat.number event (Acknowledged n)) held notes.0 notes.2 notes.3
+  keeps_counting (Found v) notes held = law (call seat.number event (Found v)) held notes.0 notes.2 notes.3
+  keeps_counting Absent notes held = law (call seat.number event Absent) held notes.0 notes.2 notes.3
+  keeps_counting (Progress progress) notes held = law (call seat.number event (Progress progress)) held notes.0 notes.2 notes.3
+  keeps_counting (Refused NotFormatted) notes held = law (call seat.number event (Refused NotFormatted)) held notes.0 notes.2 notes.3
+  keeps_counting (Refused BadGeometry) notes held = law (call seat.number event (Refused BadGeometry)) held notes.0 notes.2 notes.3
+  keeps_counting (Refused (Damaged place)) notes held = law (call seat.number event (Refused (Damaged place))) held notes.0 notes.2 notes.3
+  keeps_counting (Refused Crowded) notes held = law (call seat.number event (Refused Crowded)) held notes.0 notes.2 notes.3
+  keeps_counting (Refused (Device fault)) notes held = law (call seat.number event (Refused (Device fault))) held notes.0 notes.2 notes.3
+  keeps_counting (Refused StoreFull) notes held = law (call seat.number event (Refused StoreFull)) held notes.0 notes.2 notes.3
+  keeps_counting (Refused NoRoom) notes held = law (call seat.number event (Refused NoRoom)) held notes.0 notes.2 notes.3
+  keeps_counting (Refused Failed) notes held = law (call seat.number event (Refused Failed)) held notes.0 notes.2 notes.3
+  keeps_counting (Refused Spent) notes held = law (call seat.number event (Refused Spent)) held notes.0 notes.2 notes.3
+  keeps_counting (Refused NoMemory) notes held = subst (λ (t : T). counts t after_totals.calls after_totals.accepted) (sym notes.0) (subst (λ (n : Totals). counts t0 n.calls n.accepted) (sym notes.1) held)
+  keeps_counting (Refused HistoryFull) notes held = subst (λ (t : T). counts t after_totals.calls after_totals.accepted) (sym notes.0) (subst (λ (n : Totals). counts t0 n.calls n.accepted) (sym notes.1) held)

@@ -1,0 +1,79 @@
+-- A book and a share name no thread, so a reference to one may go to another thread.
+use mathlib.Core.List.{List, [], ◌∷◌}
+use Prim.Native.Nat.{ℕ, zero, suc}
+use base.Shift.{Keyless}
+use denote.RattleType.{RattleType}
+use denote.Struct.Declared.{fields, shape}
+use denote.Struct.Struct.{Struct}
+use denote.Param.Send.{IsSend, IsSync, part_keyless}
+use Rattle.std.specs.Sync.Ledger.{chain, row, Rule, book_owns, share_owns}
+use Rattle.std.specs.declared.sync.ledger.Ledger.{Ghosts}
+use Rattle.silt_device.specs.declared.disk.Disk as Disk
+use Rattle.silt_desk.specs.declared.trace.Trace as Trace
+use Rattle.silt_desk.specs.declared.seat.Naming as Naming
+use Rattle.silt_desk.specs.contracts.desk.Desk as Desk
+use Rattle.silt_desk.specs.contracts.desk.Desk.TheInside as DeskInside
+use Rattle.silt_desk.specs.contracts.seat.Ledgers as Ledgers
+use Rattle.silt_desk.specs.contracts.seat.Ledgers.TheInside as LedgersInside
+use Rattle.silt_desk.specs.contracts.seat.CallsOf as CallsOf
+use Rattle.silt_desk.specs.contracts.seat.AcceptedOf as AcceptedOf
+use Rattle.silt_desk.specs.contracts.seat.CallsOfLedger.TheImpl as calls
+use Rattle.silt_desk.specs.contracts.seat.AcceptedOfLedger.TheImpl as accepted
+use denote.Param.Send.{AllSync, sendable, view_sync, struct_sync, recorded_sync}
+use Rattle.std.specs.contracts.sync.RwLock as RwLock
+use Rattle.std.proofs.sync.RwLock.TheSendSync.{the_sync as lock_sync}
+use Rattle.silt_desk.proofs.desk.Desk.TheSendSync.{the_send as desk_send}
+use Rattle.silt_store_set.proofs.store_core.Core.TheSendSync.{the_sync as core_sync}
+use Rattle.std.specs.contracts.sync.ledger.Book as Book
+use Rattle.std.specs.contracts.sync.ledger.Share as Share
+
+chain-Keyless : (xs : List (ℕ × ℕ)) (γ : ℕ) → Keyless (chain xs γ)
+chain-Keyless [] γ = (tt, tt)
+chain-Keyless (x ∷ xs) γ = λ c. (tt, (tt, (tt, chain-Keyless xs c.1)))
+
+row_Keyless : (i : ℕ) (x : ℕ × ℕ) (γ : ℕ) → Keyless (row i x γ)
+row_Keyless zero x γ = λ c. (tt, tt)
+row_Keyless (suc i) x γ = λ c. (tt, row_Keyless i x c.1)
+
+kept_keyless : (γ parts : ℕ) → Keyless (Rule γ parts)
+kept_keyless γ parts = λ s. (chain-Keyless ((0, s.0) ∷ s.1) γ, λ _. tt)
+
+book_keyless : (γ parts total : ℕ) → Keyless (book_owns γ parts total)
+unfolding book_owns
+book_keyless γ parts total = (kept_keyless γ parts, row_Keyless 0 (0, total) γ)
+
+share_keyless : (γ parts held amount : ℕ) → Keyless (share_owns γ parts held amount)
+unfolding share_owns
+share_keyless γ parts held amount = (kept_keyless γ parts, λ i. row_Keyless (suc i) (held, amount) γ)
+
+module _ (T : RattleType) (g : Ghosts T.Denot) where
+  book_send : IsSend (Book.the_row T g)
+  book_send = record { owned = λ d vs. ((λ vss. (tt, ((λ uss. (tt, tt)), tt))), book_keyless g.name g.parts d.total); leaving = λ k f vs. tt }
+
+  pub book_sync : IsSync (Book.the_row T g)
+  book_sync = record { shared = λ d b o κ. λ q. part_keyless (Book.the_row T g) book_send q d b o }
+
+  share_send : IsSend (Share.the_row T g)
+  share_send = record { owned = λ d vs. ((λ vss. (tt, ((λ uss. (tt, tt)), tt))), share_keyless g.name g.parts d.parts d.amount); leaving = λ k f vs. tt }
+
+  pub share_sync : IsSync (Share.the_row T g)
+  share_sync = record { shared = λ d b o κ. λ q. part_keyless (Share.the_row T g) share_send q d b o }
+
+ledgers_inside_sync : (N : RattleType) (h : Naming.Ghosts N.Denot) → IsSync (LedgersInside.the_row N h)
+ledgers_inside_sync N h =
+    let L = LedgersInside.the_type N h in
+    let k = calls.ghosts N h calls.no_dict in
+    let a = accepted.ghosts N h accepted.no_dict in
+    let all : AllSync (fields L) = (search sendable, (book_sync (CallsOf.the_row N) k, (book_sync (AcceptedOf.the_row N) a, (share_sync (CallsOf.the_row N) k, (share_sync (AcceptedOf.the_row N) a, tt))))) in recorded_sync (Struct (shape L)) L.D L.to L.to_one (struct_sync (shape L) all)
+
+pub ledgers_sync : (N : RattleType) (h : Naming.Ghosts N.Denot) → IsSync (Ledgers.the_row N h)
+ledgers_sync N h = view_sync _ _ _ _ _ (ledgers_inside_sync N h)
+
+module _ (D T N F : RattleType) (d : Disk.Ghosts D.Denot F.Denot) (t : Trace.Ghosts T.Denot) (n : Naming.Ghosts N.Denot) where
+  inside_sync : IsSync D → IsSync T → IsSync (DeskInside.the_row D T N F d t n)
+  inside_sync x y =
+      let I = DeskInside.the_type D T N F d t n in
+      let all : AllSync (fields I) = (core_sync D F d x, (y, (ledgers_sync N n, tt))) in recorded_sync (Struct (shape I)) I.D I.to I.to_one (struct_sync (shape I) all)
+
+  pub desk_sync : IsSync D → IsSync T → IsSync (Desk.the_row D T N F d t n)
+  desk_sync x y = view_sync _ _ _ _ _ (inside_sync x y)

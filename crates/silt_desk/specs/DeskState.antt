@@ -1,0 +1,53 @@
+-- What contracts see of a desk, and what its calls do.
+use Rattle.std.specs.Prelude.{◌≡◌, ◌⊎◌, ℕ, ◌+◌, Bool, MatchBool, Result, Ok, Err}
+use Rattle.silt_device.specs.Disk.{Content}
+use Rattle.silt_store_set.specs.CoreState.{CoreState, Does}
+use Rattle.silt_event.specs.Events.{plain}
+use Rattle.silt_event.specs.declared.event.Event.{Event}
+use Rattle.silt_event.specs.declared.refusal.Refusal.{Refusal}
+use Rattle.silt_event.specs.declared.refusal.Refusal.TheVariants.{NoMemory, HistoryFull}
+use Rattle.silt_event.specs.declared.reply.Reply.{Reply}
+use Rattle.silt_event.specs.declared.reply.Reply.TheVariants.{Refused}
+use Rattle.silt_desk.specs.declared.call.RecordedCall.{RecordedCall}
+use Rattle.silt_desk.specs.History.{accepted_by, call, is_recorded}
+use Rattle.silt_desk.specs.Seats.{SeatState, Totals, after_call}
+
+-- a store and the trace of its calls
+pub record DeskState (D T : Type 0) : Type 0 where
+  pub core : CoreState D
+  pub trace : T
+
+module _ {D F T : Type 0} (content : D → Content) (failures : D → ℕ) (gave : D → F → Type 0) (extends : T → RecordedCall → T → Type 0) (is_full takes_memory : T → Type 0) (old new : DeskState D T) (seat after : SeatState) (event : Event) (reply : Reply F) where
+  -- the store did the event and gave the reply, and exactly this call was recorded, for this seat
+  pub record Records : Type 0 where
+    pub done : Does content failures gave old.core new.core event reply
+    pub recorded : extends old.trace (call seat.number event (plain reply)) new.trace
+    pub seated : after ≡ after_call seat (accepted_by reply)
+
+  -- why a call is not recorded: the history is full, or a growth of memory was refused, to the trace or to the store
+  abbrev pub UnrecordedCause : Reply F → Type 0
+  UnrecordedCause (Refused HistoryFull) = is_full old.trace
+  UnrecordedCause (Refused NoMemory) = takes_memory old.trace ⊎ Does content failures gave old.core old.core event (Refused NoMemory)
+  UnrecordedCause other = ⊥
+
+  -- nothing is done, nothing is recorded, and the seat is as it was
+  pub record Refuses : Type 0 where
+    pub same : new ≡ old
+    pub seated : after ≡ seat
+    pub cause : UnrecordedCause reply
+
+  -- what one call at the desk does: it is recorded with what the store did, or nothing at all is done
+  abbrev pub Serves : Type 0
+  Serves = MatchBool (is_recorded reply) Records Refuses
+
+-- what is noted of one call: it is recorded and counted, or nothing is
+abbrev pub Notes : {T : Type 0} → (T → RecordedCall → T → Type 0) → T → T → Totals → Totals → SeatState → SeatState → Event → Reply (Unit {0}) → Type 0
+Notes extends old new totals after_totals seat after event reply =
+    MatchBool (is_recorded reply)
+    (extends old (call seat.number event reply) new × (after ≡ after_call seat (accepted_by reply)) × (after_totals.calls ≡ totals.calls + 1) × (after_totals.accepted ≡ totals.accepted + accepted_by reply))
+    ((new ≡ old) × (after_totals ≡ totals) × (after ≡ seat))
+
+-- whether a look found a value
+abbrev pub found_of : {F : Type 0} → Result (ℕ × Bool) (Refusal F) → Result Bool (Refusal F)
+found_of (Ok answer) = Ok answer.1
+found_of (Err refusal) = Err refusal

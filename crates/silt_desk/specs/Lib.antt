@@ -1,0 +1,9 @@
+pub mod DeskState
+pub mod History
+pub mod Notes
+pub mod Preparing
+pub mod Seats
+pub mod Seeing
+pub mod TraceLaws
+pub mod Traces
+pub mod Turns

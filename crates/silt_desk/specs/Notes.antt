@@ -1,0 +1,33 @@
+-- A call with its answer, before the bytes of a value are copied.
+use Rattle.std.specs.Prelude.{ℕ, List, Result, Ok, Err}
+use Rattle.silt_event.specs.Events.{plain_refusal}
+use Rattle.silt_store_set.specs.Replies.{change_reply, flush_reply, get_reply, progress_reply}
+use Rattle.silt_event.specs.declared.event.Event.{Event}
+use Rattle.silt_event.specs.declared.event.Event.TheVariants as event
+use Rattle.silt_event.specs.declared.refusal.Refusal.{Refusal}
+use Rattle.silt_event.specs.declared.reply.Reply.{Reply}
+use Rattle.silt_desk.specs.declared.call.Note.{Note}
+use Rattle.silt_desk.specs.declared.call.Note.TheVariants.{Put, Delete, Flush, Get, Convert, Merge}
+
+-- an answer without its fault
+abbrev pub plain_answer : {A F : Type 0} → Result A (Refusal F) → Result A (Refusal (Unit {0}))
+plain_answer (Ok a) = Ok a
+plain_answer (Err refusal) = Err (plain_refusal refusal)
+
+-- what was asked, where these are the bytes of the value
+abbrev pub event_of : Note → List ℕ → Event
+event_of (Put key answer) value = event.Put key value
+event_of (Delete key answer) value = event.Delete key
+event_of (Flush answer) value = event.Flush
+event_of (Get key answer) value = event.Get key
+event_of (Convert answer) value = event.Convert
+event_of (Merge answer) value = event.Merge
+
+-- what was answered, where these are the bytes of the value
+abbrev pub reply_of : Note → List ℕ → Reply (Unit {0})
+reply_of (Put key answer) value = change_reply answer
+reply_of (Delete key answer) value = change_reply answer
+reply_of (Flush answer) value = flush_reply answer
+reply_of (Get key answer) value = get_reply value answer
+reply_of (Convert answer) value = progress_reply answer
+reply_of (Merge answer) value = progress_reply answer

@@ -1,0 +1,15 @@
+-- Why a further call cannot be recorded.
+use Rattle.silt_event.specs.declared.refusal.Refusal.{Refusal}
+use Rattle.silt_event.specs.declared.refusal.Refusal.TheVariants as refusal
+use Rattle.silt_desk.specs.declared.trace.NotPrepared.{NotPrepared}
+use Rattle.silt_desk.specs.declared.trace.NotPrepared.TheVariants.{Full, NoMemory}
+
+-- the history is full, or its records take memory and a growth was refused
+abbrev pub NotPreparedCause : Type 0 → Type 0 → NotPrepared → Type 0
+NotPreparedCause full takes Full = full
+NotPreparedCause full takes NoMemory = takes
+
+-- the refusal by which that is told
+abbrev pub refusal_of : {F : Type 0} → NotPrepared → Refusal F
+refusal_of Full = refusal.HistoryFull
+refusal_of NoMemory = refusal.NoMemory

@@ -1,0 +1,15 @@
+-- What a step's answer asks of a worker.
+use Rattle.std.specs.Prelude.{Result, Ok, Err}
+use Rattle.silt_event.specs.declared.progress.Progress.{Progress}
+use Rattle.silt_event.specs.declared.progress.Progress.TheVariants.{Idle, Waiting, Moved, Finished}
+use Rattle.silt_event.specs.declared.refusal.Refusal.{Refusal}
+use Rattle.silt_desk.specs.declared.worker.Turn.{Turn}
+use Rattle.silt_desk.specs.declared.worker.Turn.TheVariants.{GoOn, WakeOther, Wait}
+
+-- a worker goes on where work was done, wakes the other one where it is finished, and waits where there is none or it is refused
+abbrev pub turn_of : {F : Type 0} → Result Progress (Refusal F) → Turn
+turn_of (Ok Moved) = GoOn
+turn_of (Ok Finished) = WakeOther
+turn_of (Ok Idle) = Wait
+turn_of (Ok Waiting) = Wait
+turn_of (Err refusal) = Wait

@@ -1,0 +1,136 @@
+// A call at a desk, with its answer.
+ghost use Rattle.std.specs.Prelude.{◌≡◌, ℕ, List};
+ghost use Rattle.silt_event.specs.Events.{plain_refusal};
+ghost use Rattle.silt_store_set.specs.Replies.{change_reply, get_reply, progress_reply};
+ghost use Rattle.silt_event.specs.declared.reply.Reply.TheVariants as reply_case;
+ghost use Rattle.silt_desk.specs.History.{accepted_by, is_recorded};
+ghost use Rattle.silt_desk.specs.Notes.{event_of, plain_answer, reply_of};
+
+use silt_event::{Event, Progress, Refusal, Reply};
+use silt_frame::{Key, Value};
+
+/// A call that is recorded: by which seat, what was asked and what was answered.
+#[derive(Debug, Drop)]
+pub struct RecordedCall {
+    pub seat: u64,
+    pub event: Event,
+    pub reply: Reply<()>,
+}
+
+/// A call with its answer, but for the bytes of a value.
+#[derive(Clone, Copy, Debug, Drop)]
+pub enum Note {
+    Put(Key, Result<u64, Refusal<()>>),
+    Delete(Key, Result<u64, Refusal<()>>),
+    Flush(Result<u64, Refusal<()>>),
+    Get(Key, Result<bool, Refusal<()>>),
+    Convert(Result<Progress, Refusal<()>>),
+    Merge(Result<Progress, Refusal<()>>),
+}
+
+impl Note {
+    /// 1 for an accepted command, else 0.
+    pub fn acceptance(&self) -> u64
+        ensures { (value : List ℕ) → result ≡ accepted_by (reply_of self.now value) }
+    {
+        match self {
+            Note::Put(_, Ok(_)) | Note::Delete(_, Ok(_)) => 1,
+            _ => 0,
+        }
+    }
+
+    /// Whether a call that was answered so is recorded.
+    pub fn is_recorded(&self) -> bool
+        ensures { (value : List ℕ) → result ≡ is_recorded (reply_of self.now value) }
+    {
+        match self {
+            Note::Put(_, Err(refusal)) | Note::Delete(_, Err(refusal)) => is_record(refusal),
+            Note::Flush(Err(refusal)) | Note::Get(_, Err(refusal)) => is_record(refusal),
+            Note::Convert(Err(refusal)) | Note::Merge(Err(refusal)) => is_record(refusal),
+            _ => true,
+        }
+    }
+
+    /// The call and its answer, where these are the bytes of the value.
+    pub fn with_value(self, bytes: Vec<u8>) -> (Event, Reply<()>)
+        ensures event { result.0 ≡ event_of self bytes.items }
+        ensures reply { result.1 ≡ reply_of self bytes.items }
+    {
+        match self {
+            Note::Put(key, answer) => (Event::Put(key, Value::new(bytes)), accepted(answer)),
+            Note::Delete(key, answer) => (Event::Delete(key), accepted(answer)),
+            Note::Flush(Ok(count)) => (Event::Flush, Reply::Acknowledged(count)),
+            Note::Flush(Err(refusal)) => (Event::Flush, Reply::Refused(refusal)),
+            Note::Get(key, answer) => (Event::Get(key), found(answer, bytes)),
+            Note::Convert(answer) => (Event::Convert, progressed(answer)),
+            Note::Merge(answer) => (Event::Merge, progressed(answer)),
+        }
+    }
+}
+
+// Whether a refusal is recorded.
+fn is_record(refusal: &Refusal<()>) -> bool
+    ensures { result ≡ is_recorded (reply_case.Refused refusal.now) }
+{
+    !matches!(refusal, Refusal::NoMemory | Refusal::HistoryFull)
+}
+
+// The reply to a put or a delete.
+fn accepted(answer: Result<u64, Refusal<()>>) -> Reply<()>
+    ensures { result ≡ change_reply answer }
+{
+    match answer {
+        Ok(count) => Reply::Accepted(count),
+        Err(refusal) => Reply::Refused(refusal),
+    }
+}
+
+// The reply to a get, where these bytes were found.
+fn found(answer: Result<bool, Refusal<()>>, bytes: Vec<u8>) -> Reply<()>
+    ensures { result ≡ get_reply bytes.items answer }
+{
+    match answer {
+        Ok(true) => Reply::Found(Value::new(bytes)),
+        Ok(false) => Reply::Absent,
+        Err(refusal) => Reply::Refused(refusal),
+    }
+}
+
+// The reply to a step in the background.
+fn progressed(answer: Result<Progress, Refusal<()>>) -> Reply<()>
+    ensures { result ≡ progress_reply answer }
+{
+    match answer {
+        Ok(progress) => Reply::Progress(progress),
+        Err(refusal) => Reply::Refused(refusal),
+    }
+}
+
+/// An answer without its fault.
+pub fn plain<A: Copy, F>(answer: &Result<A, Refusal<F>>) -> Result<A, Refusal<()>>
+    ensures { result ≡ plain_answer answer.now }
+{
+    match answer {
+        Ok(answered) => Ok(*answered),
+        Err(refusal) => Err(without_fault(refusal)),
+    }
+}
+
+// A refusal without its fault.
+fn without_fault<F>(refusal: &Refusal<F>) -> Refusal<()>
+    ensures { result ≡ plain_refusal refusal.now }
+{
+    match refusal {
+        Refusal::NotFormatted => Refusal::NotFormatted,
+        Refusal::BadGeometry => Refusal::BadGeometry,
+        Refusal::Damaged(place) => Refusal::Damaged(*place),
+        Refusal::Crowded => Refusal::Crowded,
+        Refusal::Device(_) => Refusal::Device(()),
+        Refusal::NoMemory => Refusal::NoMemory,
+        Refusal::StoreFull => Refusal::StoreFull,
+        Refusal::NoRoom => Refusal::NoRoom,
+        Refusal::Failed => Refusal::Failed,
+        Refusal::Spent => Refusal::Spent,
+        Refusal::HistoryFull => Refusal::HistoryFull,
+    }
+}

@@ -1,0 +1,307 @@
+// A store with its trace, whose callers have seats.
+ghost use Rattle.std.specs.Prelude.{◌≡◌, ◌≢◌, ℕ, ◌+◌, ◌<◌, ◌%◌, ◌^◌, Some, Ok, false, length, IfOk, IfErr, OnOk, MatchResult, vec_len, vec_capacity, slice_get};
+ghost use Rattle.silt_event.specs.Events.{plain};
+ghost use Rattle.silt_desk.specs.DeskState.{Notes};
+ghost use Rattle.silt_desk.specs.Notes.{event_of, reply_of};
+ghost use Rattle.silt_desk.specs.Preparing.{refusal_of};
+ghost use Rattle.silt_desk.specs.Seats.{accepted_of, calls_of, fresh};
+
+use crate::call::{Note, plain};
+use crate::seat::{Ledgers, MissingSeats, Naming, Seat};
+use crate::trace::{NotPrepared, Trace};
+use silt_device::{Disk, Geometry};
+use silt_event::{Progress, Refusal};
+use silt_frame::Key;
+use silt_store_set::Core;
+use std::alloc::Global;
+use std::marker::Model;
+use std::sync::ledger::Blank;
+
+/// A store with the trace of its calls. Contracts see the two.
+#[derive(Drop)]
+pub struct Desk<D: Disk, T: Trace, N: Naming> {
+    core: Core<D>,
+    trace: T,
+    ledgers: Ledgers<N>,
+}
+
+/// The store and the trace, where a desk found no memory for its seats.
+#[derive(Drop)]
+pub struct NotMade<D: Disk, T: Trace> {
+    pub core: Core<D>,
+    pub trace: T,
+}
+
+impl<D: Disk, T: Trace, N: Naming> Model for Desk<D, T, N> {
+    ghost use Rattle.std.specs.Coded.{codes};
+    ghost use Rattle.silt_event.specs.Commands.{map_code};
+    ghost use Rattle.silt_desk.specs.DeskState.{DeskState};
+    ghost use Rattle.silt_desk.specs.Seeing.{seen};
+
+    ghost Value = { DeskState D T };
+
+    ghost coded = { Prim.hlevel (codes, map_code) };
+
+    ghost view = { λ d. record { core = d.core; trace = d.trace } };
+
+    ghost invariant = { λ d. T.agrees d.trace (seen D.content d.core) × T.counts d.trace d.ledgers.calls d.ledgers.accepted };
+}
+
+// Notes one call in the trace, with the seat and in the ledgers, where it is recorded.
+fn note<T: Trace, N: Naming>(
+    trace: &mut T,
+    ledgers: &mut Ledgers<N>,
+    seat: &mut Seat<N>,
+    room: Vec<u8>,
+    note: Note,
+    value: &[u8],
+)
+    requires room { T.is_full trace.old → ⊥ }
+    requires fits { T.fits (vec_capacity room) (length value.now) }
+    ensures { Notes T.extends trace.old trace.new ledgers.old ledgers.new seat.old seat.new (event_of note value.now) (reply_of note value.now) }
+{
+    if note.is_recorded() {
+        trace.record(seat.number(), note, value, room);
+        ledgers.count(seat, note.acceptance());
+    }
+}
+
+// Why a call is refused for which no record can be made.
+fn refusal<F>(lack: NotPrepared) -> Refusal<F>
+    ensures { result ≡ refusal_of lack }
+{
+    match lack {
+        NotPrepared::Full => Refusal::HistoryFull,
+        NotPrepared::NoMemory => Refusal::NoMemory,
+    }
+}
+
+impl<D: Disk, T: Trace, N: Naming> Desk<D, T, N> {
+    ghost use Rattle.std.specs.Prelude.{IsErrOf};
+    ghost use Rattle.silt_device.specs.Disk.{GaveAny, LeavesOnly};
+    ghost use Rattle.silt_stores.specs.Calls.{StandsUnsorted};
+    ghost use Rattle.silt_store_set.specs.CoreInvariant.{LeavesBegun};
+    ghost use Rattle.silt_store_set.specs.CoreState.{Does};
+    ghost use Rattle.silt_store_set.specs.Replies.{change_reply, flush_reply, get_reply, progress_reply};
+    ghost use Rattle.silt_event.specs.declared.event.Event.TheVariants.{Put, Delete, Get, Flush, Convert, Merge};
+    ghost use Rattle.silt_desk.specs.DeskState.{Serves, found_of};
+    ghost use Rattle.silt_desk.specs.Seeing.{seen};
+
+    /// A desk with so many seats, numbered from 0. The two blanks become its ledgers.
+    ///
+    /// # Errors
+    ///
+    /// Where the list of seats finds no memory. Then the store and the trace are given back.
+    pub fn new(
+        alloc: Global,
+        core: Core<D>,
+        trace: T,
+        seats: u64,
+        calls: Blank,
+        accepted: Blank,
+    ) -> Result<(Desk<D, T, N>, Vec<Seat<N>>), NotMade<D, T>>
+        requires calls { (calls.name ≡ N.calls_name) × (calls.parts ≡ N.seats) }
+        requires accepted { (accepted.name ≡ N.accepted_name) × (accepted.parts ≡ N.seats) }
+        requires seats { seats ≡ N.seats }
+        requires trace { T.agrees trace (seen D.content core) × T.counts trace 0 0 }
+        ensures desk { IfOk result (λ r. (r.0.core ≡ core) × (r.0.trace ≡ trace)) }
+        ensures seats { IfOk result (λ r. (vec_len r.1 ≡ seats) × ((k : ℕ) → k < seats → slice_get r.1.items k ≡ Some (fresh k))) }
+        ensures err { IfErr result (λ e. (e.core ≡ core) × (e.trace ≡ trace)) }
+    {
+        match Ledgers::new(alloc, seats, calls, accepted) {
+            Ok((ledgers, places)) => Ok((
+                Desk {
+                    core,
+                    trace,
+                    ledgers,
+                },
+                places,
+            )),
+            Err(_) => Err(NotMade { core, trace }),
+        }
+    }
+
+    /// The six numbers of the store.
+    pub fn geometry(&self) -> Geometry
+        ensures { result ≡ self.now.core.shape }
+    {
+        self.core.geometry()
+    }
+
+    /// Sets the value of a key, as a recorded call, and answers how many commands are accepted, this one included.
+    pub fn put(
+        &mut self,
+        alloc: Global,
+        seat: &mut Seat<N>,
+        key: &Key,
+        value: &[u8],
+    ) -> Result<u64, Refusal<D::Fault>>
+        requires { length value.now ≡ self.old.core.shape.value_len }
+        ensures { Serves D.content D.failures (GaveAny D.gave) T.extends T.is_full T.takes_memory self.old self.new seat.old seat.new (Put key.now value.now) (change_reply result) }
+    {
+        let room = match self.trace.prepare(alloc, value.len()) {
+            Ok(room) => room,
+            Err(lack) => return Err(refusal(lack)),
+        };
+        let answer = self.core.put(alloc, key, value);
+        let noted = Note::Put(*key, plain(&answer));
+        note(&mut self.trace, &mut self.ledgers, seat, room, noted, value);
+        answer
+    }
+
+    /// Takes a key's value away, as a recorded call, and answers how many commands are accepted, this one included.
+    pub fn delete(
+        &mut self,
+        alloc: Global,
+        seat: &mut Seat<N>,
+        key: &Key,
+    ) -> Result<u64, Refusal<D::Fault>>
+        ensures { Serves D.content D.failures (GaveAny D.gave) T.extends T.is_full T.takes_memory self.old self.new seat.old seat.new (Delete key.now) (change_reply result) }
+    {
+        let room = match self.trace.prepare(alloc, 0) {
+            Ok(room) => room,
+            Err(lack) => return Err(refusal(lack)),
+        };
+        let answer = self.core.delete(alloc, key);
+        let noted = Note::Delete(*key, plain(&answer));
+        note(&mut self.trace, &mut self.ledgers, seat, room, noted, &[]);
+        answer
+    }
+
+    /// Acknowledges all commands accepted so far, as a recorded call, and answers their number.
+    pub fn flush(&mut self, alloc: Global, seat: &mut Seat<N>) -> Result<u64, Refusal<D::Fault>>
+        ensures { Serves D.content D.failures (GaveAny D.gave) T.extends T.is_full T.takes_memory self.old self.new seat.old seat.new Flush (flush_reply result) }
+    {
+        let room = match self.trace.prepare(alloc, 0) {
+            Ok(room) => room,
+            Err(lack) => return Err(refusal(lack)),
+        };
+        let answer = self.core.flush();
+        let noted = Note::Flush(plain(&answer));
+        note(&mut self.trace, &mut self.ledgers, seat, room, noted, &[]);
+        answer
+    }
+
+    /// Writes a key's value over `out`, as a recorded call, and answers whether there is one. Where there is none `out` stays as it was.
+    pub fn get(
+        &mut self,
+        alloc: Global,
+        seat: &mut Seat<N>,
+        key: &Key,
+        out: &mut [u8],
+    ) -> Result<bool, Refusal<D::Fault>>
+        requires { length out.old ≡ self.old.core.shape.value_len }
+        ensures reply { Serves D.content D.failures (GaveAny D.gave) T.extends T.is_full T.takes_memory self.old self.new seat.old seat.new (Get key.now) (get_reply out.new result) }
+        ensures absent { result ≡ Ok false → out.new ≡ out.old }
+        ensures memory { IsErrOf result Refusal.NoMemory → T.takes_memory self.old.trace }
+    {
+        let room = match self.trace.prepare(alloc, out.len()) {
+            Ok(room) => room,
+            Err(lack) => return Err(refusal(lack)),
+        };
+        let answer = self.core.get(key, out);
+        let noted = Note::Get(*key, plain(&answer));
+        note(&mut self.trace, &mut self.ledgers, seat, room, noted, out);
+        answer
+    }
+
+    /// One step of conversion, as a recorded call.
+    pub fn convert(
+        &mut self,
+        alloc: Global,
+        seat: &mut Seat<N>,
+    ) -> Result<Progress, Refusal<D::Fault>>
+        ensures { Serves D.content D.failures (GaveAny D.gave) T.extends T.is_full T.takes_memory self.old self.new seat.old seat.new Convert (progress_reply result) }
+    {
+        let room = match self.trace.prepare(alloc, 0) {
+            Ok(room) => room,
+            Err(lack) => return Err(refusal(lack)),
+        };
+        let answer = self.core.convert(alloc);
+        let noted = Note::Convert(plain(&answer));
+        note(&mut self.trace, &mut self.ledgers, seat, room, noted, &[]);
+        answer
+    }
+
+    /// One step of merging, as a recorded call.
+    pub fn merge(
+        &mut self,
+        alloc: Global,
+        seat: &mut Seat<N>,
+    ) -> Result<Progress, Refusal<D::Fault>>
+        ensures { Serves D.content D.failures (GaveAny D.gave) T.extends T.is_full T.takes_memory self.old self.new seat.old seat.new Merge (progress_reply result) }
+    {
+        let room = match self.trace.prepare(alloc, 0) {
+            Ok(room) => room,
+            Err(lack) => return Err(refusal(lack)),
+        };
+        let answer = self.core.merge();
+        let noted = Note::Merge(plain(&answer));
+        note(&mut self.trace, &mut self.ledgers, seat, room, noted, &[]);
+        answer
+    }
+
+    /// Writes a key's value over `out`, and answers how many commands are accepted and whether the key has a value. Nothing is recorded,
+    /// and nothing is changed: looks may be made side by side.
+    pub fn look(&self, key: &Key, out: &mut [u8]) -> Result<(u64, bool), Refusal<D::Fault>>
+        requires { length out.old ≡ self.now.core.shape.value_len }
+        ensures reply { Does D.content D.failures (GaveAny D.gave) self.now.core self.now.core (Get key.now) (get_reply out.new (found_of result)) }
+        ensures count { IfOk result (λ r. r.0 ≡ self.now.core.count) }
+        ensures absent { found_of result ≡ Ok false → out.new ≡ out.old }
+        ensures memory { ¬ IsErrOf result Refusal.NoMemory }
+    {
+        match self.core.get(key, out) {
+            Ok(found) => Ok((self.core.count(), found)),
+            Err(refusal) => Err(refusal),
+        }
+    }
+
+    /// The trace, which agrees with the store as it now stands.
+    pub fn trace(&self) -> &T
+        ensures trace { result.now ≡ self.now.trace }
+        ensures agrees { T.agrees self.now.trace (seen D.content self.now.core) }
+    {
+        &self.trace
+    }
+
+    /// Where all seats are here: how many calls are recorded, and how many of them are accepted commands, both modulo 2^64. These are
+    /// the sums of what was done from the seats.
+    ///
+    /// # Errors
+    ///
+    /// Where a seat is lacking. Then all are handed back.
+    pub fn settle(&mut self, seats: Vec<Seat<N>>) -> Result<(u64, u64), MissingSeats<N>>
+        ensures same { self.new ≡ self.old }
+        ensures counts { OnOk result (T.counts self.old.trace (calls_of seats.items) (accepted_of seats.items)) }
+        ensures sums { IfOk result (λ r. (r.0 ≡ calls_of seats.items % 2 ^ 64) × (r.1 ≡ accepted_of seats.items % 2 ^ 64)) }
+        ensures missing { MatchResult result (λ _. vec_len seats ≡ N.seats) (λ e. (e.seats.items ≡ seats.items) × (vec_len seats ≢ N.seats)) }
+    {
+        match self.ledgers.settle(seats) {
+            Ok(()) => Ok(self.trace.numbers()),
+            Err(missing) => Err(missing),
+        }
+    }
+
+    /// The store. Its trace and its seats are given up.
+    pub fn into_core(self) -> Core<D>
+        ensures core { result ≡ self.core }
+        ensures agrees { T.agrees self.trace (seen D.content self.core) }
+    {
+        let Desk {
+            core,
+            trace: _,
+            ledgers: _,
+        } = self;
+        core
+    }
+
+    /// Gives the device back, at any moment. Each image that a stop may leave of it stands for the base, or, where the store is failed, for
+    /// one map after a beginning of one list of commands.
+    pub fn close(self) -> D
+        ensures disk { result ≡ self.core.disk }
+        ensures safe { self.core.failed ≡ false → LeavesOnly (D.content result) (StandsUnsorted self.core.shape self.core.base) }
+        ensures left { LeavesBegun (D.content result) self.core.shape }
+    {
+        self.into_core().close()
+    }
+}

@@ -1,0 +1,149 @@
+// A trace that keeps every call.
+ghost use Rattle.std.specs.Prelude.{◌≡◌, ◌≤◌, ◌≢◌, [], length, false, IsTrue, IfOk, IfErr, OnOk, vec_capacity};
+ghost use Rattle.silt_device.specs.Disk.{GaveAny};
+ghost use Rattle.silt_store_set.specs.CoreState.{EntriesCause, map_of};
+ghost use Rattle.silt_desk.specs.Seeing.{seen};
+ghost use Rattle.silt_desk.specs.Traces.{HasEntries, IsHistory};
+
+use crate::call::{Note, RecordedCall};
+use crate::trace::{NotPrepared, Trace};
+use silt_device::Disk;
+use silt_event::Refusal;
+use silt_frame::{Key, Value};
+use silt_store_set::Core;
+use std::alloc::Global;
+use std::collections::BTreeMap;
+use std::marker::Model;
+
+/// The entries of a store when its history began, how many commands had been accepted by then, and all calls that were recorded
+/// since, at most so many as there were places for at first.
+#[derive(Drop)]
+pub struct Kept {
+    opening: BTreeMap<Key, Value>,
+    count: u64,
+    calls: Vec<RecordedCall>,
+    accepted: u64,
+    most: u64,
+}
+
+impl Model for Kept {
+    ghost use Rattle.std.specs.Prelude.{◌≡◌, ◌≤◌, vec_len, vec_capacity};
+    ghost use Rattle.silt_desk.specs.Traces.{Keeping};
+
+    ghost Value = { Keeping };
+
+    ghost use Rattle.silt_desk.specs.History.{count_accepted};
+
+    ghost view = { λ k. record { opening = k.opening.entries; count = k.count; calls = k.calls.items; most = k.most } };
+
+    ghost invariant = { λ k. (vec_len k.calls ≤ k.most) × (k.most ≤ vec_capacity k.calls) × (k.accepted ≡ count_accepted k.calls.items) };
+}
+
+impl Kept {
+    /// Room for so many calls of this store, as it stands.
+    ///
+    /// # Errors
+    ///
+    /// `Failed`, `Device` with the fault of a read, `NoMemory`.
+    pub fn new<D: Disk>(alloc: Global, core: &Core<D>, most: u64) -> Result<Kept, Refusal<D::Fault>>
+        ensures entries { IsTrue (D.content core.now.disk).honest → IfOk result (λ kept. HasEntries kept.opening (map_of core.now)) }
+        ensures count { IfOk result (λ kept. kept.count ≡ core.now.count) }
+        ensures calls { IfOk result (λ kept. (kept.calls ≡ []) × (kept.most ≡ most)) }
+        ensures working { OnOk result (core.now.failed ≡ false) }
+        ensures cause { IfErr result (EntriesCause (GaveAny D.gave) core.now) }
+        ensures history { IfOk result (λ kept. IsHistory kept (seen D.content core.now)) }
+    {
+        let opening = core.entries(alloc)?;
+        let Ok(calls) = Vec::with_capacity(alloc, most as usize) else {
+            return Err(Refusal::NoMemory);
+        };
+        Ok(Kept {
+            opening,
+            count: core.count(),
+            calls,
+            accepted: 0,
+            most,
+        })
+    }
+
+    /// The entries of the store when the history began.
+    pub fn opening(&self) -> &BTreeMap<Key, Value>
+        ensures { result.now.entries ≡ self.now.opening }
+    {
+        &self.opening
+    }
+
+    /// How many commands had been accepted when the history began.
+    pub fn count(&self) -> u64
+        ensures { result ≡ self.now.count }
+    {
+        self.count
+    }
+
+    /// The recorded calls, in order.
+    pub fn calls(&self) -> &[RecordedCall]
+        ensures { result.now ≡ self.now.calls }
+    {
+        self.calls.as_slice()
+    }
+}
+
+impl Trace for Kept {
+    ghost use Rattle.std.specs.Prelude.{◌≡◌, ◌+◌, ◌≤◌, length};
+    ghost use Rattle.silt_desk.specs.History.{count_accepted};
+    ghost use Rattle.silt_desk.specs.Traces.{IsHistory, with_call};
+    ghost use Rattle.silt_desk.specs.TraceLaws.{history_more, length_after, accepted_after};
+
+    ghost agrees = { λ k s. IsHistory k s };
+
+    ghost counts = { λ k n m. (length k.calls ≡ n) × (count_accepted k.calls ≡ m) };
+
+    ghost extends = { λ a c b. b ≡ with_call a c };
+
+    ghost is_full = { λ k. k.most ≤ length k.calls };
+
+    ghost takes_memory = { λ k. Unit {0} };
+
+    ghost fits = { λ capacity len. len ≤ capacity };
+
+    ghost agrees_after = { λ a b c s t agrees extends step. history_more a b c s t agrees extends step };
+
+    ghost counts_after = { λ a b c n m k l counts extends more accepted. (length_after a b c n k counts.0 extends more, accepted_after a b c m l counts.1 extends accepted) };
+
+    fn prepare(&self, alloc: Global, len: usize) -> Result<Vec<u8>, NotPrepared> {
+        if self.calls.len() as u64 >= self.most {
+            return Err(NotPrepared::Full);
+        }
+        match Vec::with_capacity(alloc, len) {
+            Ok(room) => Ok(room),
+            Err(_) => Err(NotPrepared::NoMemory),
+        }
+    }
+
+    #[tactic(auto, using(crate::specs::TraceLaws::accepted_laws))]
+    fn record(&mut self, seat: u64, note: Note, value: &[u8], room: Vec<u8>) {
+        let acceptance = note.acceptance();
+        let (event, reply) = note.with_value(filled(room, value));
+        self.accepted += acceptance;
+        self.calls
+            .push_reserved(RecordedCall { seat, event, reply });
+    }
+
+    #[tactic(auto, using(crate::specs::TraceLaws::accepted_laws))]
+    fn numbers(&self) -> (u64, u64) {
+        (self.calls.len() as u64, self.accepted)
+    }
+}
+
+// The bytes, in a room that holds them.
+fn filled(room: Vec<u8>, bytes: &[u8]) -> Vec<u8>
+    requires { length bytes.now ≤ vec_capacity room }
+    ensures { result.items ≡ bytes.now }
+{
+    let mut room = room;
+    room.clear();
+    for byte in bytes {
+        room.push_reserved(*byte);
+    }
+    room
+}

@@ -1,0 +1,37 @@
+//! One store for many threads: a desk under one lock, at which each caller has a seat.
+//!
+//! A [`Desk`] is a store with a [`Trace`] of its calls. A caller has a [`Seat`]; each call at the desk does the store's call and records it:
+//! the seat's number, what was asked, what was answered. So the recorded calls are a history of one thread, whatever threads made them.
+//! [`Kept`] keeps all of them behind the entries at which they began, and its type says that their replay is the store's map;
+//! [`Count`] keeps their number. A look records nothing, and looks are made side by side.
+//!
+//! [`Shared`] is the desk under a lock for readers and writers, and nothing more: who has a guard makes the desk's own calls. [`settle`]
+//! tells, once all seats are given back, how many calls are recorded and how many commands accepted: as many as the callers were answered.
+//!
+//! [`converter`] and [`merger`] are loops for threads of their own that do the store's steps in the background, one under each guard.
+//! Nothing is claimed of waiting: not that a call comes to its turn, nor in which order, nor that a message arrives.
+#![tactic(auto)]
+
+mod call;
+mod count;
+mod desk;
+mod kept;
+mod seat;
+mod shared;
+#[cfg(test)]
+mod tests;
+mod trace;
+mod worker;
+
+pub use call::{Note, RecordedCall};
+pub use count::Count;
+pub use desk::{Desk, NotMade};
+pub use kept::Kept;
+pub use seat::{MissingSeats, Naming, Seat};
+pub use shared::{Shared, settle};
+pub use silt_inbox::{
+    Answered, EventKind, Feeder, Inbox, MissingFeeders, NotPushed, NotPut, NotPutReason, Post,
+    Queue, Taker, answered_law,
+};
+pub use trace::{NotPrepared, Trace};
+pub use worker::{Gate, Spot, Turn, Wake, convert_once, converter, merge_once, merger};

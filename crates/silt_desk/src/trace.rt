@@ -1,0 +1,58 @@
+// What a desk remembers of its calls.
+ghost use Rattle.std.specs.Prelude.{◌≡◌, ℕ, ◌+◌, ◌%◌, ◌^◌, MatchResult, length, vec_capacity};
+ghost use Rattle.silt_desk.specs.History.{accepted_by, call};
+ghost use Rattle.silt_desk.specs.Notes.{event_of, reply_of};
+ghost use Rattle.silt_desk.specs.Seeing.{SeenStore, SeenStep};
+ghost use Rattle.silt_desk.specs.Preparing.{NotPreparedCause};
+ghost use Rattle.silt_desk.specs.declared.call.RecordedCall.{RecordedCall as Recorded};
+
+use crate::call::Note;
+use std::alloc::Global;
+
+/// Why a further call cannot be recorded.
+#[derive(Clone, Copy, Debug, PartialEq, Eq)]
+pub enum NotPrepared {
+    /// As many calls are recorded as may be.
+    Full,
+    /// No memory was found for the record.
+    NoMemory,
+}
+
+/// What remembers the calls at a desk.
+pub trait Trace: Drop {
+    /// The recorded calls lead to this store.
+    ghost agrees: { Self → SeenStore → Type 0 };
+
+    /// So many calls are recorded, and so many of them are accepted commands.
+    ghost counts: { Self → ℕ → ℕ → Type 0 };
+
+    /// The last trace is the first with this call more.
+    ghost extends: { Self → Recorded → Self → Type 0 };
+
+    /// No further call can be recorded.
+    ghost is_full: { Self → Type 0 };
+
+    /// Its records take memory.
+    ghost takes_memory: { Self → Type 0 };
+
+    /// A room of this capacity will do for a value of this length.
+    ghost fits: { ℕ → ℕ → Type 0 };
+
+    /// Finds the memory for the record of a call whose value has so many bytes.
+    fn prepare(&self, alloc: Global, len: usize) -> Result<Vec<u8>, NotPrepared>
+        ensures { MatchResult result (λ room. (is_full self.now → ⊥) × fits (vec_capacity room) len) (NotPreparedCause (is_full self.now) (takes_memory self.now)) };
+
+    /// Records a call of a seat, where these are the bytes of its value.
+    fn record(&mut self, seat: u64, note: Note, value: &[u8], room: Vec<u8>)
+        requires room { is_full self.old → ⊥ }
+        requires fits { fits (vec_capacity room) (length value.now) }
+        ensures { extends self.old (call seat (event_of note value.now) (reply_of note value.now)) self.new };
+
+    /// How many calls are recorded, and how many of them are accepted commands, both modulo 2^64.
+    fn numbers(&self) -> (u64, u64)
+        ensures { (n m : ℕ) → counts self.now n m → (result.0 ≡ n % 2 ^ 64) × (result.1 ≡ m % 2 ^ 64) };
+
+    ghost agrees_after: { (a b : Self) (c : Recorded) (s t : SeenStore) → agrees a s → extends a c b → SeenStep s t c.event c.reply → agrees b t };
+
+    ghost counts_after: { (a b : Self) (c : Recorded) (n m k l : ℕ) → counts a n m → extends a c b → k ≡ n + 1 → l ≡ m + accepted_by c.reply → counts b k l };
+}

@@ -1,0 +1,146 @@
+// Workers that do a store's steps in the background, one under each guard.
+ghost use Rattle.std.specs.Prelude.{◌≡◌, Result};
+ghost use Rattle.silt_device.specs.Disk.{GaveAny};
+ghost use Rattle.silt_event.specs.declared.progress.Progress.{Progress as ProgressOf};
+ghost use Rattle.silt_store_set.specs.Replies.{progress_reply};
+ghost use Rattle.silt_event.specs.declared.event.Event.TheVariants.{Convert, Merge};
+ghost use Rattle.silt_event.specs.declared.refusal.Refusal.{Refusal as RefusalOf};
+ghost use Rattle.silt_desk.specs.DeskState.{Serves};
+ghost use Rattle.silt_desk.specs.Turns.{turn_of};
+
+use crate::desk::Desk;
+use crate::seat::{Naming, Seat};
+use crate::shared::Shared;
+use crate::trace::Trace;
+use crossbeam_channel::{Receiver, Sender};
+use silt_device::Disk;
+use silt_event::{Progress, Refusal};
+use std::alloc::Global;
+use std::sync::Wait;
+use std::thread;
+
+/// What a worker is told.
+#[derive(Clone, Copy, Debug, PartialEq, Eq)]
+pub enum Wake {
+    /// There may be work.
+    Go,
+    /// The worker is to end.
+    Stop,
+}
+
+/// Where a gate is passed.
+#[derive(Clone, Copy, Debug, PartialEq, Eq)]
+pub enum Spot {
+    Converter,
+    Merger,
+    Writer,
+}
+
+/// What a worker passes before each step, with no lock held.
+pub trait Gate {
+    /// Returns when the step may be done.
+    fn pass(&self, spot: Spot);
+}
+
+/// What a worker does after a turn.
+#[derive(Clone, Copy, Debug, PartialEq, Eq)]
+pub enum Turn {
+    /// There may be more to do.
+    GoOn,
+    /// There may be more to do, and also for the other worker.
+    WakeOther,
+    /// Nothing is to do before a message.
+    Wait,
+}
+
+// What a step's answer asks of a worker: after a refused one it waits too.
+fn turn_after<F: Drop>(answer: Result<Progress, Refusal<F>>) -> Turn
+    ensures { result ≡ turn_of answer }
+{
+    match answer {
+        Ok(Progress::Moved) => Turn::GoOn,
+        Ok(Progress::Finished) => Turn::WakeOther,
+        Ok(Progress::Idle | Progress::Waiting) | Err(_) => Turn::Wait,
+    }
+}
+
+/// Does one step of conversion where the store wants one.
+pub fn convert_once<D: Disk, T: Trace, N: Naming>(
+    desk: &mut Desk<D, T, N>,
+    alloc: Global,
+    seat: &mut Seat<N>,
+) -> Turn
+    ensures { (answer : Result ProgressOf (RefusalOf D.Fault)) × (result ≡ turn_of answer) × Serves D.content D.failures (GaveAny D.gave) T.extends T.is_full T.takes_memory desk.old desk.new seat.old seat.new Convert (progress_reply answer) }
+{
+    turn_after(desk.convert(alloc, seat))
+}
+
+/// Does one step of merging where the store wants one.
+pub fn merge_once<D: Disk, T: Trace, N: Naming>(
+    desk: &mut Desk<D, T, N>,
+    alloc: Global,
+    seat: &mut Seat<N>,
+) -> Turn
+    ensures { (answer : Result ProgressOf (RefusalOf D.Fault)) × (result ≡ turn_of answer) × Serves D.content D.failures (GaveAny D.gave) T.extends T.is_full T.takes_memory desk.old desk.new seat.old seat.new Merge (progress_reply answer) }
+{
+    turn_after(desk.merge(alloc, seat))
+}
+
+// What a worker does between two steps, with no lock held: it tells the other one, or waits for a message. False where it is to end.
+fn rest<R: Wait>(rt: &R, turn: Turn, wakes: &Receiver<Wake>, other: &Sender<Wake>) -> bool {
+    match turn {
+        Turn::GoOn => {
+            thread::yield_now();
+            true
+        }
+        Turn::WakeOther => {
+            let _ = other.send(rt, Wake::Go); // the other one may have ended
+            true
+        }
+        Turn::Wait => matches!(wakes.recv(rt), Ok(Wake::Go)),
+    }
+}
+
+/// Does steps of conversion, each under a guard of its own, until it is told to stop or its channel is closed. Gives its seat back.
+pub fn converter<D: Disk, T: Trace, N: Naming, G: Gate, R: Wait>(
+    rt: &R,
+    alloc: Global,
+    shared: &Shared<D, T, N>,
+    mut seat: Seat<N>,
+    gate: &G,
+    wakes: Receiver<Wake>,
+    other: Sender<Wake>,
+) -> Seat<N>
+    ensures { result.number ≡ seat.number }
+{
+    for _ in rt.forever() {
+        gate.pass(Spot::Converter);
+        let turn = convert_once(&mut *shared.write(rt), alloc, &mut seat);
+        if !rest(rt, turn, &wakes, &other) {
+            break;
+        }
+    }
+    seat
+}
+
+/// Does steps of merging, each under a guard of its own, until it is told to stop or its channel is closed. Gives its seat back.
+pub fn merger<D: Disk, T: Trace, N: Naming, G: Gate, R: Wait>(
+    rt: &R,
+    alloc: Global,
+    shared: &Shared<D, T, N>,
+    mut seat: Seat<N>,
+    gate: &G,
+    wakes: Receiver<Wake>,
+    other: Sender<Wake>,
+) -> Seat<N>
+    ensures { result.number ≡ seat.number }
+{
+    for _ in rt.forever() {
+        gate.pass(Spot::Merger);
+        let turn = merge_once(&mut *shared.write(rt), alloc, &mut seat);
+        if !rest(rt, turn, &wakes, &other) {
+            break;
+        }
+    }
+    seat
+}

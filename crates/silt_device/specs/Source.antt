@@ -1,0 +1,21 @@
+-- What a source of disks gives.
+use Rattle.std.specs.Prelude.{◌≡◌, ◌≢◌, ◌⊎◌, ℕ, List, string_bytes}
+use Rattle.silt_device.specs.Disk.{Content, size}
+use Rattle.silt_device.specs.declared.source.NamedDisk.{NamedDisk}
+
+-- the disk is the source's one, and the path its name
+pub record NamedOpened {D : Type 0} (source : NamedDisk D) (path : List ℕ) (disk : D) : Type 0 where
+  pub name : path ≡ string_bytes source.path
+  pub same : disk ≡ source.disk
+
+-- the path is not the name of the source's disk
+abbrev pub NotNamed : {D : Type 0} → NamedDisk D → List ℕ → Type 0
+NotNamed source path = path ≢ string_bytes source.path
+
+-- the disk is the source's one, the path its name, and this its length
+abbrev pub NamedCreated : {D : Type 0} → (D → Content) → NamedDisk D → List ℕ → ℕ → D → Type 0
+NamedCreated content source path len disk = NamedOpened source path disk × (size (content disk) ≡ len)
+
+-- the path is not the name of the source's disk, or this is not its length
+abbrev pub NotSized : {D : Type 0} → (D → Content) → NamedDisk D → List ℕ → ℕ → Type 0
+NotSized content source path len = NotNamed source path ⊎ (size (content source.disk) ≢ len)

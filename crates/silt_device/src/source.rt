@@ -1,0 +1,137 @@
+// Where disks come from: a path names a disk, which is opened there or made there.
+ghost use Rattle.std.specs.Prelude.{◌≡◌, ℕ, List, IfOk, IfErr};
+ghost use Rattle.silt_device.specs.Disk.{size};
+
+use crate::system::FileSystem;
+use crate::{Disk, FileDisk};
+use std::fs::File;
+use std::io;
+
+/// Where one disk comes from. A source is used up by the disk that it gives.
+pub trait DiskSource: Drop {
+    /// The disks that it gives.
+    type Disk: Disk;
+
+    /// Why it gives none. Code that is generic over sources can neither make nor copy one.
+    type Error: Drop;
+
+    /// The source opened this disk, at this path.
+    ghost opened: { Self → List ℕ → Self.Disk → Type 0 };
+
+    /// The source answered that it cannot open a disk at this path, with this error.
+    ghost not_opened: { Self → List ℕ → Self.Error → Type 0 };
+
+    /// The source made this disk, at this path and of this length in bytes.
+    ghost created: { Self → List ℕ → ℕ → Self.Disk → Type 0 };
+
+    /// The source answered that it cannot make a disk at this path and of this length, with this error.
+    ghost not_created: { Self → List ℕ → ℕ → Self.Error → Type 0 };
+
+    /// Opens the disk that is there.
+    fn open(self, path: &str) -> Result<Self::Disk, Self::Error>
+        ensures opened { IfOk result (opened self path.now) }
+        ensures not_opened { IfErr result (not_opened self path.now) };
+
+    /// Makes a disk of this length in bytes, or takes the one that is there at exactly this length.
+    fn create(self, path: &str, len: u64) -> Result<Self::Disk, Self::Error>
+        ensures created { IfOk result (created self path.now len) }
+        ensures size { IfOk result (λ disk. size (Self.Disk.Disk.content disk) ≡ len) }
+        ensures not_created { IfErr result (not_created self path.now len) };
+}
+
+/// The files of a system, each of them a disk.
+#[derive(Drop)]
+pub struct FileDisks<S> {
+    system: S,
+}
+
+impl<S> FileDisks<S> {
+    /// The files of this system.
+    pub fn new(system: S) -> Self
+        ensures { result.system ≡ system }
+    {
+        FileDisks { system }
+    }
+}
+
+impl<S> DiskSource for FileDisks<S>
+where
+    S: FileSystem<File = File> + Drop,
+{
+    ghost use Rattle.std.specs.Prelude.{⊤};
+    ghost use Rattle.silt_device.specs.File.{IsOpened, IsOpenedFile, IsMadeFile};
+
+    type Disk = FileDisk;
+
+    type Error = io::Error;
+
+    ghost opened = { λ source path disk. S.opened source.system path disk.inner.file × IsOpenedFile (λ _ _. ⊤) (λ _. ⊤) disk.inner };
+
+    ghost not_opened = { λ _ _ _. ⊤ };
+
+    ghost created = { λ source path len disk. IsOpened len disk.inner
+        × IsMadeFile (S.made source.system path) (λ _ _ _. ⊤) (λ _. ⊤) len disk.inner.file × S.folder_synced source.system path };
+
+    ghost not_created = { λ _ _ _ _. ⊤ };
+
+    fn open(self, path: &str) -> io::Result<FileDisk> {
+        FileDisk::open(&self.system, path)
+    }
+
+    fn create(self, path: &str, len: u64) -> io::Result<FileDisk> {
+        FileDisk::create(&self.system, path, len)
+    }
+}
+
+/// There is no disk under this path, or it has another length.
+#[derive(Debug, Drop)]
+pub struct NoSuchDisk;
+
+/// One disk under one path, as in a folder with nothing else in it.
+#[derive(Drop)]
+pub struct NamedDisk<D> {
+    path: String,
+    disk: D,
+}
+
+impl<D> NamedDisk<D> {
+    ghost use Rattle.std.specs.Prelude.{string_bytes};
+
+    /// This disk, under this path.
+    pub fn new(path: String, disk: D) -> Self
+        ensures path { string_bytes result.path ≡ string_bytes path }
+        ensures disk { result.disk ≡ disk }
+    {
+        NamedDisk { path, disk }
+    }
+}
+
+impl<D: Disk> DiskSource for NamedDisk<D> {
+    ghost use Rattle.silt_device.specs.Source.{NamedOpened, NotNamed, NamedCreated, NotSized};
+
+    type Disk = D;
+
+    type Error = NoSuchDisk;
+
+    ghost opened = { λ source path disk. NamedOpened source path disk };
+
+    ghost not_opened = { λ source path _. NotNamed source path };
+
+    ghost created = { λ source path len disk. NamedCreated D.content source path len disk };
+
+    ghost not_created = { λ source path len _. NotSized D.content source path len };
+
+    fn open(self, path: &str) -> Result<D, NoSuchDisk> {
+        if self.path.as_str() != path {
+            return Err(NoSuchDisk);
+        }
+        Ok(self.disk)
+    }
+
+    fn create(self, path: &str, len: u64) -> Result<D, NoSuchDisk> {
+        if self.path.as_str() != path || self.disk.len() != len {
+            return Err(NoSuchDisk);
+        }
+        Ok(self.disk)
+    }
+}

@@ -1,0 +1,92 @@
+// A disk in a file of the system.
+ghost use Rattle.std.specs.Prelude.{⊤, ◌≡◌, ◌≤◌, ◌^◌, IfOk, OnOk, IsErr};
+
+use crate::Disk;
+use crate::file::{FileFault, RandomAccessDisk};
+use crate::system::FileSystem;
+use std::fs::File;
+use std::io;
+
+/// A disk in a file of the system, whose length never changes: the random-access disk of std's files. So all that is proved of that
+/// one, over any files, holds of it; of the calls that std's files were given nothing can be said here.
+#[derive(Drop)]
+pub struct FileDisk {
+    inner: RandomAccessDisk<File>,
+}
+
+impl FileDisk {
+    ghost use Rattle.silt_device.specs.File.{IsOpened, IsOpenedFile, IsMadeFile};
+
+    /// Makes the file, or takes the one that is there, at exactly this length in bytes, and syncs it and the folder that it is in.
+    /// What a file that is there held up to this length stays, and what is new are zeros. Where the path is a link, the folder
+    /// that is synced is that of the link.
+    ///
+    /// # Errors
+    ///
+    /// The error of the system, where the file or its folder cannot be opened, sized or synced. The file may then be there, at
+    /// its old length or at the new one. A length of 2^63 or more is always an error.
+    pub fn create<R: FileSystem<File = File>>(
+        system: &R,
+        path: &str,
+        len: u64,
+    ) -> io::Result<FileDisk>
+        ensures opened { IfOk result (λ disk. IsOpened len disk.inner) }
+        ensures made { IfOk result (λ disk. IsMadeFile (R.made system.now path.now) (λ _ _ _. ⊤) (λ _. ⊤) len disk.inner.file) }
+        ensures folder { OnOk result (R.folder_synced system.now path.now) }
+        ensures too_long { 2 ^ 63 ≤ len → IsErr result }
+    {
+        let inner = RandomAccessDisk::create(system, path, len)?;
+        Ok(FileDisk { inner })
+    }
+
+    /// Opens a file that is there, at the length that it has, and syncs it: what an earlier process wrote and did not sync is
+    /// then settled.
+    ///
+    /// # Errors
+    ///
+    /// The error of the system, where the file is not there, or cannot be read, written, measured or synced.
+    pub fn open<R: FileSystem<File = File>>(system: &R, path: &str) -> io::Result<FileDisk>
+        ensures opened { IfOk result (λ disk. R.opened system.now path.now disk.inner.file × IsOpenedFile (λ _ _. ⊤) (λ _. ⊤) disk.inner) }
+    {
+        let inner = RandomAccessDisk::open(system, path)?;
+        Ok(FileDisk { inner })
+    }
+
+    // The disk in an open file, of this length.
+    #[cfg(test)]
+    pub(crate) fn of_len(file: File, len: u64) -> FileDisk
+        ensures { IsOpened len result.inner }
+    {
+        FileDisk {
+            inner: RandomAccessDisk::of_len(file, len),
+        }
+    }
+}
+
+impl Disk for FileDisk {
+    ghost use Rattle.silt_device.specs.File.{file_content, file_gave};
+
+    type Fault = FileFault;
+
+    ghost content = { λ disk. file_content disk.inner };
+
+    ghost failures = { λ disk. disk.inner.failures };
+
+    ghost gave = { λ disk. file_gave disk.inner };
+
+    fn len(&self) -> u64 {
+        self.inner.len()
+    }
+
+    fn read(&self, at: u64, buf: &mut [u8]) -> Result<(), FileFault> {
+        self.inner.read(at, buf)
+    }
+
+    fn write(&mut self, at: u64, buf: &[u8]) -> Result<(), FileFault> {
+        self.inner.write(at, buf)
+    }
+
+    fn sync(&mut self) -> Result<(), FileFault> {
+        self.inner.sync()
+    }
+}

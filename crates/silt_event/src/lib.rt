@@ -1,0 +1,26 @@
+//! What is asked of a store, and what it answers.
+//!
+//! An [`Event`] is asked, and a [`Reply`] answers it; where a call is refused the reply holds a [`Refusal`], and of a damaged device
+//! the [`Place`]. A step in the background answers with its [`Progress`]. A whole life is answered by a [`LifeReply`], and a look at
+//! a device by a [`Report`]. Whatever answers events one after the other, a store or what stands in front of one, is an [`Answerer`].
+//!
+//! In `specs/` stand the words that all promises are made of: `Commands` has maps and the commands that change them; `Events` says
+//! which replies to events are those of a map, what a stop may take away of them, and which lives are a history. Nothing here reads
+//! or writes a device, so whoever speaks with a store, and not of how it is kept, stands on this crate alone.
+#![tactic(auto)]
+
+mod answerer;
+mod event;
+mod place;
+mod progress;
+mod refusal;
+mod reply;
+mod report;
+
+pub use answerer::Answerer;
+pub use event::Event;
+pub use place::Place;
+pub use progress::Progress;
+pub use refusal::Refusal;
+pub use reply::{LifeReply, Reply};
+pub use report::Report;

@@ -1,0 +1,53 @@
+-- Rows as they lie on a device.
+use Rattle.std.specs.Prelude.{ℕ, ◌==◌, Bool, List, map, count_by, take, drop, slice_index, slice_range}
+use Rattle.std.specs.Option.{is_some}
+use Rattle.std.specs.Ordering.{nat_cmp}
+use Rattle.std.specs.declared.cmp.Ordering.{Ordering}
+use Rattle.std.specs.Cmp.Lexicographic.{slice_cmp}
+use Rattle.silt_frame.specs.Frame.{kind_byte, kind_of}
+use Rattle.silt_frame.specs.declared.key.Key.{Key}
+use Rattle.silt_frame.specs.declared.key.Kind.{Kind}
+use Rattle.silt_frame.specs.declared.key.Kind.TheVariants.{Put, Delete}
+
+-- a row as it lies on the device: the kind byte, the key and the value
+pub record StoredRow : Type 0 where
+  pub kind : ℕ
+  pub key : List ℕ
+  pub value : List ℕ
+
+-- the row that these bytes hold: the kind in one byte, the key in 20, and the value
+abbrev pub row_of : List ℕ → StoredRow
+row_of body = record { kind = slice_index body 0; key = slice_range body 1 21; value = drop 21 body }
+
+-- the row that is written for this kind, key and value
+abbrev pub stored_row : Kind → Key → List ℕ → StoredRow
+stored_row kind key value = record { kind = kind_byte kind; key = key.0; value = value }
+
+-- the kind byte stands for a put or a delete
+abbrev pub has_known_kind : StoredRow → Bool
+has_known_kind row = is_some (kind_of row.kind)
+
+-- a row is a put
+abbrev pub is_put_row : StoredRow → Bool
+is_put_row row = row.kind == kind_byte Put
+
+-- the put that the bytes of a sorted entry stand for
+abbrev pub entry_row : List ℕ → StoredRow
+entry_row bytes = record { kind = 1; key = take 20 bytes; value = drop 20 bytes }
+
+-- the keys of some rows, in their order
+abbrev pub keys_of : List StoredRow → List (List ℕ)
+keys_of rows = map (λ row. row.key) rows
+
+-- how many of the rows are puts
+abbrev pub put_count : List StoredRow → ℕ
+put_count rows = count_by is_put_row rows
+
+-- how many puts a row of this kind is: one or none
+abbrev pub puts_of : Kind → ℕ
+puts_of Put = 1
+puts_of Delete = 0
+
+-- the order of keys
+abbrev pub key_cmp : Key → Key → Ordering
+key_cmp a b = slice_cmp nat_cmp a.0 b.0

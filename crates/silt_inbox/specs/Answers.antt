@@ -1,0 +1,29 @@
+-- Which replies an event of a kind may have.
+use Rattle.std.specs.Prelude.{Bool, true, false}
+use Rattle.silt_event.specs.declared.event.Event.{Event}
+use Rattle.silt_event.specs.declared.event.Event.TheVariants as event
+use Rattle.silt_event.specs.declared.reply.Reply.{Reply}
+use Rattle.silt_event.specs.declared.reply.Reply.TheVariants.{Accepted, Acknowledged, Found, Absent, Progress, Refused}
+use Rattle.silt_inbox.specs.declared.answered.EventKind.{EventKind}
+use Rattle.silt_inbox.specs.declared.answered.EventKind.TheVariants.{Put, Delete, Flush, Get, Convert, Merge}
+
+-- an event without its contents
+abbrev pub kind_of : Event → EventKind
+kind_of (event.Put key value) = Put
+kind_of (event.Delete key) = Delete
+kind_of event.Flush = Flush
+kind_of (event.Get key) = Get
+kind_of event.Convert = Convert
+kind_of event.Merge = Merge
+
+-- a command is accepted, a flush acknowledged, a get finds a value or none, a step makes progress; and each may be refused
+abbrev pub is_allowed : {F : Type 0} → EventKind → Reply F → Bool
+is_allowed Put (Accepted n) = true
+is_allowed Delete (Accepted n) = true
+is_allowed Flush (Acknowledged n) = true
+is_allowed Get (Found value) = true
+is_allowed Get Absent = true
+is_allowed Convert (Progress progress) = true
+is_allowed Merge (Progress progress) = true
+is_allowed kind (Refused refusal) = true
+is_allowed kind reply = false

@@ -1,0 +1,92 @@
+// A queue under a lock.
+ghost use Rattle.std.specs.Prelude.{◌≡◌, ◌≢◌, ◌+◌, ◌%◌, ◌^◌, sum, vec_len, All, IfOk, MatchResult, MatchOption};
+
+use crate::letters::{Letters, MissingFeeders, NotPut};
+use crate::places::{Feeder, Post, PutOf, TakenOf, Taker};
+use crate::queue::Queue;
+use std::alloc::{AllocError, Global};
+use std::sync::ledger::Blank;
+use std::sync::{Condvar, Mutex, Wait};
+
+/// Jobs that go from many threads to one.
+#[derive(Drop)]
+pub struct Inbox<J: Drop, P: Post> {
+    letters: Mutex<Letters<J, P>>,
+    arrived: Condvar,
+}
+
+impl<J: Drop, P: Post> Inbox<J, P> {
+    /// An inbox with so many feeders, and its taker. The two blanks become its ledgers.
+    ///
+    /// # Errors
+    ///
+    /// Where the list of feeders finds no memory.
+    pub fn new(
+        alloc: Global,
+        feeders: u64,
+        put: Blank,
+        taken: Blank,
+    ) -> Result<(Inbox<J, P>, Vec<Feeder<P>>, Taker<P>), AllocError>
+        requires put { (put.name ≡ P.put_name) × (put.parts ≡ P.feeders) }
+        requires taken { (taken.name ≡ P.taken_name) × (taken.parts ≡ 1) }
+        requires feeders { feeders ≡ P.feeders }
+        ensures { IfOk result (λ r. (vec_len r.1 ≡ feeders) × All (λ f. f ≡ 0) r.1.items × (r.2 ≡ 0)) }
+    {
+        let mut places = Vec::with_capacity(alloc, feeders as usize)?;
+        let (put_book, mut rest) = put.open::<PutOf<P>>();
+        let (taken_book, share) = taken.open::<TakenOf<P>>();
+        for _number in 0..feeders {
+            places.push_reserved(Feeder::split(&mut rest));
+        }
+        let letters = Letters::new(Queue::new(alloc), feeders, put_book, taken_book, rest);
+        let inbox = Inbox {
+            letters: Mutex::new(letters),
+            arrived: Condvar::new(),
+        };
+        Ok((inbox, places, Taker::of(share)))
+    }
+
+    /// Puts a job. Where the inbox is closed, or no memory is found, the job is handed back.
+    pub fn put<R: Wait>(&self, rt: &R, feeder: &mut Feeder<P>, job: J) -> Result<(), NotPut<J>>
+        ensures { MatchResult result (λ _. feeder.new ≡ feeder.old + 1) (λ e. (e.job ≡ job) × (feeder.new ≡ feeder.old)) }
+    {
+        let done = self.letters.lock(rt).put(feeder, job);
+        self.arrived.notify_one();
+        done
+    }
+
+    /// Waits for jobs and takes all of them, in the order in which they were put. `None` where the inbox is closed and empty.
+    pub fn take_all<R: Wait>(&self, rt: &R, taker: &mut Taker<P>) -> Option<Vec<J>>
+        ensures { MatchOption result (taker.new ≡ taker.old) (λ v. taker.new ≡ taker.old + vec_len v) }
+    {
+        let mut letters = self
+            .arrived
+            .wait_while(rt, self.letters.lock(rt), |letters| letters.is_idle());
+        letters.take_all(taker)
+    }
+
+    /// From now on no job is put.
+    pub fn close<R: Wait>(&self, rt: &R) {
+        self.letters.lock(rt).close();
+        self.arrived.notify_all();
+    }
+
+    /// Where all feeders are here: how many jobs were put, were taken and are left, the first two modulo 2^64.
+    ///
+    /// # Errors
+    ///
+    /// Where a feeder is lacking. Then all are handed back.
+    pub fn tally<R: Wait>(
+        &self,
+        rt: &R,
+        feeders: Vec<Feeder<P>>,
+        taker: Taker<P>,
+    ) -> Result<(u64, u64, u64), MissingFeeders<P>>
+        ensures put { IfOk result (λ r. r.0 ≡ sum feeders.items % 2 ^ 64) }
+        ensures taken { IfOk result (λ r. r.1 ≡ taker % 2 ^ 64) }
+        ensures left { IfOk result (λ r. sum feeders.items ≡ taker + r.2) }
+        ensures missing { MatchResult result (λ _. vec_len feeders ≡ P.feeders) (λ e. (e.feeders.items ≡ feeders.items) × (e.taker ≡ taker) × (vec_len feeders ≢ P.feeders)) }
+    {
+        self.letters.lock(rt).tally(feeders, taker)
+    }
+}

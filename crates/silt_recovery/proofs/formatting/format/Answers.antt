@@ -1,8 +1,0 @@
-use Rattle.silt_recovery.proofs.HalfFormats.{left_so}
-use Rattle.silt_recovery.proofs.formatting.format.Goals as goal
-
-pub returns-then-len-size-clause-images : goal.returns-then-len-size-clause-images
-returns-then-len-size-clause-images g c = left_so c.args.geometry (g.D.Disk.content c.args.disk)
-
-pub returns-in_default-clause-images : goal.returns-in_default-clause-images
-returns-in_default-clause-images g c = left_so c.args.geometry (g.D.Disk.content c.args.disk)

@@ -1,0 +1,68 @@
+// The empty store that a device is given.
+ghost use Rattle.std.specs.Prelude.{◌≡◌, ◌≤◌, ◌+◌, false, slice_range, length, IsTrue, OnOk, OnErr, IfErr, MatchResult};
+ghost use Rattle.std.specs.FinMap.{empty};
+ghost use Rattle.silt_device.specs.Disk.{GaveAny, LeavesOnly, size};
+ghost use Rattle.silt_device.specs.Layout.{InLimits, device_size};
+ghost use Rattle.silt_recovery.specs.Format.{FormatCause, IsHalfFormatted};
+ghost use Rattle.silt_stores.specs.Calls.{SameDisk, StandsUnsorted};
+
+use crate::fault::{FormatError, FormatFault};
+use crate::header::write_header;
+use silt_device::{Disk, Geometry, slot_start, write_synced};
+use silt_frame::GATE_CLOSED;
+use silt_log::Log;
+use silt_manifest::write_first;
+use std::alloc::Global;
+
+/// Makes an empty store of this geometry, and gives the device back. What it held is lost. The header's gate is closed first and
+/// opened last, so that a device whose formatting was stopped holds no store, or the empty one.
+///
+/// # Errors
+///
+/// `BadGeometry` exactly where the device is not as long as the geometry asks, and then nothing is written; `NoMemory`
+/// before the first write; `Device` with the fault of a write or a sync. Whatever a stop then leaves might have been left before,
+/// but for the header's gate, or it holds no store, or the empty one.
+pub fn format<D: Disk>(alloc: Global, mut disk: D, geometry: Geometry) -> Result<D, FormatFault<D>>
+    ensures size { OnOk result (size (D.content disk) ≡ device_size geometry) }
+    ensures images { MatchResult result (λ new. LeavesOnly (D.content new) (StandsUnsorted geometry empty)) (λ fault. LeavesOnly (D.content fault.disk) (IsHalfFormatted (D.content disk) geometry)) }
+    ensures same { MatchResult result (λ new. SameDisk (D.content disk) (D.content new)) (λ fault. SameDisk (D.content disk) (D.content fault.disk)) }
+    ensures cause { IfErr result (λ fault. FormatCause D.content (GaveAny D.gave) geometry disk fault.disk fault.error) }
+{
+    if disk.len() != geometry.size() {
+        return Err(FormatFault {
+            disk,
+            error: FormatError::BadGeometry,
+        });
+    }
+    let Ok(mut log) = Log::new(alloc, geometry, 0) else {
+        return Err(FormatFault {
+            disk,
+            error: FormatError::NoMemory,
+        });
+    };
+    match write_store(&mut disk, &mut log, &geometry) {
+        Ok(()) => Ok(disk),
+        Err(fault) => Err(FormatFault {
+            disk,
+            error: FormatError::Device(fault),
+        }),
+    }
+}
+
+// Writes the empty store: the header's gate is closed first and opened last.
+fn write_store<D: Disk>(disk: &mut D, log: &mut Log, geometry: &Geometry) -> Result<(), D::Fault>
+    requires size { size (D.content disk.old) ≡ device_size geometry.now }
+    requires limits { InLimits geometry.now }
+    requires log { log.old ≡ record { shape = geometry.now; region = 0; settled = 0; used = 0; loose = false } }
+    ensures same { SameDisk (D.content disk.old) (D.content disk.new) }
+    ensures images { OnOk result (LeavesOnly (D.content disk.new) (StandsUnsorted geometry.now empty)) }
+    ensures stopped { OnErr result (LeavesOnly (D.content disk.new) (IsHalfFormatted (D.content disk.old) geometry.now)) }
+    ensures fault { IfErr result (GaveAny D.gave disk.new) }
+{
+    write_synced(disk, 0, &[GATE_CLOSED])?;
+    disk.write(slot_start(1), &[GATE_CLOSED])?;
+    log.prepare(disk)?;
+    write_first(disk)?;
+    write_header(disk, geometry)?;
+    Ok(())
+}

@@ -1,0 +1,71 @@
+// The recovery of a device that a stop may have left.
+ghost use Rattle.std.specs.Prelude.{◌≡◌, IsTrue, IfOk, IfErr, MatchResult};
+ghost use Rattle.silt_device.specs.Disk.{GaveAny};
+ghost use Rattle.silt_recovery.specs.Opening.{IsUnwrittenUnlessFailed, LeavesNoOther, TakesUp};
+ghost use Rattle.silt_recovery.specs.Refusals.{IsFound, IsRefusedLook};
+ghost use Rattle.silt_stores.specs.Calls.{SameDisk};
+
+use crate::examination::examine;
+use crate::fault::{OpenError, OpenFault};
+use silt_device::Disk;
+use silt_stores::Stores;
+use std::alloc::Global;
+
+/// A device that was opened, and its stores in memory.
+#[derive(Drop)]
+pub struct Opened<D: Disk> {
+    pub disk: D,
+    pub stores: Stores,
+}
+
+/// Takes up a device: settles what it shows, looks at it, and closes the gates of the active log past its first closed one, where one
+/// of them is open. The stores stand for the map of what was shown, with no row waiting.
+///
+/// # Errors
+///
+/// `NotFormatted`, `Damaged` or `Crowded` where that is the first thing found in what is shown (a manifest that names sorted
+/// entries is refused as `Damaged(Place::NoSlot)`); then, and with `NoMemory`, nothing was written. `Device` with the fault of
+/// a read, a write or a sync: whatever a stop leaves then might have been left before, or stands for the same map.
+pub fn open<D: Disk>(alloc: Global, mut disk: D) -> Result<Opened<D>, OpenFault<D>>
+    ensures ok { IfOk result (λ opened. TakesUp (D.content disk) (D.content opened.disk) opened.stores) }
+    ensures same { MatchResult result (λ opened. SameDisk (D.content disk) (D.content opened.disk)) (λ fault. SameDisk (D.content disk) (D.content fault.disk)) }
+    ensures cause { IfErr result (λ fault. IsRefusedLook
+        (λ finding. IsTrue (D.content disk).honest → IsFound (D.content disk).shown finding)
+        (GaveAny D.gave fault.disk) fault.error) }
+    ensures unwritten { IfErr result (λ fault. IsUnwrittenUnlessFailed (D.content disk) (D.content fault.disk) fault.error) }
+    ensures images { MatchResult result (λ opened. LeavesNoOther (D.content disk) (D.content opened.disk)) (λ fault. LeavesNoOther (D.content disk) (D.content fault.disk)) }
+{
+    match take_up(alloc, &mut disk) {
+        Ok(stores) => Ok(Opened { disk, stores }),
+        Err(error) => Err(OpenFault { disk, error }),
+    }
+}
+
+// Settles what the device shows, reads what it holds, and seals its active log.
+fn take_up<D: Disk>(alloc: Global, disk: &mut D) -> Result<Stores, OpenError<D::Fault>>
+    ensures ok { IfOk result (λ stores. TakesUp (D.content disk.old) (D.content disk.new) stores) }
+    ensures same { SameDisk (D.content disk.old) (D.content disk.new) }
+    ensures cause { IfErr result (IsRefusedLook
+        (λ finding. IsTrue (D.content disk.old).honest → IsFound (D.content disk.old).shown finding)
+        (GaveAny D.gave disk.new)) }
+    ensures unwritten { IfErr result (IsUnwrittenUnlessFailed (D.content disk.old) (D.content disk.new)) }
+    ensures images { LeavesNoOther (D.content disk.old) (D.content disk.new) }
+{
+    if let Err(fault) = disk.sync() {
+        return Err(OpenError::Device(fault));
+    }
+    let mut held = match examine(alloc, disk) {
+        Ok(held) => held,
+        Err(error) => return Err(error),
+    };
+    match held.active.seal(disk) {
+        Ok(()) => Ok(Stores::new(
+            held.manifest,
+            held.active,
+            held.frozen,
+            held.hashes,
+            held.charge,
+        )),
+        Err(fault) => Err(OpenError::Device(fault)),
+    }
+}

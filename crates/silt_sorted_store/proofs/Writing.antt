@@ -1,0 +1,63 @@
+-- What the write of an entry leaves.
+use Rattle.std.proofs.Common.{◌≡◌, ℕ, ◌+◌, ◌*◌, ◌<◌, ◌≤◌, Bool, true, false, IsTrue, List, [], ◌∷◌, ◌++◌, length, take, slice_range, sym, subst, ap, ◌∙◌, arith, append-nil}
+use Rattle.std.proofs.lemmas.List.{length-append, take-append-le, take_all}
+use Rattle.silt_device.specs.Disk.{ChangesWithin, Content, Tears, Writes, size, splice}
+use Rattle.silt_device.specs.Layout.{Shape, device_size, entry_len, sorted_at}
+use Rattle.silt_device.proofs.Images.{splice_slice, within_wider, write_within}
+use Rattle.silt_image.specs.Stores.{sorted_rows}
+use Rattle.silt_frame.specs.Rows.{entry_row, StoredRow}
+use Rattle.silt_sorted_store.specs.Region.{due_rows}
+use Rattle.silt_sorted_store.proofs.Elsewhere.{entries_before, entries_inside, entry_bytes, entry_more}
+use Rattle.silt_sorted_store.specs.State.{sorted_entry_at}
+use Rattle.silt_sorted_store.proofs.Entries.{entry_count, part_inside}
+
+module _ (s : Shape) (region place : ℕ) where
+  -- where nothing is due, nothing is written
+  pub none_due : (image bytes : List ℕ) (due : Bool) → place ≤ s.sorted_capacity → due ≡ false → sorted_rows s region place image ≡ take s.sorted_capacity (sorted_rows s region place image ++ due_rows due bytes)
+  none_due image bytes due most none =
+      let rows : List StoredRow = sorted_rows s region place image in
+      let long = entry_count s region place image in
+      sym (ap (λ d. take s.sorted_capacity (rows ++ due_rows d bytes)) none ∙ ap (take s.sorted_capacity) (append-nil rows) ∙ take_all s.sorted_capacity rows (omega (arith, long)))
+
+  -- nor where the region is full
+  pub none_more : (image bytes : List ℕ) (due : Bool) → place ≡ s.sorted_capacity → sorted_rows s region place image ≡ take s.sorted_capacity (sorted_rows s region place image ++ due_rows due bytes)
+  none_more image bytes due full =
+      let rows : List StoredRow = sorted_rows s region place image in
+      let long = entry_count s region place image in
+      sym (take-append-le s.sorted_capacity rows (due_rows due bytes) (omega (arith, long)) ∙ take_all s.sorted_capacity rows (omega (arith, long)))
+
+  module _ (at : ℕ) (bytes : List ℕ) (old new : Content) (here : at ≡ sorted_entry_at s region place) (long : length bytes ≡ entry_len s) (tears : Tears at (length bytes) old new) where
+    -- only the entry is changed
+    pub entry_changes : ChangesWithin (sorted_entry_at s region place) (entry_len s) old new
+    entry_changes = subst (λ a. ChangesWithin a (entry_len s) old new) here (subst (λ n. ChangesWithin at n old new) long (write_within tears))
+
+    -- which is one of the region's
+    pub region_changes : place < s.sorted_capacity → ChangesWithin (sorted_at s region) (s.sorted_capacity * entry_len s) old new
+    region_changes below =
+        let inside = part_inside (sorted_at s region) (entry_len s) s.sorted_capacity place (sorted_at s region + s.sorted_capacity * entry_len s) (omega arith) below in
+        within_wider (sorted_at s region) (s.sorted_capacity * entry_len s) (omega arith) inside entry_changes
+
+    -- the entries before it stay
+    pub entries_kept : region < 2 → place < s.sorted_capacity → device_size s ≤ size old → IsTrue old.honest → sorted_rows s region place new.shown ≡ sorted_rows s region place old.shown
+    entries_kept there below fits honest =
+        let ends = entries_inside s region there in
+        entries_before s region place old.shown new.shown (omega (arith, ends)) (omega arith) (entry_changes.shown honest)
+
+    -- and it is the next one
+    pub entry_written : (due : Bool) → due ≡ true → region < 2 → place < s.sorted_capacity → device_size s ≤ size old → Writes at bytes old new → IsTrue old.honest
+        → sorted_rows s region (place + 1) new.shown ≡ take s.sorted_capacity (sorted_rows s region place old.shown ++ due_rows due bytes)
+    entry_written due is there below fits writes honest =
+        let ends = entries_inside s region there in
+        let inside = part_inside (sorted_at s region) (entry_len s) s.sorted_capacity place (size old) (omega (arith, ends)) below in
+        let rows : List StoredRow = sorted_rows s region place old.shown ++ entry_row bytes ∷ [] in
+        let count = entry_count s region place old.shown in
+        let whole : length rows ≤ s.sorted_capacity = omega (arith, length-append (sorted_rows s region place old.shown) (entry_row bytes ∷ []), count) in
+        let shown : entry_bytes s region new.shown place ≡ bytes =
+        ap (λ image. slice_range image (sorted_entry_at s region place) (sorted_entry_at s region place + entry_len s)) (writes.shown honest)
+        ∙ ap (λ n. slice_range (splice at bytes old.shown) n (n + entry_len s)) (sym here)
+        ∙ ap (λ n. slice_range (splice at bytes old.shown) at (at + n)) (sym long)
+        ∙ splice_slice at bytes old.shown (omega (arith, inside)) in
+        entry_more s region place new.shown
+        ∙ ap (λ l. l ++ entry_row (entry_bytes s region new.shown place) ∷ []) (entries_kept there below fits honest)
+        ∙ ap (λ b. sorted_rows s region place old.shown ++ entry_row b ∷ []) shown
+        ∙ sym (ap (λ d. take s.sorted_capacity (sorted_rows s region place old.shown ++ due_rows d bytes)) is ∙ take_all s.sorted_capacity rows whole)

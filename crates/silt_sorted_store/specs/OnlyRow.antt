@@ -1,0 +1,26 @@
+-- The entry of a key.
+use Rattle.std.specs.Prelude.{◌≡◌, ◌≢◌, ℕ, ◌<◌, List, [], length, get_or, slice_get, Option, Some, None}
+use Rattle.silt_frame.specs.Rows.{StoredRow, entry_row, keys_of}
+
+-- the row at this place is this one, it has the key, and no other has it
+pub record IsOnlyRow (rows : List StoredRow) (key : List ℕ) (place : ℕ) (row : StoredRow) : Type 0 where
+  pub there : slice_get rows place ≡ Some row
+  pub has_key : row.key ≡ key
+  pub only : (other : ℕ) → other < length rows → get_or (keys_of rows) other [] ≡ key → other ≡ place
+
+-- no row has the key
+abbrev pub HasNoEntry : List StoredRow → List ℕ → Type 0
+HasNoEntry rows key = (place : ℕ) → place < length rows → get_or (keys_of rows) place [] ≢ key
+
+-- what is found is the place of the key's one row, and nothing where no row has the key
+abbrev pub FindsEntry : List StoredRow → List ℕ → Option ℕ → Type 0
+FindsEntry rows key None = HasNoEntry rows key
+FindsEntry rows key (Some place) = (row : StoredRow) × IsOnlyRow rows key place row
+
+-- the row at this place has the value
+abbrev pub HasValue : List StoredRow → ℕ → List ℕ → Type 0
+HasValue rows place value = (row : StoredRow) × (slice_get rows place ≡ Some row) × (row.value ≡ value)
+
+-- the row at this place is what these bytes stand for
+abbrev pub HasEntry : List StoredRow → ℕ → List ℕ → Type 0
+HasEntry rows place bytes = slice_get rows place ≡ Some (entry_row bytes)

@@ -1,0 +1,63 @@
+// A sorted region on a device: where its entries lie, and how one is written.
+ghost use Rattle.std.specs.Prelude.{◌≡◌, ◌+◌, ◌*◌, ◌<◌, ◌≤◌, ◌^◌, ◌++◌, length, take, IsTrue, IfOk, MatchResult};
+ghost use Rattle.silt_device.specs.Disk.{ChangesWithin, CountsFault, size};
+ghost use Rattle.silt_device.specs.Layout.{device_size, entry_len, sorted_at};
+ghost use Rattle.silt_image.specs.Stores.{sorted_rows};
+ghost use Rattle.silt_sorted_store.specs.Region.{due_rows};
+ghost use Rattle.silt_sorted_store.specs.State.{sorted_entry_at};
+
+use silt_device::{Disk, Geometry};
+
+/// A sorted region, by the geometry of its store and its number.
+#[derive(Clone, Copy)]
+pub struct SortedRegion {
+    pub geometry: Geometry,
+    pub number: u32,
+    ghost there: { number < 2 },
+}
+
+impl SortedRegion {
+    /// Where the entry at a place begins.
+    pub(crate) fn entry_at(&self, place: u32) -> u64
+        requires { place < self.now.geometry.sorted_capacity }
+        ensures value { result ≡ sorted_entry_at self.now.geometry self.now.number place }
+        ensures fits { result + entry_len self.now.geometry ≤ device_size self.now.geometry }
+        ensures most { device_size self.now.geometry ≤ 2 ^ 39 }
+    {
+        self.geometry.sorted_at(self.number) + u64::from(place) * self.geometry.entry_len() as u64
+    }
+
+    /// Writes the bytes of an entry at a place where they are due and the region has the place. How many entries there are then.
+    ///
+    /// # Errors
+    ///
+    /// The fault of the write. What the entry at the place then shows is open.
+    pub fn write_due<D: Disk>(
+        &self,
+        disk: &mut D,
+        place: u32,
+        is_due: bool,
+        entry: &[u8],
+    ) -> Result<u32, D::Fault>
+        requires place { place ≤ self.now.geometry.sorted_capacity }
+        requires entry { length entry.now ≡ entry_len self.now.geometry }
+        requires size { device_size self.now.geometry ≤ size (D.content disk.old) }
+        ensures size { size (D.content disk.new) ≡ size (D.content disk.old) }
+        ensures changes { ChangesWithin (sorted_entry_at self.now.geometry self.now.number place) (entry_len self.now.geometry) (D.content disk.old) (D.content disk.new) }
+        ensures region { ChangesWithin (sorted_at self.now.geometry self.now.number) (self.now.geometry.sorted_capacity * entry_len self.now.geometry) (D.content disk.old) (D.content disk.new) }
+        ensures kept { IsTrue (D.content disk.old).honest → sorted_rows self.now.geometry self.now.number place (D.content disk.new).shown ≡ sorted_rows self.now.geometry self.now.number place (D.content disk.old).shown }
+        ensures written { IsTrue (D.content disk.old).honest → IfOk result (λ count. sorted_rows self.now.geometry self.now.number count (D.content disk.new).shown
+            ≡ take self.now.geometry.sorted_capacity (sorted_rows self.now.geometry self.now.number place (D.content disk.old).shown ++ due_rows is_due entry.now)) }
+        ensures most { IfOk result (λ count. count ≤ self.now.geometry.sorted_capacity) }
+        ensures failures { MatchResult result (λ _. D.failures disk.new ≡ D.failures disk.old) (CountsFault D.failures D.gave disk.old disk.new) }
+    {
+        if !is_due {
+            return Ok(place);
+        }
+        if place == self.geometry.sorted_capacity() {
+            return Ok(place);
+        }
+        disk.write(self.entry_at(place), entry)?;
+        Ok(place + 1)
+    }
+}

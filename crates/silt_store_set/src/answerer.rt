@@ -1,0 +1,53 @@
+// A store as what answers events.
+ghost use Rattle.silt_device.specs.Disk.{GaveAny};
+ghost use Rattle.silt_event.specs.Events.{HasValueOf};
+ghost use Rattle.silt_store_set.specs.CoreState.{DoesPlain};
+
+use crate::Core;
+use silt_device::{Disk, FaultDisk, FileDisk, MemDisk};
+use silt_event::{Answerer, Event, Reply};
+use std::alloc::Global;
+
+/// A disk whose stores are answerers.
+pub trait Served: Disk + Sized {
+    /// The reply of a store on such a disk to an event, without its fault.
+    fn answer_on(core: &mut Core<Self>, alloc: Global, event: &Event) -> Reply<()>
+        requires { HasValueOf core.old.shape.value_len event.now }
+        ensures { DoesPlain Self.content Self.failures (GaveAny Self.gave) core.old core.new event.now result };
+}
+
+impl Served for MemDisk {
+    fn answer_on(core: &mut Core<Self>, alloc: Global, event: &Event) -> Reply<()> {
+        answer_plain(core, alloc, event)
+    }
+}
+
+impl Served for FaultDisk {
+    fn answer_on(core: &mut Core<Self>, alloc: Global, event: &Event) -> Reply<()> {
+        answer_plain(core, alloc, event)
+    }
+}
+
+impl Served for FileDisk {
+    fn answer_on(core: &mut Core<Self>, alloc: Global, event: &Event) -> Reply<()> {
+        answer_plain(core, alloc, event)
+    }
+}
+
+impl<D: Served> Answerer for Core<D> {
+    ghost value_len = { λ core. core.shape.value_len };
+
+    ghost answers = { DoesPlain D.content D.failures (GaveAny D.gave) };
+
+    fn answer(&mut self, alloc: Global, event: Event) -> Reply<()> {
+        D::answer_on(self, alloc, &event)
+    }
+}
+
+// A store's reply to an event, without its fault.
+fn answer_plain<D: Disk>(core: &mut Core<D>, alloc: Global, event: &Event) -> Reply<()>
+    requires { HasValueOf core.old.shape.value_len event.now }
+    ensures { DoesPlain D.content D.failures (GaveAny D.gave) core.old core.new event.now result }
+{
+    core.answer(alloc, event).plain()
+}

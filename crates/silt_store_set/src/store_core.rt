@@ -1,0 +1,343 @@
+// The store over one device: what it holds in memory, and its calls.
+ghost use Rattle.std.specs.Prelude.{◌≡◌, ◌<◌, ◌≤◌, length, false, Ok, All, IsTrue, IfOk, IfErr, OnErr, MatchResult};
+ghost use Rattle.silt_event.specs.Events.{Legal};
+ghost use Rattle.silt_device.specs.Disk.{GaveAny, LeavesOnly};
+
+use crate::replies::{accepted, copied, progressed, zeros};
+use crate::{Event, Progress, Refusal, Reply};
+use silt_device::{Disk, Geometry};
+use silt_frame::{Key, Kind, Value};
+use silt_stores::{ConvertError, EntriesError, Stores, TakeError};
+use std::alloc::{AllocError, Global};
+use std::collections::BTreeMap;
+use std::marker::Model;
+
+/// The greatest number of commands that one life of a store may accept.
+pub const MOST_COMMANDS: u64 = (1 << 63) - 1;
+
+/// A device that was not opened, and why.
+#[derive(Drop)]
+pub struct OpenFault<D: Disk> {
+    pub disk: D,
+    pub refusal: Refusal<D::Fault>,
+}
+
+/// A store over a device. It answers from what is accepted, and survives a stop with what is acknowledged.
+#[derive(Drop)]
+pub struct Core<D: Disk> {
+    disk: D,
+    stores: Stores,
+    // How many commands this life has accepted.
+    count: u64,
+    failed: bool,
+}
+
+impl<D: Disk> Model for Core<D> {
+    ghost use Rattle.std.specs.Coded.{codes};
+    ghost use Rattle.silt_event.specs.Commands.{map_code};
+    ghost use Rattle.silt_image.specs.Meaning.{image_map};
+    ghost use Rattle.silt_stores.specs.Standing.{full_image, waiting_commands};
+    ghost use Rattle.silt_store_set.specs.CoreState.{CoreState, work_of};
+    ghost use Rattle.silt_store_set.specs.CoreInvariant.{IsCore};
+
+    ghost Value = { CoreState D };
+
+    ghost coded = { Prim.hlevel (codes, map_code) };
+
+    ghost view = { λ a. record { disk = a.disk; shape = a.stores.manifest.shape; body = a.stores.manifest.ruling; full = full_image (D.content a.disk) a.stores; base = image_map (D.content a.disk).shown; waiting = waiting_commands (D.content a.disk) a.stores; work = work_of a.stores.converting; charge = a.stores.charge; count = a.count; failed = a.failed } };
+
+    ghost invariant = { λ a. IsCore (D.content a.disk) a.stores a.count a.failed };
+}
+
+impl<D: Disk> Core<D> {
+    ghost use Rattle.std.specs.Prelude.{IsErrOf, OnOk};
+    ghost use Rattle.std.specs.BTreeMap as tree;
+    ghost use Rattle.std.specs.FinMap.{get};
+    ghost use Rattle.silt_frame.specs.declared.key.Key.{Key as KeyOf};
+    ghost use Rattle.silt_log.specs.Rows.{IsValueOf};
+    ghost use Rattle.silt_recovery.specs.Opening.{LeavesNoOther};
+    ghost use Rattle.silt_stores.specs.Calls.{SameDisk, StandsUnsorted};
+    ghost use Rattle.silt_store_set.specs.CoreInvariant.{LeavesBegun};
+    ghost use Rattle.silt_frame.specs.Rows.{key_cmp};
+    ghost use Rattle.silt_store_set.specs.CoreState.{CoreState, Does, Runs, Opens, EntriesCause, StandsKept, map_of, MayWrite, row_event};
+    ghost use Rattle.silt_event.specs.Events.{HasValueOf};
+    ghost use Rattle.silt_store_set.specs.Opening.{OpeningCause};
+    ghost use Rattle.silt_store_set.specs.Replies.{change_reply, flush_reply, get_reply, read_reply, progress_reply};
+    ghost use Rattle.silt_event.specs.declared.event.Event.TheVariants.{Put, Delete, Get, Flush, Convert, Merge};
+
+    /// Takes up a device that a stop may have left.
+    ///
+    /// # Errors
+    ///
+    /// The first thing that is found (`NotFormatted`, `Damaged`, `Crowded`), and then nothing is written; `Device` with the
+    /// fault of a device call; `NoMemory`.
+    pub fn open(alloc: Global, disk: D) -> Result<Core<D>, OpenFault<D>>
+        ensures ok { IfOk result (Opens D.content (D.content disk)) }
+        ensures same { IfErr result (λ fault. SameDisk (D.content disk) (D.content fault.disk)) }
+        ensures cause { IfErr result (λ fault. OpeningCause D.content (GaveAny D.gave) (D.content disk) fault.disk fault.refusal) }
+        ensures images { MatchResult result (λ core. LeavesNoOther (D.content disk) (D.content core.disk)) (λ fault. LeavesNoOther (D.content disk) (D.content fault.disk)) }
+    {
+        match silt_recovery::open(alloc, disk) {
+            Ok(opened) => Ok(Core {
+                disk: opened.disk,
+                stores: opened.stores,
+                count: 0,
+                failed: false,
+            }),
+            Err(fault) => Err(OpenFault {
+                disk: fault.disk,
+                refusal: Refusal::from(fault.error),
+            }),
+        }
+    }
+
+    /// The six numbers of the store.
+    pub fn geometry(&self) -> Geometry
+        ensures { result ≡ self.now.shape }
+    {
+        self.stores.geometry()
+    }
+
+    /// How many commands this life has accepted.
+    pub fn count(&self) -> u64
+        ensures { result ≡ self.now.count }
+    {
+        self.count
+    }
+
+    /// Sets the value of a key, and answers how many commands this life has accepted, this one included.
+    ///
+    /// It is decided in this order: `Failed`, `Spent` (the count), `StoreFull`, the reads of its lookup (`Device`), `NoRoom`,
+    /// `Spent` (the generation), `NoMemory`, its writes (`Device`). Memory is taken only where the active log cannot take the
+    /// row and another one is started.
+    pub fn put(&mut self, alloc: Global, key: &Key, value: &[u8]) -> Result<u64, Refusal<D::Fault>>
+        requires { length value.now ≡ self.old.shape.value_len }
+        ensures { Does D.content D.failures (GaveAny D.gave) self.old self.new (Put key.now value.now) (change_reply result) }
+    {
+        if self.failed {
+            return Err(Refusal::Failed);
+        }
+        if self.count == MOST_COMMANDS {
+            return Err(Refusal::Spent);
+        }
+        if self.stores.charge() == self.stores.geometry().sorted_capacity() {
+            return Err(Refusal::StoreFull);
+        }
+        self.write_row(alloc, Kind::Put, key, value)
+    }
+
+    /// Takes a key's value away, and answers how many commands this life has accepted, this one included.
+    ///
+    /// It is decided as a put is, without `StoreFull`.
+    pub fn delete(&mut self, alloc: Global, key: &Key) -> Result<u64, Refusal<D::Fault>>
+        ensures { Does D.content D.failures (GaveAny D.gave) self.old self.new (Delete key.now) (change_reply result) }
+    {
+        if self.failed {
+            return Err(Refusal::Failed);
+        }
+        if self.count == MOST_COMMANDS {
+            return Err(Refusal::Spent);
+        }
+        let zeros = zeros(self.stores.geometry().value_len());
+        self.write_row(alloc, Kind::Delete, key, zeros)
+    }
+
+    // Writes a row behind the others, in a new log where the active one cannot take it.
+    fn write_row(
+        &mut self,
+        alloc: Global,
+        kind: Kind,
+        key: &Key,
+        value: &[u8],
+    ) -> Result<u64, Refusal<D::Fault>>
+        requires may { MayWrite kind self.old }
+        requires value { length value.now ≡ self.old.shape.value_len }
+        requires zeros { IsValueOf kind value.now }
+        ensures { Does D.content D.failures (GaveAny D.gave) self.old self.new (row_event kind key.now value.now) (change_reply result) }
+    {
+        match self.stores.take(alloc, &mut self.disk, kind, key, value) {
+            Ok(()) => {
+                self.count += 1;
+                Ok(self.count)
+            }
+            Err(TakeError::Write(fault)) => {
+                self.failed = true; // the row or the manifest may stand in part
+                Err(Refusal::Device(fault))
+            }
+            Err(TakeError::Read(fault)) => Err(Refusal::Device(fault)),
+            Err(TakeError::NoRoom) => Err(Refusal::NoRoom),
+            Err(TakeError::Spent) => Err(Refusal::Spent),
+            Err(TakeError::NoMemory) => Err(Refusal::NoMemory),
+        }
+    }
+
+    /// Acknowledges all commands accepted so far, and answers their number. Where no row waits it makes no device call.
+    pub fn flush(&mut self) -> Result<u64, Refusal<D::Fault>>
+        ensures { Does D.content D.failures (GaveAny D.gave) self.old self.new Flush (flush_reply result) }
+    {
+        if self.failed {
+            return Err(Refusal::Failed);
+        }
+        if !self.stores.has_waiting() {
+            return Ok(self.count);
+        }
+        match self.stores.flush(&mut self.disk) {
+            Ok(()) => Ok(self.count),
+            Err(fault) => {
+                self.failed = true; // some of the gates may be open
+                Err(Refusal::Device(fault))
+            }
+        }
+    }
+
+    /// Writes a key's value over `out`, and answers whether there is one. Where there is none `out` stays as it was.
+    pub fn get(&self, key: &Key, out: &mut [u8]) -> Result<bool, Refusal<D::Fault>>
+        requires { length out.old ≡ self.now.shape.value_len }
+        ensures reply { Does D.content D.failures (GaveAny D.gave) self.now self.now (Get key.now) (get_reply out.new result) }
+        ensures absent { result ≡ Ok false → out.new ≡ out.old }
+        ensures memory { ¬ IsErrOf result Refusal.NoMemory }
+    {
+        if self.failed {
+            return Err(Refusal::Failed);
+        }
+        match self.stores.get(&self.disk, key, out) {
+            Ok(found) => Ok(found),
+            Err(fault) => Err(Refusal::Device(fault)),
+        }
+    }
+
+    // A key's value, copied.
+    fn read(&self, alloc: Global, key: &Key) -> Result<Option<Value>, Refusal<D::Fault>>
+        ensures { Does D.content D.failures (GaveAny D.gave) self.now self.now (Get key.now) (read_reply result) }
+    {
+        if self.failed {
+            return Err(Refusal::Failed);
+        }
+        match self.stores.find(&self.disk, key) {
+            Ok(None) => Ok(None),
+            Ok(Some(location)) => match copied(alloc, &self.stores, &self.disk, location) {
+                Ok(value) => Ok(Some(value)),
+                Err(refusal) => Err(refusal),
+            },
+            Err(fault) => Err(Refusal::Device(fault)),
+        }
+    }
+
+    /// One step of the conversion of the oldest frozen log into a hash store. Where none is under way: `Idle` where no log is frozen,
+    /// `Waiting` where no hash region is free, else the conversion begins. Each step writes one slot and answers `Moved`; the one after
+    /// the last slot syncs, writes the manifest and answers `Finished`.
+    ///
+    /// It is decided in this order: `Failed`, `Spent` (the generation, where the manifest is to be written), the read of a row
+    /// (`Device`) and `NoMemory` (in a first step alone), its write or syncs (`Device`).
+    pub fn convert(&mut self, alloc: Global) -> Result<Progress, Refusal<D::Fault>>
+        ensures { Does D.content D.failures (GaveAny D.gave) self.old self.new Convert (progress_reply result) }
+    {
+        if self.failed {
+            return Err(Refusal::Failed);
+        }
+        match self.stores.convert(alloc, &mut self.disk) {
+            Ok(progress) => Ok(progress),
+            Err(ConvertError::Write(fault)) => {
+                self.failed = true; // a slot or the manifest may stand in part
+                Err(Refusal::Device(fault))
+            }
+            Err(ConvertError::Read(fault)) => Err(Refusal::Device(fault)),
+            Err(ConvertError::Spent) => Err(Refusal::Spent),
+            Err(ConvertError::NoMemory) => Err(Refusal::NoMemory),
+        }
+    }
+
+    /// One step of merging. Nothing is merged in this stage.
+    pub fn merge(&mut self) -> Result<Progress, Refusal<D::Fault>>
+        ensures { Does D.content D.failures (GaveAny D.gave) self.old self.new Merge (progress_reply result) }
+    {
+        if self.failed {
+            return Err(Refusal::Failed);
+        }
+        Ok(Progress::Idle)
+    }
+
+    /// Does one event. A get whose value finds no memory is refused with `NoMemory`.
+    pub fn answer(&mut self, alloc: Global, event: &Event) -> Reply<D::Fault>
+        requires { HasValueOf self.old.shape.value_len event.now }
+        ensures { Does D.content D.failures (GaveAny D.gave) self.old self.new event.now result }
+    {
+        match event {
+            Event::Put(key, value) => accepted(self.put(alloc, key, value.as_slice())),
+            Event::Delete(key) => accepted(self.delete(alloc, key)),
+            Event::Flush => match self.flush() {
+                Ok(count) => Reply::Acknowledged(count),
+                Err(refusal) => Reply::Refused(refusal),
+            },
+            Event::Get(key) => match self.read(alloc, key) {
+                Ok(Some(value)) => Reply::Found(value),
+                Ok(None) => Reply::Absent,
+                Err(refusal) => Reply::Refused(refusal),
+            },
+            Event::Convert => progressed(self.convert(alloc)),
+            Event::Merge => progressed(self.merge()),
+        }
+    }
+
+    /// Does events in order, and answers a reply to each.
+    ///
+    /// # Errors
+    ///
+    /// Where the list of replies finds no memory. Then no event was done.
+    pub fn run(
+        &mut self,
+        alloc: Global,
+        events: &[Event],
+    ) -> Result<Vec<Reply<D::Fault>>, AllocError>
+        requires { All (HasValueOf self.old.shape.value_len) events.now }
+        ensures same { SameDisk (D.content self.old.disk) (D.content self.new.disk) }
+        ensures runs { IfOk result (λ replies. Runs D.content D.failures (GaveAny D.gave) self.old events.now replies.items self.new) }
+        ensures legal { IsTrue (D.content self.old.disk).honest → IfOk result (λ replies. Legal self.old.count (map_of self.old) events.now replies.items self.new.count (map_of self.new)) }
+        ensures kept { self.old.failed ≡ false → IfOk result (λ replies. LeavesOnly (D.content self.new.disk) (StandsKept self.old events.now replies.items)) }
+        ensures err { OnErr result (self.new ≡ self.old) }
+    {
+        let _ = &self.disk; // the store is as it was made
+        let mut replies = Vec::with_capacity(alloc, events.len())?;
+        for event in events {
+            let reply = self.answer(alloc, event);
+            replies.push(reply)?;
+        }
+        Ok(replies)
+    }
+
+    /// All keys with their values.
+    ///
+    /// # Errors
+    ///
+    /// `Failed`, `Device` with the fault of a read, `NoMemory`.
+    pub fn entries(&self, alloc: Global) -> Result<BTreeMap<Key, Value>, Refusal<D::Fault>>
+        ensures entries { IsTrue (D.content self.now.disk).honest → IfOk result (λ entries. (key : KeyOf) → tree.get key_cmp entries key ≡ get (map_of self.now) key.0) }
+        ensures working { OnOk result (self.now.failed ≡ false) }
+        ensures cause { IfErr result (EntriesCause (GaveAny D.gave) self.now) }
+    {
+        if self.failed {
+            return Err(Refusal::Failed);
+        }
+        match self.stores.entries(alloc, &self.disk) {
+            Ok(entries) => Ok(entries),
+            Err(EntriesError::Device(fault)) => Err(Refusal::Device(fault)),
+            Err(EntriesError::NoMemory) => Err(Refusal::NoMemory),
+        }
+    }
+
+    /// Gives the device back. Each image that a stop may leave of it stands for the base, or, where the store is failed, for one map
+    /// after a beginning of one list of commands.
+    pub fn close(self) -> D
+        ensures disk { result ≡ self.disk }
+        ensures safe { self.failed ≡ false → LeavesOnly (D.content result) (StandsUnsorted self.shape self.base) }
+        ensures left { LeavesBegun (D.content result) self.shape }
+    {
+        let Core {
+            disk,
+            stores: _,
+            count: _,
+            failed: _,
+        } = self;
+        disk
+    }
+}

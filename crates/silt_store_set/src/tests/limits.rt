@@ -1,0 +1,38 @@
+// Stores at the limits of their numbers, where there is ample memory.
+
+use crate::tests::key;
+use crate::{Core, Event, Reply};
+use silt_device::{Geometry, MemDisk};
+use silt_frame::Value;
+use silt_recovery::format;
+use std::alloc::Global;
+use std::test::Fail;
+
+// An opened store of this geometry.
+fn opened(alloc: Global, geometry: Geometry) -> Result<Core<MemDisk>, Fail> {
+    let disk = MemDisk::new(alloc, geometry.size() as usize)?;
+    let disk = format(alloc, disk, geometry).ok().ok_or("formats")?;
+    Ok(Core::open(alloc, disk).ok().ok_or("opens")?)
+}
+
+// The longest values, put, flushed, and found by a get of events and by a list of all entries.
+#[test]
+fn finds_the_longest_values(rt: HostRuntime) -> Result<(), Fail> {
+    let alloc = rt.alloc();
+    let geometry = Geometry::new(4096, 2, 4, 2, 2, 8).ok().ok_or("in limits")?;
+    let mut core = opened(alloc, geometry)?;
+    assert_eq!(rt; core.geometry().value_len(), 4096);
+    let value = [7; 4096];
+    assert_eq!(rt; core.put(alloc, &key(1), &value).ok(), Some(1));
+    assert_eq!(rt; core.flush().ok(), Some(1));
+    match core.answer(alloc, &Event::Get(key(1))) {
+        Reply::Found(found) => assert_eq!(rt; found.as_slice(), value.as_slice()),
+        _ => return Err("not found".into()),
+    }
+    let entries = core.entries(alloc).ok().ok_or("has entries")?;
+    assert_eq!(rt;
+        entries.get(&key(1)).map(Value::as_slice),
+        Some(value.as_slice())
+    );
+    Ok(())
+}

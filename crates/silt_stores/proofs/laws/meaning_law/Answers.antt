@@ -1,5 +1,0 @@
-use Rattle.silt_stores.proofs.Facts.{meaning}
-use Rattle.silt_stores.proofs.laws.meaning_law.Goals as goal
-
-pub returns : goal.returns
-returns c = meaning

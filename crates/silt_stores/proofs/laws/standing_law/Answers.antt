@@ -1,0 +1,5 @@
+use Rattle.silt_stores.proofs.Facts.{meaning}
+use Rattle.silt_stores.proofs.laws.standing_law.Goals as goal
+
+pub returns : goal.returns
+returns c = meaning

@@ -1,0 +1,60 @@
+-- A put or a delete as a whole, and why it is refused.
+use Rattle.std.specs.Prelude.{◌≡◌, ◌⊎◌, ℕ, IsTrue, List, [], ◌∷◌, ◌++◌}
+use Rattle.silt_device.specs.Disk.{Content}
+use Rattle.silt_event.specs.Commands.{Command, map_after}
+use Rattle.silt_log.specs.State.{all_rows}
+use Rattle.silt_stores.specs.declared.row_write.TakeError.{TakeError}
+use Rattle.silt_stores.specs.declared.row_write.TakeError.TheVariants.{Read, Write, NoRoom, Spent, NoMemory}
+use Rattle.silt_stores.specs.State.{StoresState}
+use Rattle.silt_stores.specs.Standing.{base_map, waiting_commands}
+use Rattle.silt_stores.specs.Calls.{HasNoFreeLog, Breaks, CannotTake, IsLastGeneration, Remaps}
+use Rattle.silt_stores.specs.NextLog.{IsLowestFree, next_body}
+
+-- the active log cannot take a row of this key
+abbrev pub NeedsNext : Content → StoresState → List ℕ → Type 0
+NeedsNext content s key = IsTrue content.honest → CannotTake s.manifest.shape (all_rows content s.active.log) key
+
+-- the active log can take a row of this key
+abbrev pub HasPlace : Content → StoresState → List ℕ → Type 0
+HasPlace content s key = IsTrue content.honest → CannotTake s.manifest.shape (all_rows content s.active.log) key → ⊥
+
+-- this command waits behind those that waited, and the base is as it was
+pub record WaitsBehind (command : Command) (old new : Content) (before after : StoresState) : Type 0 where
+  pub waiting : waiting_commands new after ≡ waiting_commands old before ++ command ∷ []
+  pub base : base_map new after ≡ base_map old before
+
+-- what waited went into the base, and this command alone waits
+pub record WaitsAlone (command : Command) (old new : Content) (before after : StoresState) : Type 0 where
+  pub waiting : waiting_commands new after ≡ command ∷ []
+  pub base : base_map new after ≡ map_after (base_map old before) (waiting_commands old before)
+
+-- the active log took a row of this key, under the same body
+pub record StaysFor (old new : Content) (before after : StoresState) (key : List ℕ) (command : Command) : Type 0 where
+  pub has_place : HasPlace old before key
+  pub ruling : after.manifest.ruling ≡ before.manifest.ruling
+  pub waits : IsTrue old.honest → WaitsBehind command old new before after
+
+-- the active log was frozen for a row of this key: the body that then rules is the next one, with the lowest free region
+pub record TurnsFor (old new : Content) (before after : StoresState) (key : List ℕ) (command : Command) : Type 0 where
+  pub needs : NeedsNext old before key
+  pub region : ℕ
+  pub lowest : IsLowestFree before.manifest.shape.logs before.manifest.ruling region
+  pub ruling : after.manifest.ruling ≡ next_body before.manifest.ruling region
+  pub waits : IsTrue old.honest → WaitsAlone command old new before after
+
+-- a row of this key, which does this command, was taken: by the log that was active or by the next one
+abbrev pub TakesKey : Content → Content → StoresState → StoresState → List ℕ → Command → Type 0
+TakesKey old new before after key command = StaysFor old new before after key command ⊎ TurnsFor old new before after key command
+
+module _ {D F : Type 0} (content : D → Content) (gave : D → F → Type 0) (counted : D → D → F → Type 0) (old new : D) (before after : StoresState) (key : List ℕ) where
+  -- nothing was changed
+  abbrev pub Unchanged : Type 0
+  Unchanged = (after ≡ before) × (new ≡ old)
+
+  -- why a row of this key was not taken, and what was changed
+  abbrev pub TakeCause : TakeError F → Type 0
+  TakeCause (Read fault) = Unchanged × gave old fault
+  TakeCause (Write fault) = counted old new fault × Breaks (content old) (content new) before × Remaps [] (content old) (content new) before after
+  TakeCause NoRoom = Unchanged × NeedsNext (content old) before key × HasNoFreeLog before
+  TakeCause Spent = Unchanged × NeedsNext (content old) before key × (HasNoFreeLog before → ⊥) × IsLastGeneration before
+  TakeCause NoMemory = Unchanged × NeedsNext (content old) before key × (HasNoFreeLog before → ⊥) × (IsLastGeneration before → ⊥)

@@ -1,5 +1,0 @@
-use Rattle.std.proofs.Common.{◌-◌}
-use Rattle.silt_trie.proofs.encode.+write_code.Given as goal
-
-abbrev pub decreases-write_code : goal.decreases-write_code
-decreases-write_code l = 160 - l.depth

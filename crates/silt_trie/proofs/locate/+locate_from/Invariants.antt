@@ -1,5 +1,0 @@
-use Rattle.std.proofs.Common.{◌-◌}
-use Rattle.silt_trie.proofs.locate.+locate_from.Given as goal
-
-abbrev pub decreases-locate_from : goal.decreases-locate_from
-decreases-locate_from l = 160 - l.depth

@@ -1,0 +1,100 @@
+-- Marks into the codes of groups of keys: where in them the codes of parts of the keys begin.
+use Rattle.std.specs.Prelude.{◌≡◌, ℕ, zero, suc, ◌+◌, ◌-◌, ◌*◌, ◌^◌, ◌<◌, ◌≤◌, nat_le, if◌then◌else◌, List, [], ◌∷◌, ◌++◌, length, map, drop, slice_index, slice_index_or, Option, Some}
+use Rattle.std.specs.List.{flat_map}
+use Rattle.silt_gamma.specs.Gamma.{gamma_code}
+use Rattle.silt_trie.specs.Code.{IsCodable, StandsAt, bit_of, trie_code, with_bit}
+use Rattle.silt_trie.specs.declared.marks.Mark.{Mark}
+
+-- the m bits of a key from d on
+abbrev pub prefix_of : ℕ → ℕ → List ℕ → List ℕ
+prefix_of zero d key = []
+prefix_of (suc m) d key = bit_of d key ∷ prefix_of m (d + 1) key
+
+-- the number that these bits write, the highest first
+abbrev pub number_of_bits : List ℕ → ℕ
+number_of_bits [] = 0
+number_of_bits (bit ∷ bits) = bit * 2 ^ length bits + number_of_bits bits
+
+-- each is 0 or 1
+abbrev pub AreBits : List ℕ → Type 0
+AreBits bits = (i : ℕ) → slice_index bits i < 2
+
+-- the keys whose bits from d on begin with this prefix
+abbrev pub sub_keys : List (List ℕ) → ℕ → List ℕ → List (List ℕ)
+sub_keys keys d [] = keys
+sub_keys keys d (bit ∷ prefix) = sub_keys (with_bit bit d keys) (d + 1) prefix
+
+-- the codes of the groups that the next g bits make of keys, one behind the other
+abbrev pub grouped_code : ℕ → List (List ℕ) → ℕ → List ℕ
+grouped_code zero keys d = trie_code keys d
+grouped_code (suc g) keys d = grouped_code g (with_bit 0 d keys) (d + 1) ++ grouped_code g (with_bit 1 d keys) (d + 1)
+
+-- what stands in front of the codes of both sides: in a group of two keys or more how many are on the left, and one
+abbrev pub head_code : ℕ → List (List ℕ) → ℕ → List ℕ
+head_code zero keys d = if nat_le 2 (length keys) then gamma_code (length (with_bit 0 d keys) + 1) else []
+head_code (suc g) keys d = []
+
+-- the marks of all prefixes of m bits from d on, by their numbers: the code of the keys, grouped by g bits, begins at `start`,
+-- and `place` keys stand before them
+abbrev pub marks_of : ℕ → ℕ → List (List ℕ) → ℕ → ℕ → ℕ → List Mark
+marks_of zero g keys d start place = record { start = start; place = place } ∷ []
+marks_of (suc m) g keys d start place =
+    let lefts = with_bit 0 d keys in
+    let rights = with_bit 1 d keys in
+    let behind = start + length (head_code g keys d) in
+    marks_of m (g - 1) lefts (d + 1) behind place ++ marks_of m (g - 1) rights (d + 1) (behind + length (grouped_code (g - 1) lefts (d + 1))) (place + length lefts)
+
+-- What a mark into bits says of the keys with a prefix, where `next` is the mark that follows: there are as many as
+-- `next` has more, they are those that stand among all keys from `place` on, and from bit `start` on the bits begin
+-- with their code, which ends before that of `next` begins.
+pub record IsMark (bits : List ℕ) (keys : List (List ℕ)) (d : ℕ) (prefix : List ℕ) (mark next : Mark) : Type 0 where
+  pub codable : IsCodable (sub_keys keys d prefix) (d + length prefix)
+  pub count : next.place ≡ mark.place + length (sub_keys keys d prefix)
+  pub stands : (i : ℕ) (key : List ℕ) → StandsAt keys i key → prefix_of (length prefix) d key ≡ prefix → (mark.place ≤ i) × StandsAt (sub_keys keys d prefix) (i - mark.place) key
+  pub from : (i : ℕ) → i < length (sub_keys keys d prefix) → StandsAt keys (mark.place + i) (slice_index_or (sub_keys keys d prefix) i []) × (prefix_of (length prefix) d (slice_index_or (sub_keys keys d prefix) i []) ≡ prefix)
+  pub code : (rest : List ℕ) × (drop mark.start bits ≡ trie_code (sub_keys keys d prefix) (d + length prefix) ++ rest)
+  pub upto : mark.start + length (trie_code (sub_keys keys d prefix) (d + length prefix)) ≤ next.start
+
+-- the marks of keys, with one behind all keys, are marks into their code
+abbrev pub MarkLaw : Type 0
+MarkLaw =
+    (g d : ℕ) (keys : List (List ℕ)) (prefix : List ℕ) (last other : Mark)
+    → IsCodable keys d → AreBits prefix → g ≤ length prefix → d + length prefix ≤ 160 → last.place ≡ length keys → last.start ≡ length (grouped_code g keys d)
+    → let marks = marks_of (length prefix) g keys d 0 0 ++ last ∷ [] in
+    let at = number_of_bits prefix in
+    IsMark (grouped_code g keys d) keys d prefix (slice_index_or marks at other) (slice_index_or marks (at + 1) other)
+
+-- all prefixes of g bits, by their numbers
+abbrev pub prefixes : ℕ → List (List ℕ)
+prefixes zero = [] ∷ []
+prefixes (suc g) = map (λ prefix. 0 ∷ prefix) (prefixes g) ++ map (λ prefix. 1 ∷ prefix) (prefixes g)
+
+-- the code in groups is that of the keys of each prefix, one behind the other
+abbrev pub GroupsLaw : Type 0
+GroupsLaw = (g d : ℕ) (keys : List (List ℕ)) → grouped_code g keys d ≡ flat_map (λ prefix. trie_code (sub_keys keys d prefix) (d + g)) (prefixes g)
+
+-- the code of grouped keys with marks of all prefixes of `levels` bits from `depth` on, the first `groups` of which have no numbers
+pub record MarkedCode : Type 0 where
+  pub code : List ℕ
+  pub marks : List Mark
+  pub count : ℕ
+  pub depth : ℕ
+  pub groups : ℕ
+  pub levels : ℕ
+
+-- this is made of the keys: it is their code, and it has their marks and one behind all keys
+pub record IsMadeOf (keys : List (List ℕ)) (made : MarkedCode) : Type 0 where
+  pub codable : IsCodable keys made.depth
+  pub code_is : made.code ≡ grouped_code made.groups keys made.depth
+  pub marks_are : made.marks ≡ marks_of made.levels made.groups keys made.depth 0 0 ++ record { start = length made.code; place = length keys } ∷ []
+  pub count_is : made.count ≡ length keys
+
+-- this is the place of a key that is one of the keys that it was made of
+abbrev pub IsMarkedPlace : MarkedCode → List ℕ → Option ℕ → Type 0
+IsMarkedPlace made key found = (keys : List (List ℕ)) (i : ℕ) → IsMadeOf keys made → StandsAt keys i key → found ≡ Some i
+
+-- between two marks the bits have keys at this depth, and this is the place of one of these
+abbrev pub IsPlaceBetween : List ℕ → Mark → Mark → ℕ → List ℕ → Option ℕ → Type 0
+IsPlaceBetween bits mark next depth key found =
+    (keys : List (List ℕ)) (i : ℕ) (rest : List ℕ)
+    → IsCodable keys depth → next.place ≡ mark.place + length keys → mark.start + length (trie_code keys depth) ≤ next.start → drop mark.start bits ≡ trie_code keys depth ++ rest → StandsAt keys i key → found ≡ Some (mark.place + i)

@@ -1,0 +1,82 @@
+//! The place of a key, read from code.
+ghost use Rattle.std.specs.Prelude.{◌≡◌, ℕ, ◌+◌, ◌^◌, ◌<◌, ◌≤◌, List};
+ghost use Rattle.silt_gamma.specs.Gamma.{BeginsWithCode};
+ghost use Rattle.silt_trie.specs.Coded.{ArePast, IsPlaceIn};
+
+use super::key::{KEY_BITS, key_bit};
+use silt_frame::Key;
+use silt_gamma::BitReader;
+
+/// How many codes can be pending while a code is skipped: one at each depth but the last, which may
+/// have two.
+const MOST_PENDING: usize = 161;
+
+/// The only place at which the key can stand among the `count` keys whose code the bits begin with
+/// and which agree in their first `depth` bits. Other bits give some place below `count`.
+pub fn locate_in(mut bits: BitReader<'_>, count: usize, depth: usize, key: &Key) -> usize
+    requires some { 0 < count }
+    requires counted { count < 2 ^ 32 }
+    ensures below { result < count }
+    ensures place { IsPlaceIn bits.entry count depth key.now.0 result }
+{
+    locate_from(&mut bits, count as u32, depth, key) as usize
+}
+
+/// The same, which takes codes off the front of the bits.
+fn locate_from(bits: &mut BitReader<'_>, count: u32, depth: usize, key: &Key) -> u32
+    requires { 0 < count }
+    ensures below { result < count }
+    ensures place { IsPlaceIn bits.old count depth key.now.0 result }
+{
+    if count < 2 || depth >= KEY_BITS {
+        return 0;
+    }
+    let left = read_left(bits, count);
+    if key_bit(key, depth) == 0 {
+        if left == 0 {
+            return 0;
+        }
+        return locate_from(bits, left, depth + 1, key);
+    }
+    if left == count {
+        return 0;
+    }
+    skip_code(bits, left, depth + 1);
+    left + locate_from(bits, count - left, depth + 1, key)
+}
+
+/// Takes the code of `count` keys off the front, in one pass. The numbers of keys whose codes are
+/// still to come are pending, the next one last; each has at least two keys, so that each turn of
+/// the loop takes one code.
+fn skip_code(bits: &mut BitReader<'_>, count: u32, depth: usize)
+    ensures { ArePast bits.old count depth bits.new }
+{
+    let mut pending = [0; MOST_PENDING];
+    pending[0] = count;
+    let mut top = usize::from(count >= 2);
+    while top > 0 && top <= KEY_BITS {
+        top -= 1;
+        let count = pending[top];
+        let Some(next) = bits.read_gamma() else {
+            return;
+        };
+        let left = (next - 1).min(count);
+        let right = count - left;
+        pending[top] = right;
+        top += usize::from(right >= 2);
+        pending[top] = left;
+        top += usize::from(left >= 2);
+    }
+}
+
+/// Takes one number of keys on the left, which is at most `count`, off the front.
+fn read_left(bits: &mut BitReader<'_>, count: u32) -> u32
+    ensures within { result ≤ count }
+    ensures read { (n : ℕ) (rest : List ℕ) → BeginsWithCode bits.old (n + 1) rest → n ≤ count
+        → (result ≡ n) × (bits.new ≡ rest) }
+{
+    match bits.read_gamma() {
+        Some(next) => (next - 1).min(count),
+        None => 0,
+    }
+}

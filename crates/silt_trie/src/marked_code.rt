@@ -1,0 +1,80 @@
+//! The code of keys with marks.
+ghost use Rattle.std.specs.Prelude.{◌≡◌, ℕ, ◌+◌, ◌^◌, ◌<◌, ◌≤◌, List, [], ◌∷◌, ◌++◌, length, OnOk, IfOk};
+ghost use Rattle.silt_trie.specs.Code.{IsCodable, with_bit};
+ghost use Rattle.silt_trie.specs.Coded.{bytes_of};
+ghost use Rattle.silt_trie.specs.Marks.{grouped_code, head_code, marks_of};
+
+use super::code_of_keys::{count_left, write_code};
+use super::marks::Mark;
+use silt_frame::Key;
+use silt_gamma::BitWriter;
+use std::alloc::AllocError;
+
+/// Appends the codes of the groups that the next `groups` bits make of keys, one behind the other,
+/// and a mark of each prefix of `levels` bits; `place` keys stand before these keys. After an
+/// error some of both may be there.
+pub fn write_marked(
+    bits: &mut BitWriter,
+    marks: &mut Vec<Mark>,
+    keys: &[Key],
+    place: u32,
+    depth: usize,
+    groups: usize,
+    levels: usize,
+) -> Result<(), AllocError>
+    requires codable { IsCodable (bytes_of keys.now) depth }
+    requires counted { place + length keys.now < 2 ^ 32 }
+    requires within { depth + levels ≤ 160 }
+    requires grouped { groups ≤ levels }
+    ensures code { OnOk result (bits.new ≡ bits.old ++ grouped_code groups (bytes_of keys.now) depth) }
+    ensures marks { OnOk result (marks.new.items
+        ≡ marks.old.items ++ marks_of levels groups (bytes_of keys.now) depth (length bits.old) place) }
+{
+    if levels == 0 {
+        push_mark(marks, bits.len(), place)?;
+        return write_code(bits, keys, depth);
+    }
+    let left = write_head(bits, keys, depth, groups)?;
+    let (lefts, rights) = keys.split_at(left);
+    let groups = groups.saturating_sub(1);
+    write_marked(bits, marks, lefts, place, depth + 1, groups, levels - 1)?;
+    write_marked(
+        bits,
+        marks,
+        rights,
+        place + left as u32,
+        depth + 1,
+        groups,
+        levels - 1,
+    )
+}
+
+/// Appends a mark. A place in the code that a `u32` can't count is want of memory too.
+pub fn push_mark(marks: &mut Vec<Mark>, start: usize, place: u32) -> Result<(), AllocError>
+    ensures { OnOk result (marks.new.items ≡ marks.old.items ++ record { start = start; place = place } ∷ []) }
+{
+    let start = u32::try_from(start).map_err(|_| AllocError)?;
+    marks.push(Mark { start, place })?;
+    Ok(())
+}
+
+/// Appends what stands in front of the codes of both sides, and says how many keys are on the
+/// left.
+fn write_head(
+    bits: &mut BitWriter,
+    keys: &[Key],
+    depth: usize,
+    groups: usize,
+) -> Result<usize, AllocError>
+    requires within { depth < 160 }
+    requires codable { IsCodable (bytes_of keys.now) depth }
+    ensures left { IfOk result (λ left. left ≡ length (with_bit 0 depth (bytes_of keys.now))) }
+    ensures code { OnOk result (bits.new ≡ bits.old ++ head_code groups (bytes_of keys.now) depth) }
+{
+    let left = count_left(keys, depth);
+    if groups > 0 || keys.len() < 2 {
+        return Ok(left);
+    }
+    bits.write_gamma(left as u32 + 1)?;
+    Ok(left)
+}

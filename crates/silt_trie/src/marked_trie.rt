@@ -1,0 +1,147 @@
+//! Code with marks of its own.
+ghost use Rattle.std.specs.Prelude.{◌≡◌, ℕ, ◌+◌, ◌-◌, ◌*◌, ◌/◌, ◌^◌, ◌<◌, ◌≤◌, length, IfOk, IfSome};
+ghost use Rattle.silt_trie.specs.Code.{IsCodable};
+ghost use Rattle.silt_trie.specs.Coded.{bytes_of};
+ghost use Rattle.silt_trie.specs.Marks.{IsMadeOf, IsMarkedPlace, IsPlaceBetween, MarkedCode};
+
+use super::key_place::locate_in;
+use super::marked_code::{push_mark, write_marked};
+use super::marks::{MOST_LEVELS, Mark, prefix_number};
+use silt_frame::Key;
+use silt_gamma::BitWriter;
+use std::alloc::{AllocError, Global};
+use std::marker::Model;
+
+/// How many keys a mark is for, at most, where keys are spread evenly.
+const KEYS_A_MARK: usize = 64;
+
+/// The codes of groups of keys, with marks of all prefixes of some bits, so that a look walks no
+/// more than the code of the keys with one prefix.
+#[derive(Drop)]
+pub struct MarkedTrie {
+    bits: BitWriter,
+    marks: Vec<Mark>,
+    count: usize,
+    depth: usize,
+    groups: usize,
+    levels: usize,
+}
+
+impl Model for MarkedTrie {
+    ghost Value = { MarkedCode };
+
+    ghost view = { λ t. record {
+      code = t.bits;
+      marks = t.marks.items;
+      count = t.count;
+      depth = t.depth;
+      groups = t.groups;
+      levels = t.levels;
+    } };
+
+    ghost invariant = { λ t. (t.depth + t.levels ≤ 160) × (t.levels ≤ 24) × (t.groups ≤ t.levels) };
+}
+
+impl MarkedTrie {
+    /// The code of keys that rise strictly and agree in their first `depth` bits: in groups by the
+    /// next `groups` bits, and with marks of the next `levels` bits.
+    pub fn encode(
+        alloc: Global,
+        keys: &[Key],
+        depth: usize,
+        groups: usize,
+        levels: usize,
+    ) -> Result<MarkedTrie, AllocError>
+        requires codable { IsCodable (bytes_of keys.now) depth }
+        requires within { depth + levels ≤ 160 }
+        requires few { levels ≤ 24 }
+        requires grouped { groups ≤ levels }
+        ensures made { IfOk result (λ made. IsMadeOf (bytes_of keys.now) made) }
+        ensures depth { IfOk result (λ made. made.depth ≡ depth) }
+        ensures groups { IfOk result (λ made. made.groups ≡ groups) }
+        ensures levels { IfOk result (λ made. made.levels ≡ levels) }
+    {
+        let mut bits = BitWriter::new(alloc);
+        let mut marks = Vec::new(alloc);
+        write_marked(&mut bits, &mut marks, keys, 0, depth, groups, levels)?;
+        push_mark(&mut marks, bits.len(), keys.len() as u32)?;
+        Ok(MarkedTrie {
+            bits,
+            marks,
+            count: keys.len(),
+            depth,
+            groups,
+            levels,
+        })
+    }
+
+    /// How many keys there are.
+    pub fn len(&self) -> usize
+        ensures { result ≡ self.now.count }
+    {
+        self.count
+    }
+
+    /// How many bits their code takes.
+    pub fn code_len(&self) -> usize
+        ensures { result ≡ length self.now.code }
+    {
+        self.bits.len()
+    }
+
+    /// The only place at which the key can stand; None where it is none of the keys for sure. This
+    /// reads the code of the keys that have the key's prefix, and no other.
+    pub fn locate_marked(&self, key: &Key) -> Option<usize>
+        ensures below { IfSome result (λ place. place < self.now.count) }
+        ensures place { IsMarkedPlace self.now key.now.0 result }
+    {
+        let at = prefix_number(key, self.depth, self.levels);
+        if at + 1 >= self.marks.len() {
+            return None;
+        }
+        let (mark, next) = (self.marks[at], self.marks[at + 1]);
+        let found = locate_between(&self.bits, mark, next, self.depth + self.levels, key);
+        match found {
+            Some(place) if place < self.count => Some(place),
+            _ => None,
+        }
+    }
+}
+
+/// The only place at which a key can stand among the keys from one mark up to the next, whose code
+/// begins at the first mark and which agree in their first `depth` bits.
+pub fn locate_between(
+    bits: &BitWriter,
+    mark: Mark,
+    next: Mark,
+    depth: usize,
+    key: &Key,
+) -> Option<usize>
+    ensures within { IfSome result (λ place. (mark.place ≤ place) × (place < next.place)) }
+    ensures place { IsPlaceBetween bits.now mark next depth key.now.0 result }
+{
+    if next.place <= mark.place {
+        return None;
+    }
+    let count = (next.place - mark.place) as usize;
+    let start = (mark.start as usize).min(bits.len());
+    let end = (next.start as usize).min(bits.len()).max(start);
+    let part = bits.reader(start, end - start);
+    Some(mark.place as usize + locate_in(part, count, depth, key))
+}
+
+/// By how many bits to mark so many keys in groups: by 8, which are the groups, and by as many
+/// more as leave at most 64 keys a mark, where they are spread evenly, up to 16.
+pub fn levels_for(count: usize) -> usize
+    ensures groups { 8 ≤ result }
+    ensures most { result ≤ 24 }
+    ensures enough { result < 24 → count ≤ 64 * 2 ^ result }
+    ensures least { 8 < result → 64 * 2 ^ (result - 1) < count }
+{
+    for levels in 8..MOST_LEVELS {
+        if count <= KEYS_A_MARK << levels {
+            return levels;
+        }
+    }
+    MOST_LEVELS
+}

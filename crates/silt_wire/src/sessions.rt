@@ -1,0 +1,300 @@
+// Sessions: lines from a reader, answered by any answerer to a writer.
+ghost use Rattle.std.specs.Prelude.{◌≡◌, ◌≢◌, ◌≤◌, ◌<◌, ◌++◌, ◌∷◌, [], ℕ, List, Some, Ok, true, IfOk, OnOk, OnErr, IfErr, length, string_bytes, take};
+ghost use Rattle.std.specs.Io.KnownBytes.{Appends};
+ghost use Rattle.silt_event.specs.Events.{HasValueOf};
+ghost use Rattle.silt_event.specs.declared.reply.Reply.TheVariants.{Refused};
+ghost use Rattle.silt_wire.specs.LineBuffer.{HoldsBytes};
+ghost use Rattle.silt_wire.specs.Replies.{fault_line};
+ghost use Rattle.silt_wire.specs.Sessions.{AnswersAll, AnswersSome, Ends, IsBeginning, IsCut, ServesAll, ServesSome, asks, line_of, rest_after};
+
+use crate::line::LineFault;
+use crate::line_buffer::LineBuffer;
+use crate::reply::{print_fault, print_reply};
+use silt_event::{Answerer, Event, Reply};
+use std::alloc::{AllocError, Global};
+use std::io::{ErrorKind, Read, Write};
+
+/// The most reads of a session.
+const MOST_READS: u64 = (1 << 63) - 1;
+
+/// How many bytes of answers are written before more lines of a read are answered.
+const ENOUGH_TEXT: usize = 65_536;
+
+/// How a session ended.
+#[derive(Clone, Copy, Debug, PartialEq, Eq)]
+pub enum SessionEnd {
+    /// The reader has no more bytes, and all lines are answered.
+    End,
+    /// A read failed, or there were too many. All lines that were read are answered.
+    ReadFault,
+    /// A write failed. What went out is a beginning of the answers.
+    WriteFault,
+    /// A growth of memory was refused. What went out is a beginning of the answers.
+    NoMemory,
+}
+
+/// Answers the lines of a reader, whose values have `value_len` bytes, until the reader has no more bytes. All lines of one read are
+/// answered and their answers written before the reader is asked again: together, or in parts where they are long. Bytes after the
+/// last line feed are no line. An interrupted read or write is tried again.
+///
+/// Want of memory for a line or for the text of a reply ends the session: the answers before it are still written.
+pub fn session<A: Answerer, R: Read, W: Write>(
+    alloc: Global,
+    value_len: usize,
+    reader: &mut R,
+    writer: &mut W,
+    answerer: &mut A,
+) -> SessionEnd
+    requires { A.value_len answerer.old ≡ value_len }
+    ensures ends { Ends A.answers result value_len
+        answerer.old answerer.new (R.remaining reader.old) (R.remaining reader.new) (W.contents writer.old) (W.contents writer.new) }
+    ensures stays { A.value_len answerer.new ≡ value_len }
+{
+    let Ok(mut pending) = LineBuffer::new(alloc) else {
+        return SessionEnd::NoMemory;
+    };
+    let mut texts = String::new(alloc);
+    let mut buffer = [0; 4096];
+    for _ in 0..MOST_READS {
+        match reader.read(&mut buffer) {
+            Ok(0) => return SessionEnd::End,
+            Ok(count) => match answer_read(
+                alloc,
+                value_len,
+                &buffer[..count],
+                &mut pending,
+                &mut texts,
+                writer,
+                answerer,
+            ) {
+                Ok(()) => {}
+                Err(end) => return end,
+            },
+            Err(error) if error.kind() == ErrorKind::Interrupted => {}
+            Err(_) => return SessionEnd::ReadFault,
+        }
+    }
+    SessionEnd::ReadFault
+}
+
+// Answers the lines that the bytes of one read end, and writes the answers.
+fn answer_read<A: Answerer, W: Write>(
+    alloc: Global,
+    value_len: usize,
+    bytes: &[u8],
+    pending: &mut LineBuffer,
+    texts: &mut String,
+    writer: &mut W,
+    answerer: &mut A,
+) -> Result<(), SessionEnd>
+    requires { A.value_len answerer.old ≡ value_len }
+    ensures stays { A.value_len answerer.new ≡ value_len }
+    ensures holds { OnOk result ((p : List ℕ) → HoldsBytes pending.old p → HoldsBytes pending.new (rest_after p bytes.now)) }
+    ensures all { OnOk result ((p : List ℕ) → HoldsBytes pending.old p → ServesAll A.answers value_len p bytes.now
+        answerer.old answerer.new (W.contents writer.old) (W.contents writer.new)) }
+    ensures some { OnErr result ((p : List ℕ) → HoldsBytes pending.old p → ServesSome A.answers value_len p bytes.now
+        answerer.old answerer.new (W.contents writer.old) (W.contents writer.new)) }
+    ensures cut { IfErr result IsCut }
+{
+    let mut done = 0;
+    while done < bytes.len() {
+        let (_, rest) = bytes.split_at(done);
+        done += answer_part(alloc, value_len, rest, pending, texts, writer, answerer)?;
+    }
+    Ok(())
+}
+
+// Answers lines that the bytes end, until there are enough answers to write, and writes them. Answers how many bytes were taken.
+fn answer_part<A: Answerer, W: Write>(
+    alloc: Global,
+    value_len: usize,
+    bytes: &[u8],
+    pending: &mut LineBuffer,
+    texts: &mut String,
+    writer: &mut W,
+    answerer: &mut A,
+) -> Result<usize, SessionEnd>
+    requires len { A.value_len answerer.old ≡ value_len }
+    requires some { 0 < length bytes.now }
+    ensures stays { A.value_len answerer.new ≡ value_len }
+    ensures count { IfOk result (λ count. (0 < count) × (count ≤ length bytes.now)) }
+    ensures holds { IfOk result (λ count. (p : List ℕ) → HoldsBytes pending.old p → HoldsBytes pending.new (rest_after p (take count bytes.now))) }
+    ensures all { IfOk result (λ count. (p : List ℕ) → HoldsBytes pending.old p → ServesAll A.answers value_len p (take count bytes.now)
+        answerer.old answerer.new (W.contents writer.old) (W.contents writer.new)) }
+    ensures some { OnErr result ((p : List ℕ) → HoldsBytes pending.old p → ServesSome A.answers value_len p bytes.now
+        answerer.old answerer.new (W.contents writer.old) (W.contents writer.new)) }
+    ensures cut { IfErr result IsCut }
+{
+    texts.clear();
+    let taken = take_part(alloc, value_len, bytes, pending, texts, answerer);
+    if !write_texts(writer, texts.as_bytes()) {
+        return Err(SessionEnd::WriteFault);
+    }
+    match taken {
+        Ok(count) => Ok(count),
+        Err(_) => Err(SessionEnd::NoMemory),
+    }
+}
+
+// Writes texts and flushes them, and answers whether that was done.
+fn write_texts<W: Write>(writer: &mut W, texts: &[u8]) -> bool
+    ensures some { (out : List ℕ) × IsBeginning out texts.now × Appends (W.contents writer.old) (W.contents writer.new) out }
+    ensures all { result ≡ true → Appends (W.contents writer.old) (W.contents writer.new) texts.now }
+{
+    if !write_bytes(writer, texts) {
+        return false;
+    }
+    match writer.flush() {
+        Ok(()) => true,
+        Err(_) => false,
+    }
+}
+
+// Writes bytes, and answers whether all are written. An interrupted write is tried again.
+fn write_bytes<W: Write>(writer: &mut W, bytes: &[u8]) -> bool
+    ensures some { (out : List ℕ) × IsBeginning out bytes.now × Appends (W.contents writer.old) (W.contents writer.new) out }
+    ensures all { result ≡ true → Appends (W.contents writer.old) (W.contents writer.new) bytes.now }
+{
+    let mut done = 0;
+    for _ in 0..u64::MAX {
+        if done >= bytes.len() {
+            return true;
+        }
+        match writer.write(&bytes[done..]) {
+            Ok(0) => return false,
+            Ok(count) => done += count,
+            Err(error) if error.kind() == ErrorKind::Interrupted => {}
+            Err(_) => return false,
+        }
+    }
+    false
+}
+
+// Takes bytes, and puts the answers to the lines that they end behind the texts, until these are enough. Answers how many bytes
+// were taken.
+fn take_part<A: Answerer>(
+    alloc: Global,
+    value_len: usize,
+    bytes: &[u8],
+    pending: &mut LineBuffer,
+    texts: &mut String,
+    answerer: &mut A,
+) -> Result<usize, AllocError>
+    requires len { A.value_len answerer.old ≡ value_len }
+    requires some { 0 < length bytes.now }
+    ensures stays { A.value_len answerer.new ≡ value_len }
+    ensures count { IfOk result (λ count. (0 < count) × (count ≤ length bytes.now)) }
+    ensures holds { IfOk result (λ count. (p : List ℕ) → HoldsBytes pending.old p → HoldsBytes pending.new (rest_after p (take count bytes.now))) }
+    ensures all { IfOk result (λ count. (p : List ℕ) → HoldsBytes pending.old p → ServesAll A.answers value_len p (take count bytes.now)
+        answerer.old answerer.new (Some (string_bytes texts.old)) (Some (string_bytes texts.new))) }
+    ensures some { OnErr result ((p : List ℕ) → HoldsBytes pending.old p → ServesSome A.answers value_len p bytes.now
+        answerer.old answerer.new (Some (string_bytes texts.old)) (Some (string_bytes texts.new))) }
+{
+    let mut count = 0;
+    for byte in bytes {
+        take_byte(alloc, value_len, *byte, pending, texts, answerer)?;
+        count += 1;
+        if texts.len() >= ENOUGH_TEXT {
+            break;
+        }
+    }
+    Ok(count)
+}
+
+// Takes a byte, and puts the answer to the line that it ends behind the texts.
+fn take_byte<A: Answerer>(
+    alloc: Global,
+    value_len: usize,
+    byte: u8,
+    pending: &mut LineBuffer,
+    texts: &mut String,
+    answerer: &mut A,
+) -> Result<(), AllocError>
+    requires { A.value_len answerer.old ≡ value_len }
+    ensures stays { A.value_len answerer.new ≡ value_len }
+    ensures holds { OnOk result ((p : List ℕ) → HoldsBytes pending.old p → HoldsBytes pending.new (rest_after p (byte ∷ []))) }
+    ensures all { OnOk result ((p : List ℕ) → HoldsBytes pending.old p → ServesAll A.answers value_len p (byte ∷ [])
+        answerer.old answerer.new (Some (string_bytes texts.old)) (Some (string_bytes texts.new))) }
+    ensures some { OnErr result ((p : List ℕ) → HoldsBytes pending.old p → ServesSome A.answers value_len p (byte ∷ [])
+        answerer.old answerer.new (Some (string_bytes texts.old)) (Some (string_bytes texts.new))) }
+{
+    if byte == b'\n' {
+        answer_line(alloc, value_len, pending, texts, answerer)?;
+        pending.clear();
+        return Ok(());
+    }
+    pending.push(byte)
+}
+
+// Puts the answer to the line that has ended behind the texts, if the line is not blank.
+fn answer_line<A: Answerer>(
+    alloc: Global,
+    value_len: usize,
+    pending: &LineBuffer,
+    texts: &mut String,
+    answerer: &mut A,
+) -> Result<(), AllocError>
+    requires { A.value_len answerer.old ≡ value_len }
+    ensures stays { A.value_len answerer.new ≡ value_len }
+    ensures all { OnOk result ((line : List ℕ) → HoldsBytes pending.now line → AnswersAll A.answers (asks value_len (line ∷ []))
+        answerer.old answerer.new (Some (string_bytes texts.old)) (Some (string_bytes texts.new))) }
+    ensures some { OnErr result ((line : List ℕ) → HoldsBytes pending.now line → AnswersSome A.answers (asks value_len (line ∷ []))
+        answerer.old answerer.new (Some (string_bytes texts.old)) (Some (string_bytes texts.new))) }
+{
+    if pending.is_blank() {
+        return Ok(());
+    }
+    match pending.parse(alloc, value_len) {
+        Ok(event) => answer_event(alloc, event, texts, answerer),
+        Err(fault) => answer_fault(alloc, fault, texts),
+    }
+}
+
+// Puts the refusal of a line that asks for nothing behind the texts. Where memory was wanted for the line, it has none.
+fn answer_fault(alloc: Global, fault: LineFault, texts: &mut String) -> Result<(), AllocError>
+    ensures told { OnOk result (fault ≢ LineFault.NoMemory) }
+    ensures ok { OnOk result (string_bytes texts.new ≡ string_bytes texts.old ++ fault_line fault) }
+    ensures err { OnErr result (string_bytes texts.new ≡ string_bytes texts.old) }
+{
+    match fault {
+        LineFault::NoMemory => Err(AllocError),
+        _ => push_fault(alloc, fault, texts),
+    }
+}
+
+// Puts the answer to an event behind the texts.
+fn answer_event<A: Answerer>(
+    alloc: Global,
+    event: Event,
+    texts: &mut String,
+    answerer: &mut A,
+) -> Result<(), AllocError>
+    requires { HasValueOf (A.value_len answerer.old) event }
+    ensures stays { A.value_len answerer.new ≡ A.value_len answerer.old }
+    ensures all { OnOk result (AnswersAll A.answers (Ok event ∷ []) answerer.old answerer.new (Some (string_bytes texts.old)) (Some (string_bytes texts.new))) }
+    ensures some { OnErr result (AnswersSome A.answers (Ok event ∷ [])
+        answerer.old answerer.new (Some (string_bytes texts.old)) (Some (string_bytes texts.new))) }
+{
+    let reply = answerer.answer(alloc, event);
+    push_reply(alloc, &reply, texts)
+}
+
+// Puts a reply and a line feed behind the texts. On an error nothing is changed.
+fn push_reply(alloc: Global, reply: &Reply<()>, texts: &mut String) -> Result<(), AllocError>
+    ensures ok { OnOk result (string_bytes texts.new ≡ string_bytes texts.old ++ line_of reply.now) }
+    ensures err { OnErr result (string_bytes texts.new ≡ string_bytes texts.old) }
+{
+    let mut line = print_reply(alloc, reply)?;
+    line.push('\n')?;
+    texts.push_str(&line)
+}
+
+// Puts the reply to a line that asks for nothing and a line feed behind the texts. On an error nothing is changed.
+fn push_fault(alloc: Global, fault: LineFault, texts: &mut String) -> Result<(), AllocError>
+    ensures ok { OnOk result (string_bytes texts.new ≡ string_bytes texts.old ++ fault_line fault) }
+    ensures err { OnErr result (string_bytes texts.new ≡ string_bytes texts.old) }
+{
+    let mut line = print_fault(alloc, fault)?;
+    line.push('\n')?;
+    texts.push_str(&line)
+}

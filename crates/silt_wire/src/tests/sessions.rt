@@ -1,0 +1,243 @@
+// Sessions over readers and writers that take few bytes at a time, are interrupted and fail, and over long answers.
+ghost use Rattle.std.specs.Prelude.{◌≡◌, ℕ};
+ghost use Rattle.silt_event.specs.declared.event.Event.{Event as EventOf};
+ghost use Rattle.silt_event.specs.Events.{PlainReply};
+
+use crate::sessions::{SessionEnd, session};
+use silt_event::{Answerer, Event, Refusal, Reply};
+use silt_frame::Value;
+use std::alloc::Global;
+use std::io::{self, Cursor, ErrorKind, Read, Write};
+use std::process::Abort;
+use std::test::Fail;
+
+// Accepts each event, and counts them. Its values have two bytes.
+#[derive(Drop)]
+struct Counter {
+    count: u64,
+}
+
+impl Answerer for Counter {
+    ghost value_len = { λ _. 2 };
+
+    ghost answers = { λ old new event reply. Unit {0} };
+
+    fn answer(&mut self, _alloc: Global, _event: Event) -> Reply<()> {
+        self.count = self.count.wrapping_add(1);
+        Reply::Accepted(self.count)
+    }
+}
+
+// A reader that gives a text a few bytes at a time, is interrupted before each read, and then is at its end or fails.
+#[derive(Drop)]
+struct Pieces<'a> {
+    text: &'a [u8],
+    most: usize,
+    is_interrupted: bool,
+    fails: bool,
+}
+
+impl Read for Pieces<'_> {
+    fn read(&mut self, buf: &mut [u8]) -> io::Result<usize> {
+        self.is_interrupted = !self.is_interrupted;
+        if self.is_interrupted {
+            return Err(io::Error::from(ErrorKind::Interrupted));
+        }
+        let count = self.most.min(buf.len()).min(self.text.len());
+        if count == 0 && self.fails {
+            return Err(io::Error::from(ErrorKind::ConnectionReset));
+        }
+        buf[..count].copy_from_slice(&self.text[..count]);
+        self.text = &self.text[count..];
+        Ok(count)
+    }
+}
+
+// A writer that takes a few bytes at a time, is interrupted before each write, and fails where it is full.
+#[derive(Drop)]
+struct Short {
+    taken: Vec<u8>,
+    most: usize,
+    room: usize,
+    is_interrupted: bool,
+}
+
+impl Write for Short {
+    fn write(&mut self, buf: &[u8]) -> io::Result<usize> {
+        self.is_interrupted = !self.is_interrupted;
+        if self.is_interrupted {
+            return Err(io::Error::from(ErrorKind::Interrupted));
+        }
+        let count = self.room.min(self.most).min(buf.len());
+        if count == 0 {
+            return Err(io::Error::from(ErrorKind::BrokenPipe));
+        }
+        self.taken.extend_from_slice(&buf[..count])?;
+        self.room -= count;
+        Ok(count)
+    }
+
+    fn flush(&mut self) -> io::Result<()> {
+        Ok(())
+    }
+}
+
+// Four lines that are answered, a blank one, and bytes after the last line feed.
+const LINES: &[u8] = b"get =a\nput =b 0102\r\n\nput =b 01\nflush\nmerge";
+
+const ANSWERS: &[u8] = b"accepted 1\naccepted 2\nrefused 22 BadValue\naccepted 3\n";
+
+// How a session over these lines ends, and what it writes. Reads and writes are of so many bytes at most.
+fn serve(
+    alloc: Global,
+    most_read: usize,
+    fails: bool,
+    most_written: usize,
+    room: usize,
+) -> (SessionEnd, Vec<u8>) {
+    let mut reader = Pieces {
+        text: LINES,
+        most: most_read,
+        is_interrupted: false,
+        fails,
+    };
+    let mut writer = Short {
+        taken: Vec::new(alloc),
+        most: most_written,
+        room,
+        is_interrupted: false,
+    };
+    let mut counter = Counter { count: 0 };
+    let end = session(alloc, 2, &mut reader, &mut writer, &mut counter);
+    let Short {
+        taken,
+        most: _,
+        room: _,
+        is_interrupted: _,
+    } = writer;
+    (end, taken)
+}
+
+#[test]
+fn answers_whatever_the_reads(rt: HostRuntime) -> Result<(), Fail> {
+    for most in [1usize, 2, 7, 100] {
+        let (end, taken) = serve(rt.alloc(), most, false, 100, 1000);
+        assert_eq!(rt; end, SessionEnd::End);
+        assert_eq!(rt; taken.as_slice(), ANSWERS);
+    }
+    Ok(())
+}
+
+#[test]
+fn answers_whatever_the_writes(rt: HostRuntime) -> Result<(), Fail> {
+    for most in [1usize, 3, 20] {
+        let (end, taken) = serve(rt.alloc(), 100, false, most, 1000);
+        assert_eq!(rt; end, SessionEnd::End);
+        assert_eq!(rt; taken.as_slice(), ANSWERS);
+    }
+    Ok(())
+}
+
+// The lines before a read that fails are answered, and the one that it cuts is not.
+#[test]
+fn tells_a_failed_read(rt: HostRuntime) -> Result<(), Fail> {
+    let (end, taken) = serve(rt.alloc(), 5, true, 3, 1000);
+    assert_eq!(rt; end, SessionEnd::ReadFault);
+    assert_eq!(rt; taken.as_slice(), ANSWERS);
+    Ok(())
+}
+
+// What went out is a beginning of so many bytes, which may be cut within a text.
+#[test]
+fn tells_a_failed_write(rt: HostRuntime) -> Result<(), Fail> {
+    for room in 0..ANSWERS.len() {
+        let (end, taken) = serve(rt.alloc(), 100, false, 3, room);
+        assert_eq!(rt; end, SessionEnd::WriteFault);
+        assert_eq!(rt; taken.as_slice(), &ANSWERS[..room]);
+    }
+    Ok(())
+}
+
+// Has a value of 4,096 bytes for each key.
+#[derive(Drop)]
+struct Full;
+
+fn long_value(alloc: Global) -> Reply<()> {
+    match vec![in alloc; 0u8; 4096] {
+        Ok(bytes) => Reply::Found(Value::new(bytes)),
+        Err(_) => Reply::Refused(Refusal::NoMemory),
+    }
+}
+
+impl Answerer for Full {
+    ghost value_len = { λ _. 4096 };
+
+    ghost answers = { λ old new event reply. Unit {0} };
+
+    fn answer(&mut self, alloc: Global, _event: Event) -> Reply<()> {
+        long_value(alloc)
+    }
+}
+
+// A writer that keeps how many bytes it was given, and the most in one write.
+#[derive(Drop)]
+struct Tally {
+    bytes: usize,
+    largest: usize,
+}
+
+impl Write for Tally {
+    fn write(&mut self, buf: &[u8]) -> io::Result<usize> {
+        self.bytes = self.bytes.wrapping_add(buf.len());
+        self.largest = self.largest.max(buf.len());
+        Ok(buf.len())
+    }
+
+    fn flush(&mut self) -> io::Result<()> {
+        Ok(())
+    }
+}
+
+// 585 lines fit into one read, and each has an answer of 8,199 bytes: what waits to be written is kept short.
+#[test]
+fn writes_long_answers_in_parts(rt: HostRuntime) -> Result<(), Fail> {
+    let mut lines = Vec::new(rt.alloc());
+    for _ in 0..585 {
+        lines.extend_from_slice(b"get =a\n")?;
+    }
+    let mut reader = Cursor::new(lines.as_slice());
+    let mut writer = Tally {
+        bytes: 0,
+        largest: 0,
+    };
+    let end = session(rt.alloc(), 4096, &mut reader, &mut writer, &mut Full);
+    assert_eq!(rt; end, SessionEnd::End);
+    assert_eq!(rt; writer.bytes, 4_796_415);
+    assert_eq!(rt; writer.largest, 65_592);
+    Ok(())
+}
+
+// Its values are longer than any memory.
+#[derive(Drop)]
+struct Vast;
+
+impl Answerer for Vast {
+    ghost value_len = { λ _. 4611686018427387904 };
+
+    ghost answers = { λ old new event reply. Unit {0} };
+
+    fn answer(&mut self, _alloc: Global, _event: Event) -> Reply<()> {
+        Reply::Absent
+    }
+}
+
+// A line for which memory is wanted ends the session; the lines before it are answered, and those after it are not.
+#[test]
+fn ends_where_memory_is_wanted_for_a_line(rt: HostRuntime) -> Result<(), Fail> {
+    let mut reader = Cursor::new(b"get =a\nno line\nput =b 00\nget =c\n".as_slice());
+    let mut out = Vec::new(rt.alloc());
+    let end = session(rt.alloc(), 1 << 62, &mut reader, &mut out, &mut Vast);
+    assert_eq!(rt; end, SessionEnd::NoMemory);
+    assert_eq!(rt; out.as_slice(), b"absent\nrefused 20 BadLine\n".as_slice());
+    Ok(())
+}

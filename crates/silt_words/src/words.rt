@@ -1,0 +1,83 @@
+// The words of the command line.
+ghost use Rattle.std.specs.Prelude.{◌≡◌, Some, None, MatchResult, map, option_map, string_bytes};
+ghost use Rattle.clap.specs.Words.{found_of, rows_of, subcommand_rows_of};
+ghost use Rattle.silt_words.specs.Commands.{file_in, job_in, job_met, job_named, number_in, numbers_in};
+ghost use Rattle.silt_words.specs.Jobs.{named};
+ghost use Rattle.silt_words.specs.declared.job.WordsError.TheVariants.{Usage};
+
+use crate::command::command;
+use crate::job::{Job, Numbers, WordsError};
+use clap::ArgMatches;
+use clap::error::ErrorKind;
+use silt_wire::number_of;
+use std::alloc::Global;
+
+fn number_at(matches: &ArgMatches<'_>, name: &str) -> Option<u32>
+    ensures { result ≡ number_in (rows_of (found_of matches.now)) name.now }
+{
+    number_of(matches.get_str(name)?.as_bytes())
+}
+
+fn numbers_of(matches: &ArgMatches<'_>) -> Option<Numbers>
+    ensures { result ≡ numbers_in (rows_of (found_of matches.now)) }
+{
+    Some(Numbers {
+        value_len: number_at(matches, "V")?,
+        buckets: number_at(matches, "B")?,
+        log_capacity: number_at(matches, "CAP")?,
+        logs: number_at(matches, "NL")?,
+        hashes: number_at(matches, "NH")?,
+        sorted_capacity: number_at(matches, "S")?,
+    })
+}
+
+fn file_of<'a>(matches: &ArgMatches<'a>) -> Option<&'a str>
+    ensures { option_map (λ file. file.now) result ≡ file_in (rows_of (found_of matches.now)) }
+{
+    matches.get_str("FILE")
+}
+
+fn job_of<'a>(name: &str, matches: &ArgMatches<'a>) -> Option<Job<'a>>
+    ensures { option_map named result ≡ job_in name.now (rows_of (found_of matches.now)) }
+{
+    match name {
+        "format" => {
+            let file = file_of(matches)?;
+            let numbers = numbers_of(matches)?;
+            Some(Job::Format { file, numbers })
+        }
+        "script" => Some(Job::Script(numbers_of(matches)?)),
+        "run" => Some(Job::Run {
+            file: file_of(matches)?,
+        }),
+        "check" => Some(Job::Check {
+            file: file_of(matches)?,
+        }),
+        _ => None,
+    }
+}
+
+// The job of the command that was met.
+fn job_met<'a>(matches: &ArgMatches<'a>) -> Option<Job<'a>>
+    ensures { option_map named result ≡ job_met (subcommand_rows_of matches.now) }
+{
+    let (name, inner) = matches.subcommand()?;
+    job_of(name, inner)
+}
+
+/// The job that the words name, of which the first is the program's own.
+///
+/// # Errors
+///
+/// `Usage` where they name none, and want of memory.
+pub fn read_words<'a>(alloc: Global, words: &'a [String]) -> Result<Job<'a>, WordsError>
+    ensures { MatchResult result (λ job. job_named (map string_bytes words.entry.now) ≡ Some (named job))
+        (λ error. error ≡ Usage → job_named (map string_bytes words.entry.now) ≡ None) }
+{
+    let command = command::<'a>(alloc)?;
+    match command.try_get_matches_from(words) {
+        Ok(matches) => job_met(&matches).ok_or(WordsError::Usage),
+        Err(error) if error.kind() == ErrorKind::OutOfMemory => Err(WordsError::NoMemory),
+        Err(_) => Err(WordsError::Usage),
+    }
+}
