@@ -1,5 +1,5 @@
 -- What a step of merging does, from what that of the stores in memory does.
-use Rattle.std.proofs.Common.{◌≡◌, ◌≢◌, ◌<◌, ℕ, ◌+◌, ◌-◌, ◌*◌, ◌%◌, ◌^◌, ◌==◌, ◌⊎◌, inl, inr, Bool, false, true, IsTrue, [], length, Option, Some, None, IfSome, refl, ap, sym, ◌∙◌, subst, arith}
+use Rattle.std.proofs.Common.{◌≡◌, ◌<◌, ℕ, ◌+◌, ◌-◌, ◌*◌, ◌%◌, ◌^◌, ◌==◌, ◌⊎◌, inl, inr, Bool, false, true, IsTrue, [], length, Option, Some, None, IfSome, refl, ap, sym, ◌∙◌, subst, arith}
 use Rattle.std.specs.Option.{option_map}
 use Rattle.std.proofs.lemmas.Bool.{cases_Bool, eqb-true, eq-eqb}
 use Rattle.std.proofs.lemmas.List.{length-map}
@@ -12,7 +12,6 @@ use Rattle.silt_event.specs.declared.progress.Progress.{Progress as ProgressOf}
 use Rattle.silt_event.specs.declared.progress.Progress.TheVariants.{Idle, Waiting, Moved, Finished}
 use Rattle.silt_event.specs.declared.refusal.Refusal.TheVariants.{Device, NoMemory, Spent}
 use Rattle.silt_event.specs.declared.reply.Reply.TheVariants.{Progress, Refused}
-use Rattle.silt_manifest.specs.declared.body.Body.{Body}
 use Rattle.silt_merge.specs.Merging.{TakesMemory}
 use Rattle.silt_merge.specs.Rows.{key_count, merged_rows}
 use Rattle.silt_merge.specs.State.{MergeState, is_done, oldest_stores, steps_of}
@@ -22,7 +21,7 @@ use Rattle.silt_stores.specs.Merge.{EndsMerged, HasMergedEntries, IsDoneBySteps,
 use Rattle.silt_stores.specs.Standing.{Stands}
 use Rattle.silt_stores.specs.State.{IsMerging, StoresState, hash_region_of}
 use Rattle.silt_stores.proofs.Facts.{meaning}
-use Rattle.silt_store_set.specs.CoreState.{AnswersMerge, CoreState, Does, GathersNext, IsMergeDue, MergeGoesOn, MergeLacksMemory, has_decided, merge_due, merge_work}
+use Rattle.silt_store_set.specs.CoreState.{CoreState, Does, GathersNext, IsMergeDue, MergeGoesOn, MergeLacksMemory, has_decided, merge_due, merge_work}
 use Rattle.silt_store_set.proofs.Calls.{seen, advanced, answered, broke, refused}
 
 -- a test of two numbers tells what holds exactly where they are the same

@@ -1,5 +1,5 @@
 -- What an opening answers, from what recovery finds.
-use Rattle.std.proofs.Common.{◌≡◌, ◌-◌, ℕ, inl, inr, false, IsTrue, List, [], Option, Some, None, refl, ap, sym, ◌∙◌, subst, arith}
+use Rattle.std.proofs.Common.{◌≡◌, ◌-◌, false, IsTrue, [], Option, Some, None, refl, ap, sym, ◌∙◌, arith}
 use Rattle.silt_device.specs.Disk.{Content}
 use Rattle.silt_event.specs.Commands.{map_after}
 use Rattle.silt_image.specs.Meaning.{IsGood}

@@ -1,11 +1,7 @@
 -- What is true of each store.
 use Rattle.std.specs.Prelude.{◌≡◌, ◌<◌, ◌^◌, ℕ, Bool, true, false, List}
-use Rattle.std.specs.Ordering.{nat_cmp}
-use Rattle.std.specs.declared.cmp.Ordering.{Ordering}
-use Rattle.std.specs.Cmp.Lexicographic.{slice_cmp}
 use Rattle.silt_device.specs.Disk.{Content, LeavesOnly, size}
 use Rattle.silt_device.specs.Layout.{Shape, device_size}
-use Rattle.silt_frame.specs.declared.key.Key.{Key}
 use Rattle.silt_event.specs.Commands.{Command, Map}
 use Rattle.silt_image.specs.Header.{shape_of}
 use Rattle.silt_image.specs.Meaning.{image_map, IsGood}

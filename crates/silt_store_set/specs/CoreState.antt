@@ -1,5 +1,5 @@
 -- What contracts see of a store, and what its calls do.
-use Rattle.std.specs.Prelude.{◌≡◌, ◌≢◌, ◌≤◌, ◌<◌, ◌-◌, ◌*◌, ◌^◌, ◌%◌, ◌==◌, ◌⊎◌, ℕ, ◌+◌, Option, Some, None, Bool, true, false, IsTrue, List, [], ◌∷◌, ◌++◌, length}
+use Rattle.std.specs.Prelude.{◌≡◌, ◌≢◌, ◌≤◌, ◌<◌, ◌-◌, ◌*◌, ◌^◌, ◌%◌, ◌==◌, ◌&&◌, ◌⊎◌, ℕ, ◌+◌, not, Option, Some, None, Bool, true, false, IsTrue, List, [], ◌∷◌, ◌++◌, length}
 use Rattle.std.specs.FinMap.{get}
 use Rattle.std.specs.Option.{option_map}
 use Rattle.silt_device.specs.Disk.{Content, LeavesOnly}
@@ -127,6 +127,10 @@ written_of (Some work) = Some work.written
 abbrev pub convert_due : {D : Type 0} → CoreState D → ProgressOf
 convert_due core = progress_due (length core.body.frozen) (length core.body.hashed) core.shape.hashes (4 * core.shape.buckets) (written_of core.converting)
 
+-- the store is not failed, and there is a step of conversion to be done
+abbrev pub wants_convert : {D : Type 0} → CoreState D → Bool
+wants_convert core = not core.failed && is_work (convert_due core)
+
 -- one more slot is written than before, or the first slot of the lowest free region
 abbrev pub ConvertGoesOn : ℕ → Body → Option ConvertWork → Option ConvertWork → Type 0
 ConvertGoesOn hashes body (Some before) (Some after) = (after.region ≡ before.region) × (after.written ≡ before.written + 1)
@@ -155,6 +159,10 @@ has_decided core work = work.steps == work.stores * (4 * core.shape.buckets) + k
 -- the progress of the next step of merging
 abbrev pub merge_due : {D : Type 0} → CoreState D → ProgressOf
 merge_due core = merge_progress (length core.body.hashed) (option_map (has_decided core) core.merging)
+
+-- the store is not failed, and there is a step of merging to be done
+abbrev pub wants_merge : {D : Type 0} → CoreState D → Bool
+wants_merge core = not core.failed && is_work (merge_due core)
 
 -- this progress of merging is due: on any device where there is work, and on an honest one exactly this
 pub record IsMergeDue {D : Type 0} (content : D → Content) (core : CoreState D) (progress : ProgressOf) : Type 0 where

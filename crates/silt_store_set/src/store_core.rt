@@ -1,5 +1,5 @@
 // The store over one device: what it holds in memory, and its calls.
-ghost use Rattle.std.specs.Prelude.{◌≡◌, ◌<◌, ◌≤◌, ◌&&◌, not, length, false, Ok, All, IsTrue, IfOk, IfErr, OnErr, MatchResult};
+ghost use Rattle.std.specs.Prelude.{◌≡◌, ◌<◌, ◌≤◌, length, false, Ok, All, IsTrue, IfOk, IfErr, OnErr, MatchResult};
 ghost use Rattle.silt_event.specs.Events.{Legal};
 ghost use Rattle.silt_device.specs.Disk.{GaveAny, LeavesOnly};
 
@@ -58,10 +58,9 @@ impl<D: Disk> Core<D> {
     ghost use Rattle.silt_recovery.specs.Opening.{LeavesNoOther};
     ghost use Rattle.silt_image.specs.Meaning.{StandsFor};
     ghost use Rattle.silt_stores.specs.Calls.{SameDisk};
-    ghost use Rattle.silt_stores.specs.Conversion.{is_work};
     ghost use Rattle.silt_store_set.specs.CoreInvariant.{LeavesBegun};
     ghost use Rattle.silt_frame.specs.Rows.{key_cmp};
-    ghost use Rattle.silt_store_set.specs.CoreState.{CoreState, Does, Runs, Opens, EntriesCause, StandsKept, map_of, MayWrite, row_event, convert_due, merge_due};
+    ghost use Rattle.silt_store_set.specs.CoreState.{CoreState, Does, Runs, Opens, EntriesCause, StandsKept, map_of, MayWrite, row_event, wants_convert, wants_merge};
     ghost use Rattle.silt_event.specs.Events.{HasValueOf};
     ghost use Rattle.silt_store_set.specs.Opening.{OpeningCause};
     ghost use Rattle.silt_store_set.specs.Replies.{change_reply, flush_reply, get_reply, read_reply, progress_reply};
@@ -263,7 +262,7 @@ impl<D: Disk> Core<D> {
             return Err(Refusal::Failed);
         }
         match self.stores.merge(alloc, &mut self.disk) {
-            Ok(progress) => Ok(progress),
+            Ok(merged) => Ok(merged),
             Err(MergeError::Write(fault)) => {
                 self.failed = true; // an entry or the manifest may stand in part
                 Err(Refusal::Device(fault))
@@ -277,7 +276,7 @@ impl<D: Disk> Core<D> {
     /// Whether the store is not failed, and there is a step of conversion to be done: its answer is `Moved` or `Finished` where nothing
     /// refuses it.
     pub fn wants_convert(&self) -> bool
-        ensures { result ≡ (not self.now.failed && is_work (convert_due self.now)) }
+        ensures { result ≡ wants_convert self.now }
     {
         !self.failed && is_work(self.stores.convert_turn())
     }
@@ -285,7 +284,7 @@ impl<D: Disk> Core<D> {
     /// Whether the store is not failed, and there is a step of merging to be done: its answer is `Moved` or `Finished` where nothing
     /// refuses it.
     pub fn wants_merge(&self) -> bool
-        ensures { result ≡ (not self.now.failed && is_work (merge_due self.now)) }
+        ensures { result ≡ wants_merge self.now }
     {
         !self.failed && is_work(self.stores.merge_turn())
     }

@@ -7,7 +7,7 @@ pub returns-in-Ok : goal.returns-in-Ok
 returns-in-Ok g c =
     let working = c.if-self.false in
     rw (← c.self.view_is, working) (stepped g.D.Disk.content g.D.Disk.failures (GaveAny g.D.Disk.gave) c.self.inside.disk c.self.inside.stores c.self.inside.count
-    (c.self.invariant.stands working) c.in-Ok.progress c.merge.new.disk c.merge.new.self c.merge.ensures.same c.in-Ok.ensures.ok c.in-Ok.ensures.merges c.in-Ok.ensures.entries c.in-Ok.ensures.quiet c.in-Ok.ensures.failures)
+    (c.self.invariant.stands working) c.in-Ok.merged c.merge.new.disk c.merge.new.self c.merge.ensures.same c.in-Ok.ensures.ok c.in-Ok.ensures.merges c.in-Ok.ensures.entries c.in-Ok.ensures.quiet c.in-Ok.ensures.failures)
 
 pub returns-in-Err-Write : goal.returns-in-Err-Write
 returns-in-Err-Write g c =
