@@ -29,4 +29,7 @@ pub mod ConvertSteps
 pub mod Viewing
 pub mod MergeStores
 pub mod MergeDone
+pub mod MergeCounting
+pub mod MergeEntries
+pub mod MergeSteps
 pub mod Meaning
