@@ -1,5 +1,5 @@
 -- The merge of the oldest hash stores and the sorted store into a new sorted store, step by step.
-use Rattle.std.specs.Prelude.{◌≡◌, ◌+◌, ◌-◌, ◌==◌, ◌⊎◌, ℕ, Bool, true, ⊥, if◌then◌else◌, length, take, drop, [], List, Option, Some, None, IfSome}
+use Rattle.std.specs.Prelude.{◌≡◌, ◌+◌, ◌-◌, ◌==◌, ◌⊎◌, ℕ, Bool, true, if◌then◌else◌, length, take, drop, [], List, Option, Some, None, IfSome}
 use Rattle.std.specs.Option.{option_map}
 use Rattle.silt_device.specs.Disk.{Content}
 use Rattle.silt_event.specs.declared.progress.Progress.{Progress}
