@@ -26,3 +26,7 @@ pub mod ConvertDone
 pub mod ConvertSlots
 pub mod ConvertTurns
 pub mod ConvertSteps
+pub mod Viewing
+pub mod MergeStores
+pub mod MergeDone
+pub mod Meaning

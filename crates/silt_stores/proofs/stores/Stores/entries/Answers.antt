@@ -9,6 +9,7 @@ use Rattle.silt_stores.specs.Lookup.{AreEntriesOf}
 use Rattle.silt_stores.specs.State.{StoresState}
 use Rattle.silt_stores.proofs.Folds.{does_all, does_log, does_more}
 use Rattle.silt_stores.proofs.Lookups.{current_is, rows_in}
+use Rattle.silt_stores.proofs.Viewing.{state_of}
 use Rattle.silt_stores.proofs.stores.Stores.entries.Goals as goal
 
 pub loop-index-preserved : goal.loop-index-preserved
@@ -21,9 +22,8 @@ pub returns-clause-entries : goal.returns-clause-entries
 returns-clause-entries g c = rw (← c.self.view_is) (λ stands honest.
     let content = g.D.Disk.content c.args.disk.now in
     let none : c.loop-index.index ≡ 0 = omega (arith, c.loop-index-test.false) in
-    let view : StoresState = record { manifest = c.self.inside.manifest; active = c.self.inside.active; frozen = c.self.inside.frozen.items; hashes = c.self.inside.hashes.items; sorted = c.self.inside.sorted; converting = c.self.inside.converting; merging = c.self.inside.merging; charge = c.self.inside.charge } in
     let entries : List StoredRow = entries_of content c.self.inside.sorted in
-    let hashed : List StoredRow = hashed_rows content view in
+    let hashed : List StoredRow = hashed_rows content (state_of c.self.inside) in
     let logs : List StoredRow = oldest_first (map (rows_in content) c.self.inside.frozen.items) in
     let hashes : DoesRows hashed c.do_sorted_store.new.entries c.do_hash_stores.new.entries =
     subst (λ (v : StoresState). DoesRows (hashed_rows content v) c.do_sorted_store.new.entries c.do_hash_stores.new.entries) (sym c.self.view_is) (c.in_ok-do_hash_stores.ensures.ok honest) in
