@@ -29,7 +29,7 @@ use Rattle.silt_log_store.specs.LastRow.{FindsLast, HasNoRow, IsLastRow}
 use Rattle.silt_log_store.specs.declared.store.Found.{Found}
 use Rattle.silt_manifest.specs.declared.body.Body.{Body}
 use Rattle.silt_event.specs.Commands.{Map, map_after}
-use Rattle.silt_image.specs.Stores.{Stores, hash_part, hash_rows, log_part, sorted_rows, stores_named}
+use Rattle.silt_image.specs.Stores.{hash_part, hash_rows, log_part, sorted_rows, stores_named}
 use Rattle.silt_image.specs.Meaning.{hash_findings, holds_key, known_rows, map_of_rows, oldest_first, part_rows, rows_of, sorted_findings}
 use Rattle.silt_image.specs.Laws.{newest_row, value_given}
 use Rattle.silt_image.proofs.Rows.{map_law, newest_law}
