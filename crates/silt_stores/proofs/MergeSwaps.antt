@@ -1,5 +1,5 @@
 -- What is exchanged in memory at the end of a merge.
-use Rattle.std.proofs.Common.{◌≡◌, ℕ, ◌-◌, List, length, drop, take, Option, Some, None, refl, ap, sym, ◌∙◌, subst, arith}
+use Rattle.std.proofs.Common.{◌≡◌, ℕ, ◌-◌, List, length, drop, take, Option, Some, None, ap, sym, ◌∙◌, subst, arith}
 use Rattle.std.proofs.lemmas.List.{length-drop, take_all}
 use Rattle.silt_hash_store.specs.State.{HashState}
 use Rattle.silt_manifest.specs.Standing.{ManifestState}

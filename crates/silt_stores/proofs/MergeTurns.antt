@@ -1,5 +1,5 @@
 -- The end of a merge: the body that names its sorted store, and the stores once it rules.
-use Rattle.std.proofs.Common.{inr, ◌≡◌, ◌≤◌, ◌<◌, ℕ, ◌+◌, ◌-◌, ◌*◌, ◌==◌, false, IsTrue, List, [], ◌∷◌, ◌++◌, length, map, take, Option, Some, None, refl, ap, sym, ◌∙◌, subst, arith}
+use Rattle.std.proofs.Common.{inr, ◌≡◌, ◌≤◌, ◌<◌, ℕ, ◌+◌, ◌-◌, ◌*◌, ◌==◌, IsTrue, List, [], ◌++◌, length, map, take, Option, Some, None, refl, ap, sym, ◌∙◌, subst, arith}
 use Rattle.std.specs.Prelude.{All, IfSome}
 use Rattle.std.specs.List.{list_any}
 use Rattle.std.proofs.lemmas.List.{take-map}
@@ -16,11 +16,11 @@ use Rattle.silt_manifest.specs.declared.body.Body.{Body}
 use Rattle.silt_image.specs.Stores.{Stores, stores_named}
 use Rattle.silt_image.specs.Meaning.{IsSound, command_of, rows_of, with_log_rows}
 use Rattle.silt_hash_store.specs.Conversion.{ConversionState, HasWritten}
-use Rattle.silt_hash_store.specs.State.{HashState, IsHashStore}
+use Rattle.silt_hash_store.specs.State.{IsHashStore}
 use Rattle.silt_merge.specs.Rows.{merged_rows}
 use Rattle.silt_merge.specs.State.{MergeState}
 use Rattle.silt_sorted_store.specs.State.{IsHeldSorted, SortedState}
-use Rattle.silt_stores.specs.State.{AreWhole, IsHashOf, IsMerging, IsSettled, IsUnderWay, StoresState, hash_region_of, names_hash, oldest_log, sorted_named}
+use Rattle.silt_stores.specs.State.{AreWhole, IsHashOf, IsMerging, IsSettled, IsUnderWay, StoresState, hash_region_of, oldest_log, sorted_named}
 use Rattle.silt_stores.specs.Standing.{IsFrozen, Stands, shown_stores}
 use Rattle.silt_stores.specs.Calls.{Advances}
 use Rattle.silt_stores.specs.Succession.{MayRule, NowRules}
@@ -35,7 +35,7 @@ use Rattle.silt_stores.proofs.Turns.{active_kept}
 use Rattle.silt_stores.proofs.NextBodies.{now_named, succeeds}
 use Rattle.silt_stores.proofs.MergeCounting.{may_end_merge}
 use Rattle.silt_stores.proofs.MergeStores.{merged_entries, merged_named, merged_ruling, merged_shape, sources_with, with_entries}
-use Rattle.silt_stores.proofs.MergeDone.{entries_are, full_is, merged_counted, merged_full_sound, merged_map, merged_sound, merged_stores, new_entries, way}
+use Rattle.silt_stores.proofs.MergeDone.{entries_are, full_is, merged_counted, merged_full_sound, merged_map, merged_sound, merged_stores, way}
 
 -- a conversion is under way in stores with fewer hash stores
 under_way_fewer : (s t : StoresState) (count : ℕ) (o : Option ConversionState) → t.manifest.shape ≡ s.manifest.shape → t.manifest.ruling.hashed ≡ take count s.manifest.ruling.hashed → t.frozen ≡ s.frozen → IfSome o (IsUnderWay s) → IfSome o (IsUnderWay t)

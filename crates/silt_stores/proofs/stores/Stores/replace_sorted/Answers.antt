@@ -1,4 +1,4 @@
-use Rattle.std.proofs.Common.{◌≡◌, ◌≤◌, ◌-◌, ℕ, drop, refl, ap, sym, ◌∙◌, subst, arith}
+use Rattle.std.proofs.Common.{◌-◌, ℕ, drop, refl, ap, sym, ◌∙◌, subst, arith}
 use Rattle.silt_stores.specs.State.{StoresState}
 use Rattle.silt_stores.specs.Merge.{MayStandFor}
 use Rattle.silt_stores.proofs.MergeSwaps.{from_on, sorted_whole}
