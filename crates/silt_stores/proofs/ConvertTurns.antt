@@ -24,7 +24,7 @@ use Rattle.silt_hash_store.specs.Conversion.{ConversionState, HasWritten}
 use Rattle.silt_hash_store.specs.State.{IsHashStore, IsHeldHash}
 use Rattle.silt_hash_store.proofs.Writing.{store_stands}
 use Rattle.silt_hash_store.specs.State.{HashState}
-use Rattle.silt_merge.specs.State.{MergeState, oldest_stores}
+use Rattle.silt_merge.specs.State.{MergeState}
 use Rattle.silt_merge.specs.Merging.{HasMerged}
 use Rattle.silt_merge.proofs.Elsewhere.{oldest_stores_law}
 use Rattle.silt_sorted_store.specs.State.{SortedState}

@@ -32,4 +32,6 @@ pub mod MergeDone
 pub mod MergeCounting
 pub mod MergeEntries
 pub mod MergeSteps
+pub mod MergeTurns
+pub mod MergeSwaps
 pub mod Meaning
