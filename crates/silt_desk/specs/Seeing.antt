@@ -3,7 +3,8 @@ use Rattle.std.specs.Prelude.{◌≡◌, ℕ, ◌+◌, Bool, true, false, IsTrue
 use Rattle.silt_device.specs.Disk.{Content, LeavesOnly}
 use Rattle.silt_device.specs.Layout.{Shape}
 use Rattle.silt_event.specs.Commands.{Command, Map, map_after}
-use Rattle.silt_stores.specs.Calls.{HasBegun, StandsUnsorted}
+use Rattle.silt_image.specs.Meaning.{StandsFor}
+use Rattle.silt_stores.specs.Calls.{HasBegun}
 use Rattle.silt_store_set.specs.CoreState.{CoreState, map_of}
 use Rattle.silt_event.specs.Events.{Step, Counts, PlainReply, accepted_command, is_fault}
 use Rattle.silt_event.specs.declared.event.Event.{Event}
@@ -58,5 +59,5 @@ pub record SeenStep (old new : SeenStore) (event : Event) (reply : PlainReply) :
   pub moves : new.failed ≡ false → IsTrue old.content.honest → MovesSeen old new (accepted_command event reply)
   pub settles : IsTrue old.content.honest → NoneWaits new reply
   -- whatever a stop leaves stands for the base, or, where the call failed, for the base as it was after a beginning of what waited
-  pub safe : new.failed ≡ false → LeavesOnly new.content (StandsUnsorted new.shape new.base)
+  pub safe : new.failed ≡ false → LeavesOnly new.content (StandsFor new.shape new.base)
   pub crash : old.failed ≡ false → new.failed ≡ true → LeavesOnly new.content (HasBegun old.shape old.base old.waiting)

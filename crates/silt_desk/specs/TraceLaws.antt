@@ -9,7 +9,7 @@ use Rattle.silt_event.specs.declared.event.Event.{Event}
 use Rattle.silt_event.specs.declared.reply.Reply.{Reply}
 use Rattle.silt_event.specs.declared.reply.Reply.TheVariants.{Accepted, Acknowledged, Found, Absent, Progress, Refused}
 use Rattle.silt_event.specs.declared.refusal.Refusal.TheVariants.{Failed}
-use Rattle.silt_stores.specs.Calls.{StandsUnsorted}
+use Rattle.silt_image.specs.Meaning.{StandsFor}
 use Rattle.silt_store_set.proofs.Calls.{none_refused}
 use Rattle.silt_store_set.proofs.Keeps.{fault_adds}
 use Rattle.silt_store_set.proofs.Maps.{map_after-append, append_nil}
@@ -134,11 +134,11 @@ records_on a c shape base waiting image none same kept =
     )
 
 -- of a store that is not failed a stop keeps what went into the base
-keeps_settled : (a : Keeping) (base : Map) (waiting : List Command) (t : SeenStore) (image : List ℕ) → HasSettled a base waiting t → StandsUnsorted t.shape t.base image → StandsRecorded a t.shape base waiting image
+keeps_settled : (a : Keeping) (base : Map) (waiting : List Command) (t : SeenStore) (image : List ℕ) → HasSettled a base waiting t → StandsFor t.shape t.base image → StandsRecorded a t.shape base waiting image
 keeps_settled a base waiting t image settled stands = (
   settled.moved,
   record { begins = record { rest = t.waiting; is = settled.rest }; acknowledged = settled.acknowledged },
-  subst (λ (m : Map). StandsUnsorted t.shape m image) settled.has_base stands,
+  subst (λ (m : Map). StandsFor t.shape m image) settled.has_base stands,
 )
 
 -- what a stop leaves is told by the recorded calls, after one more
@@ -190,7 +190,7 @@ survives_on a c opening s t survives step =
                     };
                     acknowledged = λ n sum. omega (arith, old.acknowledged n sum, length-append old.moved torn.kept);
                   },
-                  subst (λ (m : Map). StandsUnsorted s.shape m image) (ap (λ (m : Map). map_after m torn.kept) old.has_base ∙ sym (map_after-append base old.moved torn.kept)) torn.stands,
+                  subst (λ (m : Map). StandsFor s.shape m image) (ap (λ (m : Map). map_after m torn.kept) old.has_base ∙ sym (map_after-append base old.moved torn.kept)) torn.stands,
                 ) in
                 subst (λ (shape : Shape). StandsRecorded (with_call a c) shape base waiting image) (sym step.shape) (records_on a c s.shape base waiting image fault.0 fault.1 before) };
           }
@@ -243,7 +243,7 @@ settles_none kept store none count = record {
 
 -- a history with no calls yet, of this store as it stands
 pub history_opens : (kept : Keeping) (store : SeenStore) → kept.calls ≡ [] → kept.count ≡ store.count → (IsTrue store.content.honest → HasEntries kept.opening store.map)
-    → (IsTrue store.content.honest → store.map ≡ map_after store.base store.waiting) → LeavesOnly store.content (StandsUnsorted store.shape store.base) → IsHistory kept store
+    → (IsTrue store.content.honest → store.map ≡ map_after store.base store.waiting) → LeavesOnly store.content (StandsFor store.shape store.base) → IsHistory kept store
 history_opens kept store none count entries has_map safe = record {
   map = store.map;
   entries = entries;

@@ -8,7 +8,7 @@ use Rattle.silt_device.specs.Disk.{LeavesOnly}
 use Rattle.silt_device.specs.Layout.{Shape}
 use Rattle.silt_event.specs.Commands.{Command, Map, map_after}
 use Rattle.silt_event.specs.Events.{acknowledged_after}
-use Rattle.silt_stores.specs.Calls.{StandsUnsorted}
+use Rattle.silt_image.specs.Meaning.{StandsFor}
 use Rattle.silt_store_set.specs.CoreState.{KeepsFrom}
 use Rattle.silt_frame.specs.Rows.{key_cmp}
 use Rattle.silt_desk.specs.declared.call.RecordedCall.{RecordedCall}
@@ -36,7 +36,7 @@ with_call kept c = record { opening = kept.opening; count = kept.count; calls = 
 -- accepted since, with each one that was acknowledged
 abbrev pub StandsRecorded : Keeping → Shape → Map → List Command → List ℕ → Type 0
 StandsRecorded kept shape base waiting image =
-    (cs : List Command) × KeepsFrom waiting kept.count (events_of kept.calls) (replies_of kept.calls) cs × StandsUnsorted shape (map_after base cs) image
+    (cs : List Command) × KeepsFrom waiting kept.count (events_of kept.calls) (replies_of kept.calls) cs × StandsFor shape (map_after base cs) image
 
 -- what went into the base since the history began, at a base with these commands waiting, holds all that was acknowledged, and the rest waits
 pub record HasSettled (kept : Keeping) (base : Map) (waiting : List Command) (store : SeenStore) : Type 0 where

@@ -135,7 +135,7 @@ pub same_outside : (stores : List HashState) (sorted : SortedState) (old new : L
     → LiesOutside (sorted_at sorted.shape sorted.region) (entries_len sorted.shape) at count → All (λ store. LiesOutside (hash_at sorted.shape store.region) (slots_len sorted.shape) at count) stores → Torn at count old new → SameSources sorted.shape (regions_of stores) sorted old new
 same_outside stores sorted old new at count fits there held behind outside torn = record {
   rows = λ store slot below inside.
-      let blank : HashState = record { shape = sorted.shape; region = 0; tags = [] } in
+      let blank : HashState = record { shape = sorted.shape; region = 0; tags = []; puts = 0 } in
       let within : store < length stores = omega (arith, regions_count stores) in
       let region : ℕ = (get_or stores store blank).region in
       let its : get_or (regions_of stores) store 0 ≡ region = region_of stores store blank within in
