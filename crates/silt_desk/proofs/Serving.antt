@@ -1,10 +1,10 @@
 -- A call at a desk, from what the store does and what is noted.
-use Rattle.std.proofs.Common.{◌≡◌, ℕ, ◌+◌, Bool, true, false, IsTrue, List, Ok, Err, Result, refl, ap, sym, ◌∙◌, subst, inr}
+use Rattle.std.proofs.Common.{◌≡◌, ℕ, ◌+◌, ◌++◌, Bool, true, false, IsTrue, List, length, Ok, Err, Result, refl, ap, sym, ◌∙◌, subst, inr}
 use Rattle.silt_device.specs.Disk.{Content}
-use Rattle.silt_event.specs.Commands.{Map}
+use Rattle.silt_event.specs.Commands.{Command, Map}
 use Rattle.silt_event.specs.declared.progress.Progress.{Progress as ProgressOf}
-use Rattle.silt_store_set.specs.CoreState.{CoreState, Cause, Does, map_of}
-use Rattle.silt_event.specs.Events.{Counts, Step, plain}
+use Rattle.silt_store_set.specs.CoreState.{CoreState, Cause, Does, LeavesNoneWaiting, map_of}
+use Rattle.silt_event.specs.Events.{Counts, Step, accepted_command, is_fault, plain}
 use Rattle.silt_store_set.specs.Replies.{change_reply, flush_reply, get_reply, progress_reply}
 use Rattle.silt_event.specs.declared.event.Event.{Event}
 use Rattle.silt_event.specs.declared.event.Event.TheVariants.{Put, Delete, Flush, Get, Convert, Merge}
@@ -13,12 +13,13 @@ use Rattle.silt_event.specs.declared.refusal.Refusal.TheVariants.{NotFormatted, 
 use Rattle.silt_event.specs.declared.reply.Reply.{Reply}
 use Rattle.silt_event.specs.declared.reply.Reply.TheVariants.{Accepted, Acknowledged, Found, Absent, Progress, Refused}
 use Rattle.silt_store_set.proofs.Calls.{step_refused}
+use Rattle.silt_store_set.proofs.Keeps.{own_counts}
 use Rattle.silt_desk.specs.declared.call.RecordedCall.{RecordedCall}
 use Rattle.silt_desk.specs.DeskState.{DeskState, Notes, Serves}
 use Rattle.silt_desk.specs.History.{accepted_by, call}
 use Rattle.silt_desk.specs.Notes.{plain_answer}
 use Rattle.silt_desk.specs.Seats.{SeatState, Totals}
-use Rattle.silt_desk.specs.Seeing.{SeenStep, SeenStore, seen}
+use Rattle.silt_desk.specs.Seeing.{NoneWaits, SeenStep, SeenStore, seen}
 
 -- ---- answers without their faults
 
@@ -86,7 +87,54 @@ counts_plain old new Absent counts = counts
 counts_plain old new (Progress progress) counts = counts
 counts_plain old new (Refused refusal) counts = counts
 
+-- a reply adds the same commands without its fault
+adds_plain : {F : Type 0} (event : Event) (reply : Reply F) → accepted_command event (plain reply) ≡ accepted_command event reply
+adds_plain (Put key value) (Accepted n) = refl
+adds_plain (Put key value) (Acknowledged n) = refl
+adds_plain (Put key value) (Found v) = refl
+adds_plain (Put key value) Absent = refl
+adds_plain (Put key value) (Progress progress) = refl
+adds_plain (Put key value) (Refused refusal) = refl
+adds_plain (Delete key) (Accepted n) = refl
+adds_plain (Delete key) (Acknowledged n) = refl
+adds_plain (Delete key) (Found v) = refl
+adds_plain (Delete key) Absent = refl
+adds_plain (Delete key) (Progress progress) = refl
+adds_plain (Delete key) (Refused refusal) = refl
+adds_plain Flush reply = refl
+adds_plain (Get key) reply = refl
+adds_plain Convert reply = refl
+adds_plain Merge reply = refl
+
+-- a device's fault is one without it too
+fault_plain : {F : Type 0} (reply : Reply F) → IsTrue (is_fault reply) → IsTrue (is_fault (plain reply))
+fault_plain (Accepted n) fault = absurd (cc)
+fault_plain (Acknowledged n) fault = absurd (cc)
+fault_plain (Found v) fault = absurd (cc)
+fault_plain Absent fault = absurd (cc)
+fault_plain (Progress progress) fault = absurd (cc)
+fault_plain (Refused (Device fault)) is = refl
+fault_plain (Refused NotFormatted) fault = absurd (cc)
+fault_plain (Refused BadGeometry) fault = absurd (cc)
+fault_plain (Refused (Damaged place)) fault = absurd (cc)
+fault_plain (Refused Crowded) fault = absurd (cc)
+fault_plain (Refused NoMemory) fault = absurd (cc)
+fault_plain (Refused StoreFull) fault = absurd (cc)
+fault_plain (Refused NoRoom) fault = absurd (cc)
+fault_plain (Refused Failed) fault = absurd (cc)
+fault_plain (Refused Spent) fault = absurd (cc)
+fault_plain (Refused HistoryFull) fault = absurd (cc)
+
 module _ {D F : Type 0} (content : D → Content) (failures : D → ℕ) (gave : D → F → Type 0) where
+  -- an acknowledging reply leaves nothing waiting
+  none_plain : (core : CoreState D) (reply : Reply F) → LeavesNoneWaiting core reply → NoneWaits (seen content core) (plain reply)
+  none_plain core (Accepted n) none = tt
+  none_plain core (Acknowledged n) none = none
+  none_plain core (Found v) none = tt
+  none_plain core Absent none = tt
+  none_plain core (Progress progress) none = tt
+  none_plain core (Refused refusal) none = tt
+
   -- the reply is that of a map, of a failed store too
   does_step : (old new : CoreState D) (event : Event) (reply : Reply F) → IsTrue (content old.disk).honest → Does content failures gave old new event reply → Step (map_of old) event reply (map_of new)
   does_step old new event reply h does =
@@ -105,6 +153,18 @@ module _ {D F : Type 0} (content : D → Content) (failures : D → ℕ) (gave :
     honest = does.disk.honest;
     counts = counts_plain old.count new.count reply does.counts;
     step = λ h. step_plain (map_of old) event reply (map_of new) (does_step old new event reply h does);
+    shape = does.shape;
+    adds = own_counts content failures gave old new event reply old.count new.count does.cause does.counts ∙ ap (λ (cs : List Command). old.count + length cs) (sym (adds_plain event reply));
+    failed = λ failed.
+        let is = does.failed failed in
+        (ap (seen content) is.0, ap (plain {F = F}) is.1);
+    faulted = λ working fails. fault_plain reply (does.faulted working fails);
+    moves = λ goes h.
+        let moves = does.moves goes h in
+        record { moved = moves.moved; rest = moves.rest ∙ ap (λ (cs : List Command). old.waiting ++ cs) (sym (adds_plain event reply)); base = moves.base };
+    settles = λ h. none_plain new reply (does.settles h);
+    safe = does.safe;
+    crash = does.crash;
   }
 
   -- no store says that a history is full

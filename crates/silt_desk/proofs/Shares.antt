@@ -20,9 +20,6 @@ use Rattle.silt_desk.specs.contracts.seat.AcceptedOf as AcceptedOf
 use Rattle.silt_desk.specs.contracts.seat.CallsOfLedger.TheImpl as calls
 use Rattle.silt_desk.specs.contracts.seat.AcceptedOfLedger.TheImpl as accepted
 use denote.Param.Send.{AllSync, sendable, view_sync, struct_sync, recorded_sync}
-use Rattle.std.specs.contracts.sync.RwLock as RwLock
-use Rattle.std.proofs.sync.RwLock.TheSendSync.{the_sync as lock_sync}
-use Rattle.silt_desk.proofs.desk.Desk.TheSendSync.{the_send as desk_send}
 use Rattle.silt_store_set.proofs.store_core.Core.TheSendSync.{the_sync as core_sync}
 use Rattle.std.specs.contracts.sync.ledger.Book as Book
 use Rattle.std.specs.contracts.sync.ledger.Share as Share

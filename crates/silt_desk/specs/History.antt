@@ -1,7 +1,7 @@
 -- Recorded calls, and what they make of a map.
-use Rattle.std.specs.Prelude.{ℕ, ◌+◌, ◌==◌, Bool, true, false, List, [], ◌∷◌, map, if◌then◌else◌}
-use Rattle.silt_event.specs.Commands.{Map}
-use Rattle.silt_event.specs.Events.{Legal}
+use Rattle.std.specs.Prelude.{◌≡◌, ◌≢◌, ℕ, ◌+◌, ◌==◌, Bool, true, false, List, [], ◌∷◌, ◌++◌, map, if◌then◌else◌}
+use Rattle.silt_event.specs.Commands.{Command, Map}
+use Rattle.silt_event.specs.Events.{Legal, accepted_commands}
 use Rattle.silt_event.specs.declared.event.Event.{Event}
 use Rattle.silt_event.specs.declared.refusal.Refusal.TheVariants.{NoMemory, HistoryFull}
 use Rattle.silt_event.specs.declared.reply.Reply.{Reply}
@@ -36,10 +36,18 @@ events_of calls = map (λ (c : RecordedCall). c.event) calls
 abbrev pub replies_of : List RecordedCall → List (Reply (Unit {0}))
 replies_of calls = map (λ (c : RecordedCall). c.reply) calls
 
+-- the commands that were accepted, in order
+abbrev pub commands_of : List RecordedCall → List Command
+commands_of calls = accepted_commands (events_of calls) (replies_of calls)
+
 -- the calls of one seat, in order
 abbrev pub calls_of_seat : ℕ → List RecordedCall → List RecordedCall
 calls_of_seat seat [] = []
 calls_of_seat seat (c ∷ calls) = if c.seat == seat then c ∷ calls_of_seat seat calls else calls_of_seat seat calls
+
+-- a call of one seat leaves those of every other one as they are
+abbrev pub OthersStayLaw : Type 0
+OthersStayLaw = (other : ℕ) (calls : List RecordedCall) (c : RecordedCall) → c.seat ≢ other → calls_of_seat other (calls ++ c ∷ []) ≡ calls_of_seat other calls
 
 -- The calls are a history of one thread: done one after the other by a plain map they have these replies, and take the count of
 -- accepted commands and the map from the first to the last.

@@ -1,24 +1,63 @@
 -- What a trace is told of a store: no word of it names the device's type.
-use Rattle.std.specs.Prelude.{◌≡◌, ℕ, IsTrue}
-use Rattle.silt_device.specs.Disk.{Content}
-use Rattle.silt_event.specs.Commands.{Map}
+use Rattle.std.specs.Prelude.{◌≡◌, ℕ, ◌+◌, Bool, true, false, IsTrue, List, [], ◌++◌, length}
+use Rattle.silt_device.specs.Disk.{Content, LeavesOnly}
+use Rattle.silt_device.specs.Layout.{Shape}
+use Rattle.silt_event.specs.Commands.{Command, Map, map_after}
+use Rattle.silt_image.specs.Meaning.{StandsFor}
+use Rattle.silt_stores.specs.Calls.{HasBegun}
 use Rattle.silt_store_set.specs.CoreState.{CoreState, map_of}
-use Rattle.silt_event.specs.Events.{Step, Counts}
+use Rattle.silt_event.specs.Events.{Step, Counts, PlainReply, accepted_command, is_fault}
 use Rattle.silt_event.specs.declared.event.Event.{Event}
-use Rattle.silt_event.specs.declared.reply.Reply.{Reply}
+use Rattle.silt_event.specs.declared.refusal.Refusal.TheVariants.{Failed}
+use Rattle.silt_event.specs.declared.reply.Reply.TheVariants.{Acknowledged, Refused}
 
--- a store as a trace sees it: what its device is, the map that gets answer from, and the count of accepted commands
+-- a store as a trace sees it: what its device is, its shape, the map that gets answer from, the map of what is settled, the commands
+-- that wait, the count of accepted commands, and whether it is failed
 pub record SeenStore : Type 0 where
   pub content : Content
+  pub shape : Shape
   pub map : Map
+  pub base : Map
+  pub waiting : List Command
   pub count : ℕ
+  pub failed : Bool
 
 -- of a store
 abbrev pub seen : {D : Type 0} → (D → Content) → CoreState D → SeenStore
-seen content core = record { content = content core.disk; map = map_of core; count = core.count }
+seen content core = record {
+  content = content core.disk;
+  shape = core.shape;
+  map = map_of core;
+  base = core.base;
+  waiting = core.waiting;
+  count = core.count;
+  failed = core.failed;
+}
 
--- one call takes the store from the one to the other, with the reply of a plain map
-pub record SeenStep (old new : SeenStore) (event : Event) (reply : Reply (Unit {0})) : Type 0 where
+-- a beginning of what waited, and of these commands behind it, went into the base
+pub record MovesSeen (old new : SeenStore) (adds : List Command) : Type 0 where
+  pub moved : List Command
+  pub rest : moved ++ new.waiting ≡ old.waiting ++ adds
+  pub base : new.base ≡ map_after old.base moved
+
+-- nothing waits behind an acknowledging reply
+abbrev pub NoneWaits : SeenStore → PlainReply → Type 0
+NoneWaits store (Acknowledged n) = store.waiting ≡ []
+NoneWaits store reply = Unit {0}
+
+-- one call takes the store from the one to the other, with the reply of a plain map, and a stop leaves what this call settled
+pub record SeenStep (old new : SeenStore) (event : Event) (reply : PlainReply) : Type 0 where
   pub honest : new.content.honest ≡ old.content.honest
+  pub shape : new.shape ≡ old.shape
   pub counts : Counts old.count reply new.count
+  pub adds : new.count ≡ old.count + length (accepted_command event reply)
   pub step : IsTrue old.content.honest → Step old.map event reply new.map
+  -- a failed store answers so and stays
+  pub failed : old.failed ≡ true → (new ≡ old) × (reply ≡ Refused Failed)
+  -- a store fails by a fault of its device alone
+  pub faulted : old.failed ≡ false → new.failed ≡ true → IsTrue (is_fault reply)
+  pub moves : new.failed ≡ false → IsTrue old.content.honest → MovesSeen old new (accepted_command event reply)
+  pub settles : IsTrue old.content.honest → NoneWaits new reply
+  -- whatever a stop leaves stands for the base, or, where the call failed, for the base as it was after a beginning of what waited
+  pub safe : new.failed ≡ false → LeavesOnly new.content (StandsFor new.shape new.base)
+  pub crash : old.failed ≡ false → new.failed ≡ true → LeavesOnly new.content (HasBegun old.shape old.base old.waiting)

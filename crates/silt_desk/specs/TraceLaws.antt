@@ -1,14 +1,22 @@
 -- One call more, in a trace.
-use Rattle.std.proofs.Common.{◌≡◌, ℕ, ◌+◌, ◌%◌, ◌^◌, ◌≤◌, IsTrue, List, [], ◌∷◌, ◌++◌, length, refl, sym, ap, subst, arith, length-append}
-use Rattle.silt_event.specs.Commands.{Map}
-use Rattle.silt_event.specs.Events.{Counts, Legal, Step}
+use Rattle.std.proofs.Common.{◌≡◌, ℕ, ◌+◌, ◌%◌, ◌^◌, ◌≤◌, ◌==◌, Bool, true, false, IsTrue, List, [], ◌∷◌, ◌++◌, length, refl, sym, ◌∙◌, ap, subst, arith, length-append, append_assoc}
+use Rattle.std.proofs.lemmas.Bool.{ne_eqb}
+use Rattle.silt_device.specs.Disk.{LeavesOnly}
+use Rattle.silt_device.specs.Layout.{Shape}
+use Rattle.silt_event.specs.Commands.{Command, Map, map_after}
+use Rattle.silt_event.specs.Events.{Counts, Legal, PlainReply, Step, accepted_command, acknowledged_after, acknowledged_by}
 use Rattle.silt_event.specs.declared.event.Event.{Event}
 use Rattle.silt_event.specs.declared.reply.Reply.{Reply}
 use Rattle.silt_event.specs.declared.reply.Reply.TheVariants.{Accepted, Acknowledged, Found, Absent, Progress, Refused}
+use Rattle.silt_event.specs.declared.refusal.Refusal.TheVariants.{Failed}
+use Rattle.silt_image.specs.Meaning.{StandsFor}
+use Rattle.silt_store_set.proofs.Calls.{none_refused}
+use Rattle.silt_store_set.proofs.Keeps.{fault_adds}
+use Rattle.silt_store_set.proofs.Maps.{map_after-append, append_nil}
 use Rattle.silt_desk.specs.declared.call.RecordedCall.{RecordedCall}
-use Rattle.silt_desk.specs.History.{accepted_by, count_accepted, events_of, replies_of, Replays}
-use Rattle.silt_desk.specs.Seeing.{SeenStore, SeenStep}
-use Rattle.silt_desk.specs.Traces.{HasEntries, IsHistory, Keeping, with_call}
+use Rattle.silt_desk.specs.History.{OthersStayLaw, accepted_by, calls_of_seat, commands_of, count_accepted, events_of, replies_of, Replays}
+use Rattle.silt_desk.specs.Seeing.{MovesSeen, NoneWaits, SeenStore, SeenStep}
+use Rattle.silt_desk.specs.Traces.{HasEntries, HasSettled, IsHistory, Keeping, StandsRecorded, Survives, with_call}
 
 -- a number modulo 2^64 after an addition
 pub next_count : (a b n k m : ℕ) → a ≡ n % 2 ^ 64 → b ≡ (a + k) % 2 ^ 64 → m ≡ n + k → b ≡ m % 2 ^ 64
@@ -64,6 +72,147 @@ count_accepted_push xs y = omega (arith, count_accepted-append xs (y ∷ []))
 
 pub ruleset accepted_laws = (count_accepted-le, accepted_by-le, count_accepted_push)
 
+-- ---- what a stop may keep
+
+-- the commands of one call more
+pub commands_more : (calls : List RecordedCall) (c : RecordedCall) → commands_of (calls ++ c ∷ []) ≡ commands_of calls ++ accepted_command c.event c.reply
+commands_more [] c = append_nil (accepted_command c.event c.reply)
+commands_more (x ∷ calls) c =
+    ap (λ (cs : List Command). accepted_command x.event x.reply ++ cs) (commands_more calls c) ∙ sym (append_assoc (accepted_command x.event x.reply) (commands_of calls) (accepted_command c.event c.reply))
+
+-- what is acknowledged after one call more
+pub acknowledged_more : (n : ℕ) (calls : List RecordedCall) (c : RecordedCall) → acknowledged_after n (replies_of (calls ++ c ∷ [])) ≡ acknowledged_by (acknowledged_after n (replies_of calls)) c.reply
+acknowledged_more n [] c = refl
+acknowledged_more n (x ∷ calls) c = acknowledged_more (acknowledged_by n x.reply) calls c
+
+-- what was acknowledged by one reply is settled after it
+acknowledged_one : (reply : PlainReply) (before count next total : ℕ) (store : SeenStore) → Counts count reply next → NoneWaits store reply → total + length store.waiting ≡ next → before ≤ total → acknowledged_by before reply ≤ total
+acknowledged_one (Accepted n) before count next total store counts none sum less = less
+acknowledged_one (Acknowledged n) before count next total store counts none sum less = omega (arith, counts.0, counts.1, ap length none, sum)
+acknowledged_one (Found v) before count next total store counts none sum less = less
+acknowledged_one Absent before count next total store counts none sum less = less
+acknowledged_one (Progress p) before count next total store counts none sum less = less
+acknowledged_one (Refused r) before count next total store counts none sum less = less
+
+-- one call more settles on
+settles_more : (a : Keeping) (c : RecordedCall) (base : Map) (waiting : List Command) (s t : SeenStore) → IsTrue s.content.honest → HasSettled a base waiting s → SeenStep s t c.event c.reply
+    → MovesSeen s t (accepted_command c.event c.reply) → HasSettled (with_call a c) base waiting t
+settles_more a c base waiting s t h old step moves =
+    let own : List Command = accepted_command c.event c.reply in
+    let all : commands_of (a.calls ++ c ∷ []) ≡ commands_of a.calls ++ own = commands_more a.calls c in
+    let count : t.count ≡ a.count + length (commands_of (a.calls ++ c ∷ [])) = omega (arith, step.adds, old.counted, ap length all, length-append (commands_of a.calls) own) in
+    let rest : (old.moved ++ moves.moved) ++ t.waiting ≡ waiting ++ commands_of (a.calls ++ c ∷ []) =
+        append_assoc old.moved moves.moved t.waiting ∙ ap (λ (cs : List Command). old.moved ++ cs) moves.rest ∙ sym (append_assoc old.moved s.waiting own)
+        ∙ ap (λ (cs : List Command). cs ++ own) old.rest ∙ append_assoc waiting (commands_of a.calls) own ∙ ap (λ (cs : List Command). waiting ++ cs) (sym all) in
+    let long : length (old.moved ++ moves.moved) + length t.waiting ≡ length waiting + length (commands_of (a.calls ++ c ∷ [])) =
+        sym (length-append (old.moved ++ moves.moved) t.waiting) ∙ ap length rest ∙ length-append waiting (commands_of (a.calls ++ c ∷ [])) in
+    record {
+      moved = old.moved ++ moves.moved;
+      rest = rest;
+      has_base = moves.base ∙ ap (λ (m : Map). map_after m moves.moved) old.has_base ∙ sym (map_after-append base old.moved moves.moved);
+      counted = count;
+      acknowledged = λ settled sum.
+          let before : acknowledged_after settled (replies_of a.calls) ≤ settled + length (old.moved ++ moves.moved) =
+              omega (arith, old.acknowledged settled sum, length-append old.moved moves.moved) in
+          let now : settled + length (old.moved ++ moves.moved) + length t.waiting ≡ t.count = omega (arith, long, count, sum) in
+          subst (λ (n : ℕ). n ≤ settled + length (old.moved ++ moves.moved)) (sym (acknowledged_more settled a.calls c))
+          (acknowledged_one c.reply (acknowledged_after settled (replies_of a.calls)) s.count t.count (settled + length (old.moved ++ moves.moved)) t step.counts (step.settles h) now before);
+    }
+
+-- by a call that added and acknowledged nothing no more may be kept
+records_on : (a : Keeping) (c : RecordedCall) (shape : Shape) (base : Map) (waiting : List Command) (image : List ℕ) → accepted_command c.event c.reply ≡ [] → ((n : ℕ) → acknowledged_by n c.reply ≡ n)
+    → StandsRecorded a shape base waiting image → StandsRecorded (with_call a c) shape base waiting image
+records_on a c shape base waiting image none same kept =
+    let all : commands_of (a.calls ++ c ∷ []) ≡ commands_of a.calls = commands_more a.calls c ∙ ap (λ (cs : List Command). commands_of a.calls ++ cs) none ∙ append_nil (commands_of a.calls) in (
+      kept.0,
+      record {
+        begins = record { rest = kept.1.begins.rest; is = kept.1.begins.is ∙ ap (λ (cs : List Command). waiting ++ cs) (sym all) };
+        acknowledged = λ settled sum.
+            subst (λ (n : ℕ). n ≤ settled + length kept.0) (sym (acknowledged_more settled a.calls c ∙ same (acknowledged_after settled (replies_of a.calls)))) (kept.1.acknowledged settled sum);
+      },
+      kept.2,
+    )
+
+-- of a store that is not failed a stop keeps what went into the base
+keeps_settled : (a : Keeping) (base : Map) (waiting : List Command) (t : SeenStore) (image : List ℕ) → HasSettled a base waiting t → StandsFor t.shape t.base image → StandsRecorded a t.shape base waiting image
+keeps_settled a base waiting t image settled stands = (
+  settled.moved,
+  record { begins = record { rest = t.waiting; is = settled.rest }; acknowledged = settled.acknowledged },
+  subst (λ (m : Map). StandsFor t.shape m image) settled.has_base stands,
+)
+
+-- what a stop leaves is told by the recorded calls, after one more
+survives_on : (a : Keeping) (c : RecordedCall) (opening : Map) (s t : SeenStore) → Survives a opening s → SeenStep s t c.event c.reply → Survives (with_call a c) opening t
+survives_on a c opening s t survives step =
+    let base : Map = survives.base in
+    let waiting : List Command = survives.waiting in
+    let was : IsTrue t.content.honest → IsTrue s.content.honest = λ h. subst IsTrue step.honest h in
+    let opens : IsTrue t.content.honest → opening ≡ map_after base waiting = λ h. survives.opens (was h) in
+    let go : (b : Bool) → s.failed ≡ b → (d : Bool) → t.failed ≡ d → Survives (with_call a c) opening t = elim [
+      | true ↦ λ failed d is.
+          let stays = step.failed failed in
+          record {
+            base = base;
+            waiting = waiting;
+            opens = opens;
+            settled = λ working. absurd (let no : false ≡ true = sym working ∙ ap (λ (x : SeenStore). x.failed) stays.0 ∙ failed in cc);
+            left = record { each = λ h image left.
+                subst (λ (shape : Shape). StandsRecorded (with_call a c) shape base waiting image) (sym step.shape)
+                (records_on a c s.shape base waiting image
+                    (ap (λ (r : PlainReply). accepted_command c.event r) stays.1 ∙ none_refused c.event Failed) (λ n. ap (λ (r : PlainReply). acknowledged_by n r) stays.1)
+                    ((subst (λ (x : SeenStore). LeavesOnly x.content (StandsRecorded a s.shape base waiting)) (sym stays.0) survives.left).each h image left)) };
+          }
+      | false ↦ λ working. elim [
+        | false ↦ λ goes.
+            let settled : IsTrue t.content.honest → HasSettled (with_call a c) base waiting t = λ h. settles_more a c base waiting s t (was h) (survives.settled working (was h)) step (step.moves goes (was h)) in
+            record {
+              base = base;
+              waiting = waiting;
+              opens = opens;
+              settled = λ still h. settled h;
+              left = record { each = λ h image left. keeps_settled (with_call a c) base waiting t image (settled h) ((step.safe goes).each h image left) };
+            }
+        | true ↦ λ fails. record {
+            base = base;
+            waiting = waiting;
+            opens = opens;
+            settled = λ still. absurd (let no : false ≡ true = sym still ∙ fails in cc);
+            left = record { each = λ h image left.
+                let old = survives.settled working (was h) in
+                let torn = (step.crash working fails).each h image left in
+                let fault = fault_adds c.event c.reply (step.faulted working fails) in
+                let before : StandsRecorded a s.shape base waiting image = (
+                  old.moved ++ torn.kept,
+                  record {
+                    begins = record {
+                      rest = torn.begins.rest;
+                      is = append_assoc old.moved torn.kept torn.begins.rest ∙ ap (λ (cs : List Command). old.moved ++ cs) torn.begins.is ∙ old.rest;
+                    };
+                    acknowledged = λ n sum. omega (arith, old.acknowledged n sum, length-append old.moved torn.kept);
+                  },
+                  subst (λ (m : Map). StandsFor s.shape m image) (ap (λ (m : Map). map_after m torn.kept) old.has_base ∙ sym (map_after-append base old.moved torn.kept)) torn.stands,
+                ) in
+                subst (λ (shape : Shape). StandsRecorded (with_call a c) shape base waiting image) (sym step.shape) (records_on a c s.shape base waiting image fault.0 fault.1 before) };
+          }
+      ]
+    ] in
+    go s.failed refl t.failed refl
+
+-- ---- the calls of a seat
+
+-- a call of one seat leaves those of every other one
+pub others_stay : (other : ℕ) (calls : List RecordedCall) (c : RecordedCall) → (c.seat == other) ≡ false → calls_of_seat other (calls ++ c ∷ []) ≡ calls_of_seat other calls
+others_stay other [] c apart = rw apart refl
+others_stay other (x ∷ calls) c apart =
+    let go : (b : Bool) → (x.seat == other) ≡ b → calls_of_seat other (x ∷ calls ++ c ∷ []) ≡ calls_of_seat other (x ∷ calls) = elim [
+      | true ↦ λ is. rw is (ap (λ (rest : List RecordedCall). x ∷ rest) (others_stay other calls c apart))
+      | false ↦ λ is. rw is (others_stay other calls c apart)
+    ] in
+    go (x.seat == other) refl
+
+pub others_stay_law : OthersStayLaw
+others_stay_law other calls c apart = others_stay other calls c (ne_eqb c.seat other apart)
+
 -- ---- a kept trace
 
 pub history_more : (a b : Keeping) (c : RecordedCall) (s t : SeenStore) → IsHistory a s → b ≡ with_call a c → SeenStep s t c.event c.reply → IsHistory b t
@@ -73,6 +222,7 @@ history_more a b c s t history extends step =
       map = history.map;
       entries = λ h. history.entries (was h);
       replays = λ h. replays_more a.count history.map a.calls s.count s.map c t.count t.map (history.replays (was h)) step.counts (step.step (was h));
+      survives = survives_on a c history.map s t history.survives step;
     })
 
 pub length_after : (a b : Keeping) (c : RecordedCall) (n m : ℕ) → length a.calls ≡ n → b ≡ with_call a c → m ≡ n + 1 → length b.calls ≡ m
@@ -81,10 +231,28 @@ length_after a b c n m is extends more = rw extends (omega (arith, length-append
 pub accepted_after : (a b : Keeping) (c : RecordedCall) (m n : ℕ) → count_accepted a.calls ≡ m → b ≡ with_call a c → n ≡ m + accepted_by c.reply → count_accepted b.calls ≡ n
 accepted_after a b c m n is extends more = rw extends (omega (arith, count_accepted_push a.calls c, is, more))
 
+-- with no calls yet nothing is settled since
+settles_none : (kept : Keeping) (store : SeenStore) → kept.calls ≡ [] → kept.count ≡ store.count → HasSettled kept store.base store.waiting store
+settles_none kept store none count = record {
+  moved = [];
+  rest = sym (append_nil store.waiting) ∙ ap (λ (calls : List RecordedCall). store.waiting ++ commands_of calls) (sym none);
+  has_base = refl;
+  counted = omega (arith, count, ap (λ (calls : List RecordedCall). length (commands_of calls)) none);
+  acknowledged = λ settled sum. omega (arith, ap (λ (calls : List RecordedCall). acknowledged_after settled (replies_of calls)) none);
+}
+
 -- a history with no calls yet, of this store as it stands
-pub history_opens : (kept : Keeping) (store : SeenStore) → kept.calls ≡ [] → kept.count ≡ store.count → (IsTrue store.content.honest → HasEntries kept.opening store.map) → IsHistory kept store
-history_opens kept store none count entries = record {
+pub history_opens : (kept : Keeping) (store : SeenStore) → kept.calls ≡ [] → kept.count ≡ store.count → (IsTrue store.content.honest → HasEntries kept.opening store.map)
+    → (IsTrue store.content.honest → store.map ≡ map_after store.base store.waiting) → LeavesOnly store.content (StandsFor store.shape store.base) → IsHistory kept store
+history_opens kept store none count entries has_map safe = record {
   map = store.map;
   entries = entries;
   replays = λ h. subst (λ calls. Replays kept.count store.map calls store.count store.map) (sym none) (sym count, refl);
+  survives = record {
+    base = store.base;
+    waiting = store.waiting;
+    opens = has_map;
+    settled = λ working h. settles_none kept store none count;
+    left = record { each = λ h image left. keeps_settled kept store.base store.waiting store image (settles_none kept store none count) (safe.each h image left) };
+  };
 }

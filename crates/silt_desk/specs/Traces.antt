@@ -1,13 +1,18 @@
 -- What a kept trace holds, as contracts see it.
-use Rattle.std.specs.Prelude.{◌≡◌, ℕ, List, ◌∷◌, [], ◌++◌, IsTrue}
+use Rattle.std.specs.Prelude.{◌≡◌, ◌≤◌, ℕ, ◌+◌, List, ◌∷◌, [], ◌++◌, length, false, IsTrue}
 use Rattle.std.specs.BTreeMap.{is_at}
 use Rattle.std.specs.Map.{lookup}
 use Rattle.std.specs.FinMap.{get}
 use Rattle.silt_frame.specs.declared.key.Key.{Key}
-use Rattle.silt_event.specs.Commands.{Map}
+use Rattle.silt_device.specs.Disk.{LeavesOnly}
+use Rattle.silt_device.specs.Layout.{Shape}
+use Rattle.silt_event.specs.Commands.{Command, Map, map_after}
+use Rattle.silt_event.specs.Events.{acknowledged_after}
+use Rattle.silt_image.specs.Meaning.{StandsFor}
+use Rattle.silt_store_set.specs.CoreState.{KeepsFrom}
 use Rattle.silt_frame.specs.Rows.{key_cmp}
 use Rattle.silt_desk.specs.declared.call.RecordedCall.{RecordedCall}
-use Rattle.silt_desk.specs.History.{Replays}
+use Rattle.silt_desk.specs.History.{Replays, commands_of, events_of, replies_of}
 use Rattle.silt_desk.specs.Seeing.{SeenStore}
 
 pub record Keeping : Type 0 where
@@ -27,8 +32,32 @@ HasEntries entries map = (key : Key) → lookup (is_at (key_cmp key)) entries �
 abbrev pub with_call : Keeping → RecordedCall → Keeping
 with_call kept c = record { opening = kept.opening; count = kept.count; calls = kept.calls ++ c ∷ []; most = kept.most }
 
--- the recorded calls are a history of one thread, from the opening entries and count to the store's map and count
+-- an image stands for the base after what a stop may keep of the recorded calls: a beginning of these commands that waited and of those
+-- accepted since, with each one that was acknowledged
+abbrev pub StandsRecorded : Keeping → Shape → Map → List Command → List ℕ → Type 0
+StandsRecorded kept shape base waiting image =
+    (cs : List Command) × KeepsFrom waiting kept.count (events_of kept.calls) (replies_of kept.calls) cs × StandsFor shape (map_after base cs) image
+
+-- what went into the base since the history began, at a base with these commands waiting, holds all that was acknowledged, and the rest waits
+pub record HasSettled (kept : Keeping) (base : Map) (waiting : List Command) (store : SeenStore) : Type 0 where
+  pub moved : List Command
+  pub rest : moved ++ store.waiting ≡ waiting ++ commands_of kept.calls
+  pub has_base : store.base ≡ map_after base moved
+  pub counted : store.count ≡ kept.count + length (commands_of kept.calls)
+  pub acknowledged : (settled : ℕ) → settled + length waiting ≡ kept.count → acknowledged_after settled (replies_of kept.calls) ≤ settled + length moved
+
+-- Whatever a stop leaves of the store, failed or not, is told by the recorded calls: the opening map was a base with some commands waiting.
+pub record Survives (kept : Keeping) (opening : Map) (store : SeenStore) : Type 0 where
+  pub base : Map
+  pub waiting : List Command
+  pub opens : IsTrue store.content.honest → opening ≡ map_after base waiting
+  pub settled : store.failed ≡ false → IsTrue store.content.honest → HasSettled kept base waiting store
+  pub left : LeavesOnly store.content (StandsRecorded kept store.shape base waiting)
+
+-- The recorded calls are a history of one thread, from the opening entries and count to the store's map and count, and what a stop leaves is
+-- what they may keep.
 pub record IsHistory (kept : Keeping) (store : SeenStore) : Type 0 where
   pub map : Map
   pub entries : IsTrue store.content.honest → HasEntries kept.opening map
   pub replays : IsTrue store.content.honest → Replays kept.count map kept.calls store.count store.map
+  pub survives : Survives kept map store

@@ -1,5 +1,5 @@
 // A store with its trace, whose callers have seats.
-ghost use Rattle.std.specs.Prelude.{◌≡◌, ◌≢◌, ℕ, ◌+◌, ◌<◌, ◌%◌, ◌^◌, Some, Ok, false, length, IfOk, IfErr, OnOk, MatchResult, vec_len, vec_capacity, slice_get};
+ghost use Rattle.std.specs.Prelude.{◌≡◌, ◌≢◌, ℕ, ◌+◌, ◌<◌, ◌%◌, ◌^◌, Some, Ok, false, IsTrue, length, IfOk, IfErr, OnOk, MatchResult, vec_len, vec_capacity, slice_get};
 ghost use Rattle.silt_event.specs.Events.{plain};
 ghost use Rattle.silt_desk.specs.DeskState.{Notes};
 ghost use Rattle.silt_desk.specs.Notes.{event_of, reply_of};
@@ -81,7 +81,8 @@ impl<D: Disk, T: Trace, N: Naming> Desk<D, T, N> {
     ghost use Rattle.silt_device.specs.Disk.{GaveAny, LeavesOnly};
     ghost use Rattle.silt_image.specs.Meaning.{StandsFor};
     ghost use Rattle.silt_store_set.specs.CoreInvariant.{LeavesBegun};
-    ghost use Rattle.silt_store_set.specs.CoreState.{Does, wants_convert, wants_merge};
+    ghost use Rattle.silt_event.specs.Commands.{map_after};
+    ghost use Rattle.silt_store_set.specs.CoreState.{Does, map_of, wants_convert, wants_merge};
     ghost use Rattle.silt_store_set.specs.Replies.{change_reply, flush_reply, get_reply, progress_reply};
     ghost use Rattle.silt_event.specs.declared.event.Event.TheVariants.{Put, Delete, Get, Flush, Convert, Merge};
     ghost use Rattle.silt_desk.specs.DeskState.{Serves, found_of};
@@ -126,6 +127,16 @@ impl<D: Disk, T: Trace, N: Naming> Desk<D, T, N> {
         ensures { result ≡ self.now.core.shape }
     {
         self.core.geometry()
+    }
+
+    /// Says what is true of the store at every moment, and does nothing: what a stop may leave of its device (see [`Core::standing`]). With
+    /// [`Kept`](crate::Kept) the recorded calls tell it: see [`Desk::trace`].
+    pub fn standing(&self)
+        ensures safe { self.now.core.failed ≡ false → LeavesOnly (D.content self.now.core.disk) (StandsFor self.now.core.shape self.now.core.base) }
+        ensures has_map { self.now.core.failed ≡ false → IsTrue (D.content self.now.core.disk).honest → map_of self.now.core ≡ map_after self.now.core.base self.now.core.waiting }
+        ensures left { LeavesBegun (D.content self.now.core.disk) self.now.core.shape }
+    {
+        self.core.standing();
     }
 
     /// Sets the value of a key, as a recorded call, and answers how many commands are accepted, this one included.

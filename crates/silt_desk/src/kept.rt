@@ -54,6 +54,7 @@ impl Kept {
         ensures history { IfOk result (λ kept. IsHistory kept (seen D.content core.now)) }
     {
         let opening = core.entries(alloc)?;
+        core.standing(); // what a stop leaves of the store as it stands
         let Ok(calls) = Vec::with_capacity(alloc, most as usize) else {
             return Err(Refusal::NoMemory);
         };

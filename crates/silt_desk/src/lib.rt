@@ -16,6 +16,7 @@ mod call;
 mod count;
 mod desk;
 mod kept;
+mod laws;
 mod seat;
 mod shared;
 #[cfg(test)]
@@ -27,6 +28,7 @@ pub use call::{Note, RecordedCall};
 pub use count::Count;
 pub use desk::{Desk, NotMade};
 pub use kept::Kept;
+pub use laws::others_stay_law;
 pub use seat::{MissingSeats, Naming, Seat};
 pub use shared::{Shared, settle};
 pub use silt_inbox::{

@@ -58,6 +58,13 @@ pub safe_seen : {D : Type 0} (content : D → Content) (disk : D) (stores : Stor
 safe_seen {D} content disk stores count failed core is holds =
     subst (λ (c : CoreState D). c.failed ≡ false → LeavesOnly (content c.disk) (StandsFor c.shape c.base)) is (λ working. (stands_seen content disk stores count failed (holds.stands working)).safe)
 
+-- and its map is the base after the waiting commands
+pub map_seen : {D : Type 0} (content : D → Content) (disk : D) (stores : StoresState) (count : ℕ) (failed : Bool) (core : CoreState D) → seen content disk stores count failed ≡ core
+    → IsCore (content disk) stores count failed → core.failed ≡ false → IsTrue (content core.disk).honest → map_of core ≡ map_after core.base core.waiting
+map_seen {D} content disk stores count failed core is holds =
+    subst (λ (c : CoreState D). c.failed ≡ false → IsTrue (content c.disk).honest → map_of c ≡ map_after c.base c.waiting) is
+    (λ working. (stands_seen content disk stores count failed (holds.stands working)).has_map)
+
 -- each image stands for the base after a beginning of what waits, where the store is failed and where it is not
 pub left_seen : {D : Type 0} (content : D → Content) (disk : D) (stores : StoresState) (count : ℕ) (failed : Bool) → IsCore (content disk) stores count failed → LeavesBegun (content disk) stores.manifest.shape
 left_seen content disk stores count failed holds =

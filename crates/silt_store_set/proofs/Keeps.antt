@@ -21,7 +21,7 @@ or_true true = refl
 or_true false = refl
 
 -- as many commands are counted as an event adds
-own_counts : {D F : Type 0} (content : D → Content) (failures : D → ℕ) (gave : D → F → Type 0) (old new : CoreState D) (event : Event) (reply : Reply F) (c d : ℕ) → Cause content failures gave old new event reply → Counts c reply d → d ≡ c + length (accepted_command event reply)
+pub own_counts : {D F : Type 0} (content : D → Content) (failures : D → ℕ) (gave : D → F → Type 0) (old new : CoreState D) (event : Event) (reply : Reply F) (c d : ℕ) → Cause content failures gave old new event reply → Counts c reply d → d ≡ c + length (accepted_command event reply)
 own_counts content failures gave old new (Put key value) (Accepted n) c d cause counts = counts.1
 own_counts content failures gave old new (Delete key) (Accepted n) c d cause counts = counts.1
 own_counts content failures gave old new Flush (Accepted n) c d cause counts = absurd cause
@@ -115,7 +115,7 @@ acknowledged_one old next (Progress p) settled moved counts none sum = omega ari
 acknowledged_one old next (Refused r) settled moved counts none sum = omega arith
 
 -- a fault acknowledges nothing and adds nothing
-fault_adds : {F : Type 0} (event : Event) (reply : Reply F) → IsTrue (is_fault reply) → (accepted_command event reply ≡ []) × ((n : ℕ) → acknowledged_by n reply ≡ n)
+pub fault_adds : {F : Type 0} (event : Event) (reply : Reply F) → IsTrue (is_fault reply) → (accepted_command event reply ≡ []) × ((n : ℕ) → acknowledged_by n reply ≡ n)
 fault_adds event (Accepted n) fault = absurd (cc)
 fault_adds event (Acknowledged n) fault = absurd (cc)
 fault_adds event (Found v) fault = absurd (cc)

@@ -419,13 +419,13 @@ Runs content failures gave old events replies new = ⊥
 
 -- What a stop may keep of a run: a beginning of what waited and of what was then accepted, with each command that was
 -- acknowledged. Of the commands counted before the run all but the waiting ones were settled.
-pub record KeepsFrom {D F : Type 0} (old : CoreState D) (events : List Event) (replies : List (Reply F)) (kept : List Command) : Type 0 where
-  pub begins : Begins kept (old.waiting ++ accepted_commands events replies)
-  pub acknowledged : (settled : ℕ) → settled + length old.waiting ≡ old.count → acknowledged_after settled replies ≤ settled + length kept
+pub record KeepsFrom {F : Type 0} (waiting : List Command) (count : ℕ) (events : List Event) (replies : List (Reply F)) (kept : List Command) : Type 0 where
+  pub begins : Begins kept (waiting ++ accepted_commands events replies)
+  pub acknowledged : (settled : ℕ) → settled + length waiting ≡ count → acknowledged_after settled replies ≤ settled + length kept
 
 -- an image stands for the base after what a stop may keep of the run
 abbrev pub StandsKept : {D F : Type 0} → CoreState D → List Event → List (Reply F) → List ℕ → Type 0
-StandsKept old events replies image = (kept : List Command) × KeepsFrom old events replies kept × StandsFor old.shape (map_after old.base kept) image
+StandsKept old events replies image = (kept : List Command) × KeepsFrom old.waiting old.count events replies kept × StandsFor old.shape (map_after old.base kept) image
 
 -- ---- opening
 

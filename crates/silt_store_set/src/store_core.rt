@@ -56,6 +56,7 @@ impl<D: Disk> Core<D> {
     ghost use Rattle.silt_frame.specs.declared.key.Key.{Key as KeyOf};
     ghost use Rattle.silt_log.specs.Rows.{IsValueOf};
     ghost use Rattle.silt_recovery.specs.Opening.{LeavesNoOther};
+    ghost use Rattle.silt_event.specs.Commands.{map_after};
     ghost use Rattle.silt_image.specs.Meaning.{StandsFor};
     ghost use Rattle.silt_stores.specs.Calls.{SameDisk};
     ghost use Rattle.silt_store_set.specs.CoreInvariant.{LeavesBegun};
@@ -104,6 +105,17 @@ impl<D: Disk> Core<D> {
         ensures { result ≡ self.now.count }
     {
         self.count
+    }
+
+    /// Says what is true of the store at every moment, and does nothing: each image that a stop may leave of its device stands for the
+    /// base, and gets answer from the base after the commands that wait; or, where the store is failed, each image stands for one map
+    /// after a beginning of one list of commands.
+    pub fn standing(&self)
+        ensures safe { self.now.failed ≡ false → LeavesOnly (D.content self.now.disk) (StandsFor self.now.shape self.now.base) }
+        ensures has_map { self.now.failed ≡ false → IsTrue (D.content self.now.disk).honest → map_of self.now ≡ map_after self.now.base self.now.waiting }
+        ensures left { LeavesBegun (D.content self.now.disk) self.now.shape }
+    {
+        let _ = &self.disk; // the store is as it was made
     }
 
     /// Sets the value of a key, and answers how many commands this life has accepted, this one included.
