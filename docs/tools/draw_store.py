@@ -17,7 +17,7 @@ BODY_LEN = 120
 LIMITS = {"V": (1, 4096), "B": (2, 32768), "CAP": (1, 131072), "NL": (2, 8), "NH": (1, 16), "S": (1, 16777216)}
 
 PUT, DELETE, BAD, EMPTY, BORDER, TEXT, FAINT = "#2f7d59", "#d08a2c", "#c0392b", "#eef1ee", "#8a948e", "#1d2421", "#6b756f"
-LEFT, BAR, WIDTH, BAR_HEIGHT, STEP, TOP = 215, 470, 960, 22, 34, 150
+LEFT, BAR, WIDTH, BAR_HEIGHT, STEP, TOP = 215, 470, 1000, 22, 34, 150
 MOST_CELLS = BAR // 2
 
 
@@ -137,12 +137,10 @@ def hash_kinds(data, shape, region):
 
 
 def part_of(region, regions, name):
-    """Which store of a list, the newest first, has this region."""
+    """Which store of a list, the newest first, has this region: none has a free one."""
     if region not in regions:
         return ""
-    place = regions.index(region)
-    age = "" if len(regions) == 1 else ", newest" if place == 0 else ", oldest" if place == len(regions) - 1 else f", {place + 1}."
-    return name + age
+    return name if len(regions) == 1 else f"{name} {regions.index(region) + 1} of {len(regions)}"
 
 
 def read_regions(data, shape, body):
@@ -206,7 +204,7 @@ def draw_device(regions, length):
         x, width = 20 + region.at / length * wide, region.length / length * wide
         drawn.append(rect(x, 78, share * width, 16, PUT))
         drawn.append(rect(x, 78, width, 16, "none", f' stroke="{BORDER}"'))
-    drawn.append(words(20, 110, "the device from its first byte to its last, to scale", 11, FAINT))
+    drawn.append(words(20, 110, "the device from its first byte to its last, to scale; below, stores of a kind are numbered from the newest", 11, FAINT))
     return drawn
 
 
