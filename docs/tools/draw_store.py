@@ -154,7 +154,7 @@ def read_regions(data, shape, body):
         kinds = hash_kinds(data, shape, i) if part else bytes(4 * shape.B)
         regions.append(Region(f"hash region {i}", part, shape.hash_at(i), shape.hash, kinds))
     for i in range(2):
-        part = "sorted store" if i == body.sorted and body.count else ""
+        part = "sorted store" if i == body.sorted else ""
         kinds = bytes([1]) * body.count + bytes(shape.S - body.count) if part else bytes(shape.S)
         regions.append(Region(f"sorted region {i}", part, shape.sorted_at(i), shape.sorted, kinds))
     return regions
