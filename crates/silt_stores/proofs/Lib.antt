@@ -28,6 +28,7 @@ pub mod ConvertTurns
 pub mod ConvertSteps
 pub mod Viewing
 pub mod MergeStores
+pub mod Remains
 pub mod MergeDone
 pub mod MergeCounting
 pub mod MergeEntries

@@ -1,37 +1,35 @@
 -- The end of a merge: the body that names its sorted store, and the stores once it rules.
-use Rattle.std.proofs.Common.{inr, ◌≡◌, ◌≤◌, ◌<◌, ℕ, ◌+◌, ◌-◌, ◌*◌, ◌==◌, IsTrue, List, [], ◌++◌, length, map, take, Option, Some, None, refl, ap, sym, ◌∙◌, subst, arith}
+use Rattle.std.proofs.Common.{inr, ◌≡◌, ◌≤◌, ◌<◌, ℕ, ◌-◌, ◌*◌, ◌==◌, IsTrue, List, [], ◌++◌, length, map, take, Option, Some, None, refl, ap, sym, ◌∙◌, subst, arith}
 use Rattle.std.specs.Prelude.{All, IfSome}
 use Rattle.std.specs.List.{list_any}
 use Rattle.std.proofs.lemmas.List.{take-map}
 use Rattle.std.proofs.lemmas.List.Elements.{All-take}
 use Rattle.silt_device.specs.Disk.{Content, LeavesOnly, Rests, size}
-use Rattle.silt_device.specs.Layout.{Shape, device_size, slot_at}
+use Rattle.silt_device.specs.Layout.{Shape, device_size}
 use Rattle.silt_device.proofs.Images.{left_at_rest}
 use Rattle.silt_frame.specs.Rows.{StoredRow, put_count}
-use Rattle.silt_log.specs.State.{all_rows, waiting_rows}
+use Rattle.silt_log.specs.State.{all_rows}
 use Rattle.silt_log.specs.Calls.{KeepsRows}
-use Rattle.silt_log.proofs.Waiting.{waiting_kept}
-use Rattle.silt_manifest.specs.Standing.{ManifestState, spare_slot}
+use Rattle.silt_manifest.specs.Standing.{ManifestState}
 use Rattle.silt_manifest.specs.declared.body.Body.{Body}
 use Rattle.silt_image.specs.Stores.{Stores, stores_named}
 use Rattle.silt_image.specs.Meaning.{IsSound, command_of, rows_of, with_log_rows}
-use Rattle.silt_hash_store.specs.Conversion.{ConversionState, HasWritten}
+use Rattle.silt_hash_store.specs.Conversion.{ConversionState}
 use Rattle.silt_hash_store.specs.State.{IsHashStore}
 use Rattle.silt_merge.specs.Rows.{merged_rows}
 use Rattle.silt_merge.specs.State.{MergeState}
 use Rattle.silt_sorted_store.specs.State.{IsHeldSorted, SortedState}
-use Rattle.silt_stores.specs.State.{AreWhole, IsHashOf, IsMerging, IsSettled, IsUnderWay, StoresState, hash_region_of, oldest_log, sorted_named}
-use Rattle.silt_stores.specs.Standing.{IsFrozen, Stands, shown_stores}
+use Rattle.silt_stores.specs.State.{AreWhole, IsHashOf, IsMerging, IsSettled, IsUnderWay, StoresState, hash_region_of, sorted_named}
+use Rattle.silt_stores.specs.Standing.{Stands, shown_stores}
 use Rattle.silt_stores.specs.Calls.{Advances}
 use Rattle.silt_stores.specs.Succession.{MayRule, NowRules}
 use Rattle.silt_stores.specs.Merge.{EndsMerge, EndsMerged, HasMergedEntries, MayStandFor, charge_without, merge_sources, merged_body, sorted_replaced}
 use Rattle.silt_stores.specs.Merge as spec
 use Rattle.silt_stores.proofs.Named.{named_shape}
-use Rattle.silt_stores.proofs.Elsewhere.{all_frozen_elsewhere, all_hashed_elsewhere, indexed_same, written_all_elsewhere}
+use Rattle.silt_stores.proofs.Elsewhere.{indexed_same}
 use Rattle.silt_stores.proofs.Standing.{Fits, shown_are}
-use Rattle.silt_stores.proofs.Freezes.{below_two, slot_apart, slot_before_conversion}
 use Rattle.silt_stores.proofs.ConvertCounting.{hash_count, none_of_first}
-use Rattle.silt_stores.proofs.Turns.{active_kept}
+use Rattle.silt_stores.proofs.Remains.{active_stays, frozen_stays, hashed_stays, waiting_stays, written_stays}
 use Rattle.silt_stores.proofs.NextBodies.{now_named, succeeds}
 use Rattle.silt_stores.proofs.MergeCounting.{may_end_merge}
 use Rattle.silt_stores.proofs.MergeStores.{merged_entries, merged_named, merged_ruling, merged_shape, sources_with, with_entries}
@@ -83,9 +81,6 @@ module _ (old : Content) (s : StoresState) (body : Body) (sorted : SortedState) 
   -- ---- once it rules
 
   module _ (new : Content) (sizes : size new ≡ size old) (m : ManifestState) (now : NowRules old new s body m) where
-    slot_below : spare_slot s.manifest < 2
-    slot_below = below_two (s.manifest.ruling.generation + 1)
-
     back : IsTrue new.honest → IsTrue old.honest
     back h = subst IsTrue now.changes.honest h
 
@@ -125,22 +120,7 @@ module _ (old : Content) (s : StoresState) (body : Body) (sorted : SortedState) 
 
     -- the active log is as it was
     keeps : KeepsRows old new s.active.log s.active.log
-    keeps = active_kept old new s (spare_slot s.manifest) slot_below stands sizes now.changes
-
-    same_waiting : IsTrue old.honest → waiting_rows new s.active.log ≡ waiting_rows old s.active.log
-    same_waiting h = waiting_kept old new s.active.log s.active.log stands.active h keeps
-
-    -- so are the frozen logs, the hash stores, and what a conversion wrote
-    frozen_stay : All (IsFrozen new) s.frozen
-    frozen_stay = all_frozen_elsewhere old new s (slot_at (spare_slot s.manifest)) 4096 stands now.changes (λ h. (slot_apart s.manifest.shape s.manifest.ruling (spare_slot s.manifest) slot_below).frozen)
-
-    hashed_stay : All (IsHashStore new) s.hashes
-    hashed_stay = all_hashed_elsewhere old new s (slot_at (spare_slot s.manifest)) 4096 stands now.changes (λ h. (slot_apart s.manifest.shape s.manifest.ruling (spare_slot s.manifest) slot_below).hashed)
-
-    written_stays : IfSome s.converting (HasWritten new (oldest_log s))
-    written_stays = written_all_elsewhere old new s (slot_at (spare_slot s.manifest)) 4096 s.converting stands now.changes
-        (λ h. (slot_apart s.manifest.shape s.manifest.ruling (spare_slot s.manifest) slot_below).frozen) (λ h. slot_before_conversion s (spare_slot s.manifest) slot_below)
-        stands.whole.under_way stands.written
+    keeps = active_stays old new s stands sizes now.changes
 
     fits : Fits new after now_stores
     unfolding merged_may_rule
@@ -150,9 +130,9 @@ module _ (old : Content) (s : StoresState) (body : Body) (sorted : SortedState) 
       idle = now.idle;
       rules = now.rules;
       active = record { log = keeps.stands; index = indexed_same old new s.active back (λ h. keeps.all (back h)) stands.indexed };
-      frozen = frozen_stay;
-      hashed = All-take (IsHashStore new) (length s.hashes - ends.merge.stores) s.hashes hashed_stay;
-      written = written_stays;
+      frozen = frozen_stays old new s stands sizes now.changes;
+      hashed = All-take (IsHashStore new) (length s.hashes - ends.merge.stores) s.hashes (hashed_stays old new s stands sizes now.changes);
+      written = written_stays old new s stands sizes now.changes;
       merged = tt;
       same_shape = merged_may_rule.has_shape ∙ sym now.has_shape;
       same_body = merged_may_rule.has_body ∙ sym now.has_body;
@@ -164,13 +144,13 @@ module _ (old : Content) (s : StoresState) (body : Body) (sorted : SortedState) 
       counted = λ h.
           merged_counted old s ends.merge stands ends.was ends.done body (back h) (s.charge - ((s.charge - charge_without s ends.merge.stores) - sorted.count))
           (ap (λ (t : SortedState). s.charge - ((s.charge - charge_without s ends.merge.stores) - t.count)) ends.store)
-          ∙ ap (λ (rows : List StoredRow). put_count (rows_of now_stores ++ rows)) (sym (same_waiting (back h)));
+          ∙ ap (λ (rows : List StoredRow). put_count (rows_of now_stores ++ rows)) (sym (waiting_stays old new s stands sizes now.changes (back h)));
     }
 
     -- and stand on
     goes : Advances [] old new s (sorted_replaced s m ends.merge.stores sorted)
     unfolding merged_may_rule
-    goes = succeeds old new s body stands merged_may_rule sizes m now after fits now.has_shape (λ h. ap (map command_of) (same_waiting h))
+    goes = succeeds old new s body stands merged_may_rule sizes m now after fits now.has_shape (λ h. ap (map command_of) (waiting_stays old new s stands sizes now.changes h))
 
     pub merged_advances : (finished : StoresState) → finished ≡ sorted_replaced s m ends.merge.stores sorted → Advances [] old new s finished
     merged_advances finished is = subst (λ (t : StoresState). Advances [] old new s t) (sym is) goes
