@@ -61,7 +61,7 @@ pub slots_behind_manifest : (shape : Shape) (hash slot : ℕ) → slot < 2 → L
 slots_behind_manifest shape hash slot below = inl (omega (arith, below))
 
 -- the entries of each sorted region lie behind the logs
-log_ends_before : (size logs region hashes rest : ℕ) → region < logs → 12288 + region * size + size ≤ 12288 + logs * size + hashes + rest
+pub log_ends_before : (size logs region hashes rest : ℕ) → region < logs → 12288 + region * size + size ≤ 12288 + logs * size + hashes + rest
 log_ends_before size logs region hashes rest below = omega (arith, next_region region logs size below)
 
 pub entries_behind_log : (shape : Shape) (region sorted : ℕ) → region < shape.logs → LiesOutside (sorted_at shape sorted) (entries_len shape) (gates_at shape region) (log_size shape)
@@ -138,6 +138,10 @@ module _ (content : Content) (s : StoresState) (stands : Stands content s) (hone
   pub named_below : (region : ℕ) → Contains s.manifest.ruling.frozen region → region < s.manifest.shape.logs
   named_below region (k, inside, here) =
       (names_regions s.manifest.shape (s.manifest.ruling.generation % 2) s.manifest.ruling ruling_sound).logs region (suc k, omega (arith, inside), here)
+
+  -- also each hash region
+  pub hash_below : (region : ℕ) → Contains s.manifest.ruling.hashed region → region < s.manifest.shape.hashes
+  hash_below region named = (names_regions s.manifest.shape (s.manifest.ruling.generation % 2) s.manifest.ruling ruling_sound).hashes region named
 
   -- and the frozen ones are not the active one
   pub not_active : (region : ℕ) → Contains s.manifest.ruling.frozen region → region ≢ s.manifest.ruling.active
