@@ -4,6 +4,8 @@ mod conversion;
 mod damage;
 mod faults;
 mod limits;
+mod merges;
+mod plain_map;
 mod reads;
 mod reports;
 mod restarts;
@@ -18,9 +20,29 @@ use std::alloc::{AllocError, Global};
 use std::collections::BTreeMap;
 use std::test::Fail;
 
+// A geometry of values of two bytes and two buckets.
+pub(crate) fn of_regions(
+    log_capacity: u32,
+    logs: u32,
+    hashes: u32,
+    sorted_capacity: u32,
+) -> Result<Geometry, Fail> {
+    Ok(
+        Geometry::new(2, 2, log_capacity, logs, hashes, sorted_capacity)
+            .ok()
+            .ok_or("in limits")?,
+    )
+}
+
 // The geometry of the small rows: values of two bytes, two buckets, four rows a log.
 pub(crate) fn small() -> Result<Geometry, Fail> {
-    Ok(Geometry::new(2, 2, 4, 2, 2, 8).ok().ok_or("in limits")?)
+    of_regions(4, 2, 2, 8)
+}
+
+// A formatted disk of this geometry.
+pub(crate) fn formatted_with(alloc: Global, geometry: Geometry) -> Result<MemDisk, Fail> {
+    let disk = MemDisk::new(alloc, geometry.size() as usize)?;
+    Ok(format(alloc, disk, geometry).ok().ok_or("formats")?)
 }
 
 // A formatted disk of the small rows, but with values of this length.
@@ -28,8 +50,7 @@ pub(crate) fn of_values(alloc: Global, value_len: u32) -> Result<MemDisk, Fail> 
     let geometry = Geometry::new(value_len, 2, 4, 2, 2, 8)
         .ok()
         .ok_or("in limits")?;
-    let disk = MemDisk::new(alloc, geometry.size() as usize)?;
-    Ok(format(alloc, disk, geometry).ok().ok_or("formats")?)
+    formatted_with(alloc, geometry)
 }
 
 // Stops at these calls with these fills.
@@ -42,8 +63,7 @@ pub(crate) fn stopping(alloc: Global, at: &[(u32, Fill)]) -> Result<Vec<Stop>, A
 }
 
 pub(crate) fn formatted(alloc: Global) -> Result<MemDisk, Fail> {
-    let disk = MemDisk::new(alloc, 45_056)?;
-    Ok(format(alloc, disk, small()?).ok().ok_or("formats")?)
+    formatted_with(alloc, small()?)
 }
 
 pub(crate) fn opened(alloc: Global) -> Result<Core<MemDisk>, Fail> {
@@ -57,14 +77,14 @@ pub(crate) fn key(first: u8) -> Key {
     Key(bytes)
 }
 
-// The values of the keys 0 to 7 in these entries, 0 for none: of the two bytes of each the first is 0.
-pub(crate) fn values_of(entries: &BTreeMap<Key, Value>) -> [u8; 8] {
+// The values of the keys 0 to 7 in these entries, 0 for none.
+pub(crate) fn values_of(entries: &BTreeMap<Key, Value>) -> [u16; 8] {
     let mut values = [0; 8];
     for first in 0..8usize {
         if let Some(value) = entries.get(&key(first as u8)) {
             values[first] = match value.as_slice() {
-                [0, last] => *last,
-                _ => 0xFF,
+                [first, last] => u16::from_be_bytes([*first, *last]),
+                _ => 0xFFFF,
             };
         }
     }
@@ -72,7 +92,7 @@ pub(crate) fn values_of(entries: &BTreeMap<Key, Value>) -> [u8; 8] {
 }
 
 // The values of the keys 0 to 7 on this disk, 0 for none, where it has no other keys. No stop is made.
-pub(crate) fn entries_of(alloc: Global, disk: MemDisk) -> Result<(MemDisk, [u8; 8]), Fail> {
+pub(crate) fn entries_of(alloc: Global, disk: MemDisk) -> Result<(MemDisk, [u16; 8]), Fail> {
     let core = Core::open(alloc, disk).ok().ok_or("opens")?;
     let entries = core.entries(alloc).ok().ok_or("has entries")?;
     let values = values_of(&entries);

@@ -189,3 +189,99 @@ fn finds_the_first_damage(rt: HostRuntime) -> Result<(), Fail> {
     }
     Ok(())
 }
+
+// The bytes of a small store without rows.
+fn blank(alloc: Global) -> Result<Vec<u8>, Fail> {
+    Ok(formatted(alloc)?.shown().to_vec(alloc)?)
+}
+
+// One finding at each of five places of a store without rows: the last byte is gone, slot 1 is open with generation 0, two sorted entries
+// have one key, the gate of a log's first row is open with kind 3, and all bytes are zeros.
+#[test]
+fn finds_crafted_damage(rt: HostRuntime) -> Result<(), Fail> {
+    let alloc = rt.alloc();
+    let whole = blank(alloc)?;
+    assert_eq!(rt; whole.len(), 45_056);
+    let short = find_damage(&rt, alloc, &whole[..45_055])?;
+    assert_eq!(rt; short, Finding::Damaged(Place::Length));
+    let crafted: [(&[(usize, u8)], Finding); 3] = [
+        (&[(8192, 0xA7)], Finding::Damaged(Place::Slot(1))),
+        (&[(4216, 2)], Finding::Damaged(Place::Sorted(1))),
+        (
+            &[(12_288, 0xA7), (16_384, 3)],
+            Finding::Damaged(Place::Log { region: 0, row: 0 }),
+        ),
+    ];
+    for (changes, expected) in crafted {
+        let bytes = changed(&rt, alloc, &whole, changes)?;
+        assert_eq!(rt; find_damage(&rt, alloc, &bytes)?, expected);
+    }
+    let zeros = vec![in alloc; 0u8; 45_056]?;
+    let found = find_damage(&rt, alloc, &zeros)?;
+    assert_eq!(rt; found, Finding::NotFormatted);
+    Ok(())
+}
+
+// These bytes with some of them changed.
+fn changed(
+    rt: &impl Abort,
+    alloc: Global,
+    whole: &[u8],
+    changes: &[(usize, u8)],
+) -> Result<Vec<u8>, Fail> {
+    let mut bytes = whole.to_vec(alloc)?;
+    for (place, byte) in changes {
+        assert!(rt; *place < bytes.len());
+        bytes[*place] = *byte;
+    }
+    Ok(bytes)
+}
+
+// A small store without rows, whose sorted entries have these first bytes of their keys.
+fn with_entries(rt: &impl Abort, alloc: Global, keys: &[u8]) -> Result<Vec<u8>, Fail> {
+    let mut bytes = blank(alloc)?;
+    assert_eq!(rt; bytes.len(), 45_056);
+    assert!(rt; keys.len() <= 8);
+    bytes[4216] = keys.len() as u8;
+    let mut at = 36_864;
+    for first in keys {
+        assert!(rt; at < bytes.len());
+        bytes[at] = *first;
+        at += 22;
+    }
+    Ok(bytes)
+}
+
+// Entries of 22 bytes from 36,864 on: an entry is damaged where it is not above the one before it, and the first of these decides.
+#[test]
+fn finds_entries_out_of_order(rt: HostRuntime) -> Result<(), Fail> {
+    let alloc = rt.alloc();
+    let cases: [(&[u8], Finding); 7] = [
+        (&[], Finding::Keys(0)),
+        (&[9], Finding::Keys(1)),
+        (&[1, 2, 3, 4, 5, 6, 7, 8], Finding::Keys(8)),
+        (&[5, 5], Finding::Damaged(Place::Sorted(1))),
+        (&[5, 6, 6], Finding::Damaged(Place::Sorted(2))),
+        (&[5, 4, 3], Finding::Damaged(Place::Sorted(1))),
+        (
+            &[1, 2, 3, 4, 5, 6, 8, 7],
+            Finding::Damaged(Place::Sorted(7)),
+        ),
+    ];
+    for (keys, expected) in cases {
+        let bytes = with_entries(&rt, alloc, keys)?;
+        assert_eq!(rt; find_damage(&rt, alloc, &bytes)?, expected);
+    }
+    Ok(())
+}
+
+// The entries count with the rows: eight of them, and a put in the active log, are more than the store may hold.
+#[test]
+fn counts_entries_with_rows(rt: HostRuntime) -> Result<(), Fail> {
+    let alloc = rt.alloc();
+    let whole = with_entries(&rt, alloc, &[1, 2, 3, 4, 5, 6, 7, 8])?;
+    let bytes = changed(&rt, alloc, &whole, &[(12_288, 0xA7), (16_384, 1)])?;
+    let found = find_damage(&rt, alloc, &bytes)?;
+    assert_eq!(rt; found, Finding::Damaged(Place::Charge));
+    Ok(())
+}

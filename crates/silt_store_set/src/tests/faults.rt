@@ -1,10 +1,9 @@
 // One device call that fails, and the refusals of puts and deletes.
 
 use crate::tests::script::{Line, Told, live};
-use crate::tests::{entries_of, formatted, key, values_of};
+use crate::tests::{entries_of, formatted, formatted_with, key, of_regions, values_of};
 use crate::{Core, Refusal};
-use silt_device::{Call, FaultDisk, Geometry, MemDisk, MemFault};
-use silt_recovery::format;
+use silt_device::{Call, FaultDisk, MemDisk, MemFault};
 use std::alloc::Global;
 use std::process::Abort;
 use std::test::Fail;
@@ -17,11 +16,8 @@ fn faulty(alloc: Global, call: Call, number: u64) -> Result<Core<FaultDisk>, Fai
 
 // A small store of values of two bytes, of which so many may be sorted.
 fn of_capacity(alloc: Global, sorted_capacity: u32) -> Result<Core<MemDisk>, Fail> {
-    let geometry = Geometry::new(2, 2, 4, 2, 2, sorted_capacity)
-        .ok()
-        .ok_or("in limits")?;
-    let disk = MemDisk::new(alloc, geometry.size() as usize)?;
-    let disk = format(alloc, disk, geometry).ok().ok_or("formats")?;
+    let geometry = of_regions(4, 2, 2, sorted_capacity)?;
+    let disk = formatted_with(alloc, geometry)?;
     Ok(Core::open(alloc, disk).ok().ok_or("opens")?)
 }
 

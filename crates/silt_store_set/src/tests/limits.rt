@@ -1,17 +1,15 @@
 // Stores at the limits of their numbers, where there is ample memory.
 
-use crate::tests::key;
+use crate::tests::{formatted_with, key};
 use crate::{Core, Event, Reply};
 use silt_device::{Geometry, MemDisk};
 use silt_frame::Value;
-use silt_recovery::format;
 use std::alloc::Global;
 use std::test::Fail;
 
 // An opened store of this geometry.
 fn opened(alloc: Global, geometry: Geometry) -> Result<Core<MemDisk>, Fail> {
-    let disk = MemDisk::new(alloc, geometry.size() as usize)?;
-    let disk = format(alloc, disk, geometry).ok().ok_or("formats")?;
+    let disk = formatted_with(alloc, geometry)?;
     Ok(Core::open(alloc, disk).ok().ok_or("opens")?)
 }
 

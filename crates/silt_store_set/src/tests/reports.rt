@@ -1,11 +1,11 @@
 // What a check of a device tells after its logs were frozen.
 
 use crate::Core;
-use crate::tests::{key, opened, stands_at};
-use silt_device::{Geometry, MemDisk};
+use crate::tests::{formatted_with, key, of_regions, opened, stands_at};
+use silt_device::MemDisk;
 use silt_event::Report;
 use silt_frame::Key;
-use silt_recovery::{check, format};
+use silt_recovery::check;
 use std::alloc::Global;
 use std::process::Abort;
 use std::test::Fail;
@@ -20,9 +20,7 @@ fn key_of(first: [u8; 5]) -> Key {
 // Puts a value for each of these keys into a new store of two buckets and logs of eight rows, flushes, gets each, and tells what
 // a check of the device finds.
 fn report_after(rt: &impl Abort, alloc: Global, keys: &[Key]) -> Result<Report, Fail> {
-    let geometry = Geometry::new(2, 2, 8, 2, 2, 16).ok().ok_or("in limits")?;
-    let disk = MemDisk::new(alloc, geometry.size() as usize)?;
-    let disk = format(alloc, disk, geometry).ok().ok_or("formats")?;
+    let disk = formatted_with(alloc, of_regions(8, 2, 2, 16)?)?;
     let mut core = Core::open(alloc, disk).ok().ok_or("opens")?;
     for key in keys {
         assert_eq!(rt; core.geometry().value_len(), 2);

@@ -8,14 +8,15 @@ use silt_device::{Disk, FaultDisk, MemDisk, MemFault};
 use silt_frame::Value;
 use std::alloc::{AllocError, Global};
 
-/// One event of a life. A key is given by its first byte, and a value by the second of its two.
+/// One event of a life. A key is given by its first byte, and a value by the number that its two bytes are.
 #[derive(Clone, Copy, Debug, PartialEq, Eq)]
 pub(crate) enum Line {
-    Put(u8, u8),
+    Put(u8, u16),
     Delete(u8),
     Get(u8),
     Flush,
     Convert,
+    Merge,
 }
 
 /// What is told of an opening or a reply. A refusal is told by its number.
@@ -37,12 +38,33 @@ fn event(alloc: Global, line: Line) -> Result<Event, AllocError>
     ensures { IfOk result (HasValueOf 2) }
 {
     match line {
-        Line::Put(first, last) => Ok(Event::Put(key(first), Value::new([0, last].to_vec(alloc)?))),
+        Line::Put(first, value) => {
+            let value = value.to_be_bytes().to_vec(alloc)?;
+            Ok(Event::Put(key(first), Value::new(value)))
+        }
         Line::Delete(first) => Ok(Event::Delete(key(first))),
         Line::Get(first) => Ok(Event::Get(key(first))),
         Line::Flush => Ok(Event::Flush),
         Line::Convert => Ok(Event::Convert),
+        Line::Merge => Ok(Event::Merge),
     }
+}
+
+// Adds a line, or what is told of one, so many times.
+fn add<T: Copy>(lines: &mut Vec<T>, line: T, count: u8) -> Result<(), AllocError> {
+    for _ in 0..count {
+        lines.push(line)?;
+    }
+    Ok(())
+}
+
+/// These lines, or what is told of them, each so many times.
+pub(crate) fn repeated<T: Copy>(alloc: Global, parts: &[(T, u8)]) -> Result<Vec<T>, AllocError> {
+    let mut lines = Vec::new(alloc);
+    for (line, count) in parts {
+        add(&mut lines, *line, *count)?;
+    }
+    Ok(lines)
 }
 
 /// The events of a life.

@@ -2,9 +2,10 @@
 
 use crate::Core;
 use crate::tests::script::{Line, Told, live};
-use crate::tests::{entries_of, formatted, small, stopping};
-use silt_device::{Fill, MemDisk, Stoppable};
-use silt_recovery::{FormatError, FormatFault, format};
+use crate::tests::{entries_of, formatted_with, small, stopping};
+use silt_device::{Fill, Geometry, MemDisk, Stoppable};
+use silt_event::Progress;
+use silt_recovery::{FormatError, FormatFault, check, format};
 use std::alloc::Global;
 use std::process::Abort;
 use std::test::Fail;
@@ -63,7 +64,7 @@ const CONVERTED: [Line; 15] = [
 ];
 
 // The values of the keys 0 to 7 after a beginning of the commands, 0 for none.
-fn after(lines: &[Line], mut commands: u64) -> [u8; 8] {
+pub(crate) fn after(lines: &[Line], mut commands: u64) -> [u16; 8] {
     let mut values = [0; 8];
     for line in lines {
         let (first, last) = match line {
@@ -105,7 +106,7 @@ fn acknowledged(told: &[Told]) -> u64 {
 }
 
 // Whether the entries are those after a beginning of the accepted commands that has all the acknowledged ones.
-fn is_kept(lines: &[Line], told: &[Told], found: [u8; 8]) -> bool {
+fn is_kept(lines: &[Line], told: &[Told], found: [u16; 8]) -> bool {
     for commands in acknowledged(told)..accepted(told).saturating_add(1) {
         if after(lines, commands) == found {
             return true;
@@ -118,15 +119,56 @@ fn was_stopped(told: &[Told]) -> bool {
     told.iter().any(|reply| matches!(reply, Told::Refused(5) | Told::NotOpened(5)))
 }
 
-// The life, stopped so; then what the next one finds, a put and a flush in it, and what stands after one more stop.
+// Whether a row finds room on this disk, in the active log or in another one.
+fn has_room(alloc: Global, disk: &MemDisk, geometry: Geometry) -> Result<bool, Fail> {
+    let report = check(alloc, disk).ok().ok_or("is whole")?;
+    let in_active = report.active_rows < geometry.log_capacity();
+    Ok(in_active || report.frozen.saturating_add(1) < geometry.logs())
+}
+
+// A life of a put of key 7 and a flush: the disk, and what then stands where this stood before.
+fn grown(
+    rt: &impl Abort,
+    alloc: Global,
+    disk: MemDisk,
+    geometry: Geometry,
+    mut found: [u16; 8],
+) -> Result<(MemDisk, [u16; 8]), Fail> {
+    let expected = if has_room(alloc, &disk, geometry)? {
+        found[7] = 9;
+        [Told::Opened, Told::Accepted(1), Told::Acknowledged(1)]
+    } else {
+        [Told::Opened, Told::Refused(8), Told::Acknowledged(0)]
+    };
+    let (disk, told) = live(alloc, disk, &[Line::Put(7, 9), Line::Flush])?;
+    assert_eq!(rt; told.as_slice(), expected.as_slice());
+    Ok((disk, found))
+}
+
+// A life of steps of conversion and of merging in turn, until neither has one.
+fn worked_off(rt: &impl Abort, alloc: Global, disk: MemDisk) -> Result<MemDisk, Fail> {
+    let mut steps = Vec::new(alloc);
+    for _ in 0..60 {
+        steps.push(Line::Convert)?;
+        steps.push(Line::Merge)?;
+    }
+    let (disk, told) = live(alloc, disk, &steps)?;
+    let idle = Told::Progress(Progress::Idle);
+    assert!(rt; told.as_slice().ends_with(&[idle, idle]));
+    Ok(disk)
+}
+
+// The life on a new disk, stopped so; then what the next one finds, a put and a flush in it, and what stands after one more stop, and
+// after all steps of the background work.
 fn stopped_at(
     rt: &impl Abort,
     alloc: Global,
+    geometry: Geometry,
     lines: &[Line],
-    k: u32,
-    fill: Fill,
+    (k, fill): (u32, Fill),
 ) -> Result<bool, Fail> {
-    let disk = formatted(alloc)?.arm(stopping(alloc, &[(k, fill), (0, Fill::Old)])?);
+    let stops = stopping(alloc, &[(k, fill), (0, Fill::Old)])?;
+    let disk = formatted_with(alloc, geometry)?.arm(stops);
     let (disk, told) = live(alloc, disk, lines)?;
     let (disk, reopened) = live(alloc, disk.restart(), &[])?;
     assert_eq!(rt;
@@ -139,21 +181,26 @@ fn stopped_at(
         is_kept(lines, told.as_slice(), found),
         "{found:?} {fill:?} at {k}"
     );
-    let (disk, answered) = live(alloc, disk, &[Line::Put(7, 9), Line::Flush])?;
-    let expected = [Told::Opened, Told::Accepted(1), Told::Acknowledged(1)];
-    assert_eq!(rt; answered.as_slice(), expected.as_slice(), "{fill:?} at {k}");
-    let mut grown = found;
-    grown[7] = 9;
-    let (_, left) = entries_of(alloc, disk.restart())?;
+    let (disk, grown) = grown(rt, alloc, disk, geometry, found)?;
+    let (disk, left) = entries_of(alloc, disk.restart())?;
+    assert_eq!(rt; left, grown, "{fill:?} at {k}");
+    let disk = worked_off(rt, alloc, disk)?;
+    let (_, left) = entries_of(alloc, disk)?;
     assert_eq!(rt; left, grown, "{fill:?} at {k}");
     Ok(was_stopped(told.as_slice()))
 }
 
-// Stops the life at each of its calls, of which there are this many, and once at its end.
-fn sweep(rt: &impl Abort, alloc: Global, lines: &[Line], calls: u32) -> Result<(), Fail> {
+// Stops the life on a new disk of this geometry at each of its calls, of which there are this many, and once at its end.
+pub(crate) fn sweep(
+    rt: &impl Abort,
+    alloc: Global,
+    geometry: Geometry,
+    lines: &[Line],
+    calls: u32,
+) -> Result<(), Fail> {
     for k in 0..calls.saturating_add(2) {
         for fill in FILLS {
-            let stopped = stopped_at(rt, alloc, lines, k, fill)?;
+            let stopped = stopped_at(rt, alloc, geometry, lines, (k, fill))?;
             assert_eq!(rt; stopped, 0 < k && k <= calls, "{fill:?} at {k}");
         }
     }
@@ -162,27 +209,27 @@ fn sweep(rt: &impl Abort, alloc: Global, lines: &[Line], calls: u32) -> Result<(
 
 #[test]
 fn three_puts_stopped_anywhere(rt: HostRuntime) -> Result<(), Fail> {
-    sweep(&rt, rt.alloc(), &THREE_PUTS, 10)
+    sweep(&rt, rt.alloc(), small()?, &THREE_PUTS, 10)
 }
 
 #[test]
 fn put_and_delete_stopped_anywhere(rt: HostRuntime) -> Result<(), Fail> {
-    sweep(&rt, rt.alloc(), &PUT_AND_DELETE, 11)
+    sweep(&rt, rt.alloc(), small()?, &PUT_AND_DELETE, 11)
 }
 
 #[test]
 fn two_unflushed_puts_stopped_anywhere(rt: HostRuntime) -> Result<(), Fail> {
-    sweep(&rt, rt.alloc(), &TWO_UNFLUSHED, 10)
+    sweep(&rt, rt.alloc(), small()?, &TWO_UNFLUSHED, 10)
 }
 
 #[test]
 fn five_puts_stopped_anywhere(rt: HostRuntime) -> Result<(), Fail> {
-    sweep(&rt, rt.alloc(), &FIVE_PUTS, 25)
+    sweep(&rt, rt.alloc(), small()?, &FIVE_PUTS, 25)
 }
 
 #[test]
 fn conversion_stopped_anywhere(rt: HostRuntime) -> Result<(), Fail> {
-    sweep(&rt, rt.alloc(), &CONVERTED, 40)
+    sweep(&rt, rt.alloc(), small()?, &CONVERTED, 40)
 }
 
 // A disk of zeros that was being formatted when it was stopped so, and whether the formatting was answered.
