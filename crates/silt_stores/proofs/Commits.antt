@@ -12,7 +12,6 @@ use Rattle.silt_log.proofs.Elsewhere.{all_count}
 use Rattle.silt_log.proofs.Waiting.{none_waiting}
 use Rattle.silt_log_store.specs.State.{IsLogStore, LogStoreState}
 use Rattle.silt_hash_store.specs.Conversion.{HasWritten}
-use Rattle.silt_hash_store.specs.State.{IsHashStore}
 use Rattle.silt_manifest.specs.Standing.{ManifestState, spare_slot}
 use Rattle.silt_manifest.specs.declared.body.Body.{Body}
 use Rattle.silt_image.specs.Stores.{Stores, stores_named}
@@ -25,20 +24,21 @@ use Rattle.silt_image.proofs.Sound.{frozen_law}
 use Rattle.silt_stores.specs.declared.next_log.NextLog.{NextLog}
 use Rattle.silt_sorted_store.specs.State.{SortedState}
 use Rattle.silt_stores.specs.State.{AreWhole, IsHashOf, IsSettled, StoresState, oldest_log, region_of, sorted_named}
-use Rattle.silt_stores.specs.Standing.{HasGathered, IsFrozen, Stands, shown_stores}
+use Rattle.silt_stores.specs.Standing.{IsFrozen, Stands, shown_stores}
 use Rattle.silt_stores.specs.Calls.{Advances, IsQuiet, Remaps}
 use Rattle.silt_stores.specs.NextLog.{HasFrozen, IsEmptied, active_replaced, names_region}
 use Rattle.silt_stores.specs.Succession.{MayRule, NowRules}
 use Rattle.silt_stores.proofs.Named.{named_body, named_shape, own_rows}
 use Rattle.silt_stores.proofs.Facts.{base_is, shown_named, shown_sound}
-use Rattle.silt_stores.proofs.Elsewhere.{all_frozen_elsewhere, all_hashed_elsewhere, length-log_rows, merged_all_elsewhere, outside_slot, written_all_elsewhere}
+use Rattle.silt_stores.proofs.Elsewhere.{length-log_rows, outside_slot}
 use Rattle.silt_stores.proofs.Chains.{advances_remap}
 use Rattle.silt_stores.proofs.Standing.{Fits}
 use Rattle.silt_stores.proofs.Wholes.{merging_in, oldest_behind, under_way_in, written_in}
 use Rattle.silt_stores.proofs.NextBodies.{now_named, succeeds}
+use Rattle.silt_stores.proofs.Remains.{frozen_stays, hashed_stays, merged_stays, written_stays}
 use Rattle.silt_stores.proofs.Holdings.{may_follow}
 use Rattle.silt_stores.proofs.Flushes.{quiet}
-use Rattle.silt_stores.proofs.Freezes.{below_two, slot_apart, slot_before_conversion, slot_before_merge, store_elsewhere}
+use Rattle.silt_stores.proofs.Freezes.{below_two, store_elsewhere}
 
 -- the stores with a new log have the next body
 new_shape : (body : Body) (t : Stores) → (with_new_log body t).shape ≡ t.shape
@@ -168,23 +168,8 @@ module _ (old : Content) (s : StoresState) (next : NextLog) (stands : Stands old
     next_active = store_elsewhere old new next.store (slot_at (spare_slot s.manifest)) 4096 emptied.stands
         (stands.has_size ∙ ap device_size (sym store_shape)) sizes (outside_slot next.store.log.shape next.store.log.region (spare_slot s.manifest) slot_below) now.changes
 
-    frozen_after : All (IsFrozen new) s.frozen
-    frozen_after = all_frozen_elsewhere old new s (slot_at (spare_slot s.manifest)) 4096 stands now.changes (λ h. (slot_apart s.manifest.shape s.manifest.ruling (spare_slot s.manifest) slot_below).frozen)
-
-    hashed_after : All (IsHashStore new) s.hashes
-    hashed_after = all_hashed_elsewhere old new s (slot_at (spare_slot s.manifest)) 4096 stands now.changes (λ h. (slot_apart s.manifest.shape s.manifest.ruling (spare_slot s.manifest) slot_below).hashed)
-
     written_after : IfSome s.converting (HasWritten new (oldest_log after))
-    written_after = written_in new s (oldest_log after) s.converting (oldest_behind s.active s.frozen next.store s.active) stands.whole.under_way
-        (written_all_elsewhere old new s (slot_at (spare_slot s.manifest)) 4096 s.converting stands now.changes
-        (λ h. (slot_apart s.manifest.shape s.manifest.ruling (spare_slot s.manifest) slot_below).frozen)
-        (λ h. slot_before_conversion s (spare_slot s.manifest) slot_below) stands.whole.under_way stands.written)
-
-    merged_after : IfSome s.merging (HasGathered new s)
-    merged_after = merged_all_elsewhere old new s (slot_at (spare_slot s.manifest)) 4096 s.merging stands now.changes
-        (λ h. (slot_apart s.manifest.shape s.manifest.ruling (spare_slot s.manifest) slot_below).hashed)
-        (λ h. (slot_apart s.manifest.shape s.manifest.ruling (spare_slot s.manifest) slot_below).sorted)
-        (λ h. slot_before_merge s (spare_slot s.manifest) slot_below) stands.whole.merging stands.merged
+    written_after = written_in new s (oldest_log after) s.converting (oldest_behind s.active s.frozen next.store s.active) stands.whole.under_way (written_stays old new s stands sizes now.changes)
 
     fits : Fits new after frozen_stores
     unfolding with_new_log frozen_may_rule
@@ -194,10 +179,10 @@ module _ (old : Content) (s : StoresState) (next : NextLog) (stands : Stands old
       idle = now.idle;
       rules = now.rules;
       active = next_active;
-      frozen = All-cons (IsFrozen new) s.active s.frozen (settled_frozen new s.active old_active is_quiet.settled) frozen_after;
-      hashed = hashed_after;
+      frozen = All-cons (IsFrozen new) s.active s.frozen (settled_frozen new s.active old_active is_quiet.settled) (frozen_stays old new s stands sizes now.changes);
+      hashed = hashed_stays old new s stands sizes now.changes;
       written = written_after;
-      merged = merged_after;
+      merged = merged_stays old new s stands sizes now.changes;
       same_shape = frozen_may_rule.has_shape ∙ sym now.has_shape;
       same_body = frozen_may_rule.has_body ∙ sym now.has_body;
       named = now_named old new s next.body stands frozen_may_rule sizes m now;

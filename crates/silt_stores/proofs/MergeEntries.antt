@@ -1,5 +1,5 @@
 -- An entry of a merge, written into the sorted region that the body does not name.
-use Rattle.std.proofs.Common.{◌≡◌, ◌≢◌, ◌≤◌, ◌<◌, ℕ, ◌+◌, ◌*◌, IsTrue, [], Option, Some, None, Ok, inl, inr, refl, ap, sym, ◌∙◌, subst, arith}
+use Rattle.std.proofs.Common.{◌≡◌, ◌≢◌, ◌<◌, ℕ, ◌*◌, IsTrue, [], Option, Some, None, Ok, inl, inr, refl, ap, sym, ◌∙◌, subst, arith}
 use Rattle.std.specs.Prelude.{IfSome}
 use Rattle.silt_device.specs.Disk.{ChangesWithin, Content, LeavesOnly, LiesOutside, Torn, size}
 use Rattle.silt_device.specs.Layout.{Shape, entries_len, entry_len, gates_at, hash_at, hash_size, log_len, log_size, row_len, slots_len, sorted_at, sorted_size}

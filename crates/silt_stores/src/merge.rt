@@ -147,7 +147,9 @@ impl Stores {
             unreachable!()
         };
         let newer = self.hashes.len() - merge.stores() as usize;
-        let left = without_puts(self.charge, &self.hashes[newer..]).saturating_sub(self.sorted.len());
+        let left = without_puts(self.charge, &self.hashes[newer..]).saturating_sub(
+            self.sorted.len(),
+        );
         let gone = self.charge - left;
         self.charge -= gone.saturating_sub(sorted.len()); // no more than went away, on an honest disk
         self.hashes.truncate(newer);

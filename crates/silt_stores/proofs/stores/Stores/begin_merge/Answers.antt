@@ -1,4 +1,4 @@
-use Rattle.std.proofs.Common.{◌≡◌, ◌<◌, ◌-◌, ℕ, List, length, None, Some, refl, ap, sym, subst}
+use Rattle.std.proofs.Common.{◌≡◌, ◌<◌, ◌-◌, ℕ, List, length, None, refl, ap, sym, subst}
 use Rattle.std.specs.Prelude.{All}
 use Rattle.silt_device.specs.Disk.{CountsFault, GaveAny}
 use Rattle.silt_hash_store.specs.State.{HashState}
