@@ -31,7 +31,7 @@ module _ (s : Stores) (body : Body) (newer taken : List Part) (entries : List St
   rest = oldest_first (map known_rows newer) ++ oldest_first (map part_rows s.logs)
 
   -- those that are merged come first
-  rows_old : rows_of s ≡ rows ++ rest
+  pub rows_old : rows_of s ≡ rows ++ rest
   unfolding rows_of
   rows_old =
       ap (λ (l : List Part). s.entries ++ oldest_first (map known_rows l) ++ oldest_first (map part_rows s.logs)) split

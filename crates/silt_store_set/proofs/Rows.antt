@@ -83,14 +83,14 @@ module _ {D F : Type 0} (content : D → Content) (failures : D → ℕ) (gave :
   -- ---- the row was taken
 
   pub row_taken : (new : D) (after : StoresState) (k : Kind) (key : Key) (value : List ℕ) → MayWrite k before → SameDisk (content disk) (content new)
-      → Advances (command_of (stored_row k key value) ∷ []) (content disk) (content new) stores after → TakesKey (content disk) (content new) stores after key.0 (command_of (stored_row k key value)) → after.converting ≡ stores.converting → failures new ≡ failures disk
+      → Advances (command_of (stored_row k key value) ∷ []) (content disk) (content new) stores after → TakesKey (content disk) (content new) stores after key.0 (command_of (stored_row k key value)) → after.converting ≡ stores.converting → after.merging ≡ stores.merging → failures new ≡ failures disk
       → Does content failures gave before (seen content new after (count + 1) false) (row_event k key value) (Accepted (count + 1))
-  row_taken new after kind.Put key value may same goes taken work counted =
+  row_taken new after kind.Put key value may same goes taken converting merging counted =
       advanced content failures gave disk new stores after same stands (command_of (stored_row kind.Put key value) ∷ []) count (count + 1) (Put key value) (Accepted (count + 1)) goes (refl, refl) refl refl refl
-      (may, (takes new after (count + 1) key.0 _ same goes.stands taken, counted)) (λ m to e. e) (λ none. absurd (cc)) (λ _. work) (λ _. tt) counted
-  row_taken new after kind.Delete key value may same goes taken work counted =
+      (may, (takes new after (count + 1) key.0 _ same goes.stands taken, counted)) (λ m to e. e) (λ none. absurd (cc)) (λ _. converting) (λ _. merging) (λ _. tt) counted
+  row_taken new after kind.Delete key value may same goes taken converting merging counted =
       advanced content failures gave disk new stores after same stands (command_of (stored_row kind.Delete key value) ∷ []) count (count + 1) (Delete key) (Accepted (count + 1)) goes (refl, refl) refl refl refl
-      (may, (takes new after (count + 1) key.0 _ same goes.stands taken, counted)) (λ m to e. e) (λ none. absurd (cc)) (λ _. work) (λ _. tt) counted
+      (may, (takes new after (count + 1) key.0 _ same goes.stands taken, counted)) (λ m to e. e) (λ none. absurd (cc)) (λ _. converting) (λ _. merging) (λ _. tt) counted
 
   -- ---- a call failed
 

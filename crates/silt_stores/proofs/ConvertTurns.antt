@@ -1,5 +1,5 @@
 -- The end of a conversion: the body that names the hash store, and the stores once it rules.
-use Rattle.std.proofs.Common.{inr, ◌≡◌, ◌≤◌, ◌<◌, ℕ, ◌+◌, ◌-◌, IsTrue, List, [], ◌∷◌, ◌++◌, length, map, take, Option, refl, ap, sym, ◌∙◌, subst, arith}
+use Rattle.std.proofs.Common.{inr, ◌≡◌, ◌≤◌, ◌<◌, ℕ, ◌+◌, ◌-◌, IsTrue, List, [], ◌∷◌, ◌++◌, length, map, take, Option, Some, None, refl, ap, sym, ◌∙◌, subst, arith}
 use Rattle.std.specs.Prelude.{All, IfSome}
 use Rattle.std.proofs.lemmas.List.{length-map, take-map}
 use Rattle.std.proofs.lemmas.List.Elements.{All-cons, All-take}
@@ -23,16 +23,22 @@ use Rattle.silt_image.proofs.Named.{whole_law}
 use Rattle.silt_hash_store.specs.Conversion.{ConversionState, HasWritten}
 use Rattle.silt_hash_store.specs.State.{IsHashStore, IsHeldHash}
 use Rattle.silt_hash_store.proofs.Writing.{store_stands}
-use Rattle.silt_stores.specs.State.{AreWhole, IsHashOf, IsSettled, IsUnderWay, StoresState, oldest_log, region_of}
-use Rattle.silt_stores.specs.Standing.{IsFrozen, Stands, shown_stores}
+use Rattle.silt_hash_store.specs.State.{HashState}
+use Rattle.silt_merge.specs.State.{MergeState, oldest_stores}
+use Rattle.silt_merge.specs.Merging.{HasMerged}
+use Rattle.silt_merge.proofs.Elsewhere.{oldest_stores_law}
+use Rattle.silt_sorted_store.specs.State.{SortedState}
+use Rattle.silt_stores.specs.State.{AreWhole, IsHashOf, IsMerging, IsSettled, IsUnderWay, StoresState, oldest_log, region_of, sorted_named}
+use Rattle.silt_stores.specs.Standing.{HasGathered, IsFrozen, Stands, shown_stores}
 use Rattle.silt_stores.specs.Calls.{Advances}
 use Rattle.silt_stores.specs.Succession.{MayRule, NowRules}
 use Rattle.silt_stores.specs.Conversion.{EndsConversion, MayReplace, converted_body, oldest_replaced, store_of}
 use Rattle.silt_stores.proofs.Named.{named_shape}
 use Rattle.silt_stores.proofs.Facts.{shown_named}
-use Rattle.silt_stores.proofs.Elsewhere.{all_frozen_elsewhere, all_hashed_elsewhere, frozen_named, indexed_same, named_below, outside_slot, scanned_all, written_all_elsewhere}
+use Rattle.silt_stores.proofs.Elsewhere.{all_frozen_elsewhere, all_hashed_elsewhere, frozen_named, indexed_same, merged_all_elsewhere, named_below, outside_slot, scanned_all, written_all_elsewhere}
 use Rattle.silt_stores.proofs.Standing.{Fits}
-use Rattle.silt_stores.proofs.Freezes.{below_two, slot_apart, slot_before_conversion}
+use Rattle.silt_stores.proofs.Freezes.{below_two, slot_apart, slot_before_conversion, slot_before_merge}
+use Rattle.silt_stores.proofs.Wholes.{merging_in}
 use Rattle.silt_stores.proofs.ConvertCounting.{may_end}
 use Rattle.silt_stores.proofs.Turns.{active_kept}
 use Rattle.silt_stores.proofs.NextBodies.{now_named, succeeds}
@@ -70,7 +76,6 @@ module _ (old : Content) (s : StoresState) (body : Body) (stands : Stands old s)
     names = names;
     sound = ending_sound old s stands ends.conversion ends.was;
     same_map = ending_map old s stands ends.conversion ends.was;
-    no_entries = ap (λ (b : Body). b.sorted_count) ends.is ∙ stands.no_entries;
     waiting = inr (ap (λ (b : Body). b.active) ends.is);
   }
 
@@ -109,7 +114,13 @@ module _ (old : Content) (s : StoresState) (body : Body) (stands : Stands old s)
       settled = subst (λ (sh : Shape). All (IsSettled sh) (take (length s.frozen - 1) s.frozen)) (sym now.has_shape) (All-take (IsSettled s.manifest.shape) (length s.frozen - 1) s.frozen stands.whole.settled);
       hash_regions = ap (λ (l : List ℕ). ends.conversion.region ∷ l) stands.whole.hash_regions ∙ ap (λ (b : Body). b.hashed) (sym ruling_is);
       hashed = subst (λ (sh : Shape). All (IsHashOf sh) (store_of ends.conversion ∷ s.hashes)) (sym now.has_shape) (All-cons (IsHashOf s.manifest.shape) (store_of ends.conversion) s.hashes (held_of held) stands.whole.hashed);
+      sorted =
+          stands.whole.sorted ∙ ap (λ (sh : Shape). sorted_named sh s.manifest.ruling) (sym now.has_shape)
+          ∙ ap (λ (n : ℕ). let t : SortedState = record { shape = m.shape; region = n; count = s.manifest.ruling.sorted_count } in t) (ap (λ (b : Body). b.sorted) (sym ruling_is))
+          ∙ ap (λ (n : ℕ). let t : SortedState = record { shape = m.shape; region = m.ruling.sorted; count = n } in t) (ap (λ (b : Body). b.sorted_count) (sym ruling_is));
+      held = stands.whole.held;
       under_way = tt;
+      merging = merging_in s after s.merging now.has_shape refl (omega arith) stands.whole.merging;
       most = subst (λ (sh : Shape). s.charge - ((oldest_log s).puts - ends.conversion.puts) ≤ sh.sorted_capacity) (sym now.has_shape) (let most = stands.whole.most in omega (arith, most));
     }
 
@@ -181,7 +192,22 @@ module _ (old : Content) (s : StoresState) (body : Body) (stands : Stands old s)
     store_is = record {
       sound = λ h. (store_stands new (oldest_log s) ends.conversion (count h) ends.done oldest_stays written_stays).sound h;
       tagged = λ h. (store_stands new (oldest_log s) ends.conversion (count h) ends.done oldest_stays written_stays).tagged h;
+      counted = λ h. (store_stands new (oldest_log s) ends.conversion (count h) ends.done oldest_stays written_stays).counted h;
     }
+
+    -- a merge has gathered and written what it had: its stores are the oldest ones still
+    merged_stays : IfSome s.merging (HasGathered new after)
+    merged_stays = in_front s.merging stands.whole.merging
+        (merged_all_elsewhere old new s (slot_at (spare_slot s.manifest)) 4096 s.merging stands now.changes
+        (λ h. (slot_apart s.manifest.shape s.manifest.ruling (spare_slot s.manifest) slot_below).hashed)
+        (λ h. (slot_apart s.manifest.shape s.manifest.ruling (spare_slot s.manifest) slot_below).sorted)
+        (λ h. slot_before_merge s (spare_slot s.manifest) slot_below) stands.whole.merging stands.merged)
+      where
+        in_front : (o : Option MergeState) → IfSome o (IsMerging s) → IfSome o (HasGathered new s) → IfSome o (HasGathered new after)
+        in_front None merging merged = tt
+        in_front (Some merge) merging merged =
+            let way : IsMerging s merge = merging in
+            subst (λ (l : List HashState). HasMerged new l s.sorted merge) (sym (oldest_stores_law (store_of ends.conversion ∷ []) s.hashes merge.stores way.most)) merged
 
     fits : AreWhole (oldest_replaced s m ends.conversion) → Fits new after converted_stores
     unfolding converted_may_rule
@@ -194,6 +220,7 @@ module _ (old : Content) (s : StoresState) (body : Body) (stands : Stands old s)
       frozen = All-take (IsFrozen new) (length s.frozen - 1) s.frozen frozen_stay;
       hashed = All-cons (IsHashStore new) (store_of ends.conversion) s.hashes store_is hashed_stay;
       written = tt;
+      merged = merged_stays;
       same_shape = converted_may_rule.has_shape ∙ sym now.has_shape;
       same_body = converted_may_rule.has_body ∙ sym now.has_body;
       named = now_named old new s body stands converted_may_rule sizes m now;
@@ -204,7 +231,6 @@ module _ (old : Content) (s : StoresState) (body : Body) (stands : Stands old s)
       counted = λ h.
           ending_counted old s stands ends.conversion ends.was ends.done (back h) (s.charge - ((oldest_log s).puts - ends.conversion.puts)) refl
           ∙ ap (λ (rows : List StoredRow). put_count (rows_of converted_stores ++ rows)) (sym (same_waiting (back h)));
-      no_entries = ap (λ (b : Body). b.sorted_count) now.has_body ∙ converted_may_rule.no_entries;
     }
 
     -- and stand on

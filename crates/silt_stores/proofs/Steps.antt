@@ -19,13 +19,15 @@ next_for s t next manifest frozen is = record {
 }
 
 -- the first log of later stores
-pub frozen_from : (next : NextLog) (content : Content) (first before after : StoresState) → before.frozen ≡ first.frozen → before.hashes ≡ first.hashes → before.converting ≡ first.converting → before.charge ≡ first.charge → HasFrozen next content before after → HasFrozen next content first after
-frozen_from next content first before after frozen hashes converting charge has = record {
+pub frozen_from : (next : NextLog) (content : Content) (first before after : StoresState) → before.frozen ≡ first.frozen → before.hashes ≡ first.hashes → before.converting ≡ first.converting → before.sorted ≡ first.sorted → before.merging ≡ first.merging → before.charge ≡ first.charge → HasFrozen next content before after → HasFrozen next content first after
+frozen_from next content first before after frozen hashes converting sorted merging charge has = record {
   quiet = has.quiet;
   active = has.active;
   ruling = has.ruling;
   frozen = has.frozen ∙ ap (λ (l : List LogStoreState). length l + 1) frozen;
   hashes = has.hashes ∙ hashes;
+  sorted = has.sorted ∙ sorted;
   converting = has.converting ∙ converting;
+  merging = has.merging ∙ merging;
   charge = has.charge ∙ charge;
 }

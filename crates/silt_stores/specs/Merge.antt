@@ -1,11 +1,13 @@
 -- The merge of the oldest hash stores and the sorted store into a new sorted store, step by step.
-use Rattle.std.specs.Prelude.{◌≡◌, ◌+◌, ◌-◌, ◌==◌, ◌⊎◌, ℕ, Bool, true, if◌then◌else◌, length, take, drop, [], List, Option, Some, None, IfSome}
+use Rattle.std.specs.Prelude.{◌≡◌, ◌≤◌, ◌<◌, ◌+◌, ◌-◌, ◌^◌, ◌==◌, ◌⊎◌, ℕ, Bool, true, if◌then◌else◌, length, take, drop, sum_by, [], List, Option, Some, None, IfSome}
 use Rattle.std.specs.Option.{option_map}
 use Rattle.silt_device.specs.Disk.{Content}
 use Rattle.silt_event.specs.declared.progress.Progress.{Progress}
 use Rattle.silt_event.specs.declared.progress.Progress.TheVariants.{Idle, Waiting, Moved, Finished}
 use Rattle.silt_frame.specs.Rows.{StoredRow}
 use Rattle.silt_image.specs.Stores.{Stores, stores_named}
+use Rattle.silt_hash_store.specs.State.{HashState}
+use Rattle.silt_manifest.specs.Standing.{ManifestState}
 use Rattle.silt_manifest.specs.declared.body.Body.{Body}
 use Rattle.silt_merge.specs.Laws.{taken_rows}
 use Rattle.silt_merge.specs.Merging.{IsSameMerge, TakesMemory}
@@ -18,7 +20,8 @@ use Rattle.silt_stores.specs.declared.merge.MergeError.TheVariants.{Spent, NoMem
 use Rattle.silt_stores.specs.Calls.{Breaks, IsLastGeneration, Remaps}
 use Rattle.silt_stores.specs.Conversion.{is_work}
 use Rattle.silt_stores.specs.Standing.{full_image}
-use Rattle.silt_stores.specs.State.{StoresState}
+use Rattle.silt_sorted_store.specs.State.{SortedState}
+use Rattle.silt_stores.specs.State.{AreWhole, StoresState}
 
 -- the next progress, with so many hash stores, where a merge under way has decided all keys or not: none where no merge is under way
 abbrev pub merge_progress : ℕ → Option Bool → Progress
@@ -106,3 +109,43 @@ module _ {D F : Type 0} (content : D → Content) (gave : D → F → Type 0) (c
       × (((merge_turn before ≡ Moved) × MayLackMemory (content old) before) ⊎ ((merge_turn before ≡ Finished) × (IsLastGeneration before → ⊥)))
   MergeErrorCause (Read fault) = (after ≡ before) × (new ≡ old) × (merge_turn before ≡ Moved) × gave old fault
   MergeErrorCause (Write fault) = (is_work (merge_turn before) ≡ true) × counted old new fault × Breaks (content old) (content new) before × Remaps [] (content old) (content new) before after
+
+-- ---- between the steps
+
+-- the entries of this sorted store are those of a merge that has decided all keys, and this body ends it
+pub record EndsMerge (s : StoresState) (body : Body) (sorted : SortedState) : Type 0 where
+  pub merge : MergeState
+  pub was : s.merging ≡ Some merge
+  pub done : is_done merge s.sorted ≡ true
+  pub unspent : s.manifest.ruling.generation < 2 ^ 63 - 1
+  pub store : sorted ≡ record { shape = merge.shape; region = merge.region; count = merge.written }
+  pub is : body ≡ merged_body s.manifest.ruling merge.stores merge.region merge.written
+
+-- how many of the rows of hash stores are puts
+abbrev pub puts_in : List HashState → ℕ
+puts_in stores = sum_by (λ store. store.puts) stores
+
+-- the charge without the puts of so many of the oldest hash stores and without the entries
+abbrev pub charge_without : StoresState → ℕ → ℕ
+charge_without s count = s.charge - puts_in (oldest_stores count s.hashes) - s.sorted.count
+
+-- in memory: under this manifest, this sorted store stands for the one that was and for so many of the oldest hash stores, with its
+-- entries in place of their puts
+abbrev pub sorted_replaced : StoresState → ManifestState → ℕ → SortedState → StoresState
+sorted_replaced s manifest count sorted = record {
+  manifest = manifest;
+  active = s.active;
+  frozen = s.frozen;
+  hashes = take (length s.hashes - count) s.hashes;
+  sorted = sorted;
+  converting = s.converting;
+  merging = None;
+  charge = s.charge - ((s.charge - charge_without s count) - sorted.count);
+}
+
+-- the sorted store of a merge may stand for what was merged, under this manifest
+pub record MayStandFor (s : StoresState) (manifest : ManifestState) (sorted : SortedState) : Type 0 where
+  pub merge : MergeState
+  pub was : s.merging ≡ Some merge
+  pub most : merge.stores ≤ length s.hashes
+  pub whole : AreWhole (sorted_replaced s manifest merge.stores sorted)

@@ -10,7 +10,7 @@ returns-then-not-has_waiting g c = rw (← c.self.view_is) (flushed_none g.D.Dis
 
 pub returns-in-Ok : goal.returns-in-Ok
 returns-in-Ok g c = rw (← c.self.view_is, c.if-self.false) (flushed g.D.Disk.content g.D.Disk.failures (GaveAny g.D.Disk.gave) c.self.inside.disk c.self.inside.stores c.self.inside.count
-    (c.self.invariant.stands c.if-self.false) c.flush.new.disk c.flush.new.self (sym c.has_waiting.ensures ∙ c.if-not-has_waiting.false) c.flush.ensures.same c.in-Ok.ensures.ok c.in-Ok.ensures.quiet c.flush.ensures.state.0 c.flush.ensures.state.3 c.in-Ok.ensures.failures)
+    (c.self.invariant.stands c.if-self.false) c.flush.new.disk c.flush.new.self (sym c.has_waiting.ensures ∙ c.if-not-has_waiting.false) c.flush.ensures.same c.in-Ok.ensures.ok c.in-Ok.ensures.quiet c.flush.ensures.state.0 c.flush.ensures.state.3 c.flush.ensures.state.5 c.in-Ok.ensures.failures)
 
 pub returns-in-Err : goal.returns-in-Err
 returns-in-Err g c = rw (← c.self.view_is, c.if-self.false) (flush_broke g.D.Disk.content g.D.Disk.failures (GaveAny g.D.Disk.gave) c.self.inside.disk c.self.inside.stores c.self.inside.count

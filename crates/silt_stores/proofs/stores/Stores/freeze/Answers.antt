@@ -58,4 +58,4 @@ returns-clause-frozen g c =
     let has = subst (λ (t : StoresState). HasFrozen c.clear_region.new.next (g.D.Disk.content c.change_manifest.new.disk) c.settle.new.self t) (sym c.replace_active.ensures) (has_frozen (g.D.Disk.content c.clear_region.new.disk) c.settle.new.self c.clear_region.new.next c.in_ok-clear_region.ensures.ok.stands c.in_ok-clear_region.ensures.quiet c.in_ok-clear_region.ensures.emptied
     (g.D.Disk.content c.change_manifest.new.disk) c.change_manifest.ensures.same.size c.in_ok-manifest.manifest c.in_ok-manifest.ensures.ok) in
     subst (λ (n : NextLog). HasFrozen n (g.D.Disk.content c.change_manifest.new.disk) c.args.self.now c.replace_active.new.self) c.clear_region.ensures.next
-    (frozen_from c.clear_region.new.next (g.D.Disk.content c.change_manifest.new.disk) c.args.self.now c.settle.new.self c.replace_active.new.self c.settle.ensures.state.1 c.settle.ensures.state.2 c.settle.ensures.state.3 c.settle.ensures.state.4 has)
+    (frozen_from c.clear_region.new.next (g.D.Disk.content c.change_manifest.new.disk) c.args.self.now c.settle.new.self c.replace_active.new.self c.settle.ensures.state.1 c.settle.ensures.state.2 c.settle.ensures.state.3 c.settle.ensures.state.4 c.settle.ensures.state.5 c.settle.ensures.state.6 has)
