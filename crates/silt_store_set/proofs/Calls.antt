@@ -8,7 +8,7 @@ use Rattle.silt_stores.specs.Calls.{Advances, Breaks, HasBegun, SameDisk}
 use Rattle.silt_stores.specs.Laws.{IsGoodWith}
 use Rattle.silt_stores.specs.Standing.{Stands, base_map, full_image, waiting_commands}
 use Rattle.silt_stores.specs.State.{StoresState}
-use Rattle.silt_stores.proofs.Facts.{meaning}
+use Rattle.silt_stores.proofs.Meaning.{meaning}
 use Rattle.silt_event.specs.declared.event.Event.{Event}
 use Rattle.silt_event.specs.declared.event.Event.TheVariants.{Put, Delete, Flush, Get, Convert, Merge}
 use Rattle.silt_event.specs.declared.refusal.Refusal.{Refusal}

@@ -20,7 +20,7 @@ use Rattle.silt_stores.specs.Conversion.{is_work}
 use Rattle.silt_stores.specs.Merge.{EndsMerged, HasMergedEntries, IsDoneBySteps, IsNextMerge, MayLackMemory, Merges, MergesOn, full_stores, merge_progress, merge_sources, merge_turn, merged_body}
 use Rattle.silt_stores.specs.Standing.{Stands}
 use Rattle.silt_stores.specs.State.{IsMerging, StoresState, hash_region_of}
-use Rattle.silt_stores.proofs.Facts.{meaning}
+use Rattle.silt_stores.proofs.Meaning.{meaning}
 use Rattle.silt_store_set.specs.CoreState.{CoreState, Does, GathersNext, IsMergeDue, MergeGoesOn, MergeLacksMemory, has_decided, merge_due, merge_work}
 use Rattle.silt_store_set.proofs.Calls.{seen, advanced, answered, broke, refused}
 

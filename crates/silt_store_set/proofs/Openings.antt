@@ -11,7 +11,7 @@ use Rattle.silt_recovery.specs.declared.fault.OpenError.{OpenError}
 use Rattle.silt_recovery.specs.declared.fault.OpenError.TheVariants.{NotFormatted, Damaged, Crowded, Device, NoMemory}
 use Rattle.silt_stores.specs.Standing.{waiting_commands}
 use Rattle.silt_stores.specs.State.{StoresState}
-use Rattle.silt_stores.proofs.Facts.{meaning}
+use Rattle.silt_stores.proofs.Meaning.{meaning}
 use Rattle.silt_store_set.specs.CoreState.{Opens, convert_work, merge_work}
 use Rattle.silt_event.specs.Events.{IsOpeningRefusal}
 use Rattle.silt_store_set.specs.Opening.{OpeningCause}

@@ -16,7 +16,7 @@ use Rattle.silt_stores.specs.NextLog.{IsLowestFree, next_body}
 use Rattle.silt_stores.specs.Standing.{Stands, full_image, waiting_commands}
 use Rattle.silt_stores.specs.State.{StoresState, region_of}
 use Rattle.silt_stores.specs.RowWrite.{NeedsNext, TakesKey}
-use Rattle.silt_stores.proofs.Facts.{meaning}
+use Rattle.silt_stores.proofs.Meaning.{meaning}
 use Rattle.silt_event.specs.declared.event.Event.TheVariants.{Put, Delete}
 use Rattle.silt_event.specs.declared.refusal.Refusal.{Refusal}
 use Rattle.silt_event.specs.declared.refusal.Refusal.TheVariants.{Device, NoMemory, NoRoom, Spent}
