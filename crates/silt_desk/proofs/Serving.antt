@@ -11,7 +11,7 @@ use Rattle.silt_event.specs.declared.event.Event.TheVariants.{Put, Delete, Flush
 use Rattle.silt_event.specs.declared.refusal.Refusal.{Refusal}
 use Rattle.silt_event.specs.declared.refusal.Refusal.TheVariants.{NotFormatted, BadGeometry, Damaged, Crowded, Device, NoMemory, StoreFull, NoRoom, Failed, Spent, HistoryFull}
 use Rattle.silt_event.specs.declared.reply.Reply.{Reply}
-use Rattle.silt_event.specs.declared.reply.Reply.TheVariants.{Accepted, Acknowledged, Found, Absent, Progress, Refused}
+use Rattle.silt_event.specs.declared.reply.Reply.TheVariants.{Accepted, Acknowledged, Found, Absent, Progress, Refused, Unsettled, NotServed}
 use Rattle.silt_store_set.proofs.Calls.{step_refused}
 use Rattle.silt_desk.specs.declared.call.RecordedCall.{RecordedCall}
 use Rattle.silt_desk.specs.DeskState.{DeskState, Notes, Serves}
@@ -47,36 +47,48 @@ step_plain m (Put key value) (Found v) to step = absurd step
 step_plain m (Put key value) Absent to step = absurd step
 step_plain m (Put key value) (Progress progress) to step = absurd step
 step_plain m (Put key value) (Refused refusal) to step = step
+step_plain m (Put key value) (Unsettled n) to step = absurd step
+step_plain m (Put key value) NotServed to step = absurd step
 step_plain m (Delete key) (Accepted n) to step = step
 step_plain m (Delete key) (Acknowledged n) to step = absurd step
 step_plain m (Delete key) (Found v) to step = absurd step
 step_plain m (Delete key) Absent to step = absurd step
 step_plain m (Delete key) (Progress progress) to step = absurd step
 step_plain m (Delete key) (Refused refusal) to step = step
+step_plain m (Delete key) (Unsettled n) to step = absurd step
+step_plain m (Delete key) NotServed to step = absurd step
 step_plain m Flush (Accepted n) to step = absurd step
 step_plain m Flush (Acknowledged n) to step = step
 step_plain m Flush (Found v) to step = absurd step
 step_plain m Flush Absent to step = absurd step
 step_plain m Flush (Progress progress) to step = absurd step
 step_plain m Flush (Refused refusal) to step = step
+step_plain m Flush (Unsettled n) to step = absurd step
+step_plain m Flush NotServed to step = absurd step
 step_plain m (Get key) (Accepted n) to step = absurd step
 step_plain m (Get key) (Acknowledged n) to step = absurd step
 step_plain m (Get key) (Found v) to step = step
 step_plain m (Get key) Absent to step = step
 step_plain m (Get key) (Progress progress) to step = absurd step
 step_plain m (Get key) (Refused refusal) to step = step
+step_plain m (Get key) (Unsettled n) to step = absurd step
+step_plain m (Get key) NotServed to step = absurd step
 step_plain m Convert (Accepted n) to step = absurd step
 step_plain m Convert (Acknowledged n) to step = absurd step
 step_plain m Convert (Found v) to step = absurd step
 step_plain m Convert Absent to step = absurd step
 step_plain m Convert (Progress progress) to step = step
 step_plain m Convert (Refused refusal) to step = step
+step_plain m Convert (Unsettled n) to step = absurd step
+step_plain m Convert NotServed to step = absurd step
 step_plain m Merge (Accepted n) to step = absurd step
 step_plain m Merge (Acknowledged n) to step = absurd step
 step_plain m Merge (Found v) to step = absurd step
 step_plain m Merge Absent to step = absurd step
 step_plain m Merge (Progress progress) to step = step
 step_plain m Merge (Refused refusal) to step = step
+step_plain m Merge (Unsettled n) to step = absurd step
+step_plain m Merge NotServed to step = absurd step
 
 counts_plain : {F : Type 0} (old new : ℕ) (reply : Reply F) → Counts old reply new → Counts old (plain reply) new
 counts_plain old new (Accepted n) counts = counts
@@ -85,6 +97,8 @@ counts_plain old new (Found v) counts = counts
 counts_plain old new Absent counts = counts
 counts_plain old new (Progress progress) counts = counts
 counts_plain old new (Refused refusal) counts = counts
+counts_plain old new (Unsettled n) counts = counts
+counts_plain old new NotServed counts = counts
 
 module _ {D F : Type 0} (content : D → Content) (failures : D → ℕ) (gave : D → F → Type 0) where
   -- the reply is that of a map, of a failed store too
@@ -141,6 +155,8 @@ module _ {D F : Type 0} (content : D → Content) (failures : D → ℕ) (gave :
     serves_told (Acknowledged n) does notes = record { done = does; recorded = notes.0; seated = notes.1 }
     serves_told (Found v) does notes = record { done = does; recorded = notes.0; seated = notes.1 }
     serves_told Absent does notes = record { done = does; recorded = notes.0; seated = notes.1 }
+    serves_told (Unsettled n) does notes = record { done = does; recorded = notes.0; seated = notes.1 }
+    serves_told NotServed does notes = record { done = does; recorded = notes.0; seated = notes.1 }
     serves_told (Progress progress) does notes = record { done = does; recorded = notes.0; seated = notes.1 }
     serves_told (Refused NotFormatted) does notes = record { done = does; recorded = notes.0; seated = notes.1 }
     serves_told (Refused BadGeometry) does notes = record { done = does; recorded = notes.0; seated = notes.1 }
@@ -167,6 +183,8 @@ module _ {D F : Type 0} (content : D → Content) (failures : D → ℕ) (gave :
       keeps_told (Acknowledged n) does notes held = law held (call seat.number event (plain {F = F} (Acknowledged n))) notes.0 (seen_step c0 c1 event (Acknowledged n) does)
       keeps_told (Found v) does notes held = law held (call seat.number event (plain {F = F} (Found v))) notes.0 (seen_step c0 c1 event (Found v) does)
       keeps_told Absent does notes held = law held (call seat.number event (plain {F = F} Absent)) notes.0 (seen_step c0 c1 event Absent does)
+      keeps_told (Unsettled n) does notes held = law held (call seat.number event (plain {F = F} (Unsettled n))) notes.0 (seen_step c0 c1 event (Unsettled n) does)
+      keeps_told NotServed does notes held = law held (call seat.number event (plain {F = F} NotServed)) notes.0 (seen_step c0 c1 event NotServed does)
       keeps_told (Progress progress) does notes held = law held (call seat.number event (plain {F = F} (Progress progress))) notes.0 (seen_step c0 c1 event (Progress progress) does)
       keeps_told (Refused NotFormatted) does notes held = law held (call seat.number event (plain {F = F} (Refused NotFormatted))) notes.0 (seen_step c0 c1 event (Refused NotFormatted) does)
       keeps_told (Refused BadGeometry) does notes held = law held (call seat.number event (plain {F = F} (Refused BadGeometry))) notes.0 (seen_step c0 c1 event (Refused BadGeometry) does)
@@ -193,6 +211,8 @@ module _ {T : Type 0} (counts : T → ℕ → ℕ → Type 0) (extends : T → R
   keeps_counting (Acknowledged n) notes held = law (call seat.number event (Acknowledged n)) held notes.0 notes.2 notes.3
   keeps_counting (Found v) notes held = law (call seat.number event (Found v)) held notes.0 notes.2 notes.3
   keeps_counting Absent notes held = law (call seat.number event Absent) held notes.0 notes.2 notes.3
+  keeps_counting (Unsettled n) notes held = law (call seat.number event (Unsettled n)) held notes.0 notes.2 notes.3
+  keeps_counting NotServed notes held = law (call seat.number event NotServed) held notes.0 notes.2 notes.3
   keeps_counting (Progress progress) notes held = law (call seat.number event (Progress progress)) held notes.0 notes.2 notes.3
   keeps_counting (Refused NotFormatted) notes held = law (call seat.number event (Refused NotFormatted)) held notes.0 notes.2 notes.3
   keeps_counting (Refused BadGeometry) notes held = law (call seat.number event (Refused BadGeometry)) held notes.0 notes.2 notes.3

@@ -4,7 +4,7 @@ use Rattle.silt_event.specs.Commands.{Map}
 use Rattle.silt_event.specs.Events.{Counts, Legal, Step}
 use Rattle.silt_event.specs.declared.event.Event.{Event}
 use Rattle.silt_event.specs.declared.reply.Reply.{Reply}
-use Rattle.silt_event.specs.declared.reply.Reply.TheVariants.{Accepted, Acknowledged, Found, Absent, Progress, Refused}
+use Rattle.silt_event.specs.declared.reply.Reply.TheVariants.{Accepted, Acknowledged, Found, Absent, Progress, Refused, Unsettled, NotServed}
 use Rattle.silt_desk.specs.declared.call.RecordedCall.{RecordedCall}
 use Rattle.silt_desk.specs.History.{accepted_by, count_accepted, events_of, replies_of, Replays}
 use Rattle.silt_desk.specs.Seeing.{SeenStore, SeenStep}
@@ -53,6 +53,8 @@ accepted_by-le (Found value) = omega arith
 accepted_by-le Absent = omega arith
 accepted_by-le (Progress progress) = omega arith
 accepted_by-le (Refused refusal) = omega arith
+accepted_by-le (Unsettled n) = omega arith
+accepted_by-le NotServed = omega arith
 
 -- no more commands are accepted than calls are recorded
 pub count_accepted-le : (xs : List RecordedCall) → count_accepted xs ≤ length xs

@@ -1,0 +1,4 @@
+pub mod Requests
+pub mod Batches
+pub mod Sessions
+pub mod Texts
