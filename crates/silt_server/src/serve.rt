@@ -166,7 +166,9 @@ fn serve_traced<
                 let status = refuse(alloc, &Refusal::<()>::NoMemory, out);
                 return (desk.close(), status);
             };
-            serve_desk(rt, alloc, listener, desk, hall, sessions, gate, out)
+            let (desk, status) =
+                serve_desk(rt, alloc, listener, desk, hall, sessions, gate, out);
+            (desk.close(), status)
         }
         Err(lack) => {
             let status = refuse(alloc, &Refusal::<()>::NoMemory, out);
@@ -177,7 +179,7 @@ fn serve_traced<
 
 // All that stands between the connections and the desk.
 #[derive(Drop)]
-struct Hall<N: Naming, P: Post> {
+pub(crate) struct Hall<N: Naming, P: Post> {
     crew: Crew<N>,
     inbox: Inbox<Job, P>,
     places: Vec<Mutex<Place<P>>>,
@@ -186,7 +188,7 @@ struct Hall<N: Naming, P: Post> {
 
 impl<N: Naming, P: Post> Hall<N, P> {
     // With the workers on these seats. None where memory is wanted.
-    fn new(alloc: Global, seats: Vec<Seat<N>>, put: Blank, taken: Blank) -> Option<Hall<N, P>>
+    pub fn new(alloc: Global, seats: Vec<Seat<N>>, put: Blank, taken: Blank) -> Option<Hall<N, P>>
         requires put { (put.name ≡ P.put_name) × (put.parts ≡ P.feeders) × (P.feeders ≡ 64) }
         requires taken { (taken.name ≡ P.taken_name) × (taken.parts ≡ 1) }
     {
@@ -202,8 +204,8 @@ impl<N: Naming, P: Post> Hall<N, P> {
     }
 }
 
-// Serves the store of a desk.
-fn serve_desk<
+// Serves the store of a desk, and gives it back with the status.
+pub(crate) fn serve_desk<
     D: Disk,
     T: Trace + Send + Sync,
     N: Naming + Send + Sync,
@@ -220,18 +222,20 @@ fn serve_desk<
     sessions: u32,
     gate: &G,
     out: &mut W,
-) -> (D, io::Result<u8>) {
+) -> (Desk<D, T, N>, io::Result<u8>) {
     let Ok(address) = listener.local_addr() else {
         let status = write_network_fault(out);
-        return (desk.close(), status);
+        return (desk, status);
     };
     if let Err(error) = write_head(alloc, address.port(), out) {
-        return (desk.close(), Err(error));
+        return (desk, Err(error));
     }
     let value_len = desk.geometry().value_len() as usize;
     let shared: Shared<D, T, N> = RwLock::new(desk);
     let served = run_threads(rt, alloc, listener, &shared, hall, value_len, sessions, gate);
-    end(alloc, shared.into_inner(), served, out)
+    let mut desk = shared.into_inner();
+    let status = end(alloc, &mut desk, served, out);
+    (desk, status)
 }
 
 // Writes that the store is taken up, and at which port connections are waited for.
@@ -247,22 +251,20 @@ struct Served<N: Naming> {
     accepted: io::Result<()>,
 }
 
-// Writes what is due when the sessions have ended, and gives the disk back.
+// Writes what is due when the sessions have ended, and answers the status.
 fn end<D: Disk, T: Trace, N: Naming, W: Write>(
     alloc: Global,
-    mut desk: Desk<D, T, N>,
+    desk: &mut Desk<D, T, N>,
     served: Option<Served<N>>,
     out: &mut W,
-) -> (D, io::Result<u8>) {
+) -> io::Result<u8> {
     let Some(Served { seats, accepted }) = served else {
-        let status = refuse(alloc, &Refusal::<()>::NoMemory, out);
-        return (desk.close(), status);
+        return refuse(alloc, &Refusal::<()>::NoMemory, out);
     };
-    let status = match accepted {
-        Ok(()) => write_settled(alloc, &mut desk, seats, out),
+    match accepted {
+        Ok(()) => write_settled(alloc, desk, seats, out),
         Err(_) => write_network_fault(out),
-    };
-    (desk.close(), status)
+    }
 }
 
 // Writes how many calls are recorded, once all seats are given back.
