@@ -5,6 +5,7 @@ mod crowd;
 mod held;
 mod lines;
 mod looks;
+mod record;
 
 use crate::serve_on;
 use silt_desk::{Gate, Spot};
