@@ -36,7 +36,8 @@ module _ {D F T : Type 0} (content : D → Content) (failures : D → ℕ) (gave
   -- what a job asks was done at the desk, and the job has the answer
   abbrev pub PerformsJob : SeatState → Job → Job → SeatState → Type 0
   PerformsJob seat old new after =
-      (before : DeskState D T) × (then : DeskState D T) × Performs before then seat after old.request new.answer × (new ≡ record old { answer = new.answer })
+      (before : DeskState D T) × (then : DeskState D T) × Performs before then seat after old.request new.answer
+      × (new.request ≡ old.request) × (new.reply ≡ old.reply) × (new.replies ≡ old.replies)
 
   -- the same for each job, one after the other
   abbrev pub PerformsAll : SeatState → List Job → List Job → SeatState → Type 0
@@ -46,7 +47,8 @@ module _ {D F T : Type 0} (content : D → Content) (failures : D → ℕ) (gave
 
 -- a job has the reply that is due after this flush, and is otherwise as it was
 abbrev pub RepliesTo : Answer → Job → Job → Type 0
-RepliesTo flushed old new = (reply_in new.reply ≡ reply_due old.request old.answer flushed) × (new ≡ record old { reply = new.reply })
+RepliesTo flushed old new =
+    (reply_in new.reply ≡ reply_due old.request old.answer flushed) × (new.request ≡ old.request) × (new.answer ≡ old.answer) × (new.replies ≡ old.replies)
 
 -- the same of each job
 abbrev pub RepliesToAll : Answer → List Job → List Job → Type 0

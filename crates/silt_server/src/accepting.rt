@@ -37,32 +37,36 @@ pub fn accept_sessions<
 ) -> io::Result<()>
     requires { C.IsAlwaysCallable serve.now }
 {
-    thread::scope(thread::scope_env(), rt, |scope| -> io::Result<()>
-        requires { C.IsAlwaysCallable serve.now }
-    {
-        let mut count = 0u32;
-        for stream in listener.incoming() {
-            let stream = match stream {
-                Ok(stream) => stream,
-                Err(error) if is_passing(error.kind()) => continue,
-                Err(error) => return Err(error),
-            };
-            let Some(place) = free_place(rt, places) else {
-                continue;
-            };
-            let started = scope.spawn(move || {
-                serve(shared, place, &stream);
-                place.lock(rt).leave();
-            });
-            if started.is_err() {
-                place.lock(rt).leave();
-                continue;
+    thread::scope(
+        thread::scope_env(),
+        rt,
+        |scope| -> io::Result<()>
+            requires { C.IsAlwaysCallable serve.now }
+        {
+            let mut count = 0u32;
+            for stream in listener.incoming() {
+                let stream = match stream {
+                    Ok(stream) => stream,
+                    Err(error) if is_passing(error.kind()) => continue,
+                    Err(error) => return Err(error),
+                };
+                let Some(place) = free_place(rt, places) else {
+                    continue;
+                };
+                let started = scope.spawn(move || {
+                    serve(shared, place, &stream);
+                    place.lock(rt).leave();
+                });
+                if started.is_err() {
+                    place.lock(rt).leave();
+                    continue;
+                }
+                count = count.saturating_add(1);
+                if count == sessions {
+                    return Ok(());
+                }
             }
-            count = count.saturating_add(1);
-            if count == sessions {
-                return Ok(());
-            }
-        }
-        Ok(())
-    })
+            Ok(())
+        },
+    )
 }

@@ -93,7 +93,8 @@ pub fn serve_batch<D: Disk, T: Trace, N: Naming, G: Gate, R: Wait>(
     gate: &G,
     jobs: &mut Vec<Job>,
 )
-    ensures { ServesBatch D.content D.failures (GaveAny D.gave) T.extends T.is_full T.takes_memory seat.old jobs.old.items jobs.new.items seat.new }
+    ensures number { seat.new.number ≡ seat.old.number }
+    ensures batch { ServesBatch D.content D.failures (GaveAny D.gave) T.extends T.is_full T.takes_memory seat.old jobs.old.items jobs.new.items seat.new }
 {
     perform_all(rt, alloc, shared, seat, gate, jobs);
     gate.pass(Spot::Writer);

@@ -1,6 +1,8 @@
 // A server on one listener.
-ghost use Rattle.std.specs.Prelude.{◌≡◌, IfOk};
+ghost use Rattle.std.specs.Prelude.{◌≡◌, Ok, OnOk};
+ghost use Rattle.std.specs.Io.KnownBytes.{Appends};
 ghost use Rattle.silt_desk.specs.Seeing.{seen};
+ghost use Rattle.silt_server.specs.Serving.{IsServed, TellsCalls, TellsServed, head_text};
 
 use crate::accepting::accept_sessions;
 use crate::answers::answer;
@@ -52,7 +54,9 @@ pub fn serve_on<D: Disk, G: Gate + Sync, R: Threads + Wait + Sync, W: Write>(
     sessions: u32,
     gate: &G,
     out: &mut W,
-) -> (D, io::Result<u8>) {
+) -> (D, io::Result<u8>)
+    ensures served { result.1 ≡ Ok 0 → IsServed (D.content result.0) (W.contents out.old) (W.contents out.new) }
+{
     match Core::open(alloc, disk) {
         Ok(core) => serve_core(rt, alloc, listener, core, audit, sessions, gate, out),
         Err(fault) => {
@@ -72,7 +76,9 @@ fn serve_core<D: Disk, G: Gate + Sync, R: Threads + Wait + Sync, W: Write>(
     sessions: u32,
     gate: &G,
     out: &mut W,
-) -> (D, io::Result<u8>) {
+) -> (D, io::Result<u8>)
+    ensures served { result.1 ≡ Ok 0 → IsServed (D.content result.0) (W.contents out.old) (W.contents out.new) }
+{
     let Some(most) = audit else {
         return serve_traced::<D, Count, Brand, Brand, G, R, W>(
             rt,
@@ -153,6 +159,7 @@ fn serve_traced<
     requires put { (blanks.put.name ≡ P.put_name) × (blanks.put.parts ≡ P.feeders) × (P.feeders ≡ 64) }
     requires taken { (blanks.taken.name ≡ P.taken_name) × (blanks.taken.parts ≡ 1) }
     requires trace { T.agrees trace (seen D.content core) × T.counts trace 0 0 }
+    ensures served { result.1 ≡ Ok 0 → IsServed (D.content result.0) (W.contents out.old) (W.contents out.new) }
 {
     let Blanks {
         calls,
@@ -166,8 +173,7 @@ fn serve_traced<
                 let status = refuse(alloc, &Refusal::<()>::NoMemory, out);
                 return (desk.close(), status);
             };
-            let (desk, status) =
-                serve_desk(rt, alloc, listener, desk, hall, sessions, gate, out);
+            let (desk, status) = serve_desk(rt, alloc, listener, desk, hall, sessions, gate, out);
             (desk.close(), status)
         }
         Err(lack) => {
@@ -222,7 +228,9 @@ pub(crate) fn serve_desk<
     sessions: u32,
     gate: &G,
     out: &mut W,
-) -> (Desk<D, T, N>, io::Result<u8>) {
+) -> (Desk<D, T, N>, io::Result<u8>)
+    ensures served { result.1 ≡ Ok 0 → TellsServed T.counts result.0.trace (W.contents out.old) (W.contents out.new) }
+{
     let Ok(address) = listener.local_addr() else {
         let status = write_network_fault(out);
         return (desk, status);
@@ -232,14 +240,18 @@ pub(crate) fn serve_desk<
     }
     let value_len = desk.geometry().value_len() as usize;
     let shared: Shared<D, T, N> = RwLock::new(desk);
-    let served = run_threads(rt, alloc, listener, &shared, hall, value_len, sessions, gate);
+    let served = run_threads(
+        rt, alloc, listener, &shared, hall, value_len, sessions, gate,
+    );
     let mut desk = shared.into_inner();
     let status = end(alloc, &mut desk, served, out);
     (desk, status)
 }
 
 // Writes that the store is taken up, and at which port connections are waited for.
-fn write_head<W: Write>(alloc: Global, port: u16, out: &mut W) -> io::Result<()> {
+fn write_head<W: Write>(alloc: Global, port: u16, out: &mut W) -> io::Result<()>
+    ensures { OnOk result (Appends (W.contents out.old) (W.contents out.new) (head_text port)) }
+{
     write_opened(out)?;
     write_listening(alloc, port, out)
 }
@@ -257,7 +269,10 @@ fn end<D: Disk, T: Trace, N: Naming, W: Write>(
     desk: &mut Desk<D, T, N>,
     served: Option<Served<N>>,
     out: &mut W,
-) -> io::Result<u8> {
+) -> io::Result<u8>
+    ensures same { desk.new ≡ desk.old }
+    ensures calls { result ≡ Ok 0 → TellsCalls T.counts desk.old.trace (W.contents out.old) (W.contents out.new) }
+{
     let Some(Served { seats, accepted }) = served else {
         return refuse(alloc, &Refusal::<()>::NoMemory, out);
     };
@@ -273,7 +288,10 @@ fn write_settled<D: Disk, T: Trace, N: Naming, W: Write>(
     desk: &mut Desk<D, T, N>,
     seats: (Seat<N>, Seat<N>, Seat<N>),
     out: &mut W,
-) -> io::Result<u8> {
+) -> io::Result<u8>
+    ensures same { desk.new ≡ desk.old }
+    ensures calls { result ≡ Ok 0 → TellsCalls T.counts desk.old.trace (W.contents out.old) (W.contents out.new) }
+{
     let (first, second, third) = seats;
     let mut all = Vec::new(alloc);
     all.push(first)?;
@@ -322,7 +340,15 @@ fn run_threads<
         rt,
         shared,
         move |desk: &Shared<D, T, N>| {
-            merger(rt, alloc, desk, second.seat, gate, second.wakes, second.other)
+            merger(
+                rt,
+                alloc,
+                desk,
+                second.seat,
+                gate,
+                second.wakes,
+                second.other,
+            )
         },
         move |desk: &Shared<D, T, N>| {
             beside(
@@ -340,7 +366,9 @@ fn run_threads<
                             writer(rt, alloc, desk, seat, gate, inbox, taker, wakes)
                         },
                         move |desk: &Shared<D, T, N>| {
-                            accept_clients(rt, alloc, listener, desk, inbox, places, value_len, sessions)
+                            accept_clients(
+                                rt, alloc, listener, desk, inbox, places, value_len, sessions,
+                            )
                         },
                     )
                 },

@@ -72,7 +72,16 @@ pub(crate) fn serve_beside<
     let mut written = Vec::new(alloc);
     let (served, got) = thread::join(
         rt,
-        || serve_on(rt, alloc, &listener, disk, audit, sessions, gate, &mut written),
+        || serve_on(
+            rt,
+            alloc,
+            &listener,
+            disk,
+            audit,
+            sessions,
+            gate,
+            &mut written,
+        ),
         move || -> X
             requires { C.IsAlwaysCallable clients }
         { clients(addr) },

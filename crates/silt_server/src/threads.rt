@@ -42,13 +42,18 @@ pub fn beside<
     requires worker { A.IsAlwaysCallable worker }
     requires work { B.IsAlwaysCallable work }
 {
-    join_over(rt, shared, worker, move |shared: &S| -> Y
-        requires { B.IsAlwaysCallable work }
-    {
-        let done = work(shared);
-        let _ = stop.send(rt, Wake::Stop); // the worker may have ended
-        done
-    })
+    join_over(
+        rt,
+        shared,
+        worker,
+        move |shared: &S| -> Y
+            requires { B.IsAlwaysCallable work }
+        {
+            let done = work(shared);
+            let _ = stop.send(rt, Wake::Stop); // the worker may have ended
+            done
+        },
+    )
 }
 
 /// The writer in a thread of its own beside the sessions, until they have ended. Then the inbox is closed, and the writer ends when it
@@ -61,26 +66,26 @@ pub fn write_beside<
     A: FnOnce(&S) -> X + Send + Drop,
     B: FnOnce(&S) -> Y,
     R: Threads + Wait + Sync,
->(
-    rt: &R,
-    shared: &S,
-    inbox: &Inbox<Job, P>,
-    writer: A,
-    sessions: B,
-) -> Option<(X, Y)>
+>(rt: &R, shared: &S, inbox: &Inbox<Job, P>, writer: A, sessions: B) -> Option<(X, Y)>
     requires writer { A.IsAlwaysCallable writer }
     requires sessions { B.IsAlwaysCallable sessions }
 {
-    thread::scope(thread::scope_env(), rt, move |scope| -> Option<(X, Y)>
-        requires { A.IsAlwaysCallable writer × B.IsAlwaysCallable sessions }
-    {
-        let Ok(handle) = scope.spawn(move || -> X
-            requires { A.IsAlwaysCallable writer }
-        { writer(shared) }) else {
-            return None;
-        };
-        let ended = sessions(shared);
-        inbox.close(rt);
-        Some((handle.join(rt), ended))
-    })
+    thread::scope(
+        thread::scope_env(),
+        rt,
+        move |scope| -> Option<(X, Y)>
+            requires { A.IsAlwaysCallable writer × B.IsAlwaysCallable sessions }
+        {
+            let Ok(handle) = scope.spawn(
+                move || -> X
+                    requires { A.IsAlwaysCallable writer }
+                { writer(shared) },
+            ) else {
+                return None;
+            };
+            let ended = sessions(shared);
+            inbox.close(rt);
+            Some((handle.join(rt), ended))
+        },
+    )
 }

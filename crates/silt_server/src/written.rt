@@ -45,11 +45,7 @@ pub fn write_network_fault<W: Write>(out: &mut W) -> io::Result<u8>
 }
 
 /// Writes that nothing is served, and answers the status. The text of `NoMemory` takes none.
-pub fn refuse<F: Drop, W: Write>(
-    alloc: Global,
-    refusal: &Refusal<F>,
-    out: &mut W,
-) -> io::Result<u8>
+pub fn refuse<F: Drop, W: Write>(alloc: Global, refusal: &Refusal<F>, out: &mut W) -> io::Result<u8>
     ensures { IfOk result (λ status. (status ≡ 1) × Appends (W.contents out.old) (W.contents out.new) (refused_text refusal.now)) }
 {
     match refusal {

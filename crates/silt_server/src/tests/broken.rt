@@ -33,11 +33,18 @@ fn ask_broken<R: Net<Stream = TcpStream>>(
 #[test]
 fn answers_broken_lines(rt: HostRuntime) -> Result<(), Fail> {
     let alloc = rt.alloc();
-    let ended = serve_beside(&rt, alloc, small(alloc)?, None, 1, &Open, |addr: SocketAddr| {
-        ask_broken(&rt, alloc, addr)
-    })?;
+    let ended = serve_beside(
+        &rt,
+        alloc,
+        small(alloc)?,
+        None,
+        1,
+        &Open,
+        |addr: SocketAddr| { ask_broken(&rt, alloc, addr) },
+    )?;
     let got = ended.got?;
-    let due = b"refused 23 LineTooLong\nrefused 20 BadLine\nrefused 20 BadLine\nrefused 20 BadLine\nrefused 21 BadKey\nrefused 21 BadKey\nrefused 21 BadKey\nacknowledged 0\n";
+    let due =
+        b"refused 23 LineTooLong\nrefused 20 BadLine\nrefused 20 BadLine\nrefused 20 BadLine\nrefused 21 BadKey\nrefused 21 BadKey\nrefused 21 BadKey\nacknowledged 0\n";
     assert_eq!(rt; got.as_slice(), due.as_slice());
     Ok(())
 }
@@ -63,11 +70,20 @@ fn three_clients<R: Net<Stream = TcpStream>>(
 #[test]
 fn serves_the_next_client(rt: HostRuntime) -> Result<(), Fail> {
     let alloc = rt.alloc();
-    let ended = serve_beside(&rt, alloc, small(alloc)?, None, 3, &Open, |addr: SocketAddr| {
-        three_clients(&rt, alloc, addr)
-    })?;
+    let ended = serve_beside(
+        &rt,
+        alloc,
+        small(alloc)?,
+        None,
+        3,
+        &Open,
+        |addr: SocketAddr| { three_clients(&rt, alloc, addr) },
+    )?;
     let got = ended.got?;
-    assert_eq!(rt; got.as_slice(), b"accepted 1\nvalue 0001\nabsent\n".as_slice());
+    assert_eq!(rt;
+        got.as_slice(),
+        b"accepted 1\nvalue 0001\nabsent\n".as_slice()
+    );
     assert_eq!(rt; ended.status, 0);
     Ok(())
 }
@@ -93,10 +109,19 @@ fn never_reads<R: Net<Stream = TcpStream>>(
 #[test]
 fn serves_beside_one_who_never_reads(rt: HostRuntime) -> Result<(), Fail> {
     let alloc = rt.alloc();
-    let ended = serve_beside(&rt, alloc, small(alloc)?, None, 2, &Open, |addr: SocketAddr| {
-        never_reads(&rt, alloc, addr)
-    })?;
+    let ended = serve_beside(
+        &rt,
+        alloc,
+        small(alloc)?,
+        None,
+        2,
+        &Open,
+        |addr: SocketAddr| { never_reads(&rt, alloc, addr) },
+    )?;
     let got = ended.got?;
-    assert_eq!(rt; got.as_slice(), b"accepted 1\nvalue 0001\nacknowledged 1\n".as_slice());
+    assert_eq!(rt;
+        got.as_slice(),
+        b"accepted 1\nvalue 0001\nacknowledged 1\n".as_slice()
+    );
     Ok(())
 }

@@ -2,11 +2,10 @@
 
 use crate::tests::{Open, ask_line, serve_beside, small};
 use std::alloc::Global;
-use std::io;
 use std::net::{Net, SocketAddr, TcpStream};
 use std::test::Fail;
-use std::thread;
 use std::time::{Clock, Duration};
+use std::{io, thread};
 
 // Sixty-four connections that say nothing but one line each, so that each has its place.
 fn sixty_four<R: Net<Stream = TcpStream>>(
@@ -55,9 +54,15 @@ fn one_more<R: Net<Stream = TcpStream> + Clock>(
 #[test]
 fn closes_the_sixty_fifth(rt: HostRuntime) -> Result<(), Fail> {
     let alloc = rt.alloc();
-    let ended = serve_beside(&rt, alloc, small(alloc)?, None, 65, &Open, |addr: SocketAddr| {
-        one_more(&rt, alloc, addr)
-    })?;
+    let ended = serve_beside(
+        &rt,
+        alloc,
+        small(alloc)?,
+        None,
+        65,
+        &Open,
+        |addr: SocketAddr| { one_more(&rt, alloc, addr) },
+    )?;
     let (closed, served) = ended.got?;
     assert!(rt; closed);
     assert!(rt; served);

@@ -136,7 +136,8 @@ fn held_server(rt: HostRuntime) -> Result<(), Fail> {
         ask_while_held(&rt, alloc, addr, &marks)
     })?;
     let (held, got) = ended.got?;
-    let due = b"accepted 1\naccepted 2\naccepted 3\naccepted 4\naccepted 5\naccepted 6\nvalue 0006\nacknowledged 6\n";
+    let due =
+        b"accepted 1\naccepted 2\naccepted 3\naccepted 4\naccepted 5\naccepted 6\nvalue 0006\nacknowledged 6\n";
     assert_eq!(rt; got.as_slice(), due.as_slice());
     assert!(rt; held);
     assert_eq!(rt; marks.missed.load(Ordering::SeqCst), 0);

@@ -116,7 +116,10 @@ fn two_looks(rt: HostRuntime) -> Result<(), Fail> {
         ask_both(&rt, alloc, addr, &reads)
     })?;
     let got = ended.got?;
-    assert_eq!(rt; got.as_slice(), b"accepted 1\nvalue 0102\nvalue 0102\n".as_slice());
+    assert_eq!(rt;
+        got.as_slice(),
+        b"accepted 1\nvalue 0102\nvalue 0102\n".as_slice()
+    );
     assert_eq!(rt; reads.missed.load(Ordering::SeqCst), 0);
     Ok(())
 }

@@ -83,11 +83,7 @@ fn is_full(line: &[u8]) -> bool {
 }
 
 // All sessions ask at once, round by round. How many commands were not answered as they should.
-fn ask_all<R: Net<Stream = TcpStream>>(
-    rt: &R,
-    alloc: Global,
-    addr: SocketAddr,
-) -> io::Result<u32> {
+fn ask_all<R: Net<Stream = TcpStream>>(rt: &R, alloc: Global, addr: SocketAddr) -> io::Result<u32> {
     let mut sessions = Vec::new(alloc);
     for number in 0..SESSIONS {
         sessions.push(Session {
@@ -119,10 +115,7 @@ fn two_bytes(value: &Value) -> [u8; 2] {
 }
 
 // What the recorded calls, done one after the other, make of an empty map.
-fn replayed(
-    alloc: Global,
-    calls: &[RecordedCall],
-) -> Result<BTreeMap<Key, [u8; 2]>, AllocError> {
+fn replayed(alloc: Global, calls: &[RecordedCall]) -> Result<BTreeMap<Key, [u8; 2]>, AllocError> {
     let mut map = BTreeMap::new(alloc);
     for call in calls {
         match (&call.event, &call.reply) {
@@ -170,7 +163,10 @@ fn ends_as_recorded<D: Disk, N: Naming, R: Abort>(
 ) -> Result<(), Fail> {
     let map = replayed(alloc, desk.trace().calls())?;
     // of each eight commands two are puts and one is a delete
-    assert_eq!(rt; count_commands(desk.trace().calls()), u64::from(SESSIONS * (COMMANDS / 8 * 3)));
+    assert_eq!(rt;
+        count_commands(desk.trace().calls()),
+        u64::from(SESSIONS * (COMMANDS / 8 * 3))
+    );
     let core = desk.into_core();
     let entries = core.entries(alloc).ok().ok_or("has entries")?;
     assert!(rt; are_those(&entries, &map));
@@ -209,7 +205,16 @@ fn serve_all<
     let mut written = Vec::new(alloc);
     let ((desk, status), wrong) = thread::join(
         rt,
-        || serve_desk(rt, alloc, &listener, desk, hall, SESSIONS, &Open, &mut written),
+        || serve_desk(
+            rt,
+            alloc,
+            &listener,
+            desk,
+            hall,
+            SESSIONS,
+            &Open,
+            &mut written,
+        ),
         || ask_all(rt, alloc, addr),
     );
     assert_eq!(rt; status?, 0);
