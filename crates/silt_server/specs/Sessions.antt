@@ -22,3 +22,9 @@ module _ {D F : Type 0} (content : D → Content) (failures : D → ℕ) (gave :
   IsAnswer Convert reply = reply ≡ NotServed
   IsAnswer Merge reply = reply ≡ NotServed
   IsAnswer event reply = is_allowed (kind_of event) reply ≡ true
+
+-- what contracts see of a session's client: what it asks, and whether its session is lost
+pub record ClientState (A : Type 0) : Type 0 where
+  pub value_len : ℕ
+  pub asking : A
+  pub is_lost : Bool

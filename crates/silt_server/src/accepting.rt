@@ -1,9 +1,19 @@
 // Connections, each served in a thread of its own.
 
+use crate::answers::answer;
+use crate::client::{AskBy, Asking, Client};
+use crate::job::Job;
+use crate::outlet::Outlet;
 use crate::places::{Place, free_place};
-use silt_inbox::Post;
+use silt_desk::{Naming, Shared, Trace};
+use silt_device::Disk;
+use silt_event::{Event, Reply};
+use silt_inbox::{Inbox, Post};
+use silt_wire::{SessionEnd, session};
+use std::alloc::Global;
 use std::io::{self, ErrorKind};
 use std::net::{TcpListener, TcpStream};
+use std::sync::atomic::AtomicU64;
 use std::sync::{Mutex, Wait};
 use std::thread;
 use std::thread::Threads;
@@ -23,50 +33,91 @@ fn is_passing(kind: ErrorKind) -> bool {
 ///
 /// The listener's.
 pub fn accept_sessions<
-    S: Sync,
+    D: Disk,
+    T: Trace + Send + Sync,
+    N: Naming + Send + Sync,
     P: Post + Send + Sync,
-    C: Fn(&S, &Mutex<Place<P>>, &TcpStream) + Sync,
     R: Threads + Wait + Sync,
 >(
     rt: &R,
+    alloc: Global,
     listener: &TcpListener,
+    shared: &Shared<D, T, N>,
+    inbox: &Inbox<Job, P>,
     places: &[Mutex<Place<P>>],
-    shared: &S,
-    serve: &C,
+    value_len: usize,
     sessions: u32,
-) -> io::Result<()>
-    requires { C.IsAlwaysCallable serve.now }
-{
-    thread::scope(
-        thread::scope_env(),
-        rt,
-        |scope| -> io::Result<()>
-            requires { C.IsAlwaysCallable serve.now }
-        {
-            let mut count = 0u32;
-            for stream in listener.incoming() {
-                let stream = match stream {
-                    Ok(stream) => stream,
-                    Err(error) if is_passing(error.kind()) => continue,
-                    Err(error) => return Err(error),
-                };
-                let Some(place) = free_place(rt, places) else {
-                    continue;
-                };
-                let started = scope.spawn(move || {
-                    serve(shared, place, &stream);
-                    place.lock(rt).leave();
-                });
-                if started.is_err() {
-                    place.lock(rt).leave();
-                    continue;
-                }
-                count = count.saturating_add(1);
-                if count == sessions {
-                    return Ok(());
-                }
+) -> io::Result<()> {
+    thread::scope(thread::scope_env(), rt, |scope| -> io::Result<()> {
+        let mut count = 0u32;
+        for stream in listener.incoming() {
+            let stream = match stream {
+                Ok(stream) => stream,
+                Err(error) if is_passing(error.kind()) => continue,
+                Err(error) => return Err(error),
+            };
+            let Some(place) = free_place(rt, places) else {
+                continue;
+            };
+            let started = scope.spawn(move || serve_session(
+                rt, alloc, shared, inbox, value_len, place, &stream,
+            ));
+            if started.is_err() {
+                place.lock(rt).leave();
+                continue;
             }
-            Ok(())
-        },
-    )
+            count = count.saturating_add(1);
+            if count == sessions {
+                return Ok(());
+            }
+        }
+        Ok(())
+    })
+}
+
+// One session in its place, which it gives back in the end.
+fn serve_session<D: Disk, T: Trace, N: Naming, P: Post, R: Wait>(
+    rt: &R,
+    alloc: Global,
+    shared: &Shared<D, T, N>,
+    inbox: &Inbox<Job, P>,
+    value_len: usize,
+    place: &Mutex<Place<P>>,
+    stream: &TcpStream,
+) {
+    let _ = stream.set_nodelay(true); // without it replies come later
+    let _ = answer_lines(rt, alloc, shared, inbox, value_len, place, stream);
+    place.lock(rt).leave();
+}
+
+// Answers the lines of a connection.
+fn answer_lines<D: Disk, T: Trace, N: Naming, P: Post, R: Wait>(
+    rt: &R,
+    alloc: Global,
+    shared: &Shared<D, T, N>,
+    inbox: &Inbox<Job, P>,
+    value_len: usize,
+    place: &Mutex<Place<P>>,
+    stream: &TcpStream,
+) -> SessionEnd {
+    let ask = |event: Event| -> Option<Reply<()>> {
+        answer(rt, alloc, shared, inbox, value_len, place, event)
+    };
+    answer_by(alloc, value_len, stream, AskBy { ask })
+}
+
+// Answers the lines of a connection, where events are asked so.
+fn answer_by<A: Asking>(
+    alloc: Global,
+    value_len: usize,
+    stream: &TcpStream,
+    asking: A,
+) -> SessionEnd
+    requires { A.can_ask asking }
+{
+    let cut = AtomicU64::new(0);
+    let mut client = Client::new(value_len, asking, &cut);
+    let mut outlet = Outlet { stream, cut: &cut };
+    let mut reader = stream;
+    session(alloc, value_len, &mut reader, &mut outlet, &mut client)
 }

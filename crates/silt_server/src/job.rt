@@ -1,7 +1,7 @@
 // What goes from the sessions to the writer.
 ghost use Rattle.std.specs.Prelude.{◌≡◌, None, option_map};
 ghost use Rattle.silt_inbox.specs.Answers.{kind_of};
-ghost use Rattle.silt_server.specs.Requests.{event_of, reply_due, reply_in};
+ghost use Rattle.silt_server.specs.Requests.{acknowledged, changed, event_of, reply_due, reply_in};
 
 use crossbeam_channel::Sender;
 use silt_event::{Refusal, Reply};

@@ -1,5 +1,5 @@
 // The places of the sessions.
-ghost use Rattle.std.specs.Prelude.{◌≡◌, true, false, not, MatchBool, IfOk, vec_len};
+ghost use Rattle.std.specs.Prelude.{◌≡◌, true, false, not};
 
 use silt_inbox::{Feeder, Post};
 use std::alloc::{AllocError, Global};
@@ -46,9 +46,7 @@ impl<P: Post> Place<P> {
 pub fn places_of<P: Post>(
     alloc: Global,
     feeders: Vec<Feeder<P>>,
-) -> Result<Vec<Mutex<Place<P>>>, AllocError>
-    ensures { IfOk result (λ places. vec_len places ≡ vec_len feeders) }
-{
+) -> Result<Vec<Mutex<Place<P>>>, AllocError> {
     let mut places = Vec::with_capacity(alloc, feeders.len())?;
     for feeder in feeders {
         places.push(Mutex::new(Place {

@@ -5,26 +5,21 @@ ghost use Rattle.silt_desk.specs.Seeing.{seen};
 ghost use Rattle.silt_server.specs.Serving.{IsServed, TellsCalls, TellsServed, head_text};
 
 use crate::accepting::accept_sessions;
-use crate::answers::answer;
-use crate::client::Client;
 use crate::crew::Crew;
 use crate::job::Job;
-use crate::outlet::Outlet;
 use crate::places::{Place, places_of};
 use crate::threads::{beside, write_beside};
 use crate::work::writer;
 use crate::written::{refuse, write_calls, write_listening, write_network_fault, write_opened};
 use silt_desk::{Count, Desk, Gate, Kept, Naming, Seat, Shared, Trace, converter, merger};
 use silt_device::Disk;
-use silt_event::{Event, Refusal, Reply};
+use silt_event::Refusal;
 use silt_inbox::{Inbox, Post, Taker};
 use silt_store_set::Core;
-use silt_wire::{SessionEnd, session};
 use std::alloc::Global;
 use std::io::{self, Write};
 use std::marker::Brand;
-use std::net::{TcpListener, TcpStream};
-use std::sync::atomic::AtomicU64;
+use std::net::TcpListener;
 use std::sync::ledger::Blank;
 use std::sync::{Mutex, RwLock, Wait};
 use std::thread::Threads;
@@ -366,7 +361,7 @@ fn run_threads<
                             writer(rt, alloc, desk, seat, gate, inbox, taker, wakes)
                         },
                         move |desk: &Shared<D, T, N>| {
-                            accept_clients(
+                            accept_sessions(
                                 rt, alloc, listener, desk, inbox, places, value_len, sessions,
                             )
                         },
@@ -382,48 +377,4 @@ fn run_threads<
         seats: (writer, converted, merged),
         accepted,
     })
-}
-
-// Serves the connections of the listener.
-fn accept_clients<
-    D: Disk,
-    T: Trace + Send + Sync,
-    N: Naming + Send + Sync,
-    P: Post + Send + Sync,
-    R: Threads + Wait + Sync,
->(
-    rt: &R,
-    alloc: Global,
-    listener: &TcpListener,
-    shared: &Shared<D, T, N>,
-    inbox: &Inbox<Job, P>,
-    places: &[Mutex<Place<P>>],
-    value_len: usize,
-    sessions: u32,
-) -> io::Result<()> {
-    let serve = |desk: &Shared<D, T, N>, place: &Mutex<Place<P>>, stream: &TcpStream| {
-        let _ = serve_client(rt, alloc, desk, inbox, value_len, place, stream);
-    };
-    accept_sessions(rt, listener, places, shared, &serve, sessions)
-}
-
-// One session: answers the lines of a connection.
-fn serve_client<D: Disk, T: Trace, N: Naming, P: Post, R: Wait>(
-    rt: &R,
-    alloc: Global,
-    shared: &Shared<D, T, N>,
-    inbox: &Inbox<Job, P>,
-    value_len: usize,
-    place: &Mutex<Place<P>>,
-    stream: &TcpStream,
-) -> SessionEnd {
-    let _ = stream.set_nodelay(true); // without it replies come later
-    let cut = AtomicU64::new(0);
-    let ask = |event: Event| -> Option<Reply<()>> {
-        answer(rt, alloc, shared, inbox, value_len, place, event)
-    };
-    let mut client = Client::new(value_len, ask, &cut);
-    let mut outlet = Outlet { stream, cut: &cut };
-    let mut reader = stream;
-    session(alloc, value_len, &mut reader, &mut outlet, &mut client)
 }

@@ -48,10 +48,22 @@ pub fn write_network_fault<W: Write>(out: &mut W) -> io::Result<u8>
 pub fn refuse<F: Drop, W: Write>(alloc: Global, refusal: &Refusal<F>, out: &mut W) -> io::Result<u8>
     ensures { IfOk result (λ status. (status ≡ 1) × Appends (W.contents out.old) (W.contents out.new) (refused_text refusal.now)) }
 {
+    write_refused(alloc, refusal, out)?;
+    out.flush()?;
+    Ok(1)
+}
+
+// Writes a refusal as a line. The text of `NoMemory` takes no memory.
+fn write_refused<F: Drop, W: Write>(
+    alloc: Global,
+    refusal: &Refusal<F>,
+    out: &mut W,
+) -> io::Result<()>
+    ensures { OnOk result (Appends (W.contents out.old) (W.contents out.new) (refused_text refusal.now)) }
+{
     match refusal {
         Refusal::NoMemory => out.write_all(b"refused 6 NoMemory\n")?,
         _ => write_refusal(alloc, refusal, out)?,
     }
-    out.flush()?;
-    Ok(1)
+    Ok(())
 }
