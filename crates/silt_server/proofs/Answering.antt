@@ -1,8 +1,8 @@
 -- Replies to gets, and the text of a want of memory.
-use Rattle.std.proofs.Common.{◌≡◌, ℕ, Option, Some, None, List, [], ◌∷◌, ◌++◌, ap, arith, codes, inr, subst, sym}
+use Rattle.std.proofs.Common.{◌≡◌, ℕ, ◌%◌, ◌^◌, Option, Some, None, List, [], ◌∷◌, ◌++◌, ap, arith, codes, inr, subst, sym}
 use Rattle.std.specs.Prelude.{IfSome, OnOk, Result, Ok, Err}
 use Rattle.silt_wire.proofs.Streams.{Appends-append}
-use Rattle.silt_server.specs.Serving.{head_text}
+use Rattle.silt_server.specs.Serving.{TellsCalls, TellsServed, head_text}
 use Rattle.std.proofs.lemmas.Fmt.{decimal_digit}
 use Rattle.std.specs.Io.KnownBytes.{Appends}
 use Rattle.silt_device.specs.Disk.{Content}
@@ -13,7 +13,7 @@ use Rattle.silt_event.specs.declared.refusal.Refusal.{Refusal}
 use Rattle.silt_event.specs.declared.refusal.Refusal.TheVariants.{NoMemory}
 use Rattle.silt_store_set.specs.CoreState.{CoreState}
 use Rattle.silt_server.specs.Sessions.{Finds, IsAnswer}
-use Rattle.silt_server.specs.Texts.{listening_text, refused_text}
+use Rattle.silt_server.specs.Texts.{calls_text, listening_text, refused_text}
 
 module _ {D F : Type 0} (content : D → Content) (failures : D → ℕ) (gave : D → F → Type 0) where
   -- what a look finds is an answer to a get
@@ -34,3 +34,15 @@ pub head_written : {X E : Type 0} (result : Result X E) (before mid after : Opti
     → OnOk result (Appends mid after (listening_text port)) → OnOk result (Appends before after (head_text port))
 head_written (Ok x) before mid after port first second = Appends-append before mid after (codes "opened\n") (listening_text port) first second
 head_written (Err e) before mid after port first second = second
+
+-- the head is written, and then what is due at the end
+pub served_written : {T X E : Type 0} (counts : T → ℕ → ℕ → Type 0) (old new : T) (port : ℕ) (before mid after : Option (List ℕ)) (head : Result X E) (x : X) → head ≡ Ok x
+    → OnOk head (Appends before mid (head_text port)) → new ≡ old → TellsCalls counts old mid after → TellsServed counts new before after
+served_written {T} {X} {E} counts old new port before mid after head x is written same told =
+    let first = subst (λ (r : Result X E). OnOk r (Appends before mid (head_text port))) is written in (
+      port,
+      told.0,
+      told.1,
+      subst (λ (t : T). counts t told.0 told.1) (sym same) told.2,
+      Appends-append before mid after (head_text port) (calls_text (told.0 % 2 ^ 64)) first told.3,
+    )

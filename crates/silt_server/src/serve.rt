@@ -53,7 +53,10 @@ pub fn serve_on<D: Disk, G: Gate + Sync, R: Threads + Wait + Sync, W: Write>(
     ensures served { result.1 ≡ Ok 0 → IsServed (D.content result.0) (W.contents out.old) (W.contents out.new) }
 {
     match Core::open(alloc, disk) {
-        Ok(core) => serve_core(rt, alloc, listener, core, audit, sessions, gate, out),
+        Ok(core) => match audit {
+            Some(most) => serve_kept(rt, alloc, listener, core, most, sessions, gate, out),
+            None => serve_counted(rt, alloc, listener, core, sessions, gate, out),
+        },
         Err(fault) => {
             let status = refuse(alloc, &fault.refusal, out);
             (fault.disk, status)
@@ -61,44 +64,45 @@ pub fn serve_on<D: Disk, G: Gate + Sync, R: Threads + Wait + Sync, W: Write>(
     }
 }
 
-// Serves a store, with the trace that is asked for.
-fn serve_core<D: Disk, G: Gate + Sync, R: Threads + Wait + Sync, W: Write>(
+// Serves a store whose calls are counted.
+fn serve_counted<D: Disk, G: Gate + Sync, R: Threads + Wait + Sync, W: Write>(
     rt: &R,
     alloc: Global,
     listener: &TcpListener,
     core: Core<D>,
-    audit: Option<u64>,
     sessions: u32,
     gate: &G,
     out: &mut W,
 ) -> (D, io::Result<u8>)
     ensures served { result.1 ≡ Ok 0 → IsServed (D.content result.0) (W.contents out.old) (W.contents out.new) }
 {
-    let Some(most) = audit else {
-        return serve_traced::<D, Count, Brand, Brand, G, R, W>(
-            rt,
-            alloc,
-            listener,
-            core,
-            Count::new(),
-            Blanks::new(),
-            sessions,
-            gate,
-            out,
-        );
-    };
+    let trace = Count::new();
+    let blanks = Blanks::new();
+    serve_traced::<D, Count, Brand, Brand, G, R, W>(
+        rt, alloc, listener, core, trace, blanks, sessions, gate, out,
+    )
+}
+
+// Serves a store of which at most so many calls are recorded.
+fn serve_kept<D: Disk, G: Gate + Sync, R: Threads + Wait + Sync, W: Write>(
+    rt: &R,
+    alloc: Global,
+    listener: &TcpListener,
+    core: Core<D>,
+    most: u64,
+    sessions: u32,
+    gate: &G,
+    out: &mut W,
+) -> (D, io::Result<u8>)
+    ensures served { result.1 ≡ Ok 0 → IsServed (D.content result.0) (W.contents out.old) (W.contents out.new) }
+{
     match Kept::new(alloc, &core, most) {
-        Ok(trace) => serve_traced::<D, Kept, Brand, Brand, G, R, W>(
-            rt,
-            alloc,
-            listener,
-            core,
-            trace,
-            Blanks::new(),
-            sessions,
-            gate,
-            out,
-        ),
+        Ok(trace) => {
+            let blanks = Blanks::new();
+            serve_traced::<D, Kept, Brand, Brand, G, R, W>(
+                rt, alloc, listener, core, trace, blanks, sessions, gate, out,
+            )
+        }
         Err(refusal) => {
             let status = refuse(alloc, &refusal, out);
             (core.close(), status)
