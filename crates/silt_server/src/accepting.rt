@@ -26,13 +26,65 @@ fn is_passing(kind: ErrorKind) -> bool {
     )
 }
 
-/// Serves so many sessions, or without end at 0, each in a thread and a place of its own, and returns when all have ended. A connection
-/// for which there is no place, or no thread, is closed and not counted.
+// Serves so many sessions, or without end at 0, each in a thread and a place of its own, and returns when all have ended. A connection
+// for which there is no place, or no thread, is closed and not counted. `serve` serves the connection of the place with a number.
+fn accept_sessions<
+    S: Sync,
+    P: Post + Send + Sync,
+    C: Fn(&S, usize) + Sync,
+    R: Threads + Wait + Sync,
+>(
+    rt: &R,
+    listener: &TcpListener,
+    places: &[Mutex<Place<P>>],
+    shared: &S,
+    serve: &C,
+    sessions: u32,
+) -> io::Result<()>
+    requires { C.IsAlwaysCallable serve.now }
+{
+    thread::scope(
+        thread::scope_env(),
+        rt,
+        |scope| -> io::Result<()>
+            requires { C.IsAlwaysCallable serve.now }
+        {
+            let mut count = 0u32;
+            for stream in listener.incoming() {
+                let stream = match stream {
+                    Ok(stream) => stream,
+                    Err(error) if is_passing(error.kind()) => continue,
+                    Err(error) => return Err(error),
+                };
+                let Some(number) = free_place(rt, places) else {
+                    continue;
+                };
+                places[number].lock(rt).connect(stream);
+                let started = scope.spawn(
+                    move ||
+                        requires { C.IsAlwaysCallable serve.now }
+                    { serve(shared, number) },
+                );
+                if started.is_err() {
+                    places[number].lock(rt).leave();
+                    continue;
+                }
+                count = count.saturating_add(1);
+                if count == sessions {
+                    return Ok(());
+                }
+            }
+            Ok(())
+        },
+    )
+}
+
+/// Serves the connections of a listener.
 ///
 /// # Errors
 ///
 /// The listener's.
-pub fn accept_sessions<
+pub fn accept_clients<
     D: Disk,
     T: Trace + Send + Sync,
     N: Naming + Send + Sync,
@@ -48,31 +100,12 @@ pub fn accept_sessions<
     value_len: usize,
     sessions: u32,
 ) -> io::Result<()> {
-    thread::scope(thread::scope_env(), rt, |scope| -> io::Result<()> {
-        let mut count = 0u32;
-        for stream in listener.incoming() {
-            let stream = match stream {
-                Ok(stream) => stream,
-                Err(error) if is_passing(error.kind()) => continue,
-                Err(error) => return Err(error),
-            };
-            let Some(place) = free_place(rt, places) else {
-                continue;
-            };
-            let started = scope.spawn(move || serve_session(
-                rt, alloc, shared, inbox, value_len, place, &stream,
-            ));
-            if started.is_err() {
-                place.lock(rt).leave();
-                continue;
-            }
-            count = count.saturating_add(1);
-            if count == sessions {
-                return Ok(());
-            }
+    let serve = |desk: &Shared<D, T, N>, number: usize| {
+        if let Some(place) = places.get(number) {
+            serve_session(rt, alloc, desk, inbox, value_len, place);
         }
-        Ok(())
-    })
+    };
+    accept_sessions(rt, listener, places, shared, &serve, sessions)
 }
 
 // One session in its place, which it gives back in the end.
@@ -83,10 +116,12 @@ fn serve_session<D: Disk, T: Trace, N: Naming, P: Post, R: Wait>(
     inbox: &Inbox<Job, P>,
     value_len: usize,
     place: &Mutex<Place<P>>,
-    stream: &TcpStream,
 ) {
-    let _ = stream.set_nodelay(true); // without it replies come later
-    let _ = answer_lines(rt, alloc, shared, inbox, value_len, place, stream);
+    let stream = place.lock(rt).connection();
+    if let Some(stream) = stream {
+        let _ = stream.set_nodelay(true); // without it replies come later
+        let _ = answer_lines(rt, alloc, shared, inbox, value_len, place, &stream);
+    }
     place.lock(rt).leave();
 }
 

@@ -1,15 +1,18 @@
 // The places of the sessions.
-ghost use Rattle.std.specs.Prelude.{◌≡◌, true, false, not};
+ghost use Rattle.std.specs.Prelude.{◌≡◌, ◌<◌, true, false, not, length, IfSome};
 
 use silt_inbox::{Feeder, Post};
 use std::alloc::{AllocError, Global};
+use std::mem;
+use std::net::TcpStream;
 use std::sync::{Mutex, Wait};
 
-/// The place of one session: with what it puts its jobs, and whether a session has it.
+/// The place of one session: with what it puts its jobs, whether a session has it, and the connection that waits for its thread.
 #[derive(Drop)]
 pub struct Place<P: Post> {
     feeder: Feeder<P>,
     is_taken: bool,
+    stream: Option<TcpStream>,
 }
 
 impl<P: Post> Place<P> {
@@ -24,12 +27,27 @@ impl<P: Post> Place<P> {
         was_free
     }
 
-    /// Gives the place back, with its feeder.
+    /// Gives a connection to the session that will have this place.
+    pub fn connect(&mut self, stream: TcpStream)
+        ensures { (self.new.feeder ≡ self.old.feeder) × (self.new.is_taken ≡ self.old.is_taken) }
+    {
+        self.stream = Some(stream);
+    }
+
+    /// The connection that was given.
+    pub fn connection(&mut self) -> Option<TcpStream>
+        ensures { (self.new.feeder ≡ self.old.feeder) × (self.new.is_taken ≡ self.old.is_taken) }
+    {
+        mem::replace(&mut self.stream, None)
+    }
+
+    /// Gives the place back, with its feeder. A connection that still waits is closed.
     pub fn leave(&mut self)
         ensures free { self.new.is_taken ≡ false }
         ensures feeder { self.new.feeder ≡ self.old.feeder }
     {
         self.is_taken = false;
+        self.stream = None;
     }
 
     /// With what the session puts its jobs.
@@ -52,19 +70,19 @@ pub fn places_of<P: Post>(
         places.push(Mutex::new(Place {
             feeder,
             is_taken: false,
+            stream: None,
         }))?;
     }
     Ok(places)
 }
 
-/// A place that was free, now taken.
-pub fn free_place<'a, P: Post, R: Wait>(
-    rt: &R,
-    places: &'a [Mutex<Place<P>>],
-) -> Option<&'a Mutex<Place<P>>> {
-    for place in places {
-        if place.lock(rt).take() {
-            return Some(place);
+/// The number of a place that was free, and is now taken.
+pub fn free_place<P: Post, R: Wait>(rt: &R, places: &[Mutex<Place<P>>]) -> Option<usize>
+    ensures { IfSome result (λ number. number < length places.now) }
+{
+    for number in 0..places.len() {
+        if places[number].lock(rt).take() {
+            return Some(number);
         }
     }
     None

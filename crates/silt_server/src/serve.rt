@@ -4,7 +4,7 @@ ghost use Rattle.std.specs.Io.KnownBytes.{Appends};
 ghost use Rattle.silt_desk.specs.Seeing.{seen};
 ghost use Rattle.silt_server.specs.Serving.{IsServed, TellsCalls, TellsServed, head_text};
 
-use crate::accepting::accept_sessions;
+use crate::accepting::accept_clients;
 use crate::crew::Crew;
 use crate::job::Job;
 use crate::places::{Place, places_of};
@@ -365,7 +365,7 @@ fn run_threads<
                             writer(rt, alloc, desk, seat, gate, inbox, taker, wakes)
                         },
                         move |desk: &Shared<D, T, N>| {
-                            accept_sessions(
+                            accept_clients(
                                 rt, alloc, listener, desk, inbox, places, value_len, sessions,
                             )
                         },
