@@ -11,7 +11,7 @@ use Rattle.silt_event.specs.declared.event.Event.TheVariants.{Put, Delete, Flush
 use Rattle.silt_event.specs.declared.refusal.Refusal.{Refusal}
 use Rattle.silt_event.specs.declared.refusal.Refusal.TheVariants.{NotFormatted, BadGeometry, Damaged, Crowded, Device, NoMemory, StoreFull, NoRoom, Failed, Spent, HistoryFull}
 use Rattle.silt_event.specs.declared.reply.Reply.{Reply}
-use Rattle.silt_event.specs.declared.reply.Reply.TheVariants.{Accepted, Acknowledged, Found, Absent, Progress, Refused}
+use Rattle.silt_event.specs.declared.reply.Reply.TheVariants.{Accepted, Acknowledged, Found, Absent, Progress, Refused, Unsettled, NotServed}
 use Rattle.silt_store_set.proofs.Calls.{step_refused}
 use Rattle.silt_store_set.proofs.Keeps.{own_counts}
 use Rattle.silt_desk.specs.declared.call.RecordedCall.{RecordedCall}
@@ -48,36 +48,48 @@ step_plain m (Put key value) (Found v) to step = absurd step
 step_plain m (Put key value) Absent to step = absurd step
 step_plain m (Put key value) (Progress progress) to step = absurd step
 step_plain m (Put key value) (Refused refusal) to step = step
+step_plain m (Put key value) (Unsettled n) to step = absurd step
+step_plain m (Put key value) NotServed to step = absurd step
 step_plain m (Delete key) (Accepted n) to step = step
 step_plain m (Delete key) (Acknowledged n) to step = absurd step
 step_plain m (Delete key) (Found v) to step = absurd step
 step_plain m (Delete key) Absent to step = absurd step
 step_plain m (Delete key) (Progress progress) to step = absurd step
 step_plain m (Delete key) (Refused refusal) to step = step
+step_plain m (Delete key) (Unsettled n) to step = absurd step
+step_plain m (Delete key) NotServed to step = absurd step
 step_plain m Flush (Accepted n) to step = absurd step
 step_plain m Flush (Acknowledged n) to step = step
 step_plain m Flush (Found v) to step = absurd step
 step_plain m Flush Absent to step = absurd step
 step_plain m Flush (Progress progress) to step = absurd step
 step_plain m Flush (Refused refusal) to step = step
+step_plain m Flush (Unsettled n) to step = absurd step
+step_plain m Flush NotServed to step = absurd step
 step_plain m (Get key) (Accepted n) to step = absurd step
 step_plain m (Get key) (Acknowledged n) to step = absurd step
 step_plain m (Get key) (Found v) to step = step
 step_plain m (Get key) Absent to step = step
 step_plain m (Get key) (Progress progress) to step = absurd step
 step_plain m (Get key) (Refused refusal) to step = step
+step_plain m (Get key) (Unsettled n) to step = absurd step
+step_plain m (Get key) NotServed to step = absurd step
 step_plain m Convert (Accepted n) to step = absurd step
 step_plain m Convert (Acknowledged n) to step = absurd step
 step_plain m Convert (Found v) to step = absurd step
 step_plain m Convert Absent to step = absurd step
 step_plain m Convert (Progress progress) to step = step
 step_plain m Convert (Refused refusal) to step = step
+step_plain m Convert (Unsettled n) to step = absurd step
+step_plain m Convert NotServed to step = absurd step
 step_plain m Merge (Accepted n) to step = absurd step
 step_plain m Merge (Acknowledged n) to step = absurd step
 step_plain m Merge (Found v) to step = absurd step
 step_plain m Merge Absent to step = absurd step
 step_plain m Merge (Progress progress) to step = step
 step_plain m Merge (Refused refusal) to step = step
+step_plain m Merge (Unsettled n) to step = absurd step
+step_plain m Merge NotServed to step = absurd step
 
 counts_plain : {F : Type 0} (old new : ℕ) (reply : Reply F) → Counts old reply new → Counts old (plain reply) new
 counts_plain old new (Accepted n) counts = counts
@@ -86,6 +98,8 @@ counts_plain old new (Found v) counts = counts
 counts_plain old new Absent counts = counts
 counts_plain old new (Progress progress) counts = counts
 counts_plain old new (Refused refusal) counts = counts
+counts_plain old new (Unsettled n) counts = counts
+counts_plain old new NotServed counts = counts
 
 -- a reply adds the same commands without its fault
 adds_plain : {F : Type 0} (event : Event) (reply : Reply F) → accepted_command event (plain reply) ≡ accepted_command event reply
@@ -95,12 +109,16 @@ adds_plain (Put key value) (Found v) = refl
 adds_plain (Put key value) Absent = refl
 adds_plain (Put key value) (Progress progress) = refl
 adds_plain (Put key value) (Refused refusal) = refl
+adds_plain (Put key value) (Unsettled n) = refl
+adds_plain (Put key value) NotServed = refl
 adds_plain (Delete key) (Accepted n) = refl
 adds_plain (Delete key) (Acknowledged n) = refl
 adds_plain (Delete key) (Found v) = refl
 adds_plain (Delete key) Absent = refl
 adds_plain (Delete key) (Progress progress) = refl
 adds_plain (Delete key) (Refused refusal) = refl
+adds_plain (Delete key) (Unsettled n) = refl
+adds_plain (Delete key) NotServed = refl
 adds_plain Flush reply = refl
 adds_plain (Get key) reply = refl
 adds_plain Convert reply = refl
@@ -113,6 +131,8 @@ fault_plain (Acknowledged n) fault = absurd (cc)
 fault_plain (Found v) fault = absurd (cc)
 fault_plain Absent fault = absurd (cc)
 fault_plain (Progress progress) fault = absurd (cc)
+fault_plain (Unsettled n) fault = absurd (cc)
+fault_plain NotServed fault = absurd (cc)
 fault_plain (Refused (Device fault)) is = refl
 fault_plain (Refused NotFormatted) fault = absurd (cc)
 fault_plain (Refused BadGeometry) fault = absurd (cc)
@@ -134,6 +154,8 @@ module _ {D F : Type 0} (content : D → Content) (failures : D → ℕ) (gave :
   none_plain core Absent none = tt
   none_plain core (Progress progress) none = tt
   none_plain core (Refused refusal) none = tt
+  none_plain core (Unsettled n) none = tt
+  none_plain core NotServed none = tt
 
   -- the reply is that of a map, of a failed store too
   does_step : (old new : CoreState D) (event : Event) (reply : Reply F) → IsTrue (content old.disk).honest → Does content failures gave old new event reply → Step (map_of old) event reply (map_of new)
@@ -201,6 +223,8 @@ module _ {D F : Type 0} (content : D → Content) (failures : D → ℕ) (gave :
     serves_told (Acknowledged n) does notes = record { done = does; recorded = notes.0; seated = notes.1 }
     serves_told (Found v) does notes = record { done = does; recorded = notes.0; seated = notes.1 }
     serves_told Absent does notes = record { done = does; recorded = notes.0; seated = notes.1 }
+    serves_told (Unsettled n) does notes = record { done = does; recorded = notes.0; seated = notes.1 }
+    serves_told NotServed does notes = record { done = does; recorded = notes.0; seated = notes.1 }
     serves_told (Progress progress) does notes = record { done = does; recorded = notes.0; seated = notes.1 }
     serves_told (Refused NotFormatted) does notes = record { done = does; recorded = notes.0; seated = notes.1 }
     serves_told (Refused BadGeometry) does notes = record { done = does; recorded = notes.0; seated = notes.1 }
@@ -227,6 +251,8 @@ module _ {D F : Type 0} (content : D → Content) (failures : D → ℕ) (gave :
       keeps_told (Acknowledged n) does notes held = law held (call seat.number event (plain {F = F} (Acknowledged n))) notes.0 (seen_step c0 c1 event (Acknowledged n) does)
       keeps_told (Found v) does notes held = law held (call seat.number event (plain {F = F} (Found v))) notes.0 (seen_step c0 c1 event (Found v) does)
       keeps_told Absent does notes held = law held (call seat.number event (plain {F = F} Absent)) notes.0 (seen_step c0 c1 event Absent does)
+      keeps_told (Unsettled n) does notes held = law held (call seat.number event (plain {F = F} (Unsettled n))) notes.0 (seen_step c0 c1 event (Unsettled n) does)
+      keeps_told NotServed does notes held = law held (call seat.number event (plain {F = F} NotServed)) notes.0 (seen_step c0 c1 event NotServed does)
       keeps_told (Progress progress) does notes held = law held (call seat.number event (plain {F = F} (Progress progress))) notes.0 (seen_step c0 c1 event (Progress progress) does)
       keeps_told (Refused NotFormatted) does notes held = law held (call seat.number event (plain {F = F} (Refused NotFormatted))) notes.0 (seen_step c0 c1 event (Refused NotFormatted) does)
       keeps_told (Refused BadGeometry) does notes held = law held (call seat.number event (plain {F = F} (Refused BadGeometry))) notes.0 (seen_step c0 c1 event (Refused BadGeometry) does)
@@ -253,6 +279,8 @@ module _ {T : Type 0} (counts : T → ℕ → ℕ → Type 0) (extends : T → R
   keeps_counting (Acknowledged n) notes held = law (call seat.number event (Acknowledged n)) held notes.0 notes.2 notes.3
   keeps_counting (Found v) notes held = law (call seat.number event (Found v)) held notes.0 notes.2 notes.3
   keeps_counting Absent notes held = law (call seat.number event Absent) held notes.0 notes.2 notes.3
+  keeps_counting (Unsettled n) notes held = law (call seat.number event (Unsettled n)) held notes.0 notes.2 notes.3
+  keeps_counting NotServed notes held = law (call seat.number event NotServed) held notes.0 notes.2 notes.3
   keeps_counting (Progress progress) notes held = law (call seat.number event (Progress progress)) held notes.0 notes.2 notes.3
   keeps_counting (Refused NotFormatted) notes held = law (call seat.number event (Refused NotFormatted)) held notes.0 notes.2 notes.3
   keeps_counting (Refused BadGeometry) notes held = law (call seat.number event (Refused BadGeometry)) held notes.0 notes.2 notes.3

@@ -7,7 +7,7 @@ use Rattle.silt_event.specs.Commands.{Command, Map, map_after}
 use Rattle.silt_event.specs.Events.{Counts, Legal, PlainReply, Step, accepted_command, acknowledged_after, acknowledged_by}
 use Rattle.silt_event.specs.declared.event.Event.{Event}
 use Rattle.silt_event.specs.declared.reply.Reply.{Reply}
-use Rattle.silt_event.specs.declared.reply.Reply.TheVariants.{Accepted, Acknowledged, Found, Absent, Progress, Refused}
+use Rattle.silt_event.specs.declared.reply.Reply.TheVariants.{Accepted, Acknowledged, Found, Absent, Progress, Refused, Unsettled, NotServed}
 use Rattle.silt_event.specs.declared.refusal.Refusal.TheVariants.{Failed}
 use Rattle.silt_image.specs.Meaning.{StandsFor}
 use Rattle.silt_store_set.proofs.Calls.{none_refused}
@@ -61,6 +61,8 @@ accepted_by-le (Found value) = omega arith
 accepted_by-le Absent = omega arith
 accepted_by-le (Progress progress) = omega arith
 accepted_by-le (Refused refusal) = omega arith
+accepted_by-le (Unsettled n) = omega arith
+accepted_by-le NotServed = omega arith
 
 -- no more commands are accepted than calls are recorded
 pub count_accepted-le : (xs : List RecordedCall) → count_accepted xs ≤ length xs
@@ -93,6 +95,8 @@ acknowledged_one (Found v) before count next total store counts none sum less = 
 acknowledged_one Absent before count next total store counts none sum less = less
 acknowledged_one (Progress p) before count next total store counts none sum less = less
 acknowledged_one (Refused r) before count next total store counts none sum less = less
+acknowledged_one (Unsettled n) before count next total store counts none sum less = less
+acknowledged_one NotServed before count next total store counts none sum less = less
 
 -- one call more settles on
 settles_more : (a : Keeping) (c : RecordedCall) (base : Map) (waiting : List Command) (s t : SeenStore) → IsTrue s.content.honest → HasSettled a base waiting s → SeenStep s t c.event c.reply

@@ -9,7 +9,7 @@ use Rattle.silt_event.specs.declared.event.Event.TheVariants.{Put, Delete, Flush
 use Rattle.silt_event.specs.declared.refusal.Refusal.{Refusal}
 use Rattle.silt_event.specs.declared.refusal.Refusal.TheVariants.{NotFormatted, BadGeometry, Damaged, Crowded, Device, NoMemory, StoreFull, NoRoom, Failed, Spent, HistoryFull}
 use Rattle.silt_event.specs.declared.reply.Reply.{Reply}
-use Rattle.silt_event.specs.declared.reply.Reply.TheVariants.{Accepted, Acknowledged, Found, Absent, Progress, Refused}
+use Rattle.silt_event.specs.declared.reply.Reply.TheVariants.{Accepted, Acknowledged, Found, Absent, Progress, Refused, Unsettled, NotServed}
 use Rattle.silt_event.specs.Commands.{Command, put, delete, Map, changed, map_after, Begins}
 
 -- ---- refusals
@@ -50,6 +50,8 @@ plain (Found value) = Found value
 plain Absent = Absent
 plain (Progress progress) = Progress progress
 plain (Refused refusal) = Refused (plain_refusal refusal)
+plain (Unsettled n) = Unsettled n
+plain NotServed = NotServed
 
 -- a reply as it is recorded and printed
 abbrev pub PlainReply : Type 0

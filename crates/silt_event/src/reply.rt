@@ -18,6 +18,11 @@ pub enum Reply<F> {
     Progress(Progress),
     /// The call was refused.
     Refused(Refusal<F>),
+    /// The command is done, with this number, and the flush after it was refused: a stop may lose it. No store answers so, but what
+    /// flushes in front of one.
+    Unsettled(u64),
+    /// What was asked is not done here, and nothing is done. No store answers so, but what stands in front of one.
+    NotServed,
 }
 
 /// What a life answers.
@@ -44,6 +49,8 @@ impl<F: Drop> Reply<F> {
             Reply::Absent => Reply::Absent,
             Reply::Progress(progress) => Reply::Progress(progress),
             Reply::Refused(refusal) => Reply::Refused(refusal.plain()),
+            Reply::Unsettled(n) => Reply::Unsettled(n),
+            Reply::NotServed => Reply::NotServed,
         }
     }
 }

@@ -3,7 +3,7 @@ use Rattle.std.specs.Prelude.{Bool, true, false}
 use Rattle.silt_event.specs.declared.event.Event.{Event}
 use Rattle.silt_event.specs.declared.event.Event.TheVariants as event
 use Rattle.silt_event.specs.declared.reply.Reply.{Reply}
-use Rattle.silt_event.specs.declared.reply.Reply.TheVariants.{Accepted, Acknowledged, Found, Absent, Progress, Refused}
+use Rattle.silt_event.specs.declared.reply.Reply.TheVariants.{Accepted, Acknowledged, Found, Absent, Progress, Refused, Unsettled}
 use Rattle.silt_inbox.specs.declared.answered.EventKind.{EventKind}
 use Rattle.silt_inbox.specs.declared.answered.EventKind.TheVariants.{Put, Delete, Flush, Get, Convert, Merge}
 
@@ -16,10 +16,12 @@ kind_of (event.Get key) = Get
 kind_of event.Convert = Convert
 kind_of event.Merge = Merge
 
--- a command is accepted, a flush acknowledged, a get finds a value or none, a step makes progress; and each may be refused
+-- a command is accepted, or accepted and not settled, a flush acknowledged, a get finds a value or none, a step makes progress; and each may be refused
 abbrev pub is_allowed : {F : Type 0} → EventKind → Reply F → Bool
 is_allowed Put (Accepted n) = true
+is_allowed Put (Unsettled n) = true
 is_allowed Delete (Accepted n) = true
+is_allowed Delete (Unsettled n) = true
 is_allowed Flush (Acknowledged n) = true
 is_allowed Get (Found value) = true
 is_allowed Get Absent = true

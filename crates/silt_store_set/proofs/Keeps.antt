@@ -7,7 +7,7 @@ use Rattle.silt_event.specs.declared.event.Event.{Event}
 use Rattle.silt_event.specs.declared.event.Event.TheVariants.{Put, Delete, Flush, Get, Convert, Merge}
 use Rattle.silt_event.specs.declared.refusal.Refusal.TheVariants.{Failed}
 use Rattle.silt_event.specs.declared.reply.Reply.{Reply}
-use Rattle.silt_event.specs.declared.reply.Reply.TheVariants.{Accepted, Acknowledged, Found, Absent, Progress, Refused}
+use Rattle.silt_event.specs.declared.reply.Reply.TheVariants.{Accepted, Acknowledged, Found, Absent, Progress, Refused, Unsettled, NotServed}
 use Rattle.silt_event.specs.Commands.{Command, Map, map_after}
 use Rattle.silt_event.specs.Events.{Counts, accepted_command, accepted_commands, acknowledged_by, acknowledged_after, is_fault, is_failed, FailsAfterFault}
 use Rattle.silt_store_set.specs.CoreState.{CoreState, Cause, Does, Runs, LeavesNoneWaiting, StandsKept}
@@ -53,6 +53,18 @@ own_counts content failures gave old new (Get key) (Progress p) c d cause counts
 own_counts content failures gave old new Convert (Progress p) c d cause counts = omega (arith, counts)
 own_counts content failures gave old new Merge (Progress p) c d cause counts = omega (arith, counts)
 own_counts content failures gave old new event (Refused refusal) c d cause counts = omega (arith, counts, ap length (none_refused event refusal))
+own_counts content failures gave old new (Put key value) (Unsettled n) c d cause counts = absurd cause
+own_counts content failures gave old new (Put key value) NotServed c d cause counts = absurd cause
+own_counts content failures gave old new (Delete key) (Unsettled n) c d cause counts = absurd cause
+own_counts content failures gave old new (Delete key) NotServed c d cause counts = absurd cause
+own_counts content failures gave old new Flush (Unsettled n) c d cause counts = absurd cause
+own_counts content failures gave old new Flush NotServed c d cause counts = absurd cause
+own_counts content failures gave old new (Get key) (Unsettled n) c d cause counts = absurd cause
+own_counts content failures gave old new (Get key) NotServed c d cause counts = absurd cause
+own_counts content failures gave old new Convert (Unsettled n) c d cause counts = absurd cause
+own_counts content failures gave old new Convert NotServed c d cause counts = absurd cause
+own_counts content failures gave old new Merge (Unsettled n) c d cause counts = absurd cause
+own_counts content failures gave old new Merge NotServed c d cause counts = absurd cause
 
 -- more that was acknowledged before is more after
 acknowledged_more : {F : Type 0} (a b : ℕ) (replies : List (Reply F)) → a ≤ b → acknowledged_after a replies ≤ acknowledged_after b replies
@@ -63,6 +75,8 @@ acknowledged_more a b (Found v ∷ replies) less = acknowledged_more a b replies
 acknowledged_more a b (Absent ∷ replies) less = acknowledged_more a b replies less
 acknowledged_more a b (Progress p ∷ replies) less = acknowledged_more a b replies less
 acknowledged_more a b (Refused r ∷ replies) less = acknowledged_more a b replies less
+acknowledged_more a b (Unsettled n ∷ replies) less = acknowledged_more a b replies less
+acknowledged_more a b (NotServed ∷ replies) less = acknowledged_more a b replies less
 
 -- ---- runs of a failed store
 
@@ -113,6 +127,8 @@ acknowledged_one old next (Found v) settled moved counts none sum = omega arith
 acknowledged_one old next Absent settled moved counts none sum = omega arith
 acknowledged_one old next (Progress p) settled moved counts none sum = omega arith
 acknowledged_one old next (Refused r) settled moved counts none sum = omega arith
+acknowledged_one old next (Unsettled n) settled moved counts none sum = omega arith
+acknowledged_one old next NotServed settled moved counts none sum = omega arith
 
 -- a fault acknowledges nothing and adds nothing
 pub fault_adds : {F : Type 0} (event : Event) (reply : Reply F) → IsTrue (is_fault reply) → (accepted_command event reply ≡ []) × ((n : ℕ) → acknowledged_by n reply ≡ n)
@@ -121,6 +137,8 @@ fault_adds event (Acknowledged n) fault = absurd (cc)
 fault_adds event (Found v) fault = absurd (cc)
 fault_adds event Absent fault = absurd (cc)
 fault_adds event (Progress p) fault = absurd (cc)
+fault_adds event (Unsettled n) fault = absurd (cc)
+fault_adds event NotServed fault = absurd (cc)
 fault_adds event (Refused r) fault = (none_refused event r, λ n. refl)
 
 module _ {D F : Type 0} (content : D → Content) (failures : D → ℕ) (gave : D → F → Type 0) where

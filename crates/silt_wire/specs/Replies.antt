@@ -9,7 +9,7 @@ use Rattle.silt_event.specs.declared.progress.Progress.TheVariants.{Idle, Waitin
 use Rattle.silt_event.specs.declared.refusal.Refusal.{Refusal}
 use Rattle.silt_event.specs.declared.refusal.Refusal.TheVariants.{Damaged}
 use Rattle.silt_event.specs.declared.reply.Reply.{Reply}
-use Rattle.silt_event.specs.declared.reply.Reply.TheVariants.{Accepted, Acknowledged, Found, Absent, Progress, Refused}
+use Rattle.silt_event.specs.declared.reply.Reply.TheVariants.{Accepted, Acknowledged, Found, Absent, Progress, Refused, Unsettled, NotServed}
 use Rattle.silt_event.specs.Events.{refusal_label}
 use Rattle.silt_wire.specs.declared.line.LineFault.{LineFault}
 use Rattle.silt_wire.specs.declared.line.LineFault.TheVariants.{BadLine, BadKey, BadValue, LineTooLong, NoMemory}
@@ -40,15 +40,6 @@ progress_text Waiting = codes "waiting"
 progress_text Moved = codes "moved"
 progress_text Finished = codes "finished"
 
--- a reply as one line, without its line feed
-abbrev pub reply_text : {F : Type 0} → Reply F → List ℕ
-reply_text (Accepted n) = codes "accepted " ++ decimal n
-reply_text (Acknowledged n) = codes "acknowledged " ++ decimal n
-reply_text (Found value) = codes "value " ++ encode_lower value
-reply_text Absent = codes "absent"
-reply_text (Progress progress) = progress_text progress
-reply_text (Refused refusal) = codes "refused " ++ refusal_text refusal
-
 -- the number and the name of a line's fault in texts
 abbrev pub fault_label : LineFault → ℕ × List ℕ
 fault_label BadLine = (20, codes "BadLine")
@@ -60,6 +51,17 @@ fault_label NoMemory = (6, codes "NoMemory")
 -- the reply to a line that asks for nothing, without its line feed
 abbrev pub fault_text : LineFault → List ℕ
 fault_text fault = codes "refused " ++ label_text (fault_label fault)
+
+-- a reply as one line, without its line feed; what is not served is told as a line that asks for nothing
+abbrev pub reply_text : {F : Type 0} → Reply F → List ℕ
+reply_text (Accepted n) = codes "accepted " ++ decimal n
+reply_text (Acknowledged n) = codes "acknowledged " ++ decimal n
+reply_text (Found value) = codes "value " ++ encode_lower value
+reply_text Absent = codes "absent"
+reply_text (Progress progress) = progress_text progress
+reply_text (Refused refusal) = codes "refused " ++ refusal_text refusal
+reply_text (Unsettled n) = codes "unsettled " ++ decimal n
+reply_text NotServed = fault_text BadLine
 
 -- the reply to a line that asks for nothing, as a line
 abbrev pub fault_line : LineFault → List ℕ

@@ -89,6 +89,8 @@ pub fn print_reply<F: Drop>(alloc: Global, reply: &Reply<F>) -> Result<String, A
         Reply::Absent => String::from_str(alloc, "absent"),
         Reply::Progress(progress) => String::from_str(alloc, progress_text(*progress)),
         Reply::Refused(refusal) => print_refusal(alloc, refusal),
+        Reply::Unsettled(count) => format!(in alloc; "unsettled {count}"),
+        Reply::NotServed => print_fault(alloc, LineFault::BadLine),
     }
 }
 

@@ -31,6 +31,7 @@ pub(crate) enum Told {
     Absent,
     Progress(Progress),
     Refused(u32),
+    Other,
 }
 
 // The event that a line stands for.
@@ -106,6 +107,7 @@ fn tell_reply(reply: &Reply<MemFault>) -> Told {
         Reply::Absent => Told::Absent,
         Reply::Progress(progress) => Told::Progress(*progress),
         Reply::Refused(refusal) => Told::Refused(refusal.label().0),
+        Reply::Unsettled(_) | Reply::NotServed => Told::Other,
     }
 }
 

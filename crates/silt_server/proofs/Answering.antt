@@ -1,0 +1,48 @@
+-- Replies to gets, and the text of a want of memory.
+use Rattle.std.proofs.Common.{◌≡◌, ℕ, ◌%◌, ◌^◌, Option, Some, None, List, [], ◌∷◌, ◌++◌, ap, arith, codes, inr, subst, sym}
+use Rattle.std.specs.Prelude.{IfSome, OnOk, Result, Ok, Err}
+use Rattle.silt_wire.proofs.Streams.{Appends-append}
+use Rattle.silt_server.specs.Serving.{TellsCalls, TellsServed, head_text}
+use Rattle.std.proofs.lemmas.Fmt.{decimal_digit}
+use Rattle.std.specs.Io.KnownBytes.{Appends}
+use Rattle.silt_device.specs.Disk.{Content}
+use Rattle.silt_frame.specs.declared.key.Key.{Key}
+use Rattle.silt_event.specs.Events.{PlainReply}
+use Rattle.silt_event.specs.declared.event.Event.TheVariants.{Get}
+use Rattle.silt_event.specs.declared.refusal.Refusal.{Refusal}
+use Rattle.silt_event.specs.declared.refusal.Refusal.TheVariants.{NoMemory}
+use Rattle.silt_store_set.specs.CoreState.{CoreState}
+use Rattle.silt_server.specs.Sessions.{Finds, IsAnswer}
+use Rattle.silt_server.specs.Texts.{calls_text, listening_text, refused_text}
+
+module _ {D F : Type 0} (content : D → Content) (failures : D → ℕ) (gave : D → F → Type 0) where
+  -- what a look finds is an answer to a get
+  pub found_answers : (core : CoreState D) (key : Key) (reply : Option PlainReply) → IfSome reply (Finds content failures gave core key) → IfSome reply (IsAnswer content failures gave (Get key))
+  found_answers core key None found = found
+  found_answers core key (Some reply) found = inr (core, found)
+
+no_memory_text : (F : Type 0) → codes "refused 6 NoMemory\n" ≡ refused_text {F = F} NoMemory
+no_memory_text F = ap (λ (digits : List ℕ). (codes "refused " ++ (digits ++ codes " NoMemory")) ++ 10 ∷ []) (sym (decimal_digit 6 (search (arith))))
+
+-- by this line a want of memory is told
+pub tells_no_memory : {F : Type 0} (refusal : Refusal F) (before after : Option (List ℕ)) → refusal ≡ NoMemory → Appends before after (codes "refused 6 NoMemory\n") → Appends before after (refused_text refusal)
+tells_no_memory {F} refusal before after is told =
+    subst (λ (r : Refusal F). Appends before after (refused_text r)) (sym is) (subst (λ (text : List ℕ). Appends before after text) (no_memory_text F) told)
+
+-- the head is written by two lines
+pub head_written : {X E : Type 0} (result : Result X E) (before mid after : Option (List ℕ)) (port : ℕ) → Appends before mid (codes "opened\n")
+    → OnOk result (Appends mid after (listening_text port)) → OnOk result (Appends before after (head_text port))
+head_written (Ok x) before mid after port first second = Appends-append before mid after (codes "opened\n") (listening_text port) first second
+head_written (Err e) before mid after port first second = second
+
+-- the head is written, and then what is due at the end
+pub served_written : {T X E : Type 0} (counts : T → ℕ → ℕ → Type 0) (old new : T) (port : ℕ) (before mid after : Option (List ℕ)) (head : Result X E) (x : X) → head ≡ Ok x
+    → OnOk head (Appends before mid (head_text port)) → new ≡ old → TellsCalls counts old mid after → TellsServed counts new before after
+served_written {T} {X} {E} counts old new port before mid after head x is written same told =
+    let first = subst (λ (r : Result X E). OnOk r (Appends before mid (head_text port))) is written in (
+      port,
+      told.0,
+      told.1,
+      subst (λ (t : T). counts t told.0 told.1) (sym same) told.2,
+      Appends-append before mid after (head_text port) (calls_text (told.0 % 2 ^ 64)) first told.3,
+    )

@@ -1,0 +1,66 @@
+-- What is done for a batch of jobs.
+use Rattle.std.specs.Prelude.{◌≡◌, ◌≢◌, ℕ, List, [], ◌∷◌, length, Option, Some, None, Result, Ok, Err}
+use Rattle.silt_device.specs.Disk.{Content}
+use Rattle.silt_event.specs.declared.event.Event.TheVariants as event
+use Rattle.silt_event.specs.declared.refusal.Refusal.{Refusal}
+use Rattle.silt_event.specs.declared.reply.Reply.{Reply}
+use Rattle.silt_store_set.specs.Replies.{change_reply, flush_reply}
+use Rattle.silt_desk.specs.DeskState.{DeskState, Serves}
+use Rattle.silt_desk.specs.Notes.{plain_answer}
+use Rattle.silt_desk.specs.Seats.{SeatState}
+use Rattle.silt_desk.specs.declared.call.RecordedCall.{RecordedCall}
+use Rattle.silt_server.specs.Requests.{Answer, reply_due, reply_in}
+use Rattle.silt_server.specs.declared.job.Job.{Job}
+use Rattle.silt_server.specs.declared.job.Request.{Request}
+use Rattle.silt_server.specs.declared.job.Request.TheVariants.{Put, Delete, Flush}
+
+module _ {D F T : Type 0} (content : D → Content) (failures : D → ℕ) (gave : D → F → Type 0) (extends : T → RecordedCall → T → Type 0) (is_full takes_memory : T → Type 0) where
+  -- what is done at the desk for a request that is answered so
+  abbrev pub Performs : DeskState D T → DeskState D T → SeatState → SeatState → Request → Option Answer → Type 0
+  Performs old new seat after (Put key value) (Some answer) =
+      (told : Result ℕ (Refusal F)) × (answer ≡ plain_answer told)
+      × Serves content failures gave extends is_full takes_memory old new seat after (event.Put key value) (change_reply told)
+  Performs old new seat after (Delete key) (Some answer) =
+      (told : Result ℕ (Refusal F)) × (answer ≡ plain_answer told)
+      × Serves content failures gave extends is_full takes_memory old new seat after (event.Delete key) (change_reply told)
+  Performs old new seat after (Put key value) None = (length value ≢ old.core.shape.value_len) × (new ≡ old) × (after ≡ seat)
+  Performs old new seat after Flush None = (new ≡ old) × (after ≡ seat)
+  Performs old new seat after request answer = ⊥
+
+  -- the desk was flushed from this seat, and answered so
+  abbrev pub Flushes : DeskState D T → DeskState D T → SeatState → SeatState → Answer → Type 0
+  Flushes old new seat after answer =
+      (told : Result ℕ (Refusal F)) × (answer ≡ plain_answer told)
+      × Serves content failures gave extends is_full takes_memory old new seat after event.Flush (flush_reply told)
+
+  -- what a job asks was done at the desk, and the job has the answer
+  abbrev pub PerformsJob : SeatState → Job → Job → SeatState → Type 0
+  PerformsJob seat old new after =
+      (before : DeskState D T) × (then : DeskState D T) × Performs before then seat after old.request new.answer
+      × (new.request ≡ old.request) × (new.reply ≡ old.reply) × (new.replies ≡ old.replies)
+
+  -- the same for each job, one after the other
+  abbrev pub PerformsAll : SeatState → List Job → List Job → SeatState → Type 0
+  PerformsAll seat [] [] after = after ≡ seat
+  PerformsAll seat (x ∷ xs) (y ∷ ys) after = (mid : SeatState) × PerformsJob seat x y mid × PerformsAll mid xs ys after
+  PerformsAll seat xs ys after = ⊥
+
+-- a job has the reply that is due after this flush, and is otherwise as it was
+abbrev pub RepliesTo : Answer → Job → Job → Type 0
+RepliesTo flushed old new =
+    (reply_in new.reply ≡ reply_due old.request old.answer flushed) × (new.request ≡ old.request) × (new.answer ≡ old.answer) × (new.replies ≡ old.replies)
+
+-- the same of each job
+abbrev pub RepliesToAll : Answer → List Job → List Job → Type 0
+RepliesToAll flushed [] [] = Unit {0}
+RepliesToAll flushed (x ∷ xs) (y ∷ ys) = RepliesTo flushed x y × RepliesToAll flushed xs ys
+RepliesToAll flushed xs ys = ⊥
+
+module _ {D F T : Type 0} (content : D → Content) (failures : D → ℕ) (gave : D → F → Type 0) (extends : T → RecordedCall → T → Type 0) (is_full takes_memory : T → Type 0) where
+  -- each job was done at the desk in order, then the desk was flushed once from the same seat, and each job has the reply due after that
+  abbrev pub ServesBatch : SeatState → List Job → List Job → SeatState → Type 0
+  ServesBatch seat old new after =
+      (done : List Job) × (mid : SeatState) × (flushed : Answer) × (before : DeskState D T) × (then : DeskState D T)
+      × PerformsAll content failures gave extends is_full takes_memory seat old done mid
+      × Flushes content failures gave extends is_full takes_memory before then mid after flushed
+      × RepliesToAll flushed done new

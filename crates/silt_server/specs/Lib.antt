@@ -1,0 +1,5 @@
+pub mod Requests
+pub mod Batches
+pub mod Serving
+pub mod Sessions
+pub mod Texts

@@ -1,0 +1,43 @@
+-- What is asked of the writer, and which reply is due.
+use Rattle.std.specs.Prelude.{ℕ, Option, Some, None, Result, Ok, Err}
+use Rattle.silt_event.specs.Events.{PlainReply}
+use Rattle.silt_event.specs.declared.event.Event.{Event}
+use Rattle.silt_event.specs.declared.event.Event.TheVariants as event
+use Rattle.silt_event.specs.declared.refusal.Refusal.{Refusal}
+use Rattle.silt_event.specs.declared.reply.Reply.TheVariants.{Accepted, Acknowledged, Refused, Unsettled}
+use Rattle.silt_inbox.specs.declared.answered.Answered.{Answered}
+use Rattle.silt_server.specs.declared.job.Request.{Request}
+use Rattle.silt_server.specs.declared.job.Request.TheVariants.{Put, Delete, Flush}
+
+-- what the desk answers a command or a flush, without its fault
+abbrev pub Answer : Type 0
+Answer = Result ℕ (Refusal (Unit {0}))
+
+-- the event that is asked for
+abbrev pub event_of : Request → Event
+event_of (Put key value) = event.Put key value
+event_of (Delete key) = event.Delete key
+event_of Flush = event.Flush
+
+-- the reply to a flush that was answered so
+abbrev pub acknowledged : Answer → PlainReply
+acknowledged (Ok n) = Acknowledged n
+acknowledged (Err refusal) = Refused refusal
+
+-- the reply to a command that was answered so, by what the flush after it was answered: an accepted one that was not flushed is unsettled
+abbrev pub changed : Answer → Answer → PlainReply
+changed (Err refusal) flushed = Refused refusal
+changed (Ok n) (Ok m) = Accepted n
+changed (Ok n) (Err refusal) = Unsettled n
+
+-- the reply that is due to a request, by its own answer and that of its batch's flush: none to a command that was not done
+abbrev pub reply_due : Request → Option Answer → Answer → Option PlainReply
+reply_due Flush answer flushed = Some (acknowledged flushed)
+reply_due (Put key value) (Some answer) flushed = Some (changed answer flushed)
+reply_due (Delete key) (Some answer) flushed = Some (changed answer flushed)
+reply_due request None flushed = None
+
+-- the reply in a message
+abbrev pub reply_in : Option Answered → Option PlainReply
+reply_in None = None
+reply_in (Some answered) = Some answered.reply

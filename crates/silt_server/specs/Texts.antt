@@ -1,0 +1,18 @@
+-- What a server writes.
+use Rattle.std.specs.Prelude.{ℕ, List, [], ◌∷◌, ◌++◌, codes}
+use Rattle.std.specs.Fmt.{decimal}
+use Rattle.silt_event.specs.declared.refusal.Refusal.{Refusal}
+use Rattle.silt_event.specs.declared.reply.Reply.TheVariants.{Refused}
+use Rattle.silt_wire.specs.Replies.{reply_text}
+
+-- at which port connections are waited for
+abbrev pub listening_text : ℕ → List ℕ
+listening_text port = codes "listening " ++ (decimal port ++ codes "\n")
+
+-- how many calls are recorded
+abbrev pub calls_text : ℕ → List ℕ
+calls_text calls = codes "calls " ++ (decimal calls ++ codes "\n")
+
+-- why nothing is served
+abbrev pub refused_text : {F : Type 0} → Refusal F → List ℕ
+refused_text refusal = reply_text (Refused refusal) ++ 10 ∷ []

@@ -1,0 +1,112 @@
+// The reply to one event of a session.
+ghost use Rattle.std.specs.Prelude.{◌≡◌, ◌≢◌, true, IfSome, IfNone, vec_len};
+ghost use Rattle.silt_device.specs.Disk.{GaveAny};
+ghost use Rattle.silt_event.specs.declared.event.Event.TheVariants as event_case;
+ghost use Rattle.silt_inbox.specs.Answers.{is_allowed, kind_of};
+ghost use Rattle.silt_server.specs.Requests.{event_of};
+ghost use Rattle.silt_server.specs.Sessions.{Finds, IsAnswer};
+
+use crate::job::{Job, Request};
+use crate::places::Place;
+use silt_desk::{Desk, Naming, Shared, Trace};
+use silt_device::Disk;
+use silt_event::{Event, Refusal, Reply};
+use silt_frame::{Key, Value};
+use silt_inbox::{Answered, EventKind, Inbox, NotPutReason, Post};
+use std::alloc::Global;
+use std::sync::{Mutex, Wait};
+
+// What a look at the desk finds. None where the store's values have another length.
+fn look_up<D: Disk, T: Trace, N: Naming>(
+    desk: &Desk<D, T, N>,
+    key: &Key,
+    mut out: Vec<u8>,
+) -> Option<Reply<()>>
+    ensures found { IfSome result (Finds D.content D.failures (GaveAny D.gave) desk.now.core key.now) }
+    ensures none { IfNone result (vec_len out ≢ desk.now.core.shape.value_len) }
+{
+    if desk.geometry().value_len() as usize != out.len() {
+        return None;
+    }
+    match desk.look(key, out.as_mut_slice()) {
+        Ok((_, true)) => Some(Reply::Found(Value::new(out))),
+        Ok((_, false)) => Some(Reply::Absent),
+        Err(refusal) => Some(Reply::Refused(refusal.plain())),
+    }
+}
+
+// The reply in a message, where it answers an event of this kind.
+fn forwarded(answered: Answered, kind: EventKind) -> Option<Reply<()>>
+    ensures reply { IfSome result (λ reply. (answered.kind ≡ kind) × (reply ≡ answered.reply)) }
+    ensures allowed { IfSome result (λ reply. is_allowed kind reply ≡ true) }
+    ensures none { IfNone result (answered.kind ≢ kind) }
+{
+    if answered.kind() != kind {
+        return None;
+    }
+    Some(answered.into_reply())
+}
+
+// Puts a request into the inbox and waits for its reply. None where none comes back, or one to an event of another kind. Where memory is
+// wanted nothing is done.
+fn ask<P: Post, R: Wait>(
+    rt: &R,
+    alloc: Global,
+    inbox: &Inbox<Job, P>,
+    place: &Mutex<Place<P>>,
+    request: Request,
+) -> Option<Reply<()>>
+    ensures { IfSome result (λ reply. is_allowed (kind_of (event_of request)) reply ≡ true) }
+{
+    let kind = request.kind();
+    let Ok((to, from)) = crossbeam_channel::bounded(alloc, 1) else {
+        return Some(Reply::Refused(Refusal::NoMemory));
+    };
+    let put = inbox.put(rt, place.lock(rt).feeder(), Job::new(request, to));
+    match put {
+        Ok(()) => forwarded(from.recv(rt).ok()?, kind),
+        Err(refused) => match refused.reason {
+            NotPutReason::NoMemory => Some(Reply::Refused(Refusal::NoMemory)),
+            NotPutReason::Closed => None,
+        },
+    }
+}
+
+// Looks a key up, side by side with others. Where the buffer of its value finds no memory nothing is looked up.
+fn find<D: Disk, T: Trace, N: Naming, R: Wait>(
+    rt: &R,
+    alloc: Global,
+    shared: &Shared<D, T, N>,
+    value_len: usize,
+    key: &Key,
+) -> Option<Reply<()>>
+    ensures { IfSome result (λ reply. IsAnswer D.content D.failures (GaveAny D.gave) (event_case.Get key.now) reply) }
+{
+    let Ok(out) = vec![in alloc; 0u8; value_len] else {
+        return Some(Reply::Refused(Refusal::NoMemory));
+    };
+    let desk = shared.read(rt);
+    look_up(&*desk, key, out)
+}
+
+/// The reply to an event: gets are looked up, puts, deletes and flushes go to the writer, and steps are not served. None where no reply
+/// can be had, or none to such an event.
+pub fn answer<D: Disk, T: Trace, N: Naming, P: Post, R: Wait>(
+    rt: &R,
+    alloc: Global,
+    shared: &Shared<D, T, N>,
+    inbox: &Inbox<Job, P>,
+    value_len: usize,
+    place: &Mutex<Place<P>>,
+    event: Event,
+) -> Option<Reply<()>>
+    ensures { IfSome result (λ reply. IsAnswer D.content D.failures (GaveAny D.gave) event reply) }
+{
+    match event {
+        Event::Put(key, value) => ask(rt, alloc, inbox, place, Request::Put(key, value)),
+        Event::Delete(key) => ask(rt, alloc, inbox, place, Request::Delete(key)),
+        Event::Flush => ask(rt, alloc, inbox, place, Request::Flush),
+        Event::Get(key) => find(rt, alloc, shared, value_len, &key),
+        Event::Convert | Event::Merge => Some(Reply::NotServed),
+    }
+}

@@ -1,0 +1,103 @@
+// A batch of jobs: each is done, then all is flushed once, and then each has its reply.
+ghost use Rattle.std.specs.Prelude.{◌≡◌};
+ghost use Rattle.silt_device.specs.Disk.{GaveAny};
+ghost use Rattle.silt_desk.specs.Notes.{plain_answer};
+ghost use Rattle.silt_server.specs.Batches.{Flushes, Performs, PerformsAll, RepliesToAll, ServesBatch};
+
+use crate::job::{Job, Request, reply_after};
+use silt_desk::{Desk, Gate, Naming, Seat, Shared, Spot, Trace};
+use silt_device::Disk;
+use silt_event::Refusal;
+use std::alloc::Global;
+use std::sync::Wait;
+
+// An answer without its fault.
+fn plain<F: Drop>(answer: Result<u64, Refusal<F>>) -> Result<u64, Refusal<()>>
+    ensures { result ≡ plain_answer answer }
+{
+    match answer {
+        Ok(count) => Ok(count),
+        Err(refusal) => Err(refusal.plain()),
+    }
+}
+
+// Does what a request asks of the desk, and tells the answer: none to a flush, which the batch does once for all of them, and to a put
+// whose value has another length than the store's.
+fn perform<D: Disk, T: Trace, N: Naming>(
+    desk: &mut Desk<D, T, N>,
+    alloc: Global,
+    seat: &mut Seat<N>,
+    request: &Request,
+) -> Option<Result<u64, Refusal<()>>>
+    ensures { Performs D.content D.failures (GaveAny D.gave) T.extends T.is_full T.takes_memory desk.old desk.new seat.old seat.new request.now result }
+{
+    match request {
+        Request::Put(key, value) => {
+            let bytes = value.as_slice();
+            if desk.geometry().value_len() as usize != bytes.len() {
+                return None;
+            }
+            Some(plain(desk.put(alloc, seat, key, bytes)))
+        }
+        Request::Delete(key) => Some(plain(desk.delete(alloc, seat, key))),
+        Request::Flush => None,
+    }
+}
+
+// Flushes, and tells the answer.
+fn flush<D: Disk, T: Trace, N: Naming>(
+    desk: &mut Desk<D, T, N>,
+    alloc: Global,
+    seat: &mut Seat<N>,
+) -> Result<u64, Refusal<()>>
+    ensures { Flushes D.content D.failures (GaveAny D.gave) T.extends T.is_full T.takes_memory desk.old desk.new seat.old seat.new result }
+{
+    plain(desk.flush(alloc, seat))
+}
+
+// Does what each job asks of the desk, in order and each under a guard of its own.
+fn perform_all<D: Disk, T: Trace, N: Naming, G: Gate, R: Wait>(
+    rt: &R,
+    alloc: Global,
+    shared: &Shared<D, T, N>,
+    seat: &mut Seat<N>,
+    gate: &G,
+    jobs: &mut Vec<Job>,
+)
+    ensures { PerformsAll D.content D.failures (GaveAny D.gave) T.extends T.is_full T.takes_memory seat.old jobs.old.items jobs.new.items seat.new }
+{
+    for job in jobs.iter_mut() {
+        gate.pass(Spot::Writer);
+        let answer = perform(&mut *shared.write(rt), alloc, seat, &job.request);
+        job.answer = answer;
+    }
+}
+
+// Writes each job its reply, by its own answer and that of the flush.
+fn reply_to_all(jobs: &mut Vec<Job>, flushed: &Result<u64, Refusal<()>>)
+    ensures { RepliesToAll flushed.now jobs.old.items jobs.new.items }
+{
+    for job in jobs.iter_mut() {
+        let reply = reply_after(&job.request, &job.answer, flushed);
+        job.reply = reply;
+    }
+}
+
+/// Does what each job asks of the desk, in order and each under a guard of its own, then flushes once, and then writes each job its
+/// reply: an accepted command's only as the flush was answered. No reply is sent yet. It takes no memory of its own.
+pub fn serve_batch<D: Disk, T: Trace, N: Naming, G: Gate, R: Wait>(
+    rt: &R,
+    alloc: Global,
+    shared: &Shared<D, T, N>,
+    seat: &mut Seat<N>,
+    gate: &G,
+    jobs: &mut Vec<Job>,
+)
+    ensures number { seat.new.number ≡ seat.old.number }
+    ensures batch { ServesBatch D.content D.failures (GaveAny D.gave) T.extends T.is_full T.takes_memory seat.old jobs.old.items jobs.new.items seat.new }
+{
+    perform_all(rt, alloc, shared, seat, gate, jobs);
+    gate.pass(Spot::Writer);
+    let flushed = flush(&mut *shared.write(rt), alloc, seat);
+    reply_to_all(jobs, &flushed);
+}

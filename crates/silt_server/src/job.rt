@@ -1,0 +1,104 @@
+// What goes from the sessions to the writer.
+ghost use Rattle.std.specs.Prelude.{◌≡◌, None, option_map};
+ghost use Rattle.silt_inbox.specs.Answers.{kind_of};
+ghost use Rattle.silt_server.specs.Requests.{acknowledged, changed, event_of, reply_due, reply_in};
+
+use crossbeam_channel::Sender;
+use silt_event::{Refusal, Reply};
+use silt_frame::{Key, Value};
+use silt_inbox::{Answered, EventKind};
+use std::sync::Wait;
+
+/// What a session asks of the writer.
+#[derive(Drop)]
+pub enum Request {
+    Put(Key, Value),
+    Delete(Key),
+    Flush,
+}
+
+impl Request {
+    /// The kind of the event that is asked for.
+    pub fn kind(&self) -> EventKind
+        ensures { result ≡ kind_of (event_of self.now) }
+    {
+        match self {
+            Request::Put(_, _) => EventKind::Put,
+            Request::Delete(_) => EventKind::Delete,
+            Request::Flush => EventKind::Flush,
+        }
+    }
+}
+
+/// A request on its way: what the desk answered it, the reply that is then due, and where the reply goes.
+#[derive(Drop)]
+pub struct Job {
+    pub request: Request,
+    pub answer: Option<Result<u64, Refusal<()>>>,
+    pub reply: Option<Answered>,
+    pub replies: Sender<Answered>,
+}
+
+impl Job {
+    /// A request for which nothing is done yet.
+    pub fn new(request: Request, replies: Sender<Answered>) -> Job
+        ensures request { (result.request ≡ request) × (result.replies ≡ replies) }
+        ensures none { (result.answer ≡ None) × (result.reply ≡ None) }
+    {
+        Job {
+            request,
+            answer: None,
+            reply: None,
+            replies,
+        }
+    }
+
+    /// Sends the reply, if there is one. Where there is none, its receiver is told so by the end of the channel.
+    pub(crate) fn send<R: Wait>(self, rt: &R) {
+        let Job {
+            request: _,
+            answer: _,
+            reply,
+            replies,
+        } = self;
+        if let Some(answered) = reply {
+            let _ = replies.send(rt, answered); // the session may have ended
+        }
+    }
+}
+
+/// The reply to a request that the desk answered so, once the flush of its batch was answered so.
+pub(crate) fn reply_after(
+    request: &Request,
+    answer: &Option<Result<u64, Refusal<()>>>,
+    flushed: &Result<u64, Refusal<()>>,
+) -> Option<Answered>
+    ensures { reply_in result ≡ reply_due request.now answer.now flushed.now }
+{
+    let reply = match request {
+        Request::Flush => acknowledged(flushed),
+        Request::Put(_, _) | Request::Delete(_) => changed(answer.as_ref()?, flushed),
+    };
+    Some(Answered::new(request.kind(), reply))
+}
+
+// The reply to a command that was answered so, by what the flush after it was answered.
+fn changed(answer: &Result<u64, Refusal<()>>, flushed: &Result<u64, Refusal<()>>) -> Reply<()>
+    ensures { result ≡ changed answer.now flushed.now }
+{
+    match (answer, flushed) {
+        (Ok(count), Ok(_)) => Reply::Accepted(*count),
+        (Ok(count), Err(_)) => Reply::Unsettled(*count),
+        (Err(refusal), _) => Reply::Refused(*refusal),
+    }
+}
+
+// The reply to a flush that was answered so.
+fn acknowledged(flushed: &Result<u64, Refusal<()>>) -> Reply<()>
+    ensures { result ≡ acknowledged flushed.now }
+{
+    match flushed {
+        Ok(count) => Reply::Acknowledged(*count),
+        Err(refusal) => Reply::Refused(*refusal),
+    }
+}

@@ -1,0 +1,89 @@
+// The places of the sessions.
+ghost use Rattle.std.specs.Prelude.{◌≡◌, ◌<◌, true, false, not, length, IfSome};
+
+use silt_inbox::{Feeder, Post};
+use std::alloc::{AllocError, Global};
+use std::mem;
+use std::net::TcpStream;
+use std::sync::{Mutex, Wait};
+
+/// The place of one session: with what it puts its jobs, whether a session has it, and the connection that waits for its thread.
+#[derive(Drop)]
+pub struct Place<P: Post> {
+    feeder: Feeder<P>,
+    is_taken: bool,
+    stream: Option<TcpStream>,
+}
+
+impl<P: Post> Place<P> {
+    // Takes the place, and answers whether it was free.
+    fn take(&mut self) -> bool
+        ensures taken { self.new.is_taken ≡ true }
+        ensures free { result ≡ not self.old.is_taken }
+        ensures feeder { self.new.feeder ≡ self.old.feeder }
+    {
+        let was_free = !self.is_taken;
+        self.is_taken = true;
+        was_free
+    }
+
+    /// Gives a connection to the session that will have this place.
+    pub fn connect(&mut self, stream: TcpStream)
+        ensures { (self.new.feeder ≡ self.old.feeder) × (self.new.is_taken ≡ self.old.is_taken) }
+    {
+        self.stream = Some(stream);
+    }
+
+    /// The connection that was given.
+    pub fn connection(&mut self) -> Option<TcpStream>
+        ensures { (self.new.feeder ≡ self.old.feeder) × (self.new.is_taken ≡ self.old.is_taken) }
+    {
+        mem::replace(&mut self.stream, None)
+    }
+
+    /// Gives the place back, with its feeder. A connection that still waits is closed.
+    pub fn leave(&mut self)
+        ensures free { self.new.is_taken ≡ false }
+        ensures feeder { self.new.feeder ≡ self.old.feeder }
+    {
+        self.is_taken = false;
+        self.stream = None;
+    }
+
+    /// With what the session puts its jobs.
+    pub fn feeder(&mut self) -> &mut Feeder<P> {
+        &mut self.feeder
+    }
+}
+
+/// A free place for each feeder.
+///
+/// # Errors
+///
+/// Where the list finds no memory.
+pub fn places_of<P: Post>(
+    alloc: Global,
+    feeders: Vec<Feeder<P>>,
+) -> Result<Vec<Mutex<Place<P>>>, AllocError> {
+    let mut places = Vec::with_capacity(alloc, feeders.len())?;
+    for feeder in feeders {
+        places.push(Mutex::new(Place {
+            feeder,
+            is_taken: false,
+            stream: None,
+        }))?;
+    }
+    Ok(places)
+}
+
+/// The number of a place that was free, and is now taken.
+pub fn free_place<P: Post, R: Wait>(rt: &R, places: &[Mutex<Place<P>>]) -> Option<usize>
+    ensures { IfSome result (λ number. number < length places.now) }
+{
+    for number in 0..places.len() {
+        if places[number].lock(rt).take() {
+            return Some(number);
+        }
+    }
+    None
+}

@@ -1,0 +1,384 @@
+// A server on one listener.
+ghost use Rattle.std.specs.Prelude.{◌≡◌, Ok, OnOk};
+ghost use Rattle.std.specs.Io.KnownBytes.{Appends};
+ghost use Rattle.silt_desk.specs.Seeing.{seen};
+ghost use Rattle.silt_server.specs.Serving.{IsServed, TellsCalls, TellsServed, head_text};
+
+use crate::accepting::accept_clients;
+use crate::crew::Crew;
+use crate::job::Job;
+use crate::places::{Place, places_of};
+use crate::threads::{beside, write_beside};
+use crate::work::writer;
+use crate::written::{refuse, write_calls, write_listening, write_network_fault, write_opened};
+use silt_desk::{Count, Desk, Gate, Kept, Naming, Seat, Shared, Trace, converter, merger};
+use silt_device::Disk;
+use silt_event::Refusal;
+use silt_inbox::{Inbox, Post, Taker};
+use silt_store_set::Core;
+use std::alloc::Global;
+use std::io::{self, Write};
+use std::marker::Brand;
+use std::net::TcpListener;
+use std::sync::ledger::Blank;
+use std::sync::{Mutex, RwLock, Wait};
+use std::thread::Threads;
+
+/// The most sessions at once.
+const MOST_SESSIONS: u64 = 64;
+
+/// How many seats the workers have.
+const WORKERS: u64 = 3;
+
+/// Serves the store on a disk to the connections of a listener: so many sessions, or without end at 0. With `audit` every call is
+/// recorded, at most so many; without it they are counted.
+///
+/// Writes `opened` and `listening` with the listener's port, and when the last session has ended and all that the store still wanted is
+/// done `calls` with the number of recorded calls. Gives the disk back, and the status: 0 after that, 1 where nothing is served, and
+/// where the network fails.
+///
+/// # Errors
+///
+/// The writer's, and want of memory for the text of a line.
+pub fn serve_on<D: Disk, G: Gate + Sync, R: Threads + Wait + Sync, W: Write>(
+    rt: &R,
+    alloc: Global,
+    listener: &TcpListener,
+    disk: D,
+    audit: Option<u64>,
+    sessions: u32,
+    gate: &G,
+    out: &mut W,
+) -> (D, io::Result<u8>)
+    ensures served { result.1 ≡ Ok 0 → IsServed (D.content result.0) (W.contents out.old) (W.contents out.new) }
+{
+    match Core::open(alloc, disk) {
+        Ok(core) => match audit {
+            Some(most) => serve_kept(rt, alloc, listener, core, most, sessions, gate, out),
+            None => serve_counted(rt, alloc, listener, core, sessions, gate, out),
+        },
+        Err(fault) => {
+            let status = refuse(alloc, &fault.refusal, out);
+            (fault.disk, status)
+        }
+    }
+}
+
+// Serves a store whose calls are counted.
+fn serve_counted<D: Disk, G: Gate + Sync, R: Threads + Wait + Sync, W: Write>(
+    rt: &R,
+    alloc: Global,
+    listener: &TcpListener,
+    core: Core<D>,
+    sessions: u32,
+    gate: &G,
+    out: &mut W,
+) -> (D, io::Result<u8>)
+    ensures served { result.1 ≡ Ok 0 → IsServed (D.content result.0) (W.contents out.old) (W.contents out.new) }
+{
+    let trace = Count::new();
+    let blanks = Blanks::new();
+    serve_traced::<D, Count, Brand, Brand, G, R, W>(
+        rt, alloc, listener, core, trace, blanks, sessions, gate, out,
+    )
+}
+
+// Serves a store of which at most so many calls are recorded.
+fn serve_kept<D: Disk, G: Gate + Sync, R: Threads + Wait + Sync, W: Write>(
+    rt: &R,
+    alloc: Global,
+    listener: &TcpListener,
+    core: Core<D>,
+    most: u64,
+    sessions: u32,
+    gate: &G,
+    out: &mut W,
+) -> (D, io::Result<u8>)
+    ensures served { result.1 ≡ Ok 0 → IsServed (D.content result.0) (W.contents out.old) (W.contents out.new) }
+{
+    match Kept::new(alloc, &core, most) {
+        Ok(trace) => {
+            let blanks = Blanks::new();
+            serve_traced::<D, Kept, Brand, Brand, G, R, W>(
+                rt, alloc, listener, core, trace, blanks, sessions, gate, out,
+            )
+        }
+        Err(refusal) => {
+            let status = refuse(alloc, &refusal, out);
+            (core.close(), status)
+        }
+    }
+}
+
+// What becomes the ledgers of a desk and of an inbox.
+#[derive(Drop)]
+struct Blanks {
+    calls: Blank,
+    accepted: Blank,
+    put: Blank,
+    taken: Blank,
+}
+
+impl Blanks {
+    fn new() -> Blanks
+        ensures desk { (result.calls.parts ≡ 3) × (result.accepted.parts ≡ 3) }
+        ensures inbox { (result.put.parts ≡ 64) × (result.taken.parts ≡ 1) }
+    {
+        Blanks {
+            calls: Blank::new(WORKERS),
+            accepted: Blank::new(WORKERS),
+            put: Blank::new(MOST_SESSIONS),
+            taken: Blank::new(1),
+        }
+    }
+}
+
+// Serves a store with a trace of its calls.
+fn serve_traced<
+    D: Disk,
+    T: Trace + Send + Sync,
+    N: Naming + Send + Sync,
+    P: Post + Send + Sync,
+    G: Gate + Sync,
+    R: Threads + Wait + Sync,
+    W: Write,
+>(
+    rt: &R,
+    alloc: Global,
+    listener: &TcpListener,
+    core: Core<D>,
+    trace: T,
+    blanks: Blanks,
+    sessions: u32,
+    gate: &G,
+    out: &mut W,
+) -> (D, io::Result<u8>)
+    requires calls { (blanks.calls.name ≡ N.calls_name) × (blanks.calls.parts ≡ N.seats) × (N.seats ≡ 3) }
+    requires accepted { (blanks.accepted.name ≡ N.accepted_name) × (blanks.accepted.parts ≡ N.seats) }
+    requires put { (blanks.put.name ≡ P.put_name) × (blanks.put.parts ≡ P.feeders) × (P.feeders ≡ 64) }
+    requires taken { (blanks.taken.name ≡ P.taken_name) × (blanks.taken.parts ≡ 1) }
+    requires trace { T.agrees trace (seen D.content core) × T.counts trace 0 0 }
+    ensures served { result.1 ≡ Ok 0 → IsServed (D.content result.0) (W.contents out.old) (W.contents out.new) }
+{
+    let Blanks {
+        calls,
+        accepted,
+        put,
+        taken,
+    } = blanks;
+    match Desk::<D, T, N>::new(alloc, core, trace, WORKERS, calls, accepted) {
+        Ok((desk, seats)) => {
+            let Some(hall) = Hall::<N, P>::new(alloc, seats, put, taken) else {
+                let status = refuse(alloc, &Refusal::<()>::NoMemory, out);
+                return (desk.close(), status);
+            };
+            let (desk, status) = serve_desk(rt, alloc, listener, desk, hall, sessions, gate, out);
+            (desk.close(), status)
+        }
+        Err(lack) => {
+            let status = refuse(alloc, &Refusal::<()>::NoMemory, out);
+            (lack.core.close(), status)
+        }
+    }
+}
+
+// All that stands between the connections and the desk.
+#[derive(Drop)]
+pub(crate) struct Hall<N: Naming, P: Post> {
+    crew: Crew<N>,
+    inbox: Inbox<Job, P>,
+    places: Vec<Mutex<Place<P>>>,
+    taker: Taker<P>,
+}
+
+impl<N: Naming, P: Post> Hall<N, P> {
+    // With the workers on these seats. None where memory is wanted.
+    pub fn new(alloc: Global, seats: Vec<Seat<N>>, put: Blank, taken: Blank) -> Option<Hall<N, P>>
+        requires put { (put.name ≡ P.put_name) × (put.parts ≡ P.feeders) × (P.feeders ≡ 64) }
+        requires taken { (taken.name ≡ P.taken_name) × (taken.parts ≡ 1) }
+    {
+        let crew = Crew::new(alloc, seats)?;
+        let (inbox, feeders, taker) = Inbox::new(alloc, MOST_SESSIONS, put, taken).ok()?;
+        let places = places_of(alloc, feeders).ok()?;
+        Some(Hall {
+            crew,
+            inbox,
+            places,
+            taker,
+        })
+    }
+}
+
+// Serves the store of a desk, and gives it back with the status.
+pub(crate) fn serve_desk<
+    D: Disk,
+    T: Trace + Send + Sync,
+    N: Naming + Send + Sync,
+    P: Post + Send + Sync,
+    G: Gate + Sync,
+    R: Threads + Wait + Sync,
+    W: Write,
+>(
+    rt: &R,
+    alloc: Global,
+    listener: &TcpListener,
+    desk: Desk<D, T, N>,
+    hall: Hall<N, P>,
+    sessions: u32,
+    gate: &G,
+    out: &mut W,
+) -> (Desk<D, T, N>, io::Result<u8>)
+    ensures served { result.1 ≡ Ok 0 → TellsServed T.counts result.0.trace (W.contents out.old) (W.contents out.new) }
+{
+    let Ok(address) = listener.local_addr() else {
+        let status = write_network_fault(out);
+        return (desk, status);
+    };
+    if let Err(error) = write_head(alloc, address.port(), out) {
+        return (desk, Err(error));
+    }
+    let value_len = desk.geometry().value_len() as usize;
+    let shared: Shared<D, T, N> = RwLock::new(desk);
+    let served = run_threads(
+        rt, alloc, listener, &shared, hall, value_len, sessions, gate,
+    );
+    let mut desk = shared.into_inner();
+    let status = end(alloc, &mut desk, served, out);
+    (desk, status)
+}
+
+// Writes that the store is taken up, and at which port connections are waited for.
+fn write_head<W: Write>(alloc: Global, port: u16, out: &mut W) -> io::Result<()>
+    ensures { OnOk result (Appends (W.contents out.old) (W.contents out.new) (head_text port)) }
+{
+    write_opened(out)?;
+    write_listening(alloc, port, out)
+}
+
+// What comes back when the sessions have ended: the seats, and whether the listener failed.
+#[derive(Drop)]
+struct Served<N: Naming> {
+    seats: (Seat<N>, Seat<N>, Seat<N>),
+    accepted: io::Result<()>,
+}
+
+// Writes what is due when the sessions have ended, and answers the status.
+fn end<D: Disk, T: Trace, N: Naming, W: Write>(
+    alloc: Global,
+    desk: &mut Desk<D, T, N>,
+    served: Option<Served<N>>,
+    out: &mut W,
+) -> io::Result<u8>
+    ensures same { desk.new ≡ desk.old }
+    ensures calls { result ≡ Ok 0 → TellsCalls T.counts desk.old.trace (W.contents out.old) (W.contents out.new) }
+{
+    let Some(Served { seats, accepted }) = served else {
+        return refuse(alloc, &Refusal::<()>::NoMemory, out);
+    };
+    match accepted {
+        Ok(()) => write_settled(alloc, desk, seats, out),
+        Err(_) => write_network_fault(out),
+    }
+}
+
+// Writes how many calls are recorded, once all seats are given back.
+fn write_settled<D: Disk, T: Trace, N: Naming, W: Write>(
+    alloc: Global,
+    desk: &mut Desk<D, T, N>,
+    seats: (Seat<N>, Seat<N>, Seat<N>),
+    out: &mut W,
+) -> io::Result<u8>
+    ensures same { desk.new ≡ desk.old }
+    ensures calls { result ≡ Ok 0 → TellsCalls T.counts desk.old.trace (W.contents out.old) (W.contents out.new) }
+{
+    let (first, second, third) = seats;
+    let mut all = Vec::new(alloc);
+    all.push(first)?;
+    all.push(second)?;
+    all.push(third)?;
+    match desk.settle(all) {
+        Ok((calls, _)) => write_calls(alloc, calls, out),
+        Err(_) => refuse(alloc, &Refusal::<()>::NoMemory, out),
+    }
+}
+
+// The workers beside the sessions, until these have ended and all that they asked is done. None where the writer has no thread.
+fn run_threads<
+    D: Disk,
+    T: Trace + Send + Sync,
+    N: Naming + Send + Sync,
+    P: Post + Send + Sync,
+    G: Gate + Sync,
+    R: Threads + Wait + Sync,
+>(
+    rt: &R,
+    alloc: Global,
+    listener: &TcpListener,
+    shared: &Shared<D, T, N>,
+    hall: Hall<N, P>,
+    value_len: usize,
+    sessions: u32,
+    gate: &G,
+) -> Option<Served<N>> {
+    let Hall {
+        crew,
+        inbox,
+        places,
+        taker,
+    } = hall;
+    let Crew {
+        writer: seat,
+        converter: first,
+        merger: second,
+        wakes,
+        stops,
+    } = crew;
+    let inbox = &inbox;
+    let places = places.as_slice();
+    let (merged, (converted, written)) = beside(
+        rt,
+        shared,
+        move |desk: &Shared<D, T, N>| {
+            merger(
+                rt,
+                alloc,
+                desk,
+                second.seat,
+                gate,
+                second.wakes,
+                second.other,
+            )
+        },
+        move |desk: &Shared<D, T, N>| {
+            beside(
+                rt,
+                desk,
+                move |desk: &Shared<D, T, N>| {
+                    converter(rt, alloc, desk, first.seat, gate, first.wakes, first.other)
+                },
+                move |desk: &Shared<D, T, N>| {
+                    write_beside(
+                        rt,
+                        desk,
+                        inbox,
+                        move |desk: &Shared<D, T, N>| {
+                            writer(rt, alloc, desk, seat, gate, inbox, taker, wakes)
+                        },
+                        move |desk: &Shared<D, T, N>| {
+                            accept_clients(
+                                rt, alloc, listener, desk, inbox, places, value_len, sessions,
+                            )
+                        },
+                    )
+                },
+                stops.converter,
+            )
+        },
+        stops.merger,
+    );
+    let ((writer, _taker), accepted) = written?;
+    Some(Served {
+        seats: (writer, converted, merged),
+        accepted,
+    })
+}

@@ -1,0 +1,144 @@
+// What no contract says: what a client is answered over a socket, and what threads do side by side.
+
+mod broken;
+mod crowd;
+mod held;
+mod lines;
+mod looks;
+mod record;
+
+use crate::serve_on;
+use silt_desk::{Gate, Spot};
+use silt_device::{Disk, Geometry, MemDisk};
+use silt_recovery::format;
+use std::alloc::Global;
+use std::io::{self, Read, Write};
+use std::net::{Net, Shutdown, SocketAddr, TcpListener, TcpStream};
+use std::sync::Wait;
+use std::sync::atomic::{AtomicU64, Ordering};
+use std::test::Fail;
+use std::thread::{self, Threads};
+use std::time::{Clock, Duration};
+
+/// A gate that is always open.
+#[derive(Drop)]
+pub(crate) struct Open;
+
+impl Gate for Open {
+    fn pass(&self, _spot: Spot) {}
+}
+
+// An empty store with this geometry on a disk in memory.
+pub(crate) fn formatted(alloc: Global, geometry: Geometry) -> Result<MemDisk, Fail> {
+    let disk = MemDisk::new(alloc, geometry.size() as usize)?;
+    Ok(format(alloc, disk, geometry).ok().ok_or("formats")?)
+}
+
+// An empty store with values of two bytes, two buckets and four rows a log.
+pub(crate) fn small(alloc: Global) -> Result<MemDisk, Fail> {
+    let geometry = Geometry::new(2, 2, 4, 2, 2, 8).ok().ok_or("in limits")?;
+    formatted(alloc, geometry)
+}
+
+/// What a server and its clients gave.
+#[derive(Drop)]
+pub(crate) struct Ended<D: Disk, X: Drop> {
+    pub disk: D,
+    pub status: u8,
+    pub written: Vec<u8>,
+    pub got: X,
+}
+
+// A server of so many sessions in one thread, and its clients in another, until both are done.
+pub(crate) fn serve_beside<
+    D: Disk,
+    G: Gate + Sync,
+    X: Drop,
+    C: FnOnce(SocketAddr) -> X,
+    R: Net<Listener = TcpListener, Stream = TcpStream> + Threads + Wait + Sync,
+>(
+    rt: &R,
+    alloc: Global,
+    disk: D,
+    audit: Option<u64>,
+    sessions: u32,
+    gate: &G,
+    clients: C,
+) -> Result<Ended<D, X>, Fail>
+    requires { C.IsAlwaysCallable clients }
+{
+    let listener = TcpListener::bind(rt, ("127.0.0.1", 0u16))?;
+    let addr = listener.local_addr()?;
+    let mut written = Vec::new(alloc);
+    let (served, got) = thread::join(
+        rt,
+        || serve_on(
+            rt,
+            alloc,
+            &listener,
+            disk,
+            audit,
+            sessions,
+            gate,
+            &mut written,
+        ),
+        move || -> X
+            requires { C.IsAlwaysCallable clients }
+        { clients(addr) },
+    );
+    let (disk, status) = served;
+    Ok(Ended {
+        disk,
+        status: status?,
+        written,
+        got,
+    })
+}
+
+// All that one connection is answered to these lines, until the server closes it.
+pub(crate) fn ask<R: Net<Stream = TcpStream>>(
+    rt: &R,
+    alloc: Global,
+    addr: SocketAddr,
+    lines: &[u8],
+) -> io::Result<Vec<u8>> {
+    let mut stream = TcpStream::connect(rt, addr)?;
+    stream.write_all(lines)?;
+    stream.shutdown(Shutdown::Write)?;
+    let mut got = Vec::new(alloc);
+    stream.read_to_end(&mut got)?;
+    Ok(got)
+}
+
+// The next line that is answered, with its line feed, or what there is of it where the connection ends.
+pub(crate) fn read_line(alloc: Global, stream: &mut TcpStream) -> io::Result<Vec<u8>> {
+    let mut line = Vec::new(alloc);
+    let mut byte = [0u8; 1];
+    for _ in 0..20_000u32 {
+        if stream.read(&mut byte)? == 0 {
+            break;
+        }
+        line.push(byte[0])?;
+        if byte[0] == b'\n' {
+            break;
+        }
+    }
+    Ok(line)
+}
+
+// Asks one line, and gives the line that is answered.
+pub(crate) fn ask_line(alloc: Global, stream: &mut TcpStream, line: &[u8]) -> io::Result<Vec<u8>> {
+    stream.write_all(line)?;
+    read_line(alloc, stream)
+}
+
+// Waits until the word is at least so much, for at most a million turns.
+pub(crate) fn reaches<R: Clock>(rt: &R, word: &AtomicU64, least: u64) -> bool {
+    for _ in 0..1_000_000u32 {
+        if word.load(Ordering::SeqCst) >= least {
+            return true;
+        }
+        thread::sleep(rt, Duration::from_micros(10));
+    }
+    false
+}

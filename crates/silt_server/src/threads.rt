@@ -1,0 +1,91 @@
+// The threads of a server.
+ghost use Rattle.std.specs.Prelude.{◌≡◌};
+
+use crate::job::Job;
+use crossbeam_channel::Sender;
+use silt_desk::Wake;
+use silt_inbox::{Inbox, Post};
+use std::sync::Wait;
+use std::thread;
+use std::thread::Threads;
+
+/// Two calls on one value, by two threads, until both are done. Where no thread can be made the first call is made last.
+fn join_over<S: Sync, X: Send, Y, A: FnOnce(&S) -> X + Send, B: FnOnce(&S) -> Y, R: Threads>(
+    rt: &R,
+    shared: &S,
+    first: A,
+    second: B,
+) -> (X, Y)
+    requires first { A.IsAlwaysCallable first }
+    requires second { B.IsAlwaysCallable second }
+{
+    thread::join(
+        rt,
+        move || -> X
+            requires { A.IsAlwaysCallable first }
+        { first(shared) },
+        move || -> Y
+            requires { B.IsAlwaysCallable second }
+        { second(shared) },
+    )
+}
+
+/// A worker beside other work, until it is done. Then the worker is stopped, and its seat comes back too.
+pub fn beside<
+    S: Sync,
+    X: Send,
+    Y,
+    A: FnOnce(&S) -> X + Send,
+    B: FnOnce(&S) -> Y,
+    R: Threads + Wait + Sync,
+>(rt: &R, shared: &S, worker: A, work: B, stop: Sender<Wake>) -> (X, Y)
+    requires worker { A.IsAlwaysCallable worker }
+    requires work { B.IsAlwaysCallable work }
+{
+    join_over(
+        rt,
+        shared,
+        worker,
+        move |shared: &S| -> Y
+            requires { B.IsAlwaysCallable work }
+        {
+            let done = work(shared);
+            let _ = stop.send(rt, Wake::Stop); // the worker may have ended
+            done
+        },
+    )
+}
+
+/// The writer in a thread of its own beside the sessions, until they have ended. Then the inbox is closed, and the writer ends when it
+/// is empty. None where the writer's thread cannot be started, and then there are no sessions.
+pub fn write_beside<
+    S: Sync,
+    P: Post + Send + Sync,
+    X: Send + Drop,
+    Y,
+    A: FnOnce(&S) -> X + Send + Drop,
+    B: FnOnce(&S) -> Y,
+    R: Threads + Wait + Sync,
+>(rt: &R, shared: &S, inbox: &Inbox<Job, P>, writer: A, sessions: B) -> Option<(X, Y)>
+    requires writer { A.IsAlwaysCallable writer }
+    requires sessions { B.IsAlwaysCallable sessions }
+{
+    thread::scope(
+        thread::scope_env(),
+        rt,
+        move |scope| -> Option<(X, Y)>
+            requires { A.IsAlwaysCallable writer × B.IsAlwaysCallable sessions }
+        {
+            let Ok(handle) = scope.spawn(
+                move || -> X
+                    requires { A.IsAlwaysCallable writer }
+                { writer(shared) },
+            ) else {
+                return None;
+            };
+            let ended = sessions(shared);
+            inbox.close(rt);
+            Some((handle.join(rt), ended))
+        },
+    )
+}

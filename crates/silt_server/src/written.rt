@@ -1,0 +1,69 @@
+// What a server writes.
+ghost use Rattle.std.specs.Prelude.{◌≡◌, OnOk, IfOk, codes};
+ghost use Rattle.std.specs.Io.KnownBytes.{Appends};
+ghost use Rattle.silt_server.specs.Texts.{calls_text, listening_text, refused_text};
+
+use silt_event::Refusal;
+use silt_wire::write_refusal;
+use std::alloc::Global;
+use std::io::{self, Write};
+
+/// Writes that the store is taken up.
+pub fn write_opened<W: Write>(out: &mut W) -> io::Result<()>
+    ensures { OnOk result (Appends (W.contents out.old) (W.contents out.new) (codes "opened\n")) }
+{
+    out.write_all(b"opened\n")?;
+    out.flush()
+}
+
+/// Writes at which port connections are waited for.
+pub fn write_listening<W: Write>(alloc: Global, port: u16, out: &mut W) -> io::Result<()>
+    ensures { OnOk result (Appends (W.contents out.old) (W.contents out.new) (listening_text port)) }
+{
+    let line = format!(in alloc; "listening {port}\n")?;
+    out.write_all(line.as_bytes())?;
+    out.flush()
+}
+
+/// Writes how many calls are recorded, and answers the status.
+pub fn write_calls<W: Write>(alloc: Global, calls: u64, out: &mut W) -> io::Result<u8>
+    ensures { IfOk result (λ status. (status ≡ 0) × Appends (W.contents out.old) (W.contents out.new) (calls_text calls)) }
+{
+    let line = format!(in alloc; "calls {calls}\n")?;
+    out.write_all(line.as_bytes())?;
+    out.flush()?;
+    Ok(0)
+}
+
+/// Writes that the network failed, and answers the status.
+pub fn write_network_fault<W: Write>(out: &mut W) -> io::Result<u8>
+    ensures { IfOk result (λ status. (status ≡ 1) × Appends (W.contents out.old) (W.contents out.new) (codes "network fault\n")) }
+{
+    out.write_all(b"network fault\n")?;
+    out.flush()?;
+    Ok(1)
+}
+
+/// Writes that nothing is served, and answers the status. The text of `NoMemory` takes none.
+pub fn refuse<F: Drop, W: Write>(alloc: Global, refusal: &Refusal<F>, out: &mut W) -> io::Result<u8>
+    ensures { IfOk result (λ status. (status ≡ 1) × Appends (W.contents out.old) (W.contents out.new) (refused_text refusal.now)) }
+{
+    write_refused(alloc, refusal, out)?;
+    out.flush()?;
+    Ok(1)
+}
+
+// Writes a refusal as a line. The text of `NoMemory` takes no memory.
+fn write_refused<F: Drop, W: Write>(
+    alloc: Global,
+    refusal: &Refusal<F>,
+    out: &mut W,
+) -> io::Result<()>
+    ensures { OnOk result (Appends (W.contents out.old) (W.contents out.new) (refused_text refusal.now)) }
+{
+    match refusal {
+        Refusal::NoMemory => out.write_all(b"refused 6 NoMemory\n")?,
+        _ => write_refusal(alloc, refusal, out)?,
+    }
+    Ok(())
+}
