@@ -1,16 +1,20 @@
 -- The commands of the program, as clap reads them.
-use Rattle.std.specs.Prelude.{◌≡◌, ℕ, List, [], ◌∷◌, Option, Some, None, true, codes, if◌then◌else◌, option_map, option_and_then}
+use Rattle.std.specs.Prelude.{◌≡◌, ℕ, List, [], ◌∷◌, Option, Some, None, true, codes, ◌==◌, nat_le, if◌then◌else◌, option_map, option_and_then}
 use Rattle.std.specs.Str.{bytes_eq}
 use Rattle.clap.specs.Words.{AddsSubcommand, App, Row, Rule, Text, app_of, Kinds, fault_of, first_of, new_app, new_rule, subcommand_of, with_rule, with_subcommand}
 use Rattle.clap.specs.declared.builder.Command.{Command}
 use Rattle.clap.specs.declared.builder.ArgAction.TheVariants.{Set}
 use Rattle.silt_wire.specs.Numbers.{number_of}
-use Rattle.silt_words.specs.Jobs.{Named, format, script, run, check}
+use Rattle.silt_words.specs.Jobs.{Named, Served, format, script, run, check, serve}
 use Rattle.silt_words.specs.declared.job.Numbers.{Numbers}
 
 -- a value that has to be given
 abbrev pub value_rule : Text → Rule
 value_rule name = record (new_rule name) { required = true; action = Some Set }
+
+-- an option with a value, by its long name
+abbrev pub option_rule : Text → Rule
+option_rule name = record (new_rule name) { long = Some name; action = Some Set }
 
 abbrev pub with_value : App → Text → App
 with_value app name = with_rule app (value_rule name)
@@ -23,13 +27,18 @@ abbrev pub with_numbers : App → App
 with_numbers app =
     with_value (with_value (with_value (with_value (with_value (with_value app (codes "V")) (codes "B")) (codes "CAP")) (codes "NL")) (codes "NH")) (codes "S")
 
+-- the command with two options
+abbrev pub serve_app : App
+serve_app = with_rule (with_rule (with_value (with_file (new_app (codes "serve"))) (codes "PORT")) (option_rule (codes "audit"))) (option_rule (codes "sessions"))
+
 -- the program
 abbrev pub silt : App
-silt = with_subcommand (with_subcommand (with_subcommand (with_subcommand (new_app (codes "silt"))
+silt = with_subcommand (with_subcommand (with_subcommand (with_subcommand (with_subcommand (new_app (codes "silt"))
     (with_numbers (with_file (new_app (codes "format")))).top)
     (with_numbers (new_app (codes "script"))).top)
     (with_file (new_app (codes "run"))).top)
-    (with_file (new_app (codes "check"))).top
+    (with_file (new_app (codes "check"))).top)
+    serve_app.top
 
 -- the command joins others as this one
 abbrev pub JoinsAs : App → Command → Type 0
@@ -52,6 +61,30 @@ numbers_in rows =
 abbrev pub file_in : List Row → Option Text
 file_in rows = first_of (codes "FILE") rows
 
+-- the number that a text spells, which may not be given
+abbrev pub number_given : Option Text → Option (Option ℕ)
+number_given None = Some None
+number_given (Some text) = option_map (λ number. Some number) (number_of text)
+
+-- the number of an option: none where the option is not given
+abbrev pub option_in : List Row → Text → Option (Option ℕ)
+option_in rows name = number_given (first_of name rows)
+
+-- the port, of at most 65,535
+abbrev pub port_in : List Row → Option ℕ
+port_in rows = option_and_then (λ port. if nat_le port 65535 then Some port else None) (number_in rows (codes "PORT"))
+
+-- the number of sessions that a server ends after: 0 says that it does not end
+abbrev pub sessions_in : List Row → Option (Option ℕ)
+sessions_in rows = option_map (option_and_then (λ sessions. if sessions == 0 then None else Some sessions)) (option_in rows (codes "sessions"))
+
+-- how a file is to be served
+abbrev pub service_in : List Row → Option Served
+service_in rows =
+    option_and_then (λ file. option_and_then (λ port. option_and_then (λ audit. option_map (λ sessions.
+    record { file = file; port = port; audit = audit; sessions = sessions })
+    (sessions_in rows)) (option_in rows (codes "audit"))) (port_in rows)) (file_in rows)
+
 -- the job of the command that was met
 abbrev pub job_in : Text → List Row → Option Named
 job_in name rows =
@@ -59,6 +92,7 @@ job_in name rows =
     else if bytes_eq name (codes "script") then option_map script (numbers_in rows)
     else if bytes_eq name (codes "run") then option_map run (file_in rows)
     else if bytes_eq name (codes "check") then option_map check (file_in rows)
+    else if bytes_eq name (codes "serve") then option_map serve (service_in rows)
     else None
 
 -- the job of the command that was met, if one was

@@ -12,6 +12,18 @@ pub struct Numbers {
     pub sorted_capacity: u32,
 }
 
+/// How the store in a file is to be served.
+#[derive(Clone, Copy, Debug)]
+pub struct Service<'a> {
+    pub file: &'a str,
+    /// The port to listen on. For 0 the system chooses one.
+    pub port: u16,
+    /// How many calls the record keeps at most, where one is kept.
+    pub audit: Option<u32>,
+    /// How many sessions the server ends after, at least one, where it ends.
+    pub sessions: Option<u32>,
+}
+
 /// What the words ask for.
 #[derive(Clone, Copy, Debug)]
 pub enum Job<'a> {
@@ -23,6 +35,8 @@ pub enum Job<'a> {
     Run { file: &'a str },
     /// Tells what the store in a file consists of.
     Check { file: &'a str },
+    /// Answers the sessions of a port over the store in a file.
+    Serve(Service<'a>),
 }
 
 /// Why the words name no job.

@@ -1,12 +1,12 @@
 // The words of the command line.
 ghost use Rattle.std.specs.Prelude.{◌≡◌, Some, None, MatchResult, map, option_map, string_bytes};
 ghost use Rattle.clap.specs.Words.{found_of, rows_of, subcommand_rows_of};
-ghost use Rattle.silt_words.specs.Commands.{file_in, job_in, job_met, job_named, number_in, numbers_in};
-ghost use Rattle.silt_words.specs.Jobs.{named};
+ghost use Rattle.silt_words.specs.Commands.{file_in, job_in, job_met, job_named, number_in, numbers_in, option_in, port_in, service_in, sessions_in};
+ghost use Rattle.silt_words.specs.Jobs.{named, served};
 ghost use Rattle.silt_words.specs.declared.job.WordsError.TheVariants.{Usage};
 
 use crate::command::command;
-use crate::job::{Job, Numbers, WordsError};
+use crate::job::{Job, Numbers, Service, WordsError};
 use clap::ArgMatches;
 use clap::error::ErrorKind;
 use silt_wire::number_of;
@@ -37,6 +37,43 @@ fn file_of<'a>(matches: &ArgMatches<'a>) -> Option<&'a str>
     matches.get_str("FILE")
 }
 
+fn port_of(matches: &ArgMatches<'_>) -> Option<u16>
+    ensures { result ≡ port_in (rows_of (found_of matches.now)) }
+{
+    u16::try_from(number_at(matches, "PORT")?).ok()
+}
+
+// The number of an option, which may not be given.
+fn option_at(matches: &ArgMatches<'_>, name: &str) -> Option<Option<u32>>
+    ensures { result ≡ option_in (rows_of (found_of matches.now)) name.now }
+{
+    match matches.get_str(name) {
+        Some(text) => Some(Some(number_of(text.as_bytes())?)),
+        None => Some(None),
+    }
+}
+
+// After how many sessions the server is to end, which 0 says of none.
+fn sessions_of(matches: &ArgMatches<'_>) -> Option<Option<u32>>
+    ensures { result ≡ sessions_in (rows_of (found_of matches.now)) }
+{
+    match option_at(matches, "sessions")? {
+        Some(0) => Some(None),
+        sessions => Some(sessions),
+    }
+}
+
+fn service_of<'a>(matches: &ArgMatches<'a>) -> Option<Service<'a>>
+    ensures { option_map served result ≡ service_in (rows_of (found_of matches.now)) }
+{
+    Some(Service {
+        file: file_of(matches)?,
+        port: port_of(matches)?,
+        audit: option_at(matches, "audit")?,
+        sessions: sessions_of(matches)?,
+    })
+}
+
 fn job_of<'a>(name: &str, matches: &ArgMatches<'a>) -> Option<Job<'a>>
     ensures { option_map named result ≡ job_in name.now (rows_of (found_of matches.now)) }
 {
@@ -53,6 +90,7 @@ fn job_of<'a>(name: &str, matches: &ArgMatches<'a>) -> Option<Job<'a>>
         "check" => Some(Job::Check {
             file: file_of(matches)?,
         }),
+        "serve" => Some(Job::Serve(service_of(matches)?)),
         _ => None,
     }
 }

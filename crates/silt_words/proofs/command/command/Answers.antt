@@ -1,7 +1,7 @@
 use Rattle.std.proofs.Common.{◌∙◌, ap, codes}
 use Rattle.std.proofs.lemmas.Result.{IfOk-weaker}
 use Rattle.clap.specs.Words.{App, new_app, with_subcommand}
-use Rattle.silt_words.specs.Commands.{with_file, with_numbers}
+use Rattle.silt_words.specs.Commands.{serve_app, with_file, with_numbers}
 use Rattle.silt_words.proofs.command.command.Goals as goal
 
 pub returns : goal.returns
@@ -13,4 +13,5 @@ returns c =
     let one = c.in_ok-format.ensures _ _ c.in_ok-subcommand.ensures ∙ ap (λ (app : App). with_subcommand app format.top) c.new.ensures.app in
     let two = c.in_ok-script.ensures _ _ c.in_ok-subcommand-2.ensures ∙ ap (λ (app : App). with_subcommand app script.top) one in
     let three = c.in_ok-on_file.ensures _ _ c.in_ok-subcommand-3.ensures ∙ ap (λ (app : App). with_subcommand app run.top) two in
-    IfOk-weaker c.subcommand-4.result _ _ (λ made adds. c.in_ok-on_file-2.ensures _ _ adds ∙ ap (λ (app : App). with_subcommand app check.top) three) c.subcommand-4.ensures
+    let four = c.in_ok-on_file-2.ensures _ _ c.in_ok-subcommand-4.ensures ∙ ap (λ (app : App). with_subcommand app check.top) three in
+    IfOk-weaker c.subcommand-5.result _ _ (λ made adds. c.in_ok-serve.ensures _ _ adds ∙ ap (λ (app : App). with_subcommand app serve_app.top) four) c.subcommand-5.ensures
