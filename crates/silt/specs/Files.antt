@@ -4,6 +4,7 @@ use Rattle.std.specs.Option.{IsSomeAnd}
 use Rattle.silt_device.specs.Disk.{Content, size}
 use Rattle.silt_device.specs.Layout.{InLimits, Shape, device_size}
 use Rattle.silt_event.specs.declared.refusal.Refusal.TheVariants.{BadGeometry, Device}
+use Rattle.silt_server.specs.Serving.{IsServed}
 use Rattle.silt_wire.specs.declared.sessions.SessionEnd.TheVariants.{End}
 use Rattle.silt.specs.Jobs.{BreaksRun, EndsCheck, EndsFormat, EndsRun, Tells, TellsCheck, TellsFormat, TellsOpening}
 
@@ -33,6 +34,14 @@ module _ {D F E : Type 0} (content : D → Content) (gave : D → F → Type 0) 
 -- the report of a disk that the source opened was written, and the disk is given back
 abbrev pub ChecksFile : {D : Type 0} → (D → Content) → (D → Type 0) → Option D → Option (List ℕ) → Option (List ℕ) → Type 0
 ChecksFile {D} content Opened given before after = (disk : D) × Opened disk × (given ≡ Some disk) × EndsCheck content disk before after
+
+-- a disk that the source opened was served, and is given back
+abbrev pub ServesFile : {D : Type 0} → (D → Content) → (D → Type 0) → Option D → Option (List ℕ) → Option (List ℕ) → Type 0
+ServesFile {D} content Opened given before after = (old : D) × Opened old × IsSomeAnd given (λ new. IsServed (content new) before after)
+
+-- of what is written where nothing is served, or the network failed, nothing is said
+abbrev pub TellsServeFile : Type 0
+TellsServeFile = Unit {0}
 
 -- a disk that the source made at exactly the length of this shape is an empty store, and is given back
 abbrev pub FormatsFile : {D : Type 0} → (D → Content) → (ℕ → D → Type 0) → Shape → Option D → Option (List ℕ) → Option (List ℕ) → Type 0

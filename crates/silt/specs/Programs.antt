@@ -5,10 +5,10 @@ use Rattle.silt_device.specs.Disk.{Content}
 use Rattle.silt_words.specs.Commands.{job_named}
 use Rattle.silt_words.specs.Jobs.{named}
 use Rattle.silt_words.specs.declared.job.Job.{Job}
-use Rattle.silt_words.specs.declared.job.Job.TheVariants.{Format, Script, Run, Check}
+use Rattle.silt_words.specs.declared.job.Job.TheVariants.{Format, Script, Run, Check, Serve}
 use Rattle.silt_words.specs.declared.job.WordsError.{WordsError}
 use Rattle.silt_words.specs.declared.job.WordsError.TheVariants.{Usage, NoMemory}
-use Rattle.silt.specs.Files.{ChecksFile, FormatsFile, RunsFile, TellsCheckFile, TellsFormatFile, TellsRunFile}
+use Rattle.silt.specs.Files.{ChecksFile, FormatsFile, RunsFile, ServesFile, TellsCheckFile, TellsFormatFile, TellsRunFile, TellsServeFile}
 use Rattle.silt.specs.Numbers.{shape_asked}
 use Rattle.silt.specs.Scripts.{EndsScript, TellsRefusal}
 
@@ -19,6 +19,7 @@ module _ {D F : Type 0} (content : D → Content) (failures : D → ℕ) (gave :
   EndsJob (Script numbers) remaining left before after = EndsScript (shape_asked numbers) remaining left before after
   EndsJob (Run file) remaining left before after = (given : Option D) × RunsFile content failures gave (Opened file.now) given remaining left before after
   EndsJob (Check file) remaining left before after = (given : Option D) × ChecksFile content (Opened file.now) given before after
+  EndsJob (Serve service) remaining left before after = (given : Option D) × ServesFile content (Opened service.file.now) given before after
 
 module _ {D F E : Type 0} (content : D → Content) (failures : D → ℕ) (gave : D → F → Type 0)
     (Opened : List ℕ → D → Type 0) (NotOpened : List ℕ → E → Type 0) (Created : List ℕ → ℕ → D → Type 0) (NotCreated : List ℕ → ℕ → E → Type 0) where
@@ -29,6 +30,7 @@ module _ {D F E : Type 0} (content : D → Content) (failures : D → ℕ) (gave
   TellsJob (Run file) remaining left before after =
       (given : Option D) × TellsRunFile content failures gave (Opened file.now) (NotOpened file.now) given remaining left before after
   TellsJob (Check file) remaining left before after = (given : Option D) × TellsCheckFile content gave (Opened file.now) (NotOpened file.now) given before after
+  TellsJob (Serve service) remaining left before after = TellsServeFile
 
 -- what is written where no job was read of the words, and the status
 abbrev pub TellsWords : WordsError → ℕ → Option (List ℕ) → Option (List ℕ) → Type 0

@@ -7,6 +7,7 @@
 //! - `silt script V B CAP NL NH S` makes an empty store of this geometry on a disk in memory, reads lines to the end, and answers
 //!   them, one reply line for each. Lines `stop K FILL` divide them into lives: at each such line the store is stopped, at the
 //!   K-th write or sync of the life that ends there, and what the stop leaves is opened again.
+//! - `silt serve FILE PORT [--audit N] [--sessions M]` serves the store in a file to the connections of a port of this machine.
 //!
 //! What is done on a file is done by functions over any source of disks, whose contracts say what is written for what the disk of
 //! the path shows. Of a disk in a file nothing is known but its length.
@@ -19,6 +20,7 @@ mod program;
 mod refusal;
 mod script;
 mod script_lines;
+mod service;
 #[cfg(test)]
 mod tests;
 mod transcript;
@@ -34,6 +36,7 @@ fn main(rt: HostRuntime) -> ExitCode {
     let mut writer = io::writer(&rt);
     let status = match own_words(&rt) {
         Ok(words) => program(
+            &rt,
             rt.alloc(),
             FileDisks::new(&rt),
             words.as_slice(),

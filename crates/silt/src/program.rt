@@ -9,15 +9,25 @@ ghost use Rattle.silt.specs.Programs.{Answers, EndsJob, NamesJob, TellsJob, Tell
 
 use crate::files::{check_file, format_file, run_file};
 use crate::script::script;
+use crate::service::serve_file;
 use silt_device::DiskSource;
 use silt_store_set::Served;
 use silt_words::{Job, WordsError, read_words};
 use std::alloc::Global;
 use std::io::{self, Read, Write};
+use std::net::{Net, TcpListener};
+use std::sync::Wait;
+use std::thread::Threads;
 
 /// Does the job that the words name, of which the first is the program's own, and answers the status: 0 where it is done, 1
 /// where it is refused or a reader or writer fails, 2 where the words name no job.
-pub fn program<S: DiskSource, R: Read, W: Write>(
+pub fn program<
+    S: DiskSource,
+    H: Net<Listener = TcpListener> + Threads + Wait + Sync,
+    R: Read,
+    W: Write,
+>(
+    rt: &H,
     alloc: Global,
     source: S,
     words: &[String],
@@ -31,7 +41,7 @@ where
         (R.remaining reader.old) (R.remaining reader.new) (W.contents writer.old) (W.contents writer.new) }
     ensures usage { result ≡ 2 → (job_named (map string_bytes words.now) ≡ None) × Appends (W.contents writer.old) (W.contents writer.new) (codes "usage\n") }
 {
-    status_of(answer(alloc, source, words, reader, writer))
+    status_of(answer(rt, alloc, source, words, reader, writer))
 }
 
 /// The status that the program ends with: 1 where its reader or writer failed.
@@ -46,7 +56,13 @@ pub fn status_of(ended: io::Result<u8>) -> u8
 /// # Errors
 ///
 /// The reader's or the writer's, and want of memory for the text of a reply.
-pub fn answer<S: DiskSource, R: Read, W: Write>(
+pub fn answer<
+    S: DiskSource,
+    H: Net<Listener = TcpListener> + Threads + Wait + Sync,
+    R: Read,
+    W: Write,
+>(
+    rt: &H,
     alloc: Global,
     source: S,
     words: &[String],
@@ -59,13 +75,19 @@ where
         (map string_bytes words.now) status (R.remaining reader.old) (R.remaining reader.new) (W.contents writer.old) (W.contents writer.new)) }
 {
     match read_words(alloc, words) {
-        Ok(job) => do_job(alloc, source, job, reader, writer),
+        Ok(job) => do_job(rt, alloc, source, job, reader, writer),
         Err(error) => refuse_words(error, writer),
     }
 }
 
 // Does a job, and answers the status.
-fn do_job<S: DiskSource, R: Read, W: Write>(
+fn do_job<
+    S: DiskSource,
+    H: Net<Listener = TcpListener> + Threads + Wait + Sync,
+    R: Read,
+    W: Write,
+>(
+    rt: &H,
     alloc: Global,
     source: S,
     job: Job<'_>,
@@ -84,6 +106,7 @@ where
         Job::Script(numbers) => script(alloc, &numbers, reader, writer),
         Job::Run { file } => run_file(alloc, source, file, reader, writer).1,
         Job::Check { file } => check_file(alloc, source, file, writer).1,
+        Job::Serve(service) => serve_file(rt, alloc, source, &service, writer).1,
     }
 }
 

@@ -26,5 +26,5 @@ mod written;
 
 pub use batch::serve_batch;
 pub use job::{Job, Request};
-pub use serve::serve_on;
+pub use serve::{refuse_network, serve_on};
 pub use work::{Wakes, writer};

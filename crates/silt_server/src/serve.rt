@@ -1,5 +1,5 @@
 // A server on one listener.
-ghost use Rattle.std.specs.Prelude.{◌≡◌, Ok, OnOk};
+ghost use Rattle.std.specs.Prelude.{◌≡◌, ◌++◌, Ok, IfOk, OnOk, codes};
 ghost use Rattle.std.specs.Io.KnownBytes.{Appends};
 ghost use Rattle.silt_desk.specs.Seeing.{seen};
 ghost use Rattle.silt_server.specs.Serving.{IsServed, TellsCalls, TellsServed, head_text};
@@ -62,6 +62,36 @@ pub fn serve_on<D: Disk, G: Gate + Sync, R: Threads + Wait + Sync, W: Write>(
             (fault.disk, status)
         }
     }
+}
+
+/// Tells that the network failed where a disk was to be served: behind `opened`, where a store stands on it. Gives the disk back, and the
+/// status.
+///
+/// # Errors
+///
+/// The writer's, and want of memory for the text of a line.
+pub fn refuse_network<D: Disk, W: Write>(
+    alloc: Global,
+    disk: D,
+    out: &mut W,
+) -> (D, io::Result<u8>)
+    ensures { IfOk result.1 (λ status. status ≡ 1) }
+{
+    match Core::open(alloc, disk) {
+        Ok(core) => (core.close(), write_no_network(out)),
+        Err(fault) => {
+            let status = refuse(alloc, &fault.refusal, out);
+            (fault.disk, status)
+        }
+    }
+}
+
+// Writes that the store is taken up and that the network failed, and answers the status.
+fn write_no_network<W: Write>(out: &mut W) -> io::Result<u8>
+    ensures { IfOk result (λ status. (status ≡ 1) × Appends (W.contents out.old) (W.contents out.new) (codes "opened\n" ++ codes "network fault\n")) }
+{
+    write_opened(out)?;
+    write_network_fault(out)
 }
 
 // Serves a store whose calls are counted.
