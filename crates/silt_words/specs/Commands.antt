@@ -5,7 +5,7 @@ use Rattle.clap.specs.Words.{AddsSubcommand, App, Row, Rule, Text, app_of, Kinds
 use Rattle.clap.specs.declared.builder.Command.{Command}
 use Rattle.clap.specs.declared.builder.ArgAction.TheVariants.{Set}
 use Rattle.silt_wire.specs.Numbers.{number_of}
-use Rattle.silt_words.specs.Jobs.{Named, Served, format, script, run, check, serve}
+use Rattle.silt_words.specs.Jobs.{Named, NamedService, format, script, run, check, serve}
 use Rattle.silt_words.specs.declared.job.Numbers.{Numbers}
 
 -- a value that has to be given
@@ -79,7 +79,7 @@ abbrev pub sessions_in : List Row → Option (Option ℕ)
 sessions_in rows = option_map (option_and_then (λ sessions. if sessions == 0 then None else Some sessions)) (option_in rows (codes "sessions"))
 
 -- how a file is to be served
-abbrev pub service_in : List Row → Option Served
+abbrev pub service_in : List Row → Option NamedService
 service_in rows =
     option_and_then (λ file. option_and_then (λ port. option_and_then (λ audit. option_map (λ sessions.
     record { file = file; port = port; audit = audit; sessions = sessions })

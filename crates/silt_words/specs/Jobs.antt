@@ -6,15 +6,15 @@ use Rattle.silt_words.specs.declared.job.Numbers.{Numbers}
 use Rattle.silt_words.specs.declared.job.Service.{Service}
 
 -- how a file is to be served, by the text of its name
-pub record Served : Type 0 where
+pub record NamedService : Type 0 where
   pub file : List ℕ
   pub port : ℕ
   pub audit : Option ℕ
   pub sessions : Option ℕ
 
 -- what a service is by that text
-abbrev pub served : Service → Served
-served service = record { file = service.file.now; port = service.port; audit = service.audit; sessions = service.sessions }
+abbrev pub named_service : Service → NamedService
+named_service service = record { file = service.file.now; port = service.port; audit = service.audit; sessions = service.sessions }
 
 -- a job, by the text of its file's name
 pub data Named : Type 0 where
@@ -22,7 +22,7 @@ pub data Named : Type 0 where
   script : Numbers → Named
   run : List ℕ → Named
   check : List ℕ → Named
-  serve : Served → Named
+  serve : NamedService → Named
 
 -- what a job is by that text
 abbrev pub named : Job → Named
@@ -30,4 +30,4 @@ named (Format file numbers) = format file.now numbers
 named (Script numbers) = script numbers
 named (Run file) = run file.now
 named (Check file) = check file.now
-named (Serve service) = serve (served service)
+named (Serve service) = serve (named_service service)

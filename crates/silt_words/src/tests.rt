@@ -1,4 +1,4 @@
-// What clap's own definitions leave open to the eye: which command lines name a service, and which name nothing.
+// Which command lines name a service, and which name no job: the definitions that the contract cites are clap's own, so these calls are tried.
 
 use crate::{Job, Service, WordsError, read_words};
 use std::process::Abort;

@@ -2,7 +2,7 @@
 ghost use Rattle.std.specs.Prelude.{◌≡◌, Some, None, MatchResult, map, option_map, string_bytes};
 ghost use Rattle.clap.specs.Words.{found_of, rows_of, subcommand_rows_of};
 ghost use Rattle.silt_words.specs.Commands.{file_in, job_in, job_met, job_named, number_in, numbers_in, option_in, port_in, service_in, sessions_in};
-ghost use Rattle.silt_words.specs.Jobs.{named, served};
+ghost use Rattle.silt_words.specs.Jobs.{named, named_service};
 ghost use Rattle.silt_words.specs.declared.job.WordsError.TheVariants.{Usage};
 
 use crate::command::command;
@@ -64,7 +64,7 @@ fn sessions_of(matches: &ArgMatches<'_>) -> Option<Option<u32>>
 }
 
 fn service_of<'a>(matches: &ArgMatches<'a>) -> Option<Service<'a>>
-    ensures { option_map served result ≡ service_in (rows_of (found_of matches.now)) }
+    ensures { option_map named_service result ≡ service_in (rows_of (found_of matches.now)) }
 {
     Some(Service {
         file: file_of(matches)?,
