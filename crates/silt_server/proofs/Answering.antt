@@ -1,6 +1,6 @@
 -- Replies to gets, and the text of a want of memory.
 use Rattle.std.proofs.Common.{◌≡◌, ℕ, ◌%◌, ◌^◌, Option, Some, None, List, [], ◌∷◌, ◌++◌, ap, arith, codes, inr, subst, sym}
-use Rattle.std.specs.Prelude.{IfSome, OnOk, Result, Ok, Err}
+use Rattle.std.specs.Prelude.{IfOk, IfSome, OnOk, Result, Ok, Err}
 use Rattle.silt_wire.proofs.Streams.{Appends-append}
 use Rattle.silt_server.specs.Serving.{TellsCalls, TellsServed, head_text}
 use Rattle.std.proofs.lemmas.Fmt.{decimal_digit}
@@ -34,6 +34,13 @@ pub head_written : {X E : Type 0} (result : Result X E) (before mid after : Opti
     → OnOk result (Appends mid after (listening_text port)) → OnOk result (Appends before after (head_text port))
 head_written (Ok x) before mid after port first second = Appends-append before mid after (codes "opened\n") (listening_text port) first second
 head_written (Err e) before mid after port first second = second
+
+-- that the store is taken up is written, and that the network failed
+pub no_network_written : {E : Type 0} (result : Result ℕ E) (before mid after : Option (List ℕ)) → Appends before mid (codes "opened\n")
+    → IfOk result (λ status. (status ≡ 1) × Appends mid after (codes "network fault\n"))
+    → IfOk result (λ status. (status ≡ 1) × Appends before after (codes "opened\n" ++ codes "network fault\n"))
+no_network_written (Ok status) before mid after first second = (second.0, Appends-append before mid after (codes "opened\n") (codes "network fault\n") first second.1)
+no_network_written (Err e) before mid after first second = second
 
 -- the head is written, and then what is due at the end
 pub served_written : {T X E : Type 0} (counts : T → ℕ → ℕ → Type 0) (old new : T) (port : ℕ) (before mid after : Option (List ℕ)) (head : Result X E) (x : X) → head ≡ Ok x
