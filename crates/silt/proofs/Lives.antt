@@ -4,7 +4,7 @@ use Rattle.std.specs.FinMap.{empty}
 use Rattle.silt_device.specs.Disk.{Content, LeavesOnly, Stays}
 use Rattle.silt_device.specs.Layout.{Shape}
 use Rattle.silt_device.proofs.Laws.{leaves_weaker}
-use Rattle.silt_stores.specs.Calls.{StandsUnsorted}
+use Rattle.silt_image.specs.Meaning.{StandsFor}
 use Rattle.silt_store_set.specs.CoreInvariant.{IsSafe}
 
 -- what nothing was changed of leaves the images that it left
@@ -19,11 +19,10 @@ stays_leaves old new P stays leaves = record {
 }
 
 -- what stands for the empty map is safe for it
-pub new_is_safe : (content : Content) (shape : Shape) → LeavesOnly content (StandsUnsorted shape empty) → LeavesOnly content (IsSafe shape.value_len empty)
+pub new_is_safe : (content : Content) (shape : Shape) → LeavesOnly content (StandsFor shape empty) → LeavesOnly content (IsSafe shape.value_len empty)
 new_is_safe content shape leaves =
-    leaves_weaker content (StandsUnsorted shape empty) (IsSafe shape.value_len empty) leaves (λ image stands. record {
-      good = stands.stands.good;
-      has_len = ap (λ (s : Shape). s.value_len) stands.stands.has_shape;
-      has_map = stands.stands.has_map;
-      no_entries = stands.no_entries;
+    leaves_weaker content (StandsFor shape empty) (IsSafe shape.value_len empty) leaves (λ image stands. record {
+      good = stands.good;
+      has_len = ap (λ (s : Shape). s.value_len) stands.has_shape;
+      has_map = stands.has_map;
     })

@@ -11,7 +11,7 @@ use Rattle.silt_recovery.specs.Opening.{IsReported}
 use Rattle.silt_recovery.specs.Refusals.{IsFound, IsRefusedLook}
 use Rattle.silt_recovery.specs.declared.fault.FormatError.{FormatError}
 use Rattle.silt_recovery.specs.declared.fault.OpenError.{OpenError}
-use Rattle.silt_stores.specs.Calls.{StandsUnsorted}
+use Rattle.silt_image.specs.Meaning.{StandsFor}
 use Rattle.silt_store_set.specs.CoreState.{CoreState, Opens, DoesPlain}
 use Rattle.silt_store_set.specs.Opening.{OpeningCause}
 use Rattle.silt_recovery.specs.Errors.{refusal_of_formatting, refusal_of_opening}
@@ -60,7 +60,7 @@ EndsCheck content disk before after =
 -- an empty store of this shape was made of the disk, and its length was written
 abbrev pub EndsFormat : {D : Type 0} → (D → Content) → Shape → D → Option (List ℕ) → Option (List ℕ) → Type 0
 EndsFormat content shape new before after =
-    (size (content new) ≡ device_size shape) × LeavesOnly (content new) (StandsUnsorted shape empty) × Appends before after (formatted_line (device_size shape))
+    (size (content new) ≡ device_size shape) × LeavesOnly (content new) (StandsFor shape empty) × Appends before after (formatted_line (device_size shape))
 
 module _ {D F : Type 0} (content : D → Content) (gave : D → F → Type 0) where
   -- it was written that the store was not taken up from the disk, for its cause

@@ -8,14 +8,14 @@ use Rattle.silt_device.specs.Memory.{memory_content, memory_gave}
 use Rattle.silt_device.specs.declared.life.Stop.{Stop}
 use Rattle.silt_device.specs.declared.memory.MemDisk.{MemDisk}
 use Rattle.silt_device.specs.declared.memory.MemFault.{MemFault}
-use Rattle.silt_stores.specs.Calls.{StandsUnsorted}
+use Rattle.silt_image.specs.Meaning.{StandsFor}
 use Rattle.silt_event.specs.declared.refusal.Refusal.{Refusal}
 use Rattle.silt_event.specs.declared.refusal.Refusal.TheVariants.{Device, NoMemory}
 
 -- the disk has exactly the length of this shape, each image that a stop may leave is an empty store of it, and the disk's lives end by these stops
 pub record IsNewStore (shape : Shape) (stops : List Stop) (disk : MemDisk) : Type 0 where
   pub fits : size (memory_content disk) ≡ device_size shape
-  pub images : LeavesOnly (memory_content disk) (StandsUnsorted shape empty)
+  pub images : LeavesOnly (memory_content disk) (StandsFor shape empty)
   pub armed : disk.lives ≡ next_life stops
 
 -- A new store is refused for want of memory, or with a fault that a disk of exactly its length gave.

@@ -5,7 +5,7 @@ ghost use Rattle.std.specs.Io.KnownBytes.{Appends};
 ghost use Rattle.silt_device.specs.Disk.{LeavesOnly, size};
 ghost use Rattle.silt_device.specs.Layout.{InLimits, device_size};
 ghost use Rattle.silt_device.specs.Memory.{memory_content};
-ghost use Rattle.silt_stores.specs.Calls.{StandsUnsorted};
+ghost use Rattle.silt_image.specs.Meaning.{StandsFor};
 ghost use Rattle.silt_event.specs.Events.{HasValueOf};
 ghost use Rattle.silt.specs.NewStores.{NewStoreCause};
 ghost use Rattle.silt.specs.Numbers.{shape_asked};
@@ -79,7 +79,7 @@ fn run_lives(
 // A new disk in memory with an empty store. It is refused for want of memory, or with the fault of a disk of its length.
 fn new_store(alloc: Global, geometry: Geometry) -> Result<MemDisk, Refusal<MemFault>>
     ensures size { IfOk result (λ disk. size (memory_content disk) ≡ device_size geometry) }
-    ensures images { IfOk result (λ disk. LeavesOnly (memory_content disk) (StandsUnsorted geometry empty)) }
+    ensures images { IfOk result (λ disk. LeavesOnly (memory_content disk) (StandsFor geometry empty)) }
     ensures cause { IfErr result (NewStoreCause geometry) }
 {
     let Ok(disk) = MemDisk::new(alloc, geometry.size() as usize) else {

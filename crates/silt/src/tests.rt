@@ -5,6 +5,7 @@ mod files;
 mod freeze;
 mod jobs;
 mod lines;
+mod merge;
 
 use crate::program::{program, refuse_words};
 use crate::script_lines::read_script;

@@ -79,9 +79,9 @@ fn refusal<F>(lack: NotPrepared) -> Refusal<F>
 impl<D: Disk, T: Trace, N: Naming> Desk<D, T, N> {
     ghost use Rattle.std.specs.Prelude.{IsErrOf};
     ghost use Rattle.silt_device.specs.Disk.{GaveAny, LeavesOnly};
-    ghost use Rattle.silt_stores.specs.Calls.{StandsUnsorted};
+    ghost use Rattle.silt_image.specs.Meaning.{StandsFor};
     ghost use Rattle.silt_store_set.specs.CoreInvariant.{LeavesBegun};
-    ghost use Rattle.silt_store_set.specs.CoreState.{Does};
+    ghost use Rattle.silt_store_set.specs.CoreState.{Does, wants_convert, wants_merge};
     ghost use Rattle.silt_store_set.specs.Replies.{change_reply, flush_reply, get_reply, progress_reply};
     ghost use Rattle.silt_event.specs.declared.event.Event.TheVariants.{Put, Delete, Get, Flush, Convert, Merge};
     ghost use Rattle.silt_desk.specs.DeskState.{Serves, found_of};
@@ -235,10 +235,24 @@ impl<D: Disk, T: Trace, N: Naming> Desk<D, T, N> {
             Ok(room) => room,
             Err(lack) => return Err(refusal(lack)),
         };
-        let answer = self.core.merge();
+        let answer = self.core.merge(alloc);
         let noted = Note::Merge(plain(&answer));
         note(&mut self.trace, &mut self.ledgers, seat, room, noted, &[]);
         answer
+    }
+
+    /// Whether there is a step of conversion to be done.
+    pub fn wants_convert(&self) -> bool
+        ensures { result ≡ wants_convert self.now.core }
+    {
+        self.core.wants_convert()
+    }
+
+    /// Whether there is a step of merging to be done.
+    pub fn wants_merge(&self) -> bool
+        ensures { result ≡ wants_merge self.now.core }
+    {
+        self.core.wants_merge()
     }
 
     /// Writes a key's value over `out`, and answers how many commands are accepted and whether the key has a value. Nothing is recorded,
@@ -299,7 +313,7 @@ impl<D: Disk, T: Trace, N: Naming> Desk<D, T, N> {
     /// one map after a beginning of one list of commands.
     pub fn close(self) -> D
         ensures disk { result ≡ self.core.disk }
-        ensures safe { self.core.failed ≡ false → LeavesOnly (D.content result) (StandsUnsorted self.core.shape self.core.base) }
+        ensures safe { self.core.failed ≡ false → LeavesOnly (D.content result) (StandsFor self.core.shape self.core.base) }
         ensures left { LeavesBegun (D.content result) self.core.shape }
     {
         self.into_core().close()

@@ -7,6 +7,7 @@ mod history;
 mod lacking;
 mod looks;
 mod sessions;
+mod steps;
 
 use crate::{Desk, Gate, Naming, Seat, Spot, Trace};
 use silt_device::{Disk, Geometry, MemDisk};

@@ -1,12 +1,14 @@
 // Workers that do a store's steps in the background, one under each guard.
-ghost use Rattle.std.specs.Prelude.{◌≡◌, Result};
+ghost use Rattle.std.specs.Prelude.{◌≡◌, false, true, Result};
 ghost use Rattle.silt_device.specs.Disk.{GaveAny};
 ghost use Rattle.silt_event.specs.declared.progress.Progress.{Progress as ProgressOf};
+ghost use Rattle.silt_store_set.specs.CoreState.{wants_convert, wants_merge};
 ghost use Rattle.silt_store_set.specs.Replies.{progress_reply};
 ghost use Rattle.silt_event.specs.declared.event.Event.TheVariants.{Convert, Merge};
 ghost use Rattle.silt_event.specs.declared.refusal.Refusal.{Refusal as RefusalOf};
 ghost use Rattle.silt_desk.specs.DeskState.{Serves};
 ghost use Rattle.silt_desk.specs.Turns.{turn_of};
+ghost use Rattle.silt_desk.specs.declared.worker.Turn.TheVariants as TurnOf;
 
 use crate::desk::Desk;
 use crate::seat::{Naming, Seat};
@@ -64,25 +66,33 @@ fn turn_after<F: Drop>(answer: Result<Progress, Refusal<F>>) -> Turn
     }
 }
 
-/// Does one step of conversion where the store wants one.
+/// Does one step of conversion where the store wants one, and else nothing.
 pub fn convert_once<D: Disk, T: Trace, N: Naming>(
     desk: &mut Desk<D, T, N>,
     alloc: Global,
     seat: &mut Seat<N>,
 ) -> Turn
-    ensures { (answer : Result ProgressOf (RefusalOf D.Fault)) × (result ≡ turn_of answer) × Serves D.content D.failures (GaveAny D.gave) T.extends T.is_full T.takes_memory desk.old desk.new seat.old seat.new Convert (progress_reply answer) }
+    ensures waits { wants_convert desk.old.core ≡ false → (result ≡ TurnOf.Wait) × (desk.new ≡ desk.old) × (seat.new ≡ seat.old) }
+    ensures steps { wants_convert desk.old.core ≡ true → (answer : Result ProgressOf (RefusalOf D.Fault)) × (result ≡ turn_of answer) × Serves D.content D.failures (GaveAny D.gave) T.extends T.is_full T.takes_memory desk.old desk.new seat.old seat.new Convert (progress_reply answer) }
 {
+    if !desk.wants_convert() {
+        return Turn::Wait;
+    }
     turn_after(desk.convert(alloc, seat))
 }
 
-/// Does one step of merging where the store wants one.
+/// Does one step of merging where the store wants one, and else nothing.
 pub fn merge_once<D: Disk, T: Trace, N: Naming>(
     desk: &mut Desk<D, T, N>,
     alloc: Global,
     seat: &mut Seat<N>,
 ) -> Turn
-    ensures { (answer : Result ProgressOf (RefusalOf D.Fault)) × (result ≡ turn_of answer) × Serves D.content D.failures (GaveAny D.gave) T.extends T.is_full T.takes_memory desk.old desk.new seat.old seat.new Merge (progress_reply answer) }
+    ensures waits { wants_merge desk.old.core ≡ false → (result ≡ TurnOf.Wait) × (desk.new ≡ desk.old) × (seat.new ≡ seat.old) }
+    ensures steps { wants_merge desk.old.core ≡ true → (answer : Result ProgressOf (RefusalOf D.Fault)) × (result ≡ turn_of answer) × Serves D.content D.failures (GaveAny D.gave) T.extends T.is_full T.takes_memory desk.old desk.new seat.old seat.new Merge (progress_reply answer) }
 {
+    if !desk.wants_merge() {
+        return Turn::Wait;
+    }
     turn_after(desk.merge(alloc, seat))
 }
 

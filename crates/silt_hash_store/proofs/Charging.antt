@@ -6,13 +6,12 @@ use Rattle.std.proofs.lemmas.Bool.{cases_Bool, cases_eq, cases_lt, cond-false, c
 use Rattle.std.proofs.lemmas.List.{take_all}
 use Rattle.std.proofs.lemmas.List.FromFn.{sum_by-map-range_with_len_more}
 use Rattle.std.proofs.lemmas.List.Sums.{sum_by-cons, sum_by_more}
-use Rattle.silt_cuckoo.specs.Slots.{Entry, Slots, entry_at, place_at}
-use Rattle.silt_device.specs.Layout.{Shape}
+use Rattle.silt_cuckoo.specs.Slots.{Entry, entry_at, place_at}
 use Rattle.silt_frame.specs.Frame.{kind_of}
 use Rattle.silt_frame.specs.Rows.{put_count, keys_of, has_known_kind, StoredRow}
 use Rattle.silt_log_store.proofs.Entries.{entry_law}
 use Rattle.silt_hash_store.specs.Conversion.{converted_before, converted_row, converted_rows, empty_row}
-use Rattle.silt_hash_store.specs.Laws.{ConvertedChargeLaw, IsTableOf}
+use Rattle.silt_hash_store.specs.Laws.{ConvertedChargeLaw}
 use Rattle.silt_hash_store.proofs.Soundness.{empty_kind, place_inside, row_of_entry, row_of_none}
 
 -- how many puts a row is

@@ -48,6 +48,9 @@ hash_elsewhere store old new at count held fits outside changes is =
       tagged = λ honest slot below.
           let was : IsTrue old.honest = sym changes.honest ∙ honest in
           is.tagged was slot below ∙ ap (tag_of store.shape.buckets slot) (sym (slot_outside store.shape store.region slot at count old.shown new.shown inside below outside (changes.shown was)));
+      counted = λ honest.
+          let was : IsTrue old.honest = sym changes.honest ∙ honest in
+          is.counted was ∙ ap (λ (rows : List StoredRow). put_count (filter has_known_kind rows)) (sym (rows_same store.shape store.region at count old.shown new.shown inside outside (changes.shown was)));
     }
 
 -- a conversion has written what it had

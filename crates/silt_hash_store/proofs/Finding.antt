@@ -31,7 +31,7 @@ module _ (store : HashState) (image : List ℕ) (count : ℕ) (is : IsTagged sto
   row_in slot = slot_row store.shape store.region image slot
 
   -- a row that was found is one of the rows before
-  pub row_found : (bucket tag : ℕ) (found : Found) → FindsIn store image bucket tag key (Some found) → FindsRow (rows_before store.shape store.region image count) key (Some found)
+  pub row_found : (bucket tag : ℕ) (found : Found) → FindsIn store.shape store.region store.tags image bucket tag key (Some found) → FindsRow (rows_before store.shape store.region image count) key (Some found)
   row_found bucket tag found (tagged, here, kind) = elim (cases_lt found.place count) [
     | inl below ↦
         let parts = and_parts (has_known_kind (row_in found.place)) (bytes_eq (row_in found.place).key key) here in
@@ -41,8 +41,8 @@ module _ (store : HashState) (image : List ℕ) (count : ℕ) (is : IsTagged sto
 
   -- a slot of the rows before with the key has a tag that is looked for
   slot_lacks : (slot : ℕ) → slot < count
-      → FindsIn store image (first_bucket store.shape.buckets key) (second_bucket store.shape.buckets key) key None
-      → FindsIn store image (second_bucket store.shape.buckets key) (first_bucket store.shape.buckets key) key None
+      → FindsIn store.shape store.region store.tags image (first_bucket store.shape.buckets key) (second_bucket store.shape.buckets key) key None
+      → FindsIn store.shape store.region store.tags image (second_bucket store.shape.buckets key) (first_bucket store.shape.buckets key) key None
       → is_row_of key (row_in slot) ≡ false
   slot_lacks slot below first_none second_none = elim (cases_Bool (is_row_of key (row_in slot))) [
     | inr lacks ↦ lacks
@@ -69,8 +69,8 @@ module _ (store : HashState) (image : List ℕ) (count : ℕ) (is : IsTagged sto
   ]
 
   -- where neither bucket has a row of the key, no row before has it
-  pub none_found : FindsIn store image (first_bucket store.shape.buckets key) (second_bucket store.shape.buckets key) key None
-      → FindsIn store image (second_bucket store.shape.buckets key) (first_bucket store.shape.buckets key) key None
+  pub none_found : FindsIn store.shape store.region store.tags image (first_bucket store.shape.buckets key) (second_bucket store.shape.buckets key) key None
+      → FindsIn store.shape store.region store.tags image (second_bucket store.shape.buckets key) (first_bucket store.shape.buckets key) key None
       → FindsRow (rows_before store.shape store.region image count) key None
   none_found first_none second_none =
       let d : StoredRow = row_in 0 in
@@ -80,28 +80,28 @@ module _ (store : HashState) (image : List ℕ) (count : ℕ) (is : IsTagged sto
       ap (is_row_of key) (before_at store.shape store.region image count i d under) ∙ slot_lacks i under first_none second_none)
 
   -- what the second bucket gives, where the first has no row of the key
-  pub second_decides : (found : Option Found) → FindsIn store image (first_bucket store.shape.buckets key) (second_bucket store.shape.buckets key) key None
-      → FindsIn store image (second_bucket store.shape.buckets key) (first_bucket store.shape.buckets key) key found
+  pub second_decides : (found : Option Found) → FindsIn store.shape store.region store.tags image (first_bucket store.shape.buckets key) (second_bucket store.shape.buckets key) key None
+      → FindsIn store.shape store.region store.tags image (second_bucket store.shape.buckets key) (first_bucket store.shape.buckets key) key found
       → FindsRow (rows_before store.shape store.region image count) key found
   second_decides None first_none finds = none_found first_none finds
   second_decides (Some found) first_none finds = row_found (second_bucket store.shape.buckets key) (first_bucket store.shape.buckets key) found finds
 
   -- the same for buckets that are named in another way
   pub both_decide : (buckets first second : ℕ) (found : Option Found) → buckets ≡ store.shape.buckets → first ≡ first_bucket buckets key → second ≡ second_bucket buckets key
-      → FindsIn store image first second key None → FindsIn store image second first key found → FindsRow (rows_before store.shape store.region image count) key found
+      → FindsIn store.shape store.region store.tags image first second key None → FindsIn store.shape store.region store.tags image second first key found → FindsRow (rows_before store.shape store.region image count) key found
   both_decide buckets first second found same first_is second_is first_none finds =
       let one : first ≡ first_bucket store.shape.buckets key = first_is ∙ ap (λ n. first_bucket n key) same in
       let two : second ≡ second_bucket store.shape.buckets key = second_is ∙ ap (λ n. second_bucket n key) same in
       second_decides found
-      (subst (λ (n : ℕ). FindsIn store image (first_bucket store.shape.buckets key) n key None) two (subst (λ (n : ℕ). FindsIn store image n second key None) one first_none))
-      (subst (λ (n : ℕ). FindsIn store image (second_bucket store.shape.buckets key) n key found) one (subst (λ (n : ℕ). FindsIn store image n first key found) two finds))
+      (subst (λ (n : ℕ). FindsIn store.shape store.region store.tags image (first_bucket store.shape.buckets key) n key None) two (subst (λ (n : ℕ). FindsIn store.shape store.region store.tags image n second key None) one first_none))
+      (subst (λ (n : ℕ). FindsIn store.shape store.region store.tags image (second_bucket store.shape.buckets key) n key found) one (subst (λ (n : ℕ). FindsIn store.shape store.region store.tags image n first key found) two finds))
 
   -- one bucket decides where both are the same
   pub one_decides : (buckets first second : ℕ) → buckets ≡ store.shape.buckets → first ≡ first_bucket buckets key → second ≡ second_bucket buckets key → first ≡ second
-      → FindsIn store image first second key None → FindsRow (rows_before store.shape store.region image count) key None
+      → FindsIn store.shape store.region store.tags image first second key None → FindsRow (rows_before store.shape store.region image count) key None
   one_decides buckets first second same first_is second_is one first_none =
-      let turned : FindsIn store image second second key None = subst (λ (n : ℕ). FindsIn store image n second key None) one first_none in
-      both_decide buckets first second None same first_is second_is first_none (subst (λ (n : ℕ). FindsIn store image second n key None) (sym one) turned)
+      let turned : FindsIn store.shape store.region store.tags image second second key None = subst (λ (n : ℕ). FindsIn store.shape store.region store.tags image n second key None) one first_none in
+      both_decide buckets first second None same first_is second_is first_none (subst (λ (n : ℕ). FindsIn store.shape store.region store.tags image second n key None) (sym one) turned)
 
 -- what holds of an answer holds in another way
 pub weaker_ok : {T E : Type 0} (r : Result T E) (P Q : T → Type 0) → ((x : T) → P x → Q x) → IfOk r P → IfOk r Q

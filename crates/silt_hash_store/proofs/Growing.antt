@@ -273,7 +273,7 @@ slot_taken old new image slot (Some (kind, tag)) below long is adds takes =
 -- ---- the rebuild
 
 -- a store of no slots
-pub none_grown : (rebuilt : Rebuilt) (image : List ℕ) → rebuilt.store.tags ≡ replicate (4 * rebuilt.store.shape.buckets) None → rebuilt.puts ≡ 0 → rebuilt.rows ≡ 0 → IsGrown rebuilt image 0
+pub none_grown : (rebuilt : Rebuilt) (image : List ℕ) → rebuilt.store.tags ≡ replicate (4 * rebuilt.store.shape.buckets) None → rebuilt.store.puts ≡ 0 → rebuilt.rows ≡ 0 → IsGrown rebuilt image 0
 unfolding rows_before
 none_grown rebuilt image tags puts rows = record {
   tagged = record {
@@ -294,8 +294,11 @@ none_grown rebuilt image tags puts rows = record {
 -- a store of all slots
 pub all_grown : (content : Content) (rebuilt : Rebuilt) → IsTrue content.honest → IsGrown rebuilt content.shown (4 * rebuilt.store.shape.buckets) → IsRebuiltHash content rebuilt
 all_grown content rebuilt honest is = record {
-  stands = record { sound = λ _. nothing_found rebuilt.store.shape rebuilt.store.region content.shown is.tagged.sound; tagged = λ _. is.tagged.tagged };
-  charged = is.charged ∙ ap (λ (l : List StoredRow). put_count (filter has_known_kind l)) (sym (all_before rebuilt.store.shape rebuilt.store.region content.shown));
+  stands = record {
+    sound = λ _. nothing_found rebuilt.store.shape rebuilt.store.region content.shown is.tagged.sound;
+    tagged = λ _. is.tagged.tagged;
+    counted = λ _. is.charged ∙ ap (λ (l : List StoredRow). put_count (filter has_known_kind l)) (sym (all_before rebuilt.store.shape rebuilt.store.region content.shown));
+  };
   counted = is.counted ∙ ap (λ (l : List StoredRow). length (filter has_known_kind l)) (sym (all_before rebuilt.store.shape rebuilt.store.region content.shown));
 }
 

@@ -1,5 +1,5 @@
 -- Stores with a hash store in place of the oldest log.
-use Rattle.std.proofs.Common.{◌≡◌, ℕ, ◌+◌, ◌-◌, ◌≤◌, List, [], ◌∷◌, ◌++◌, length, map, take, filter, flat_map, refl, sym, ap, ◌∙◌, arith, append_assoc, append-nil, length-append}
+use Rattle.std.proofs.Common.{◌≡◌, ℕ, ◌+◌, ◌-◌, List, [], ◌∷◌, ◌++◌, length, map, take, flat_map, sym, ap, ◌∙◌, arith, append_assoc, append-nil, length-append}
 use Rattle.std.proofs.Math.Seq.{take-append_seam}
 use Rattle.std.proofs.lemmas.Grind.{flat_map-append}
 use Rattle.std.proofs.lemmas.List.{map-append}
@@ -13,7 +13,7 @@ use Rattle.silt_image.proofs.Rows.{count_law, map_after-append, map_law}
 use Rattle.silt_image.proofs.Sound.{finds_nothing, is_sound, nothing_both, nothing_first}
 use Rattle.silt_manifest.specs.declared.body.Body.{Body}
 use Rattle.silt_hash_store.specs.Conversion.{converted_rows}
-use Rattle.silt_hash_store.specs.Laws.{ConvertsLaw, HasOldest, IsTableOf, ReplacesLog, with_converted}
+use Rattle.silt_hash_store.specs.Laws.{ConvertsLaw, HasOldest, IsTableOf, with_converted}
 use Rattle.silt_hash_store.proofs.Answering.{converted_map}
 use Rattle.silt_hash_store.proofs.Charging.{converted_charge}
 use Rattle.silt_hash_store.proofs.Soundness.{converted_sound}

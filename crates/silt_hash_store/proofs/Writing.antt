@@ -1,5 +1,5 @@
 -- What a step of a conversion leaves, and the store of a conversion that is done.
-use Rattle.std.proofs.Common.{◌≡◌, ◌≢◌, ℕ, ◌+◌, ◌*◌, ◌≤◌, ◌<◌, true, IsTrue, List, [], ◌∷◌, ◌++◌, filter, length, Option, Some, None, inl, inr, option_map, refl, sym, subst, ap, ◌∙◌, arith, length-set, get_or-set_other, get_or-set_same}
+use Rattle.std.proofs.Common.{◌≡◌, ◌≢◌, ℕ, ◌+◌, ◌*◌, ◌≤◌, ◌<◌, true, IsTrue, List, [], ◌∷◌, filter, length, Option, Some, None, inl, inr, option_map, refl, sym, subst, ap, ◌∙◌, arith, length-set, get_or-set_other, get_or-set_same}
 use Rattle.std.proofs.lemmas.Bool.{cases_eq}
 use Rattle.std.proofs.lemmas.List.Elements.{filter-append}
 use Rattle.std.proofs.lemmas.List.FromFn.{map-range_with_len_more}
@@ -188,7 +188,7 @@ table_of content log count frozen honest = record { count = count; known = froze
 
 -- the store of a conversion that is done stands
 pub store_stands : (content : Content) (log : LogStoreState) (conversion : ConversionState) → IsBucketCount conversion.shape.buckets → conversion.next ≡ 4 * conversion.shape.buckets
-    → IsFrozenStore content log → HasWritten content log conversion → IsHashStore content (record { shape = conversion.shape; region = conversion.region; tags = conversion.tags })
+    → IsFrozenStore content log → HasWritten content log conversion → IsHashStore content (record { shape = conversion.shape; region = conversion.region; tags = conversion.tags; puts = conversion.puts })
 store_stands content log conversion count done frozen is = record {
   sound = λ honest.
       ap (λ (rows : List StoredRow). hash_findings conversion.shape (record { region = conversion.region; rows = rows })) (all_due content log conversion done is honest)
@@ -197,6 +197,7 @@ store_stands content log conversion count done frozen is = record {
       is.tagged slot (omega (arith, below, done))
       ∙ sym (converted_tag conversion.shape (all_rows content log.log) log.table (its_table honest) slot)
       ∙ ap (tag_of conversion.shape.buckets slot) (sym (is.due honest slot (omega (arith, below, done))));
+  counted = λ honest. all_charged content log conversion done is honest ∙ ap (λ (rows : List StoredRow). put_count (filter has_known_kind rows)) (sym (all_due content log conversion done is honest));
 }
   where
     its_table : IsTrue content.honest → IsTableOf conversion.shape (all_rows content log.log) log.table

@@ -1,5 +1,6 @@
 -- What a look-up finds.
 use Rattle.std.specs.Prelude.{◌≡◌, ℕ, ◌+◌, ◌*◌, ◌≤◌, ◌<◌, true, false, List, slice_get, Option, Some, None}
+use Rattle.silt_device.specs.Layout.{Shape}
 use Rattle.silt_frame.specs.Frame.{kind_byte}
 use Rattle.silt_frame.specs.declared.key.Kind.{Kind}
 use Rattle.silt_frame.specs.declared.key.Row.{Row}
@@ -8,7 +9,6 @@ use Rattle.silt_log.specs.Rows.{IsRow}
 use Rattle.silt_frame.specs.Rows.{has_known_kind, StoredRow}
 use Rattle.silt_log_store.specs.declared.store.Found.{Found}
 use Rattle.silt_hash_store.specs.Slots.{is_row_of, slot_row, slot_tag}
-use Rattle.silt_hash_store.specs.State.{HashState}
 
 -- what is found among rows is a row of this key, by its kind and its number, and nothing where no row of a known kind has the key
 abbrev pub FindsRow : List StoredRow → List ℕ → Option Found → Type 0
@@ -26,11 +26,10 @@ MatchesTag at tag row key None = at ≡ Some tag → is_row_of key row ≡ false
 MatchesTag at tag row key (Some kind) = (at ≡ Some tag) × (is_row_of key row ≡ true) × (kind_byte kind ≡ row.kind)
 
 -- among the slots of a bucket with this tag a row of the key was found, or none has the key
-abbrev pub FindsIn : HashState → List ℕ → ℕ → ℕ → List ℕ → Option Found → Type 0
-FindsIn store image bucket tag key None =
-    (slot : ℕ) → 4 * bucket ≤ slot → slot < 4 * bucket + 4 → slot_tag store.tags slot ≡ Some tag → is_row_of key (slot_row store.shape store.region image slot) ≡ false
-FindsIn store image bucket tag key (Some found) =
-    MatchesTag (slot_tag store.tags found.place) tag (slot_row store.shape store.region image found.place) key (Some found.kind)
+abbrev pub FindsIn : Shape → ℕ → List (Option ℕ) → List ℕ → ℕ → ℕ → List ℕ → Option Found → Type 0
+FindsIn shape region tags image bucket tag key None =
+    (slot : ℕ) → 4 * bucket ≤ slot → slot < 4 * bucket + 4 → slot_tag tags slot ≡ Some tag → is_row_of key (slot_row shape region image slot) ≡ false
+FindsIn shape region tags image bucket tag key (Some found) = MatchesTag (slot_tag tags found.place) tag (slot_row shape region image found.place) key (Some found.kind)
 
 -- the kind, the key and the number of the row in a slot, none where its kind is unknown
 abbrev pub IsRowAt : StoredRow → ℕ → Option Row → Type 0

@@ -17,10 +17,9 @@ use Rattle.silt_hash_store.specs.declared.rebuild.Rebuilt.{Rebuilt}
 use Rattle.silt_hash_store.specs.declared.rebuild.RebuildError.{RebuildError}
 use Rattle.silt_hash_store.specs.declared.rebuild.RebuildError.TheVariants.{Damaged, Device, NoMemory}
 
--- a store that was rebuilt from what is shown, with the number of its puts and of its rows of known kinds
+-- a store that was rebuilt from what is shown, with the number of its rows of known kinds
 pub record IsRebuiltHash (content : Content) (rebuilt : Rebuilt) : Type 0 where
   pub stands : IsHashStore content rebuilt.store
-  pub charged : rebuilt.puts ≡ put_count (known_rows (hash_part rebuilt.store.shape content.shown rebuilt.store.region))
   pub counted : rebuilt.rows ≡ length (known_rows (hash_part rebuilt.store.shape content.shown rebuilt.store.region))
 
 -- this slot is the first finding in a hash region
@@ -42,16 +41,16 @@ pub record AddsSound (store : HashState) (image : List ℕ) (slot : ℕ) (added 
   pub sound : is_sound_slot store.shape store.region image slot ≡ true
   pub adds : AddsSlot store.shape.buckets slot (slot_row store.shape store.region image slot) added
 
--- what a slot adds is taken: its tag, and its row is counted
+-- what a slot adds is taken: its tag and its puts, and its row is counted
 abbrev pub TakesAdded : ℕ → Option (Kind × ℕ) → Rebuilt → Rebuilt → Type 0
 TakesAdded slot None old new = new ≡ old
 TakesAdded slot (Some (kind, tag)) old new =
-    new ≡ record { store = record { shape = old.store.shape; region = old.store.region; tags = slice_set old.store.tags slot (Some tag) }; puts = old.puts + puts_of kind; rows = old.rows + 1 }
+    new ≡ record { store = record old.store { tags = slice_set old.store.tags slot (Some tag); puts = old.store.puts + puts_of kind }; rows = old.rows + 1 }
 
--- a store of the first slots of an image, this many, with the number of their puts and of their rows of known kinds
+-- a store of the first slots of an image, this many, with their puts and the number of their rows of known kinds
 pub record IsGrown (rebuilt : Rebuilt) (image : List ℕ) (count : ℕ) : Type 0 where
   pub tagged : IsTagged rebuilt.store image count
-  pub charged : rebuilt.puts ≡ put_count (filter has_known_kind (rows_before rebuilt.store.shape rebuilt.store.region image count))
+  pub charged : rebuilt.store.puts ≡ put_count (filter has_known_kind (rows_before rebuilt.store.shape rebuilt.store.region image count))
   pub counted : rebuilt.rows ≡ length (filter has_known_kind (rows_before rebuilt.store.shape rebuilt.store.region image count))
 
 -- why a rebuild was refused: by the number of a slot, or by the fault of a read; want of memory says nothing

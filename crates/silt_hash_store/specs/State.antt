@@ -2,20 +2,23 @@
 use Rattle.std.specs.Prelude.{◌≡◌, ℕ, ◌*◌, ◌<◌, ◌≤◌, true, IsTrue, List, [], length, Option, None}
 use Rattle.silt_device.specs.Disk.{Content}
 use Rattle.silt_device.specs.Layout.{Shape}
-use Rattle.silt_image.specs.Meaning.{hash_findings}
+use Rattle.silt_frame.specs.Rows.{put_count}
+use Rattle.silt_image.specs.Meaning.{hash_findings, known_rows}
 use Rattle.silt_image.specs.Stores.{hash_part}
 use Rattle.silt_hash_store.specs.Slots.{is_sound_slot, slot_row, slot_tag, tag_of}
 
--- a hash store: its region, and the tag of each slot
+-- a hash store: its region, the tag of each slot, and how many of its rows are puts
 pub record HashState : Type 0 where
   pub shape : Shape
   pub region : ℕ
   pub tags : List (Option ℕ)
+  pub puts : ℕ
 
 -- what holds of every hash store, on any disk
 pub record IsHeldHash (store : HashState) : Type 0 where
   pub there : store.region < store.shape.hashes
   pub long : length store.tags ≡ 4 * store.shape.buckets
+  pub few : store.puts ≤ 4 * store.shape.buckets
 
 -- the first slots of an image, this many, are sound and have their tags, and the later ones have none
 pub record IsTagged (store : HashState) (image : List ℕ) (count : ℕ) : Type 0 where
@@ -24,8 +27,9 @@ pub record IsTagged (store : HashState) (image : List ℕ) (count : ℕ) : Type 
   pub tagged : (slot : ℕ) → slot < count → slot_tag store.tags slot ≡ tag_of store.shape.buckets slot (slot_row store.shape store.region image slot)
   pub later : (slot : ℕ) → count ≤ slot → slot_tag store.tags slot ≡ None
 
--- a hash store as it stands on a disk: on an honest disk nothing is found in its slots, and each slot has the tag of its row
+-- a hash store as it stands on a disk: on an honest disk nothing is found in its slots, each slot has the tag of its row, and its puts are counted
 pub record IsHashStore (content : Content) (store : HashState) : Type 0 where
   pub sound : IsTrue content.honest → hash_findings store.shape (hash_part store.shape content.shown store.region) ≡ []
   pub tagged : IsTrue content.honest → (slot : ℕ) → slot < 4 * store.shape.buckets
       → slot_tag store.tags slot ≡ tag_of store.shape.buckets slot (slot_row store.shape store.region content.shown slot)
+  pub counted : IsTrue content.honest → store.puts ≡ put_count (known_rows (hash_part store.shape content.shown store.region))

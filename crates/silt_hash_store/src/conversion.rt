@@ -192,7 +192,7 @@ impl Conversion {
     /// The hash store of a conversion that is done.
     pub fn into_store(self) -> HashStore
         requires done { self.next ≡ 4 * self.shape.buckets }
-        ensures store { result ≡ record { shape = self.shape; region = self.region; tags = self.tags } }
+        ensures store { result ≡ record { shape = self.shape; region = self.region; tags = self.tags; puts = self.puts } }
         ensures held { IsHeldHash result }
         ensures rows { (content : Content) (log : LogStoreState) → HasWritten content log self → IsTrue content.honest
             → hash_rows self.shape self.region content.shown ≡ converted_rows self.shape log.table (all_rows content log.log) }
@@ -205,9 +205,9 @@ impl Conversion {
             region,
             tags,
             next: _,
-            puts: _,
+            puts,
             row: _,
         } = self;
-        HashStore { region, tags }
+        HashStore { region, tags, puts }
     }
 }

@@ -2,7 +2,8 @@
 //!
 //! A hash region has four slots a bucket. A slot has the bytes of a row, or the kind 0 where it is empty, and each key has one row,
 //! its last, in one of its two buckets. In memory a `HashStore` keeps the *tag* of each slot: the number of the key's other bucket.
-//! So a look-up reads the heads of the slots whose tags fit, at most eight, compares the keys, and trusts no tag.
+//! So a look-up reads the heads of the slots whose tags fit, at most eight, compares the keys, and trusts no tag. It keeps the number
+//! of its puts too, so that their charge is known without a read.
 //!
 //! A `Conversion` writes such a region from a log, slot by slot: the slot that an entry has in the log's table is the slot of its
 //! row. It counts the puts that it writes. When it is done, the hash store may stand in the place of the log: the map is the same.

@@ -56,7 +56,7 @@ pub fn find_in<D: Disk>(
     requires bucket { bucket < region.now.geometry.buckets }
     requires size { device_size region.now.geometry ≤ size (D.content disk.now) }
     ensures finds { IsTrue (D.content disk.now).honest
-        → IfOk result (FindsIn (record { shape = region.now.geometry; region = region.now.number; tags = tags.now }) (D.content disk.now).shown bucket tag key.now.0) }
+        → IfOk result (FindsIn region.now.geometry region.now.number tags.now (D.content disk.now).shown bucket tag key.now.0) }
     ensures place { IfOk result (λ found. IfSome found (λ row. row.place < 4 * region.now.geometry.buckets)) }
     ensures fault { IfErr result (GaveAny D.gave disk.now) }
 {

@@ -26,11 +26,10 @@ pub enum RebuildError<F> {
     NoMemory,
 }
 
-/// A hash store that was rebuilt, how many of its rows are puts, and how many rows of known kinds it has.
+/// A hash store that was rebuilt, and how many rows of known kinds it has.
 #[derive(Drop)]
 pub struct Rebuilt {
     pub store: HashStore,
-    pub puts: u32,
     pub rows: u32,
 }
 
@@ -109,13 +108,13 @@ impl Rebuilt {
     fn take(&mut self, slot: u32, added: Option<(Kind, u32)>)
         requires slot { slot < 4 * self.old.store.shape.buckets }
         requires tag { IfSome added (λ a. a.1 < 2 ^ 15) }
-        requires puts { self.old.puts ≤ self.old.rows }
-        requires rows { self.old.rows < 2 ^ 17 }
+        requires small { slot < 2 ^ 17 }
+        requires counts { (self.old.store.puts ≤ self.old.rows) × (self.old.rows ≤ slot) }
         ensures { TakesAdded slot added self.old self.new }
     {
         if let Some((kind, tag)) = added {
             self.store.tags.set(slot, tag);
-            self.puts += kind.puts();
+            self.store.puts += kind.puts();
             self.rows += 1;
         }
     }
@@ -124,10 +123,10 @@ impl Rebuilt {
     fn add_slot<D: Disk>(&mut self, disk: &D, slot: u32) -> Result<(), RebuildError<D::Fault>>
         requires slot { slot < 4 * self.old.store.shape.buckets }
         requires small { slot < 2 ^ 17 }
-        requires counts { (self.old.puts ≤ self.old.rows) × (self.old.rows ≤ slot) }
+        requires counts { (self.old.store.puts ≤ self.old.rows) × (self.old.rows ≤ slot) }
         requires size { device_size self.old.store.shape ≤ size (D.content disk.now) }
         ensures region { (self.new.store.shape ≡ self.old.store.shape) × (self.new.store.region ≡ self.old.store.region) }
-        ensures counts { (self.new.puts ≤ self.new.rows) × (self.new.rows ≤ slot + 1) }
+        ensures counts { (self.new.store.puts ≤ self.new.rows) × (self.new.rows ≤ slot + 1) }
         ensures ok { IsTrue (D.content disk.now).honest → IsGrown self.old (D.content disk.now).shown slot → OnOk result (IsGrown self.new (D.content disk.now).shown (slot + 1)) }
         ensures err { IfErr result (IsRefusedHash (λ at. (at ≡ slot) × (IsTrue (D.content disk.now).honest → IsGrown self.old (D.content disk.now).shown slot
             → is_sound_slot self.old.store.shape self.old.store.region (D.content disk.now).shown slot ≡ false)) (GaveAny D.gave disk.now)) }
@@ -147,7 +146,7 @@ pub fn rebuild_region<D: Disk>(
     requires size { device_size region.geometry ≤ size (D.content disk.now) }
     ensures region { IfOk result (λ rebuilt. (rebuilt.store.shape ≡ region.geometry) × (rebuilt.store.region ≡ region.number)) }
     ensures rebuilt { IsTrue (D.content disk.now).honest → IfOk result (IsRebuiltHash (D.content disk.now)) }
-    ensures most { IfOk result (λ rebuilt. (rebuilt.puts ≤ rebuilt.rows) × (rebuilt.rows ≤ 4 * region.geometry.buckets)) }
+    ensures most { IfOk result (λ rebuilt. (rebuilt.store.puts ≤ rebuilt.rows) × (rebuilt.rows ≤ 4 * region.geometry.buckets)) }
     ensures err { IfErr result (IsRefusedHash (λ slot. IsTrue (D.content disk.now).honest → IsFirstUnsound (D.content disk.now) region.geometry region.number slot) (GaveAny D.gave disk.now)) }
 {
     let count = region.slot_count();
@@ -156,8 +155,11 @@ pub fn rebuild_region<D: Disk>(
         Err(_) => return Err(RebuildError::NoMemory),
     };
     let mut rebuilt = Rebuilt {
-        store: HashStore { region, tags },
-        puts: 0,
+        store: HashStore {
+            region,
+            tags,
+            puts: 0,
+        },
         rows: 0,
     };
     for slot in 0..count {

@@ -15,13 +15,14 @@ use silt_log_store::Found;
 use std::alloc::Global;
 use std::marker::Model;
 
-/// A hash region with the tag of each of its slots.
+/// A hash region with the tag of each of its slots and the number of its puts.
 ///
 /// On a disk that is not honest its calls are safe and end, but say nothing of rows. Only `rebuild` takes memory.
 #[derive(Drop)]
 pub struct HashStore {
     pub(crate) region: HashRegion,
     pub(crate) tags: Tags,
+    pub(crate) puts: u32,
 }
 
 impl Model for HashStore {
@@ -29,9 +30,9 @@ impl Model for HashStore {
 
     ghost Value = { HashState };
 
-    ghost view = { λ s. record { shape = s.region.geometry; region = s.region.number; tags = s.tags } };
+    ghost view = { λ s. record { shape = s.region.geometry; region = s.region.number; tags = s.tags; puts = s.puts } };
 
-    ghost invariant = { λ s. IsHeldHash (record { shape = s.region.geometry; region = s.region.number; tags = s.tags }) };
+    ghost invariant = { λ s. IsHeldHash (record { shape = s.region.geometry; region = s.region.number; tags = s.tags; puts = s.puts }) };
 }
 
 impl HashStore {
@@ -54,6 +55,14 @@ impl HashStore {
         ensures held { IsHeldHash self.now }
     {
         self.region.number
+    }
+
+    /// How many of its rows are puts.
+    pub fn puts(&self) -> u32
+        ensures value { result ≡ self.now.puts }
+        ensures held { IsHeldHash self.now }
+    {
+        self.puts
     }
 
     // The row of a key among the slots that have tags: first those of its first bucket, then, where it differs, of its second.
@@ -145,7 +154,7 @@ impl HashStore {
         requires size { device_size geometry ≤ size (D.content disk.now) }
         ensures region { IfOk result (λ rebuilt. (rebuilt.store.shape ≡ geometry) × (rebuilt.store.region ≡ region)) }
         ensures rebuilt { IsTrue (D.content disk.now).honest → IfOk result (IsRebuiltHash (D.content disk.now)) }
-        ensures most { IfOk result (λ rebuilt. (rebuilt.puts ≤ rebuilt.rows) × (rebuilt.rows ≤ 4 * geometry.buckets)) }
+        ensures most { IfOk result (λ rebuilt. (rebuilt.store.puts ≤ rebuilt.rows) × (rebuilt.rows ≤ 4 * geometry.buckets)) }
         ensures err { IfErr result (IsRefusedHash (λ slot. IsTrue (D.content disk.now).honest → IsFirstUnsound (D.content disk.now) geometry region slot) (GaveAny D.gave disk.now)) }
     {
         rebuild_region(

@@ -86,7 +86,7 @@ fn rebuild<D: Disk>(alloc: Global, disk: &D, geometry: Geometry) -> Outcome
     requires size { device_size geometry ≤ size (D.content disk.now) }
 {
     match HashStore::rebuild(alloc, disk, geometry, 0) {
-        Ok(rebuilt) => Outcome::Rebuilt(rebuilt.rows, rebuilt.puts),
+        Ok(rebuilt) => Outcome::Rebuilt(rebuilt.rows, rebuilt.store.puts()),
         Err(RebuildError::Damaged(slot)) => Outcome::Damaged(slot),
         Err(RebuildError::Device(_)) => Outcome::Failed,
         Err(RebuildError::NoMemory) => Outcome::NoMemory,

@@ -1,13 +1,12 @@
 -- What a change on another part of the disk leaves of a merge.
-use Rattle.std.proofs.Common.{◌≡◌, ◌≢◌, ℕ, suc, ◌+◌, ◌-◌, ◌*◌, ◌<◌, ◌≤◌, ◌⊎◌, cond, IsTrue, List, [], ◌∷◌, ◌++◌, filter, flat_map, length, drop, map, take, get_or, slice_get, slice_range, Option, Some, None, option_map, inl, inr, refl, sym, subst, ap, ◌∙◌, arith}
+use Rattle.std.proofs.Common.{◌≡◌, ◌≢◌, ℕ, suc, ◌+◌, ◌-◌, ◌*◌, ◌<◌, ◌≤◌, ◌⊎◌, cond, IsTrue, List, [], ◌∷◌, ◌++◌, filter, flat_map, length, drop, map, take, get_or, slice_get, Option, Some, None, option_map, inl, inr, refl, sym, subst, ap, ◌∙◌, arith}
 use Rattle.std.specs.List.{All, range_with_len}
 use Rattle.std.proofs.lemmas.Bool.{cases_lt, cases_order}
 use Rattle.std.proofs.Math.Seq.{drop-append-add}
 use Rattle.std.proofs.lemmas.List.{get_or-map, length-append, length-drop, length-map, take-map}
-use Rattle.std.proofs.lemmas.List.FromFn.{map-range_with_len_more}
 use Rattle.silt_device.specs.Disk.{LiesOutside, Torn, size}
 use Rattle.silt_device.specs.Layout.{Shape, device_size, entries_len, entry_len, hash_at, slots_len, sorted_at}
-use Rattle.silt_device.proofs.Regions.{next_region, regions_apart}
+use Rattle.silt_device.proofs.Regions.{regions_apart}
 use Rattle.silt_hash_store.proofs.Elsewhere.{slot_outside}
 use Rattle.silt_frame.specs.Frame.{kind_byte}
 use Rattle.silt_hash_store.specs.Slots.{rows_before, slot_row}
@@ -16,7 +15,7 @@ use Rattle.silt_hash_store.proofs.Slotting.{all_before}
 use Rattle.silt_hash_store.proofs.Writing.{slots_inside}
 use Rattle.silt_image.specs.Laws.{newest_row}
 use Rattle.silt_image.specs.Meaning.{hash_findings, known_rows, oldest_first, sorted_findings}
-use Rattle.silt_frame.specs.Rows.{StoredRow, entry_row, has_known_kind, is_put_row, keys_of}
+use Rattle.silt_frame.specs.Rows.{StoredRow, has_known_kind, is_put_row, keys_of}
 use Rattle.silt_image.specs.Stores.{Part, hash_part, sorted_rows}
 use Rattle.silt_log.proofs.Bodies.{map_range_same}
 use Rattle.silt_merge.specs.Laws.{MergedElsewhereLaw, OldestStoresLaw}
@@ -25,8 +24,7 @@ use Rattle.silt_merge.specs.Merging.{AreSound, IsGatheredIn, IsMergedIn, decided
 use Rattle.silt_merge.specs.Rows.{entries_in, has_row_with, rows_of_hashes, key_count, newest_rows, regions_of, sources}
 use Rattle.silt_merge.specs.State.{IsHeldMerge, MergeState, oldest_stores, source_at}
 use Rattle.silt_merge.specs.declared.source.Source.{Source}
-use Rattle.silt_sorted_store.specs.State.{IsHeldSorted, SortedState, sorted_entry_at}
-use Rattle.silt_sorted_store.proofs.Entries.{part_inside}
+use Rattle.silt_sorted_store.specs.State.{IsHeldSorted, SortedState}
 
 -- ---- all that is merged
 
@@ -135,7 +133,7 @@ pub same_outside : (stores : List HashState) (sorted : SortedState) (old new : L
     → LiesOutside (sorted_at sorted.shape sorted.region) (entries_len sorted.shape) at count → All (λ store. LiesOutside (hash_at sorted.shape store.region) (slots_len sorted.shape) at count) stores → Torn at count old new → SameSources sorted.shape (regions_of stores) sorted old new
 same_outside stores sorted old new at count fits there held behind outside torn = record {
   rows = λ store slot below inside.
-      let blank : HashState = record { shape = sorted.shape; region = 0; tags = [] } in
+      let blank : HashState = record { shape = sorted.shape; region = 0; tags = []; puts = 0 } in
       let within : store < length stores = omega (arith, regions_count stores) in
       let region : ℕ = (get_or stores store blank).region in
       let its : get_or (regions_of stores) store 0 ≡ region = region_of stores store blank within in

@@ -1,5 +1,5 @@
 -- Stores with the entries of a merge in place of what was merged.
-use Rattle.std.proofs.Common.{◌≡◌, ℕ, ◌+◌, ◌≤◌, List, [], ◌∷◌, ◌++◌, length, map, flat_map, refl, sym, ap, ◌∙◌, arith, append_assoc, append-nil}
+use Rattle.std.proofs.Common.{◌≡◌, ◌+◌, List, [], ◌∷◌, ◌++◌, length, map, flat_map, sym, ap, ◌∙◌, arith, append_assoc, append-nil}
 use Rattle.std.proofs.lemmas.Grind.{flat_map-append}
 use Rattle.std.proofs.lemmas.List.{map-append}
 use Rattle.silt_event.specs.Commands.{Map, map_after}
@@ -10,7 +10,7 @@ use Rattle.silt_image.specs.Stores.{Part, Stores}
 use Rattle.silt_image.proofs.Rows.{count_law, map_law}
 use Rattle.silt_image.proofs.Sound.{finds_nothing, is_sound, nothing_first}
 use Rattle.silt_manifest.specs.declared.body.Body.{Body}
-use Rattle.silt_merge.specs.Laws.{MergesLaw, ReplacesStores, taken_rows, with_merged}
+use Rattle.silt_merge.specs.Laws.{MergesLaw, taken_rows, with_merged}
 use Rattle.silt_merge.specs.Merging.{IsMergeOf}
 
 -- the rows of older stores come first
@@ -31,7 +31,7 @@ module _ (s : Stores) (body : Body) (newer taken : List Part) (entries : List St
   rest = oldest_first (map known_rows newer) ++ oldest_first (map part_rows s.logs)
 
   -- those that are merged come first
-  rows_old : rows_of s ≡ rows ++ rest
+  pub rows_old : rows_of s ≡ rows ++ rest
   unfolding rows_of
   rows_old =
       ap (λ (l : List Part). s.entries ++ oldest_first (map known_rows l) ++ oldest_first (map part_rows s.logs)) split

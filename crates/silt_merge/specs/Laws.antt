@@ -1,9 +1,9 @@
 -- Laws of merges, for the layers above.
-use Rattle.std.specs.Prelude.{◌≡◌, ℕ, ◌+◌, ◌*◌, ◌≤◌, ◌⊎◌, IsTrue, List, [], ◌++◌, length, map}
+use Rattle.std.specs.Prelude.{◌≡◌, ℕ, ◌+◌, ◌≤◌, IsTrue, List, [], ◌++◌, length, map}
 use Rattle.std.specs.FinMap.{len}
 use Rattle.std.specs.List.{All}
 use Rattle.silt_device.specs.Disk.{ChangesWithin, Content, LiesOutside, size}
-use Rattle.silt_device.specs.Layout.{Shape, device_size, entries_len, entry_len, hash_at, slots_len, sorted_at}
+use Rattle.silt_device.specs.Layout.{device_size, entries_len, hash_at, slots_len, sorted_at}
 use Rattle.silt_hash_store.specs.State.{HashState, IsHashStore, IsHeldHash}
 use Rattle.silt_image.specs.Meaning.{IsSound, charge_of, known_rows, map_of_rows, oldest_first, rows_of, sorted_findings}
 use Rattle.silt_frame.specs.Rows.{put_count, StoredRow}

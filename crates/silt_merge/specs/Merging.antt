@@ -1,5 +1,5 @@
 -- What a merge has gathered and written.
-use Rattle.std.specs.Prelude.{◌≡◌, ◌≢◌, ℕ, ◌≤◌, ◌<◌, nat_lt, cond, IsTrue, List, [], ◌++◌, filter, flat_map, get_or, length, map, slice_get, take, true, Option, Some, None, option_map}
+use Rattle.std.specs.Prelude.{◌≡◌, ◌≢◌, ℕ, ◌≤◌, ◌<◌, nat_lt, cond, IsTrue, List, [], ◌++◌, filter, flat_map, get_or, length, map, slice_get, take, true, Some, None, option_map}
 use Rattle.std.specs.List.{All}
 use Rattle.silt_device.specs.Disk.{Content}
 use Rattle.silt_device.specs.Layout.{Shape}

@@ -239,6 +239,14 @@ impl Merge {
         })
     }
 
+    /// How many hash stores are merged.
+    pub fn stores(&self) -> u16
+        ensures value { result ≡ self.now.stores }
+        ensures held { IsHeldMerge self.now }
+    {
+        self.stores
+    }
+
     /// Whether all slots are gathered and all keys are decided: after one step for each slot of each store and one for each key.
     pub fn is_done(&self, sorted: &SortedStore) -> bool
         ensures value { result ≡ is_done self.now sorted.now }

@@ -8,9 +8,9 @@ use Rattle.std.proofs.lemmas.List.Sums.{sum_by-cons}
 use Rattle.silt_device.specs.Disk.{Content, Rests, size}
 use Rattle.silt_device.specs.Layout.{Shape, InLimits, device_size}
 use Rattle.silt_hash_store.specs.State.{HashState, IsHashStore}
-use Rattle.silt_image.specs.Meaning.{IsSound, charge_of, sorted_findings}
+use Rattle.silt_image.specs.Meaning.{IsSound, charge_of}
 use Rattle.silt_frame.specs.Rows.{put_count}
-use Rattle.silt_image.specs.Stores.{Stores, image_stores, sorted_rows, stores_named}
+use Rattle.silt_image.specs.Stores.{Stores, image_stores, stores_named}
 use Rattle.silt_image.specs.declared.damage.Finding.{Finding}
 use Rattle.silt_image.specs.declared.damage.Finding.TheVariants.{Damaged}
 use Rattle.silt_event.specs.declared.place.Place.TheVariants.{Charge}
@@ -22,12 +22,14 @@ use Rattle.silt_manifest.specs.Body.{all_below, is_well_formed}
 use Rattle.silt_manifest.specs.Standing.{ManifestState, Rules}
 use Rattle.silt_manifest.specs.declared.body.Body.{Body}
 use Rattle.silt_manifest.proofs.SoundBodies.{sound_parts}
-use Rattle.silt_stores.specs.State.{IsHashOf, IsSettled}
+use Rattle.silt_sorted_store.specs.State.{IsHeldSorted, SortedState}
+use Rattle.silt_stores.specs.State.{IsHashOf, IsSettled, sorted_named}
+use Rattle.silt_recovery.specs.Entries.{AreSoundEntries, HasFirstEntry}
 use Rattle.silt_recovery.specs.Hashes.{AreReadHashes, AreSoundHashes, HasFirstSlot, IsReadHash, region_puts, region_rows}
 use Rattle.silt_recovery.specs.Logs.{AreReadLogs, AreSoundLogs, HasFirstFinding, IsReadLog, put_rows}
 use Rattle.silt_recovery.specs.Opening.{Holds}
 use Rattle.silt_recovery.specs.Refusals.{IsFound}
-use Rattle.silt_recovery.proofs.Refusals.{verdict_is_found}
+use Rattle.silt_recovery.proofs.EntrySearches.{entry_verdict}
 use Rattle.silt_recovery.proofs.HashSearches.{charge_of_named, known_count, rows_of_hashes, slot_verdict}
 use Rattle.silt_recovery.proofs.Searches.{found_within, log_verdict, sound_both}
 
@@ -38,110 +40,112 @@ named_so content manifest shape body same_shape same_body named h =
     named h ∙ ap (λ (s : Shape). Ok (stores_named s manifest.ruling content.shown)) (sym same_shape) ∙ ap (λ (b : Body). Ok (stores_named shape b content.shown)) (sym same_body)
 
 module _ (content : Content) (shape : Shape) (body : Body) (named : IsTrue content.honest → image_stores content.shown ≡ Ok (stores_named shape body content.shown)) where
+  -- the stores in the words of the manifest
+  same_stores : (manifest : ManifestState) → shape ≡ manifest.shape → body ≡ manifest.ruling → stores_named shape body content.shown ≡ stores_named manifest.shape manifest.ruling content.shown
+  same_stores manifest same_shape same_body = ap (λ (s : Shape). stores_named s body content.shown) same_shape ∙ ap (λ (b : Body). stores_named manifest.shape b content.shown) same_body
+
   -- the first finding is in the active log
   pub active_refused : (finding : Finding) → (IsTrue content.honest → HasFirstFinding shape content.shown (body.active ∷ []) finding) → IsTrue content.honest → IsFound content.shown finding
   active_refused finding found h =
-      verdict_is_found content.shown finding (log_verdict shape body content.shown finding (named h) (found_within shape content.shown [] (body.active ∷ []) body.frozen finding refl (found h)))
+      log_verdict shape body content.shown finding (named h) (found_within shape content.shown [] (body.active ∷ []) body.frozen finding refl (found h))
 
   module _ (sound : IsTrue content.honest → AreSoundLogs shape content.shown (body.active ∷ [])) where
     -- or in a frozen one
     pub frozen_refused : (regions : List ℕ) → regions ≡ body.frozen → (finding : Finding) → (IsTrue content.honest → HasFirstFinding shape content.shown regions finding) → IsTrue content.honest → IsFound content.shown finding
     frozen_refused regions are finding found h =
         let all : (body.active ∷ []) ++ regions ++ [] ≡ body.active ∷ body.frozen = append-nil (body.active ∷ regions) ∙ ap (λ (ids : List ℕ). body.active ∷ ids) are in
-        verdict_is_found content.shown finding (log_verdict shape body content.shown finding (named h)
-        (subst (λ (ids : List ℕ). HasFirstFinding shape content.shown ids finding) all (found_within shape content.shown (body.active ∷ []) regions [] finding (sound h) (found h))))
+        log_verdict shape body content.shown finding (named h)
+        (subst (λ (ids : List ℕ). HasFirstFinding shape content.shown ids finding) all (found_within shape content.shown (body.active ∷ []) regions [] finding (sound h) (found h)))
 
-    module _ (regions : List ℕ) (are : regions ≡ body.frozen) (frozen : List LogStoreState) (older : ℕ) (read : AreReadLogs content shape regions frozen older) where
+    module _ (regions : List ℕ) (frozen_are : regions ≡ body.frozen) (frozen : List LogStoreState) (older : ℕ) (read : AreReadLogs content shape regions frozen older) where
       -- nothing is found in any log
       all_sound : IsTrue content.honest → AreSoundLogs shape content.shown (body.active ∷ body.frozen)
       all_sound h =
-          subst (λ (ids : List ℕ). AreSoundLogs shape content.shown (body.active ∷ ids)) are (sound_both shape content.shown (body.active ∷ []) regions (sound h) (read.sound h))
+          subst (λ (ids : List ℕ). AreSoundLogs shape content.shown (body.active ∷ ids)) frozen_are (sound_both shape content.shown (body.active ∷ []) regions (sound h) (read.sound h))
 
       -- or in a hash store
       pub hashed_refused : (ids : List ℕ) → ids ≡ body.hashed → (finding : Finding) → (IsTrue content.honest → HasFirstSlot shape content.shown ids finding) → IsTrue content.honest → IsFound content.shown finding
       hashed_refused ids named_ids finding found h =
-          verdict_is_found content.shown finding (slot_verdict shape body content.shown finding (named h) (all_sound h)
-          (subst (λ (hashed : List ℕ). HasFirstSlot shape content.shown hashed finding) named_ids (found h)))
+          slot_verdict shape body content.shown finding (named h) (all_sound h)
+          (subst (λ (hashed : List ℕ). HasFirstSlot shape content.shown hashed finding) named_ids (found h))
 
-      module _ (no_entries : body.sorted_count ≡ 0) (ids : List ℕ) (named_ids : ids ≡ body.hashed) (hashes : List HashState) (hash_puts hash_rows : ℕ) (hashed : AreReadHashes content shape ids hashes hash_puts hash_rows)
-          (newest : ℕ) (counted : IsTrue content.honest → newest ≡ put_count (log_rows shape body.active content.shown)) where
+      module _ (ids : List ℕ) (named_ids : ids ≡ body.hashed) (hashes : List HashState) (hash_puts hash_rows : ℕ) (hashed : AreReadHashes content shape ids hashes hash_puts hash_rows) where
         -- nothing is found in any hash store
         hashes_sound : IsTrue content.honest → AreSoundHashes shape content.shown body.hashed
         hashes_sound h = subst (λ (all : List ℕ). AreSoundHashes shape content.shown all) named_ids (hashed.sound h)
 
-        -- and nothing in the entries, which are none
-        entries_sound : sorted_findings (stores_named shape body content.shown).entries ≡ []
-        unfolding stores_named sorted_rows sorted_findings
-        entries_sound = ap (λ (n : ℕ). sorted_findings (sorted_rows shape body.sorted n content.shown)) no_entries
+        -- or in an entry
+        pub entry_refused : (finding : Finding) → (IsTrue content.honest → HasFirstEntry shape content.shown body.sorted body.sorted_count finding) → IsTrue content.honest → IsFound content.shown finding
+        entry_refused finding found h = entry_verdict shape body content.shown finding (named h) (all_sound h) (hashes_sound h) (found h)
 
-        -- the puts that were counted are all
-        charge_is : IsTrue content.honest → newest + older + hash_puts ≡ charge_of (stores_named shape body content.shown)
-        charge_is h =
-            let puts : ℕ → ℕ = λ (region : ℕ). put_count (log_rows shape region content.shown) in
-            let in_logs : newest + older ≡ put_rows shape content.shown (body.active ∷ body.frozen) =
-            ap (λ (n : ℕ). n + older) (counted h) ∙ ap (λ (n : ℕ). puts body.active + n) (read.counted h ∙ ap (put_rows shape content.shown) are) ∙ sym (sum_by-cons puts body.active body.frozen) in
-            let in_hashes : hash_puts ≡ sum_by (region_puts shape content.shown) body.hashed = hashed.charged h ∙ ap (sum_by (region_puts shape content.shown)) named_ids in
-            let all : charge_of (stores_named shape body content.shown) ≡ sum_by (region_puts shape content.shown) body.hashed + put_rows shape content.shown (body.active ∷ body.frozen) = charge_of_named shape body content.shown no_entries in
-            omega (arith, in_logs, in_hashes, all)
-
-        -- too many puts
-        pub charge_refused : shape.sorted_capacity < newest + older + hash_puts → IsTrue content.honest → IsFound content.shown (Damaged Charge)
+        -- the rows that were counted are all
+        pub rows_counted : (manifest : ManifestState) → shape ≡ manifest.shape → body ≡ manifest.ruling → IsTrue content.honest → hash_rows ≡ sum_by known_count (stores_named manifest.shape manifest.ruling content.shown).hashes
         unfolding stores_named
-        charge_refused many h =
-            verdict_is_found content.shown (Damaged Charge)
-            (charge_found_law content.shown (stores_named shape body content.shown) (named h) (all_sound h) (hashes_sound h) entries_sound (subst (λ (n : ℕ). shape.sorted_capacity < n) (charge_is h) many))
+        rows_counted manifest same_shape same_body h =
+            hashed.counted h ∙ ap (sum_by (region_rows shape content.shown)) named_ids ∙ rows_of_hashes shape content.shown body.hashed
+            ∙ ap (λ (s : Stores). sum_by known_count s.hashes) (same_stores manifest same_shape same_body)
 
-        -- nothing is found
-        nothing_found : newest + older + hash_puts ≤ shape.sorted_capacity → IsTrue content.honest → IsSound (stores_named shape body content.shown)
-        unfolding stores_named
-        nothing_found most h =
-            (parts_law (stores_named shape body content.shown)).1 (record {
-              logs = all_sound h;
-              hashes = hashes_sound h;
-              entries = entries_sound;
-              charge = subst (λ (n : ℕ). n ≤ shape.sorted_capacity) (charge_is h) most;
-            })
+        module _ (sorted : SortedState) (are : sorted ≡ sorted_named shape body) (held_sorted : IsHeldSorted sorted) (entries_sound : IsTrue content.honest → AreSoundEntries shape content.shown body.sorted body.sorted_count)
+            (newest : ℕ) (counted : IsTrue content.honest → newest ≡ put_count (log_rows shape body.active content.shown)) where
+          -- the puts that were counted are all
+          charge_is : IsTrue content.honest → newest + older + hash_puts + sorted.count ≡ charge_of (stores_named shape body content.shown)
+          charge_is h =
+              let puts : ℕ → ℕ = λ (region : ℕ). put_count (log_rows shape region content.shown) in
+              let in_logs : newest + older ≡ put_rows shape content.shown (body.active ∷ body.frozen) =
+              ap (λ (n : ℕ). n + older) (counted h) ∙ ap (λ (n : ℕ). puts body.active + n) (read.counted h ∙ ap (put_rows shape content.shown) frozen_are) ∙ sym (sum_by-cons puts body.active body.frozen) in
+              let in_hashes : hash_puts ≡ sum_by (region_puts shape content.shown) body.hashed = hashed.charged h ∙ ap (sum_by (region_puts shape content.shown)) named_ids in
+              let entries : sorted.count ≡ body.sorted_count = ap (λ (s : SortedState). s.count) are in
+              omega (arith, in_logs, in_hashes, entries, charge_of_named shape body content.shown)
 
-        module _ (manifest : ManifestState) (same_shape : shape ≡ manifest.shape) (same_body : body ≡ manifest.ruling) where
-          -- the stores in the words of the manifest
-          same_stores : stores_named shape body content.shown ≡ stores_named manifest.shape manifest.ruling content.shown
-          same_stores = ap (λ (s : Shape). stores_named s body content.shown) same_shape ∙ ap (λ (b : Body). stores_named manifest.shape b content.shown) same_body
-
-          -- the rows that were counted are all
-          pub rows_counted : IsTrue content.honest → hash_rows ≡ sum_by known_count (stores_named manifest.shape manifest.ruling content.shown).hashes
+          -- too many puts
+          pub charge_refused : shape.sorted_capacity < newest + older + hash_puts + sorted.count → IsTrue content.honest → IsFound content.shown (Damaged Charge)
           unfolding stores_named
-          rows_counted h =
-              hashed.counted h ∙ ap (sum_by (region_rows shape content.shown)) named_ids ∙ rows_of_hashes shape content.shown body.hashed
-              ∙ ap (λ (s : Stores). sum_by known_count s.hashes) same_stores
+          charge_refused many h =
+              charge_found_law content.shown (stores_named shape body content.shown) (named h) (all_sound h) (hashes_sound h) (entries_sound h) (subst (λ (n : ℕ). shape.sorted_capacity < n) (charge_is h) many)
 
-          -- what is held
-          pub held : (active : LogStoreState) (charge : ℕ) → InLimits shape → size content ≡ device_size manifest.shape → manifest.prepared ≡ None → (Rests content → Rules manifest content)
-              → IsReadLog content shape active → active.log.region ≡ body.active → charge ≡ newest + older + hash_puts → charge ≤ shape.sorted_capacity
-              → Holds content (record { manifest = manifest; active = active; frozen = frozen; hashes = hashes; converting = None; charge = charge })
-          held active charge limits sized idle rules own region total most = record {
-            limits = subst InLimits same_shape limits;
-            has_size = sized;
-            whole = record {
-              has_shape = own.has_shape ∙ same_shape;
-              active_region = region ∙ ap (λ (b : Body). b.active) same_body;
-              frozen_regions = read.has_regions ∙ are ∙ ap (λ (b : Body). b.frozen) same_body;
-              settled = All-weaker (IsReadLog content shape) (IsSettled manifest.shape) (λ store is. record { has_shape = is.has_shape ∙ same_shape; settled = is.settled }) frozen read.each;
-              hash_regions = hashed.has_regions ∙ named_ids ∙ ap (λ (b : Body). b.hashed) same_body;
-              hashed = All-weaker (IsReadHash content shape) (IsHashOf manifest.shape) (λ store is. record { has_shape = is.hash.has_shape ∙ same_shape; held = is.hash.held }) hashes hashed.each;
-              under_way = tt;
-              most = subst (λ (s : Shape). charge ≤ s.sorted_capacity) same_shape most;
-            };
-            idle = idle;
-            none_converted = refl;
-            rules = rules;
-            active = subst (λ (s : Shape). IsReadLog content s active) same_shape own;
-            frozen = subst (λ (s : Shape). All (IsReadLog content s) frozen) same_shape read.each;
-            hashed = All-weaker (IsReadHash content shape) (IsHashStore content) (λ store is. is.stands) hashes hashed.each;
-            named = λ h. named h ∙ ap Ok same_stores;
-            sound = λ h. subst IsSound same_stores (nothing_found (subst (λ (n : ℕ). n ≤ shape.sorted_capacity) total most) h);
-            counted = λ h. total ∙ charge_is h ∙ ap charge_of same_stores;
-            no_entries = ap (λ (b : Body). b.sorted_count) (sym same_body) ∙ no_entries;
-          }
+          -- nothing is found
+          nothing_found : newest + older + hash_puts + sorted.count ≤ shape.sorted_capacity → IsTrue content.honest → IsSound (stores_named shape body content.shown)
+          unfolding stores_named
+          nothing_found most h =
+              (parts_law (stores_named shape body content.shown)).1 (record {
+                logs = all_sound h;
+                hashes = hashes_sound h;
+                entries = entries_sound h;
+                charge = subst (λ (n : ℕ). n ≤ shape.sorted_capacity) (charge_is h) most;
+              })
+
+          module _ (manifest : ManifestState) (same_shape : shape ≡ manifest.shape) (same_body : body ≡ manifest.ruling) where
+            -- what is held
+            pub held : (active : LogStoreState) (charge : ℕ) → InLimits shape → size content ≡ device_size manifest.shape → manifest.prepared ≡ None → (Rests content → Rules manifest content)
+                → IsReadLog content shape active → active.log.region ≡ body.active → charge ≡ newest + older + hash_puts + sorted.count → charge ≤ shape.sorted_capacity
+                → Holds content (record { manifest = manifest; active = active; frozen = frozen; hashes = hashes; sorted = sorted; converting = None; merging = None; charge = charge })
+            held active charge limits sized idle rules own region total most = record {
+              limits = subst InLimits same_shape limits;
+              has_size = sized;
+              whole = record {
+                has_shape = own.has_shape ∙ same_shape;
+                active_region = region ∙ ap (λ (b : Body). b.active) same_body;
+                frozen_regions = read.has_regions ∙ frozen_are ∙ ap (λ (b : Body). b.frozen) same_body;
+                settled = All-weaker (IsReadLog content shape) (IsSettled manifest.shape) (λ store is. record { has_shape = is.has_shape ∙ same_shape; settled = is.settled }) frozen read.each;
+                hash_regions = hashed.has_regions ∙ named_ids ∙ ap (λ (b : Body). b.hashed) same_body;
+                hashed = All-weaker (IsReadHash content shape) (IsHashOf manifest.shape) (λ store is. record { has_shape = is.hash.has_shape ∙ same_shape; held = is.hash.held }) hashes hashed.each;
+                sorted = are ∙ ap (λ (s : Shape). sorted_named s body) same_shape ∙ ap (sorted_named manifest.shape) same_body;
+                held = held_sorted;
+                under_way = tt;
+                merging = tt;
+                most = subst (λ (s : Shape). charge ≤ s.sorted_capacity) same_shape most;
+              };
+              idle = idle;
+              none_converted = refl;
+              none_merged = refl;
+              rules = rules;
+              active = subst (λ (s : Shape). IsReadLog content s active) same_shape own;
+              frozen = subst (λ (s : Shape). All (IsReadLog content s) frozen) same_shape read.each;
+              hashed = All-weaker (IsReadHash content shape) (IsHashStore content) (λ store is. is.stands) hashes hashed.each;
+              named = λ h. named h ∙ ap Ok (same_stores manifest same_shape same_body);
+              sound = λ h. subst IsSound (same_stores manifest same_shape same_body) (nothing_found (subst (λ (n : ℕ). n ≤ shape.sorted_capacity) total most) h);
+              counted = λ h. total ∙ charge_is h ∙ ap charge_of (same_stores manifest same_shape same_body);
+            }
 
 -- regions that exist, by a test
 all_exist : (n : ℕ) (ids : List ℕ) → all_below n ids ≡ true → All (λ (id : ℕ). id < n) ids
@@ -150,13 +154,15 @@ all_exist n (id ∷ ids) is =
     let parts = and_parts (nat_lt id n) (list_all (λ (other : ℕ). nat_lt other n) ids) is in
     All-cons (λ (other : ℕ). other < n) id ids (ltb-true id n parts.0) (all_exist n ids parts.1)
 
--- the logs and the hash stores of a body that is well formed exist, and are no more than a device can have
+-- the logs, the hash stores and the entries of a body that is well formed exist, and are no more than a device can have
 pub record HasRegions (shape : Shape) (body : Body) : Type 0 where
   pub active : body.active < shape.logs
   pub few : length body.frozen ≤ 7
   pub frozen : All (λ (region : ℕ). region < shape.logs) body.frozen
   pub few_hashed : length body.hashed ≤ 16
   pub hashed : All (λ (region : ℕ). region < shape.hashes) body.hashed
+  pub sorted : body.sorted < 2
+  pub room : body.sorted_count ≤ shape.sorted_capacity
 
 pub named_regions : (shape : Shape) (slot : ℕ) (body : Body) → InLimits shape → is_well_formed shape slot body ≡ true → HasRegions shape body
 named_regions shape slot body limits sound =
@@ -167,6 +173,8 @@ named_regions shape slot body limits sound =
       frozen = all_exist shape.logs body.frozen parts.frozen;
       few_hashed = omega (arith, parts.hashed_count, limits.hashes_most);
       hashed = all_exist shape.hashes body.hashed parts.hashed;
+      sorted = parts.sorted;
+      room = parts.sorted_count;
     }
 
 -- the same of a body and of numbers that are named in another way

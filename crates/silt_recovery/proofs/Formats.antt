@@ -1,22 +1,21 @@
 -- What formatting writes is what an opening reads.
-use Rattle.std.proofs.Common.{◌≡◌, ◌≤◌, ◌<◌, ℕ, ◌+◌, ◌-◌, IsTrue, List, [], ◌∷◌, ◌++◌, length, take, drop, slice_range, false, Ok, inl, inr, refl, ap, sym, ◌∙◌, subst, arith, take-add}
+use Rattle.std.proofs.Common.{◌≡◌, ◌≤◌, ◌<◌, ℕ, ◌+◌, ◌-◌, IsTrue, List, [], ◌∷◌, ◌++◌, length, take, drop, slice_range, false, Ok, inl, inr, ap, sym, ◌∙◌, subst, arith, take-add}
 use Rattle.std.specs.FinMap.{empty}
 use Rattle.std.proofs.lemmas.List.{drop-drop}
 use Rattle.silt_device.specs.Disk.{Content, Torn, ChangesWithin, Writes, LeavesOnly, Rests, size, splice}
 use Rattle.silt_device.specs.Layout.{Shape, InLimits, device_size, gates_at, slot_at}
 use Rattle.silt_device.proofs.Images.{splice_slice, torn_splice, length-splice, torn_slice_after, left_at_rest, shown_left, rests_leaves}
 use Rattle.silt_image.specs.Header.{header_bytes, header_of}
-use Rattle.silt_image.specs.Stores.{image_stores, shape_found, stores_named}
+use Rattle.silt_image.specs.Meaning.{StandsFor}
+use Rattle.silt_image.specs.Stores.{shape_found}
 use Rattle.silt_log.specs.Rows.{log_rows}
 use Rattle.silt_log.proofs.Elsewhere.{log_rows_elsewhere}
 use Rattle.silt_manifest.specs.Body.{first_body}
 use Rattle.silt_manifest.specs.Ruling.{is_slot_open, manifest_found}
 use Rattle.silt_manifest.specs.Standing.{IsFirst}
 use Rattle.silt_manifest.proofs.Laws.{closed_shown, closed_elsewhere, first_elsewhere}
-use Rattle.silt_stores.specs.Calls.{HaveNoEntries, StandsUnsorted}
 use Rattle.silt_recovery.proofs.Manifests.{found_body}
 use Rattle.silt_image.proofs.Headers.{formatted_law}
-use Rattle.silt_image.proofs.Named.{stores_law}
 use Rattle.silt_image.proofs.Verdict.{empty_law}
 
 -- a part and the one behind it
@@ -38,16 +37,11 @@ gated at bytes old mid new fits first second =
     slice_join new at (at + 1) (at + 1 + length bytes) (omega arith) (omega arith) ∙ ap (λ (xs : List ℕ). xs ++ slice_range new (at + 1) (at + 1 + length bytes)) gate ∙ ap (λ (xs : List ℕ). 167 ∷ xs) body
 
 -- an image with the header, the first manifest body and an empty log 0
-pub fresh_store : (shape : Shape) (image : List ℕ) → InLimits shape → length image ≡ device_size shape → header_of image ≡ 167 ∷ header_bytes shape → IsFirst image → log_rows shape 0 image ≡ [] → StandsUnsorted shape empty image
-unfolding stores_named
+pub fresh_store : (shape : Shape) (image : List ℕ) → InLimits shape → length image ≡ device_size shape → header_of image ≡ 167 ∷ header_bytes shape → IsFirst image → log_rows shape 0 image ≡ [] → StandsFor shape empty image
 fresh_store shape image limits long header first rows =
     let is : shape_found (length image) (header_of image) ≡ Ok shape = ap (λ (n : ℕ). shape_found n (header_of image)) long ∙ ap (shape_found (device_size shape)) header ∙ formatted_law shape limits in
     let body : manifest_found shape image ≡ Ok first_body = found_body (manifest_found shape image) first_body (first.rules shape limits) in
-    let stores : image_stores image ≡ Ok (stores_named shape first_body image) = (stores_law image (stores_named shape first_body image)).1 (record { shape = is; body = body; named = refl }) in
-    record {
-      stands = empty_law image shape is body rows;
-      no_entries = subst HaveNoEntries (sym stores) refl;
-    }
+    empty_law image shape is body rows
 
 module _ (shape : Shape) (limits : InLimits shape) (c1 c2 c3 : Content) (sized : size c1 ≡ device_size shape) (long2 : size c2 ≡ size c1) (slot : Writes (slot_at 1) (0 ∷ []) c1 c2)
     (prepared : ChangesWithin (gates_at shape 0) shape.log_capacity c2 c3) where
@@ -61,7 +55,7 @@ module _ (shape : Shape) (limits : InLimits shape) (c1 c2 c3 : Content) (sized :
 -- whatever a stop leaves of the device is an empty store
 pub formatted : (shape : Shape) (c3 c4 c5 : Content) → InLimits shape → size c3 ≡ device_size shape → size c4 ≡ device_size shape → size c5 ≡ device_size shape
     → LeavesOnly c3 (λ image. log_rows shape 0 image ≡ []) → ChangesWithin (slot_at 0) 4096 c3 c4 → LeavesOnly c4 IsFirst → ChangesWithin 0 37 c4 c5 → (IsTrue c5.honest → header_of c5.shown ≡ 167 ∷ header_bytes shape) → Rests c5
-    → LeavesOnly c5 (StandsUnsorted shape empty)
+    → LeavesOnly c5 (StandsFor shape empty)
 formatted shape c3 c4 c5 limits size3 size4 size5 empties manifest first header has_header rests =
     let first5 : LeavesOnly c5 IsFirst = first_elsewhere 0 37 c4 c5 (omega (arith, size4)) (inl (omega arith)) header first in
     record {
@@ -71,6 +65,6 @@ formatted shape c3 c4 c5 limits size3 size4 size5 empties manifest first header 
           let least : 0 < shape.logs = omega (arith, limits.logs_least) in
           let rows4 : log_rows shape 0 c4.shown ≡ log_rows shape 0 c3.shown = log_rows_elsewhere shape 0 (slot_at 0) 4096 c3.shown c4.shown least (omega (arith, size3)) (inl (omega arith)) (manifest.shown h3) in
           let rows5 : log_rows shape 0 c5.shown ≡ log_rows shape 0 c4.shown = log_rows_elsewhere shape 0 0 37 c4.shown c5.shown least (omega (arith, size4)) (inl (omega arith)) (header.shown h4) in
-          let shown : StandsUnsorted shape empty c5.shown = fresh_store shape c5.shown limits size5 (has_header h5) (first5.each h5 c5.shown (shown_left c5)) (rows5 ∙ rows4 ∙ empties.each h3 c3.shown (shown_left c3)) in
-          subst (StandsUnsorted shape empty) (sym (left_at_rest rests h5 image left)) shown;
+          let shown : StandsFor shape empty c5.shown = fresh_store shape c5.shown limits size5 (has_header h5) (first5.each h5 c5.shown (shown_left c5)) (rows5 ∙ rows4 ∙ empties.each h3 c3.shown (shown_left c3)) in
+          subst (StandsFor shape empty) (sym (left_at_rest rests h5 image left)) shown;
     }

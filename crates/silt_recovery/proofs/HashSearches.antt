@@ -20,6 +20,7 @@ use Rattle.silt_manifest.specs.declared.body.Body.{Body}
 use Rattle.silt_stores.specs.State.{hash_region_of}
 use Rattle.silt_recovery.specs.Hashes.{AreReadHashes, AreSoundHashes, HasFirstSlot, IsReadHash, region_puts, region_rows}
 use Rattle.silt_recovery.specs.Logs.{AreSoundLogs, put_rows}
+use Rattle.silt_recovery.proofs.EntrySearches.{charge_of_entries}
 use Rattle.silt_recovery.proofs.Searches.{charge_of_logs}
 
 -- ---- in one hash store
@@ -83,26 +84,37 @@ rows_of_hashes shape image (region ∷ regions) =
     ∙ ap (λ (n : ℕ). region_rows shape image region + n) (rows_of_hashes shape image regions)
     ∙ sym (sum_by-cons known_count (hash_part shape image region) (map (hash_part shape image) regions))
 
--- of stores with no sorted entries the charge is the puts in their hash stores and their logs
-pub charge_of_named : (shape : Shape) (body : Body) (image : List ℕ) → body.sorted_count ≡ 0 → charge_of (stores_named shape body image) ≡ sum_by (region_puts shape image) body.hashed + put_rows shape image (body.active ∷ body.frozen)
-unfolding rows_of stores_named sorted_rows
-charge_of_named shape body image entries =
+-- the charge is the sorted entries and the puts in the hash stores and the logs
+pub charge_of_named : (shape : Shape) (body : Body) (image : List ℕ) → charge_of (stores_named shape body image) ≡ body.sorted_count + (sum_by (region_puts shape image) body.hashed + put_rows shape image (body.active ∷ body.frozen))
+unfolding rows_of stores_named
+charge_of_named shape body image =
+    let entries : List StoredRow = sorted_rows shape body.sorted body.sorted_count image in
     let hashes : List StoredRow = oldest_first (map known_rows (map (hash_part shape image) body.hashed)) in
     let logs : List StoredRow = oldest_first (map part_rows (map (log_part shape image) (body.active ∷ body.frozen))) in
-    ap (λ (n : ℕ). put_count (sorted_rows shape body.sorted n image ++ hashes ++ logs)) entries
-    ∙ count_law hashes logs
-    ∙ ap (λ (n : ℕ). n + put_count logs) (charge_of_hashes shape image body.hashed)
-    ∙ ap (λ (n : ℕ). sum_by (region_puts shape image) body.hashed + n) (charge_of_logs shape image (body.active ∷ body.frozen))
+    omega (
+      arith,
+      count_law (entries ++ hashes) logs,
+      count_law entries hashes,
+      charge_of_entries shape body.sorted body.sorted_count image,
+      charge_of_hashes shape image body.hashed,
+      charge_of_logs shape image (body.active ∷ body.frozen),
+    )
 
 -- ---- the hash stores so far, and one more
+
+-- a hash store that was read has the puts that are shown
+puts_read : (content : Content) (shape : Shape) (store : HashState) (region : ℕ) → store.region ≡ region → IsReadHash content shape store → IsTrue content.honest → store.puts ≡ region_puts shape content.shown region
+puts_read content shape store region has_region own h =
+    own.stands.counted h ∙ ap (λ (s : Shape). region_puts s content.shown store.region) own.hash.has_shape ∙ ap (region_puts shape content.shown) has_region
 
 module _ (content : Content) (shape : Shape) (regions : List ℕ) (i : ℕ) (stores : List HashState) (puts rows : ℕ) (before : i < length regions) (read : AreReadHashes content shape (take i regions) stores puts rows) where
   -- one hash store more
   pub one_more_hash : (store : HashState) (more_puts more_rows : ℕ) → store.region ≡ get_or regions i 0 → IsReadHash content shape store → (IsTrue content.honest → AreSoundHashes shape content.shown (get_or regions i 0 ∷ []))
-      → (IsTrue content.honest → more_puts ≡ region_puts shape content.shown (get_or regions i 0)) → (IsTrue content.honest → more_rows ≡ region_rows shape content.shown (get_or regions i 0))
+      → more_puts ≡ store.puts → (IsTrue content.honest → more_rows ≡ region_rows shape content.shown (get_or regions i 0))
       → AreReadHashes content shape (take (i + 1) regions) (stores ++ store ∷ []) (puts + more_puts) (rows + more_rows)
-  one_more_hash store more_puts more_rows has_region own sound charged counted =
+  one_more_hash store more_puts more_rows has_region own sound are_puts counted =
       let region : ℕ = get_or regions i 0 in
+      let charged : IsTrue content.honest → more_puts ≡ region_puts shape content.shown region = λ h. are_puts ∙ puts_read content shape store region has_region own h in
       let next : take (i + 1) regions ≡ take i regions ++ region ∷ [] = take_more regions i 0 before in
       subst (λ (ids : List ℕ). AreReadHashes content shape ids (stores ++ store ∷ []) (puts + more_puts) (rows + more_rows)) (sym next) (record {
         has_regions = map-append hash_region_of stores (store ∷ []) ∙ ap (λ (ids : List ℕ). ids ++ store.region ∷ []) read.has_regions ∙ ap (λ (id : ℕ). take i regions ++ id ∷ []) has_region;

@@ -5,6 +5,7 @@ pub mod HalfFormats
 pub mod Searches
 pub mod HashSearches
 pub mod Frozen
+pub mod EntrySearches
 pub mod Examinations
 pub mod Takings
 pub mod Reports

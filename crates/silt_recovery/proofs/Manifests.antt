@@ -12,7 +12,6 @@ use Rattle.silt_manifest.specs.Standing.{IsRuled, ManifestState}
 use Rattle.silt_manifest.specs.declared.body.Body.{Body}
 use Rattle.silt_manifest.specs.declared.slot.Damage.{Damage}
 use Rattle.silt_recovery.specs.Refusals.{IsFound}
-use Rattle.silt_recovery.proofs.Refusals.{verdict_is_found}
 
 -- a body that was found
 pub found_body : (found : Result Body Damage) (body : Body) → where_found found ≡ Some body → found ≡ Ok body
@@ -29,10 +28,10 @@ ruled_stores shape image m header same ruled =
 -- a finding in the header is the verdict
 pub header_verdict : (image : List ℕ) (finding : Finding) → shape_found (length image) (header_of image) ≡ Err finding → IsFound image finding
 unfolding image_stores
-header_verdict image finding found = verdict_is_found image finding (no_stores_law image finding (ap (stores_shaped image) found))
+header_verdict image finding found = no_stores_law image finding (ap (stores_shaped image) found)
 
 -- damage of the manifest is the verdict
 pub damage_verdict : (shape : Shape) (image : List ℕ) (damage : Damage) → shape_found (length image) (header_of image) ≡ Ok shape → IsDamaged shape damage image → IsFound image (damage_finding damage)
 unfolding image_stores
 damage_verdict shape image damage header damaged =
-    verdict_is_found image (damage_finding damage) (no_stores_law image (damage_finding damage) (ap (stores_shaped image) header ∙ ap (stores_ruled shape image) damaged.found))
+    no_stores_law image (damage_finding damage) (ap (stores_shaped image) header ∙ ap (stores_ruled shape image) damaged.found)

@@ -13,7 +13,6 @@ use Rattle.silt_log.specs.Rows.{log_rows}
 use Rattle.silt_log_store.specs.State.{LogStoreState}
 use Rattle.silt_manifest.specs.Body.{is_well_formed}
 use Rattle.silt_manifest.specs.declared.body.Body.{Body}
-use Rattle.silt_stores.specs.Calls.{HaveNoEntries}
 use Rattle.silt_stores.specs.Standing.{shown_stores}
 use Rattle.silt_stores.specs.State.{StoresState, region_of}
 use Rattle.silt_recovery.specs.Logs.{IsReadLog}
@@ -82,7 +81,6 @@ reported content s body hash_rows holds counts same h =
       stores = shown_stores content s;
       are = holds.named h;
       good = (sound_law content.shown (shown_stores content s) (holds.named h)).1 (holds.sound h);
-      no_entries = subst HaveNoEntries (sym (holds.named h)) holds.no_entries;
       numbers =
           ap (λ (b : Body). told b s.active.log.used (sum_by used_rows s.frozen) hash_rows s.charge) same
           ∙ ap (λ (n : ℕ). told s.manifest.ruling n (sum_by used_rows s.frozen) hash_rows s.charge) active_rows

@@ -29,9 +29,9 @@ use Rattle.silt_log.proofs.Waiting.{none_waiting}
 use Rattle.silt_log_store.specs.Calls.{SealsStore}
 use Rattle.silt_log_store.specs.State.{LogStoreState}
 use Rattle.silt_manifest.proofs.Laws.{rules_elsewhere}
-use Rattle.silt_stores.specs.Calls.{HaveNoEntries, StandsUnsorted}
-use Rattle.silt_stores.specs.Standing.{IsFrozen, Stands, base_map, shown_stores}
-use Rattle.silt_stores.specs.State.{AreWhole, IsHashOf, IsUnderWay, StoresState, oldest_log, region_of}
+use Rattle.silt_merge.specs.State.{MergeState}
+use Rattle.silt_stores.specs.Standing.{HasGathered, IsFrozen, Stands, base_map, shown_stores}
+use Rattle.silt_stores.specs.State.{AreWhole, IsHashOf, IsMerging, IsUnderWay, StoresState, oldest_log, region_of}
 use Rattle.silt_recovery.specs.Logs.{IsReadLog}
 use Rattle.silt_recovery.specs.Opening.{Holds, IsUnwritten, IsUnwrittenUnlessFailed, LeavesNoOther, TakesUp}
 use Rattle.silt_recovery.specs.Refusals.{IsFound, IsRefusedLook}
@@ -140,6 +140,13 @@ none_converts s none = subst (λ (converting : Option ConversionState). IfSome c
 none_written : (content : Content) (s : StoresState) → s.converting ≡ None → IfSome s.converting (HasWritten content (oldest_log s))
 none_written content s none = subst (λ (converting : Option ConversionState). IfSome converting (HasWritten content (oldest_log s))) (sym none) tt
 
+-- and where no merge is, nothing of one
+none_merges : (s : StoresState) → s.merging ≡ None → IfSome s.merging (IsMerging s)
+none_merges s none = subst (λ (merging : Option MergeState). IfSome merging (IsMerging s)) (sym none) tt
+
+none_gathered : (content : Content) (s : StoresState) → s.merging ≡ None → IfSome s.merging (HasGathered content s)
+none_gathered content s none = subst (λ (merging : Option MergeState). IfSome merging (HasGathered content s)) (sym none) tt
+
 -- ---- where the active log was sealed
 
 module _ (old between new : Content) (s : StoresState) (settles : Settles old between) (holds : Holds between s)
@@ -199,17 +206,14 @@ module _ (old between new : Content) (s : StoresState) (settles : Settles old be
   shown_same h = sym ((stores_law new.shown (shown_stores between s)).0 (same_stores.each (changes.honest ∙ h) new.shown (shown_left new))).named
 
   -- each image stands for what was shown
-  stands_for : IsTrue old.honest → (image : List ℕ) → image_stores image ≡ Ok (shown_stores between s) → StandsUnsorted (shape_of old.shown) (image_map old.shown) image
+  stands_for : IsTrue old.honest → (image : List ℕ) → image_stores image ≡ Ok (shown_stores between s) → StandsFor (shape_of old.shown) (image_map old.shown) image
   unfolding stores_named image_map
   stands_for o image stores =
       let h : IsTrue between.honest = here o in
       let stands : StandsFor s.manifest.shape (map_of_rows (rows_of (shown_stores between s))) image = stands_law image (shown_stores between s) stores (holds.sound h) in
       let has_shape : s.manifest.shape ≡ shape_of old.shown = sym (whole h).has_shape ∙ ap shape_of (settles.shown o) in
       let has_map : map_of_rows (rows_of (shown_stores between s)) ≡ image_map old.shown = ap map_of_rows (sym (rows_law between.shown (shown_stores between s) (holds.named h))) ∙ ap image_map (settles.shown o) in
-      record {
-        stands = subst (λ (x : Shape). StandsFor x (image_map old.shown) image) has_shape (subst (λ m. StandsFor s.manifest.shape m image) has_map stands);
-        no_entries = subst HaveNoEntries (sym stores) holds.no_entries;
-      }
+      subst (λ (x : Shape). StandsFor x (image_map old.shown) image) has_shape (subst (λ m. StandsFor s.manifest.shape m image) has_map stands)
 
   pub sealed_images : LeavesNoOther old new
   sealed_images = record { each = λ honest image left. inr (stands_for (sym settles.honest ∙ was honest) image (same_stores.each honest image left)) }
@@ -268,7 +272,10 @@ module _ (old between new : Content) (s : StoresState) (settles : Settles old be
             settled = holds.whole.settled;
             hash_regions = holds.whole.hash_regions;
             hashed = holds.whole.hashed;
+            sorted = holds.whole.sorted;
+            held = holds.whole.held;
             under_way = none_converts (record s { active = after }) holds.none_converted;
+            merging = none_merges (record s { active = after }) holds.none_merged;
             most = holds.whole.most;
           };
           idle = holds.idle;
@@ -278,10 +285,10 @@ module _ (old between new : Content) (s : StoresState) (settles : Settles old be
           frozen = λ k d inside. frozen_stands between new s.manifest.shape (slice_index_or s.frozen k d) changes.honest (holds.frozen k d inside) (λ h. frozen_rows h k d inside);
           hashed = λ k d inside. hash_stands between new s.manifest.shape s.manifest.ruling.active (slice_index_or s.hashes k d) exists (omega (arith, holds.has_size)) changed (holds.whole.hashed k d inside) (holds.hashed k d inside);
           written = none_written new (record s { active = after }) holds.none_converted;
+          merged = none_gathered new (record s { active = after }) holds.none_merged;
           named = record { each = λ honest image left. same_stores.each honest image left ∙ ap Ok (sym (shown_same (was honest))) };
           sound = λ h. all_sound (was h);
           counted = λ h. all_counted (was h);
-          no_entries = holds.no_entries;
         }
 
     -- the stores were taken up
@@ -293,7 +300,7 @@ module _ (old between new : Content) (s : StoresState) (settles : Settles old be
       quiet = record { settled = settled; none_wait = ap (map _) (none_waiting new after.log settled) };
       good = λ o. subst IsGood (settles.shown o) ((sound_law between.shown (shown_stores between s) (holds.named (here o))).1 (holds.sound (here o)));
       none_converted = holds.none_converted;
-      no_entries = λ o. subst (λ (image : List ℕ). HaveNoEntries (image_stores image)) (settles.shown o) (subst HaveNoEntries (sym (holds.named (here o))) holds.no_entries);
+      none_merged = holds.none_merged;
       has_shape = λ o. sym (whole (here o)).has_shape ∙ ap shape_of (settles.shown o);
       has_map = λ o.
           ap (λ (x : Stores). map_of_rows (rows_of x)) (shown_same (here o)) ∙ ap map_of_rows (sym (rows_law between.shown (shown_stores between s) (holds.named (here o)))) ∙ ap image_map (settles.shown o);

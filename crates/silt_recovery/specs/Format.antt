@@ -5,9 +5,8 @@ use Rattle.silt_device.specs.Disk.{Content, Left, Torn, size}
 use Rattle.silt_device.specs.Layout.{Shape, device_size}
 use Rattle.silt_frame.specs.Gate.{gate_open}
 use Rattle.silt_image.specs.Header.{header_bytes, header_of}
-use Rattle.silt_image.specs.Meaning.{image_verdict}
+use Rattle.silt_image.specs.Meaning.{StandsFor, image_verdict}
 use Rattle.silt_image.specs.declared.damage.Finding.TheVariants.{NotFormatted}
-use Rattle.silt_stores.specs.Calls.{StandsUnsorted}
 use Rattle.silt_recovery.specs.declared.fault.FormatError.{FormatError}
 use Rattle.silt_recovery.specs.declared.fault.FormatError.TheVariants.{BadGeometry, Device, NoMemory}
 
@@ -34,4 +33,4 @@ pub record IsLeftButForGate (old : Content) (image : List ℕ) : Type 0 where
 
 -- what a stopped formatting leaves: what might have been left before, but for the header's gate; or no store; or the empty one
 abbrev pub IsHalfFormatted : Content → Shape → List ℕ → Type 0
-IsHalfFormatted old shape image = IsLeftButForGate old image ⊎ ((image_verdict image ≡ Some NotFormatted) ⊎ StandsUnsorted shape empty image)
+IsHalfFormatted old shape image = IsLeftButForGate old image ⊎ ((image_verdict image ≡ Some NotFormatted) ⊎ StandsFor shape empty image)

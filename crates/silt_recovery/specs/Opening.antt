@@ -4,11 +4,11 @@ use Rattle.silt_device.specs.Disk.{Content, Left, LeavesOnly, Rests, size}
 use Rattle.silt_device.specs.Layout.{InLimits, device_size}
 use Rattle.silt_hash_store.specs.State.{IsHashStore}
 use Rattle.silt_image.specs.Header.{shape_of}
-use Rattle.silt_image.specs.Meaning.{IsGood, IsSound, charge_of, image_map, known_rows, report_of}
+use Rattle.silt_image.specs.Meaning.{IsGood, IsSound, StandsFor, charge_of, image_map, known_rows, report_of}
 use Rattle.silt_image.specs.Stores.{Stores, image_stores}
 use Rattle.silt_event.specs.declared.report.Report.{Report}
 use Rattle.silt_manifest.specs.Standing.{Rules}
-use Rattle.silt_stores.specs.Calls.{HaveNoEntries, IsQuiet, SameDisk, StandsUnsorted}
+use Rattle.silt_stores.specs.Calls.{IsQuiet, SameDisk}
 use Rattle.silt_stores.specs.Standing.{Stands, base_map, shown_stores}
 use Rattle.silt_stores.specs.State.{StoresState, AreWhole}
 use Rattle.silt_recovery.specs.Logs.{IsReadLog}
@@ -16,24 +16,27 @@ use Rattle.silt_recovery.specs.declared.examination.Holding.{Holding}
 use Rattle.silt_recovery.specs.declared.fault.OpenError.{OpenError}
 use Rattle.silt_recovery.specs.declared.fault.OpenError.TheVariants.{Device}
 
--- the stores that are held in memory, with no conversion under way
+-- the stores that are held in memory, with no conversion and no merge under way
 abbrev pub held_stores : Holding → StoresState
 held_stores held = record {
   manifest = held.manifest;
   active = held.active;
   frozen = held.frozen.items;
   hashes = held.hashes.items;
+  sorted = held.sorted;
   converting = None;
+  merging = None;
   charge = held.charge;
 }
 
--- what is held in memory of a device in which nothing is found: the stores that it shows, with no sorted entries
+-- what is held in memory of a device in which nothing is found: the stores that it shows
 pub record Holds (content : Content) (s : StoresState) : Type 0 where
   pub limits : InLimits s.manifest.shape
   pub has_size : size content ≡ device_size s.manifest.shape
   pub whole : AreWhole s
   pub idle : s.manifest.prepared ≡ None
   pub none_converted : s.converting ≡ None
+  pub none_merged : s.merging ≡ None
   pub rules : Rests content → Rules s.manifest content
   pub active : IsReadLog content s.manifest.shape s.active
   pub frozen : All (IsReadLog content s.manifest.shape) s.frozen
@@ -41,7 +44,6 @@ pub record Holds (content : Content) (s : StoresState) : Type 0 where
   pub named : IsTrue content.honest → image_stores content.shown ≡ Ok (shown_stores content s)
   pub sound : IsTrue content.honest → IsSound (shown_stores content s)
   pub counted : IsTrue content.honest → s.charge ≡ charge_of (shown_stores content s)
-  pub no_entries : s.manifest.ruling.sorted_count ≡ 0
 
 -- so many rows of known kinds have the hash stores that are shown, together
 abbrev pub CountsHashRows : Content → StoresState → ℕ → Type 0
@@ -52,12 +54,11 @@ pub record IsReported (image : List ℕ) (report : Report) : Type 0 where
   pub stores : Stores
   pub are : image_stores image ≡ Ok stores
   pub good : IsGood image
-  pub no_entries : HaveNoEntries (image_stores image)
   pub numbers : report ≡ report_of stores
 
 -- each image that a stop may now leave might have been left before, or stands for what was shown
 abbrev pub LeavesNoOther : Content → Content → Type 0
-LeavesNoOther old new = LeavesOnly new (λ image. Left old image ⊎ StandsUnsorted (shape_of old.shown) (image_map old.shown) image)
+LeavesNoOther old new = LeavesOnly new (λ image. Left old image ⊎ StandsFor (shape_of old.shown) (image_map old.shown) image)
 
 -- nothing was written: the disk shows what it showed, and a stop leaves nothing that it might not have left before
 pub record IsUnwritten (old new : Content) : Type 0 where
@@ -69,14 +70,14 @@ abbrev pub IsUnwrittenUnlessFailed : {F : Type 0} → Content → Content → Op
 IsUnwrittenUnlessFailed old new (Device fault) = Unit {0}
 IsUnwrittenUnlessFailed old new error = IsUnwritten old new
 
--- stores were taken up: they stand on the disk with no row waiting and no conversion under way, for the map of the image that was
--- shown, which is good
+-- stores were taken up: they stand on the disk with no row waiting and no conversion and no merge under way, for the map of the image
+-- that was shown, which is good
 pub record TakesUp (old new : Content) (s : StoresState) : Type 0 where
   pub disk : SameDisk old new
   pub stands : Stands new s
   pub quiet : IsQuiet new s
   pub none_converted : s.converting ≡ None
+  pub none_merged : s.merging ≡ None
   pub good : IsTrue old.honest → IsGood old.shown
-  pub no_entries : IsTrue old.honest → HaveNoEntries (image_stores old.shown)
   pub has_shape : IsTrue old.honest → s.manifest.shape ≡ shape_of old.shown
   pub has_map : IsTrue old.honest → base_map new s ≡ image_map old.shown

@@ -3,8 +3,9 @@ ghost use Rattle.std.specs.Prelude.{◌≡◌, ◌≤◌, ◌+◌, false, slice_
 ghost use Rattle.std.specs.FinMap.{empty};
 ghost use Rattle.silt_device.specs.Disk.{GaveAny, LeavesOnly, size};
 ghost use Rattle.silt_device.specs.Layout.{InLimits, device_size};
+ghost use Rattle.silt_image.specs.Meaning.{StandsFor};
 ghost use Rattle.silt_recovery.specs.Format.{FormatCause, IsHalfFormatted};
-ghost use Rattle.silt_stores.specs.Calls.{SameDisk, StandsUnsorted};
+ghost use Rattle.silt_stores.specs.Calls.{SameDisk};
 
 use crate::fault::{FormatError, FormatFault};
 use crate::header::write_header;
@@ -24,7 +25,7 @@ use std::alloc::Global;
 /// but for the header's gate, or it holds no store, or the empty one.
 pub fn format<D: Disk>(alloc: Global, mut disk: D, geometry: Geometry) -> Result<D, FormatFault<D>>
     ensures size { OnOk result (size (D.content disk) ≡ device_size geometry) }
-    ensures images { MatchResult result (λ new. LeavesOnly (D.content new) (StandsUnsorted geometry empty)) (λ fault. LeavesOnly (D.content fault.disk) (IsHalfFormatted (D.content disk) geometry)) }
+    ensures images { MatchResult result (λ new. LeavesOnly (D.content new) (StandsFor geometry empty)) (λ fault. LeavesOnly (D.content fault.disk) (IsHalfFormatted (D.content disk) geometry)) }
     ensures same { MatchResult result (λ new. SameDisk (D.content disk) (D.content new)) (λ fault. SameDisk (D.content disk) (D.content fault.disk)) }
     ensures cause { IfErr result (λ fault. FormatCause D.content (GaveAny D.gave) geometry disk fault.disk fault.error) }
 {
@@ -55,7 +56,7 @@ fn write_store<D: Disk>(disk: &mut D, log: &mut Log, geometry: &Geometry) -> Res
     requires limits { InLimits geometry.now }
     requires log { log.old ≡ record { shape = geometry.now; region = 0; settled = 0; used = 0; loose = false } }
     ensures same { SameDisk (D.content disk.old) (D.content disk.new) }
-    ensures images { OnOk result (LeavesOnly (D.content disk.new) (StandsUnsorted geometry.now empty)) }
+    ensures images { OnOk result (LeavesOnly (D.content disk.new) (StandsFor geometry.now empty)) }
     ensures stopped { OnErr result (LeavesOnly (D.content disk.new) (IsHalfFormatted (D.content disk.old) geometry.now)) }
     ensures fault { IfErr result (GaveAny D.gave disk.new) }
 {

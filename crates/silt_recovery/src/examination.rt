@@ -1,5 +1,5 @@
 // The look at a device: what it holds, or what is found wrong.
-ghost use Rattle.std.specs.Prelude.{◌≡◌, ◌≤◌, nat_lt, IsTrue, IfOk, IfErr, OnOk, None, Ok, vec_capacity};
+ghost use Rattle.std.specs.Prelude.{◌≡◌, ◌≤◌, IsTrue, IfOk, IfErr, OnOk, None, Ok, vec_capacity};
 ghost use Rattle.silt_device.specs.Disk.{GaveAny, Rests, size};
 ghost use Rattle.silt_device.specs.Layout.{device_size};
 ghost use Rattle.silt_image.specs.Header.{header_of};
@@ -8,6 +8,7 @@ ghost use Rattle.silt_manifest.specs.Standing.{Rules};
 ghost use Rattle.silt_recovery.specs.Opening.{CountsHashRows, Holds, held_stores};
 ghost use Rattle.silt_recovery.specs.Refusals.{IsFound, IsRefusedLook};
 
+use crate::entries::read_entries;
 use crate::fault::OpenError;
 use crate::hashes::read_hashes;
 use crate::header::read_geometry;
@@ -17,7 +18,8 @@ use silt_event::Place;
 use silt_hash_store::HashStore;
 use silt_image::Finding;
 use silt_log_store::LogStore;
-use silt_manifest::{Body, Manifest, ReadFault, read_current};
+use silt_manifest::{Manifest, ReadFault, read_current};
+use silt_sorted_store::SortedStore;
 use std::alloc::Global;
 
 /// What is held in memory of a device in which nothing was found.
@@ -27,42 +29,31 @@ pub struct Holding {
     pub active: LogStore,
     pub frozen: Vec<LogStore>,
     pub hashes: Vec<HashStore>,
+    pub sorted: SortedStore,
     /// How many rows of known kinds the hash stores have together.
     pub hash_rows: u32,
     pub charge: u32,
 }
 
-// Whether a body names sorted entries.
-fn names_entries(body: &Body) -> bool
-    ensures { result ≡ nat_lt 0 body.now.sorted_count }
-{
-    body.sorted_count > 0
-}
-
-// Reads the manifest of a device of this geometry. Where it names sorted entries, which no store has yet, it counts as none.
+// Reads the manifest of a device of this geometry.
 fn read_manifest<D: Disk>(disk: &D, geometry: Geometry) -> Result<Manifest, OpenError<D::Fault>>
     requires size { size (D.content disk.now) ≡ device_size geometry }
     requires shape { IsTrue (D.content disk.now).honest → shape_found (size (D.content disk.now)) (header_of (D.content disk.now).shown) ≡ Ok geometry }
     ensures shape { IfOk result (λ m. (m.shape ≡ geometry) × (m.prepared ≡ None)) }
     ensures rules { IfOk result (λ m. Rests (D.content disk.now) → Rules m (D.content disk.now)) }
     ensures named { IsTrue (D.content disk.now).honest → IfOk result (λ m. image_stores (D.content disk.now).shown ≡ Ok (stores_named geometry m.ruling (D.content disk.now).shown)) }
-    ensures no_entries { IfOk result (λ m. m.ruling.sorted_count ≡ 0) }
     ensures cause { IfErr result (IsRefusedLook
         (λ finding. IsTrue (D.content disk.now).honest → IsFound (D.content disk.now).shown finding)
         (GaveAny D.gave disk.now)) }
 {
-    let manifest = match read_current(disk, geometry) {
-        Ok(manifest) => manifest,
-        Err(ReadFault::Damaged(damage)) => return Err(OpenError::from(Finding::from(damage))),
-        Err(ReadFault::Device(fault)) => return Err(OpenError::Device(fault)),
-    };
-    if names_entries(&manifest.ruling()) {
-        return Err(OpenError::Damaged(Place::NoSlot));
+    match read_current(disk, geometry) {
+        Ok(manifest) => Ok(manifest),
+        Err(ReadFault::Damaged(damage)) => Err(OpenError::from(Finding::from(damage))),
+        Err(ReadFault::Device(fault)) => Err(OpenError::Device(fault)),
     }
-    Ok(manifest)
 }
 
-// Reads the logs that a manifest names, the active one first, and the hash stores, and counts their puts.
+// Reads the logs that a manifest names, the active one first, the hash stores and the sorted entries, and counts their puts.
 fn read_stores<D: Disk>(
     alloc: Global,
     disk: &D,
@@ -71,7 +62,6 @@ fn read_stores<D: Disk>(
     requires size { size (D.content disk.now) ≡ device_size manifest.shape }
     requires idle { manifest.prepared ≡ None }
     requires named { IsTrue (D.content disk.now).honest → image_stores (D.content disk.now).shown ≡ Ok (stores_named manifest.shape manifest.ruling (D.content disk.now).shown) }
-    requires no_entries { manifest.ruling.sorted_count ≡ 0 }
     requires rules { Rests (D.content disk.now) → Rules manifest (D.content disk.now) }
     ensures holds { IfOk result (λ held. Holds (D.content disk.now) (held_stores held)) }
     ensures hash_rows { IfOk result (λ held. CountsHashRows (D.content disk.now) (held_stores held) held.hash_rows) }
@@ -86,8 +76,10 @@ fn read_stores<D: Disk>(
     let active = read_log(alloc, disk, geometry, body.active)?;
     let frozen = read_frozen(alloc, disk, geometry, body.frozen.as_slice())?;
     let hashes = read_hashes(alloc, disk, geometry, body.hashed.as_slice())?;
+    let sorted = read_entries(disk, geometry, body.sorted, body.sorted_count)?;
     let newest = u64::from(active.puts());
-    let charge = newest + frozen.puts + hashes.puts;
+    let entries = u64::from(sorted.len());
+    let charge = newest + frozen.puts + hashes.puts + entries;
     if charge > most {
         return Err(OpenError::Damaged(Place::Charge));
     }
@@ -96,13 +88,14 @@ fn read_stores<D: Disk>(
         active,
         frozen: frozen.stores,
         hashes: hashes.stores,
+        sorted,
         hash_rows: hashes.rows,
         charge: charge as u32,
     })
 }
 
 /// Looks at a device, in this order: the header, the manifest, the active log, the frozen logs from the newest on, the hash stores
-/// from the newest on, the number of puts. It writes nothing.
+/// from the newest on, the sorted entries, the number of puts. It writes nothing.
 ///
 /// # Errors
 ///

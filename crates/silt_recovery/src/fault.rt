@@ -37,7 +37,7 @@ pub enum OpenError<F> {
     Crowded,
     /// A read, a write or a sync failed with this fault.
     Device(F),
-    /// A log or a hash store found no memory.
+    /// A log, a hash store or the sorted store found no memory.
     NoMemory,
 }
 

@@ -2,7 +2,7 @@
 ghost use Rattle.std.specs.Prelude.{◌≡◌, ◌≤◌, ◌<◌, ◌^◌, [], ◌∷◌, All, IsTrue, IfOk, IfErr, OnOk, length, vec_capacity};
 ghost use Rattle.silt_device.specs.Disk.{GaveAny, size};
 ghost use Rattle.silt_device.specs.Layout.{device_size};
-ghost use Rattle.silt_recovery.specs.Hashes.{AreReadHashes, AreSoundHashes, HasFirstSlot, IsReadHash, region_puts, region_rows};
+ghost use Rattle.silt_recovery.specs.Hashes.{AreReadHashes, AreSoundHashes, HasFirstSlot, IsReadHash, region_rows};
 ghost use Rattle.silt_recovery.specs.Refusals.{IsRefusedLook};
 
 use crate::fault::OpenError;
@@ -39,9 +39,8 @@ pub fn read_hash<D: Disk>(
     ensures region { IfOk result (λ rebuilt. rebuilt.store.region ≡ region) }
     ensures read { IfOk result (λ rebuilt. IsReadHash (D.content disk.now) geometry rebuilt.store) }
     ensures sound { IsTrue (D.content disk.now).honest → OnOk result (AreSoundHashes geometry (D.content disk.now).shown (region ∷ [])) }
-    ensures charged { IsTrue (D.content disk.now).honest → IfOk result (λ rebuilt. rebuilt.puts ≡ region_puts geometry (D.content disk.now).shown region) }
     ensures counted { IsTrue (D.content disk.now).honest → IfOk result (λ rebuilt. rebuilt.rows ≡ region_rows geometry (D.content disk.now).shown region) }
-    ensures most { IfOk result (λ rebuilt. (rebuilt.puts ≤ 131072) × (rebuilt.rows ≤ 131072)) }
+    ensures most { IfOk result (λ rebuilt. (rebuilt.store.puts ≤ 131072) × (rebuilt.rows ≤ 131072)) }
     ensures cause { IfErr result (IsRefusedLook
         (λ finding. IsTrue (D.content disk.now).honest → HasFirstSlot geometry (D.content disk.now).shown (region ∷ []) finding)
         (GaveAny D.gave disk.now)) }
@@ -86,7 +85,7 @@ pub fn read_hashes<D: Disk>(
     let mut rows = 0;
     for region in regions {
         let rebuilt = read_hash(alloc, disk, geometry, *region)?;
-        puts += u64::from(rebuilt.puts);
+        puts += u64::from(rebuilt.store.puts());
         rows += rebuilt.rows;
         let Ok(()) = stores.push(rebuilt.store) else {
             return Err(OpenError::NoMemory);

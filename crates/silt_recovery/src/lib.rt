@@ -4,15 +4,14 @@
 //! holds no store, or the empty one.
 //!
 //! `open` and `check` look at a device in one order: the header, the manifest, the active log, the frozen logs from the newest
-//! on, the hash stores from the newest on, the number of puts. The first thing that is found decides. `open` settles what is shown
-//! before it looks, and then closes the gates of the active log past its first closed one: a row behind such a gate was dropped by a
-//! stop, and is not to come back. At each exit of an opening, whatever a stop leaves might have been left before, or stands for the
-//! map that was shown.
-//!
-//! In this stage a store has no sorted entries: a manifest that names some is refused.
+//! on, the hash stores from the newest on, the sorted entries, the number of puts. The first thing that is found decides. `open`
+//! settles what is shown before it looks, and then closes the gates of the active log past its first closed one: a row behind such
+//! a gate was dropped by a stop, and is not to come back. At each exit of an opening, whatever a stop leaves might have been left
+//! before, or stands for the map that was shown.
 #![tactic(auto)]
 
 mod empty_store;
+mod entries;
 mod examination;
 mod fault;
 mod hashes;

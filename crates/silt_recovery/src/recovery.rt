@@ -23,9 +23,9 @@ pub struct Opened<D: Disk> {
 ///
 /// # Errors
 ///
-/// `NotFormatted`, `Damaged` or `Crowded` where that is the first thing found in what is shown (a manifest that names sorted
-/// entries is refused as `Damaged(Place::NoSlot)`); then, and with `NoMemory`, nothing was written. `Device` with the fault of
-/// a read, a write or a sync: whatever a stop leaves then might have been left before, or stands for the same map.
+/// `NotFormatted`, `Damaged` or `Crowded` where that is the first thing found in what is shown; then, and with `NoMemory`, nothing
+/// was written. `Device` with the fault of a read, a write or a sync: whatever a stop leaves then might have been left before, or
+/// stands for the same map.
 pub fn open<D: Disk>(alloc: Global, mut disk: D) -> Result<Opened<D>, OpenFault<D>>
     ensures ok { IfOk result (λ opened. TakesUp (D.content disk) (D.content opened.disk) opened.stores) }
     ensures same { MatchResult result (λ opened. SameDisk (D.content disk) (D.content opened.disk)) (λ fault. SameDisk (D.content disk) (D.content fault.disk)) }
@@ -64,6 +64,7 @@ fn take_up<D: Disk>(alloc: Global, disk: &mut D) -> Result<Stores, OpenError<D::
             held.active,
             held.frozen,
             held.hashes,
+            held.sorted,
             held.charge,
         )),
         Err(fault) => Err(OpenError::Device(fault)),

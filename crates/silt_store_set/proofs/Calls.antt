@@ -3,12 +3,12 @@ use Rattle.std.proofs.Common.{◌≡◌, ℕ, ◌+◌, ◌%◌, ◌^◌, Bool, t
 use Rattle.silt_device.specs.Disk.{Content, LeavesOnly}
 use Rattle.silt_device.specs.Layout.{device_size}
 use Rattle.silt_event.specs.Commands.{Command, Map, map_after}
-use Rattle.silt_image.specs.Meaning.{image_map}
-use Rattle.silt_stores.specs.Calls.{Advances, Breaks, HasBegun, SameDisk, StandsUnsorted}
+use Rattle.silt_image.specs.Meaning.{image_map, StandsFor}
+use Rattle.silt_stores.specs.Calls.{Advances, Breaks, HasBegun, SameDisk}
 use Rattle.silt_stores.specs.Laws.{IsGoodWith}
 use Rattle.silt_stores.specs.Standing.{Stands, base_map, full_image, waiting_commands}
 use Rattle.silt_stores.specs.State.{StoresState}
-use Rattle.silt_stores.proofs.Facts.{meaning}
+use Rattle.silt_stores.proofs.Meaning.{meaning}
 use Rattle.silt_event.specs.declared.event.Event.{Event}
 use Rattle.silt_event.specs.declared.event.Event.TheVariants.{Put, Delete, Flush, Get, Convert, Merge}
 use Rattle.silt_event.specs.declared.refusal.Refusal.{Refusal}
@@ -17,7 +17,7 @@ use Rattle.silt_event.specs.declared.reply.Reply.{Reply}
 use Rattle.silt_event.specs.declared.reply.Reply.TheVariants.{Refused}
 use Rattle.silt_event.specs.Events.{Step, Counts, accepted_command, is_failed}
 use Rattle.silt_store_set.specs.CoreInvariant.{IsCore, LeavesBegun}
-use Rattle.silt_store_set.specs.CoreState.{CoreState, map_of, Cause, LeavesNoneWaiting, Does, is_convert, is_finished, is_refused, work_of}
+use Rattle.silt_store_set.specs.CoreState.{CoreState, map_of, Cause, LeavesNoneWaiting, Does, convert_work, is_convert, is_finished, is_merge, is_refused, merge_work}
 use Rattle.silt_store_set.proofs.Maps.{append_nil, map_after-append}
 
 -- what contracts see of a store with these fields
@@ -29,7 +29,8 @@ seen content disk stores count failed = record {
   full = full_image (content disk) stores;
   base = image_map (content disk).shown;
   waiting = waiting_commands (content disk) stores;
-  work = work_of stores.converting;
+  converting = convert_work stores.converting;
+  merging = merge_work stores.merging;
   charge = stores.charge;
   count = count;
   failed = failed;
@@ -39,7 +40,7 @@ seen content disk stores count failed = record {
 pub record Standing {D : Type 0} (content : D → Content) (core : CoreState D) : Type 0 where
   pub numbers : IsTrue (content core.disk).honest → IsGoodWith core.shape core.body core.charge core.full
   pub has_map : IsTrue (content core.disk).honest → map_of core ≡ map_after core.base core.waiting
-  pub safe : LeavesOnly (content core.disk) (StandsUnsorted core.shape core.base)
+  pub safe : LeavesOnly (content core.disk) (StandsFor core.shape core.base)
 
 -- a store that is not failed stands
 pub stands_seen : {D : Type 0} (content : D → Content) (disk : D) (stores : StoresState) (count : ℕ) (failed : Bool) → Stands (content disk) stores → Standing content (seen content disk stores count failed)
@@ -47,15 +48,15 @@ stands_seen content disk stores count failed stands = record {
   numbers = (meaning (content disk) stores stands).numbers;
   has_map = λ h. (meaning (content disk) stores stands).full h ∙ ap (λ m. map_after m (waiting_commands (content disk) stores)) (sym ((meaning (content disk) stores stands).shown h));
   safe = record {
-    each = λ h image left. subst (λ m. StandsUnsorted stores.manifest.shape m image) (sym ((meaning (content disk) stores stands).shown h)) ((meaning (content disk) stores stands).safe.each h image left);
+    each = λ h image left. subst (λ m. StandsFor stores.manifest.shape m image) (sym ((meaning (content disk) stores stands).shown h)) ((meaning (content disk) stores stands).safe.each h image left);
   };
 }
 
 -- of a store as contracts see it, each image stands for the base as long as it is not failed
 pub safe_seen : {D : Type 0} (content : D → Content) (disk : D) (stores : StoresState) (count : ℕ) (failed : Bool) (core : CoreState D) → seen content disk stores count failed ≡ core
-    → IsCore (content disk) stores count failed → core.failed ≡ false → LeavesOnly (content core.disk) (StandsUnsorted core.shape core.base)
+    → IsCore (content disk) stores count failed → core.failed ≡ false → LeavesOnly (content core.disk) (StandsFor core.shape core.base)
 safe_seen {D} content disk stores count failed core is holds =
-    subst (λ (c : CoreState D). c.failed ≡ false → LeavesOnly (content c.disk) (StandsUnsorted c.shape c.base)) is (λ working. (stands_seen content disk stores count failed (holds.stands working)).safe)
+    subst (λ (c : CoreState D). c.failed ≡ false → LeavesOnly (content c.disk) (StandsFor c.shape c.base)) is (λ working. (stands_seen content disk stores count failed (holds.stands working)).safe)
 
 -- each image stands for the base after a beginning of what waits, where the store is failed and where it is not
 pub left_seen : {D : Type 0} (content : D → Content) (disk : D) (stores : StoresState) (count : ℕ) (failed : Bool) → IsCore (content disk) stores count failed → LeavesBegun (content disk) stores.manifest.shape
@@ -123,7 +124,8 @@ module _ {D F : Type 0} (content : D → Content) (failures : D → ℕ) (gave :
     quiet = λ _. refl;
     counted = λ a b. absurd (let no : false ≡ true = sym a ∙ b in cc);
     keeps_body = λ _ _ _. refl;
-    keeps_work = λ _ _. refl;
+    keeps_converting = λ _ _. refl;
+    keeps_merging = λ _ _. refl;
     step = step;
     has_map = λ f h. (stands f).has_map h;
     numbers = λ f h. (stands f).numbers h;
@@ -185,10 +187,10 @@ module _ {D F : Type 0} (content : D → Content) (failures : D → ℕ) (gave :
         → Cause content failures gave (seen content disk stores count false) (seen content new after next false) event reply
         → ((m to : Map) → to ≡ map_after m adds → Step m event reply to)
         → (adds ≡ [] → is_finished reply ≡ false → after.manifest.ruling ≡ stores.manifest.ruling)
-        → (is_convert event ≡ false → after.converting ≡ stores.converting)
+        → (is_convert event ≡ false → after.converting ≡ stores.converting) → (is_merge event ≡ false → after.merging ≡ stores.merging)
         → (IsTrue (content disk).honest → LeavesNoneWaiting (seen content new after next false) reply) → failures new ≡ failures disk
         → Does content failures gave (seen content disk stores count false) (seen content new after next false) event reply
-    advanced adds count next event reply goes counts own answers tells cause step named works settles none_failed =
+    advanced adds count next event reply goes counts own answers tells cause step named converts merges settles none_failed =
         let standing = stands_seen content new after next false goes.stands in
         record {
           disk = same;
@@ -202,7 +204,8 @@ module _ {D F : Type 0} (content : D → Content) (failures : D → ℕ) (gave :
           quiet = λ _. none_failed;
           counted = λ _ f. absurd (cc);
           keeps_body = λ _ none unfinished. named (sym own ∙ none) unfinished;
-          keeps_work = λ _ other. ap work_of (works other);
+          keeps_converting = λ _ other. ap convert_work (converts other);
+          keeps_merging = λ _ other. ap merge_work (merges other);
           step = λ _ h. step _ _ (advanced_map adds goes h);
           has_map = λ _ h. standing.has_map (there h);
           numbers = λ _ h. standing.numbers (there h);
@@ -236,7 +239,8 @@ module _ {D F : Type 0} (content : D → Content) (failures : D → ℕ) (gave :
       quiet = λ f. absurd (cc);
       counted = λ _ _. one_failed;
       keeps_body = λ f. absurd (cc);
-      keeps_work = λ f. absurd (cc);
+      keeps_converting = λ f. absurd (cc);
+      keeps_merging = λ f. absurd (cc);
       step = λ _ h. subst (Step (image_map (full_image (content disk) stores)) event (Refused (Device fault))) (sym (maps h)) (step_refused (image_map (full_image (content disk) stores)) event (Device fault));
       has_map = λ f. absurd (cc);
       numbers = λ f. absurd (cc);

@@ -12,16 +12,16 @@ use Rattle.silt_event.specs.declared.progress.Progress.TheVariants.{Idle, Waitin
 use Rattle.silt_event.specs.declared.event.Event.TheVariants.{Convert}
 use Rattle.silt_event.specs.declared.refusal.Refusal.TheVariants.{Device, NoMemory, Spent}
 use Rattle.silt_event.specs.declared.reply.Reply.TheVariants.{Progress, Refused}
-use Rattle.silt_store_set.specs.CoreState.{CoreState, ConvertsTo, Does, GoesOn, convert_due, work_of, written_of}
+use Rattle.silt_store_set.specs.CoreState.{CoreState, ConvertGoesOn, ConvertsTo, Does, convert_due, convert_work, written_of}
 use Rattle.silt_store_set.proofs.Calls.{seen, advanced, answered, broke, refused}
 
 -- a conversion in memory and as contracts see it have written as many slots
-written_same : (o : Option ConversionState) → written_of (work_of o) ≡ written_by o
+written_same : (o : Option ConversionState) → written_of (convert_work o) ≡ written_by o
 written_same None = refl
 written_same (Some conversion) = refl
 
 -- a step in memory as contracts see it
-goes_on : (s : StoresState) (before : Option ConversionState) (after : ConversionState) → IsNextStep s before after → GoesOn s.manifest.shape.hashes s.manifest.ruling (work_of before) (work_of (Some after))
+goes_on : (s : StoresState) (before : Option ConversionState) (after : ConversionState) → IsNextStep s before after → ConvertGoesOn s.manifest.shape.hashes s.manifest.ruling (convert_work before) (convert_work (Some after))
 goes_on s None after step = step
 goes_on s (Some before) after step = step
 
@@ -31,12 +31,12 @@ module _ {D F : Type 0} (content : D → Content) (failures : D → ℕ) (gave :
   before = seen content disk stores count false
 
   -- what is due is the same in memory and in the body's words
-  due_same : convert_due before ≡ convert_turn stores
+  pub due_same : convert_due before ≡ convert_turn stores
   due_same =
       let frozen : length stores.manifest.ruling.frozen ≡ length stores.frozen = ap length (sym stands.whole.frozen_regions) ∙ length-map stores.frozen region_of in
       let hashed : length stores.manifest.ruling.hashed ≡ length stores.hashes = ap length (sym stands.whole.hash_regions) ∙ length-map stores.hashes hash_region_of in
-      ap (λ (n : ℕ). progress_due n (length stores.manifest.ruling.hashed) stores.manifest.shape.hashes (4 * stores.manifest.shape.buckets) (written_of (work_of stores.converting))) frozen
-      ∙ ap (λ (n : ℕ). progress_due (length stores.frozen) n stores.manifest.shape.hashes (4 * stores.manifest.shape.buckets) (written_of (work_of stores.converting))) hashed
+      ap (λ (n : ℕ). progress_due n (length stores.manifest.ruling.hashed) stores.manifest.shape.hashes (4 * stores.manifest.shape.buckets) (written_of (convert_work stores.converting))) frozen
+      ∙ ap (λ (n : ℕ). progress_due (length stores.frozen) n stores.manifest.shape.hashes (4 * stores.manifest.shape.buckets) (written_of (convert_work stores.converting))) hashed
       ∙ ap (progress_due (length stores.frozen) (length stores.hashes) stores.manifest.shape.hashes (4 * stores.manifest.shape.buckets)) (written_same stores.converting)
 
   -- nothing was to be done
@@ -55,18 +55,18 @@ module _ {D F : Type 0} (content : D → Content) (failures : D → ℕ) (gave :
       let moves : MovesOn stores after = converts.done in
       let ruling : after.manifest.ruling ≡ stores.manifest.ruling = ap (λ (s : StoresState). s.manifest.ruling) moves.is in
       let work : after.converting ≡ Some moves.conversion = ap (λ (s : StoresState). s.converting) moves.is in
-      let on : GoesOn stores.manifest.shape.hashes stores.manifest.ruling (work_of stores.converting) (work_of after.converting) = rw work (goes_on stores stores.converting moves.conversion moves.step) in
+      let on : ConvertGoesOn stores.manifest.shape.hashes stores.manifest.ruling (convert_work stores.converting) (convert_work after.converting) = rw work (goes_on stores stores.converting moves.conversion moves.step) in
       advanced content failures gave disk new stores after same stands [] count count Convert (Progress Moved) goes refl refl refl refl
-      (refl, converts.due ∙ sym due_same, (ruling, on), counted) (λ m to e. e) (λ _ _. ruling) (λ other. absurd (cc)) (λ _. tt) counted
+      (refl, converts.due ∙ sym due_same, (ruling, on), counted) (λ m to e. e) (λ _ _. ruling) (λ other. absurd (cc)) (λ _. ap (λ (s : StoresState). s.merging) moves.is) (λ _. tt) counted
   stepped Finished new after same goes converts quiet counted =
       let ends : Finishes stores after = converts.done in
       advanced content failures gave disk new stores after same stands [] count count Convert (Progress Finished) goes refl refl refl refl (
         refl,
         converts.due ∙ sym due_same,
-        record { work = record { region = ends.conversion.region; written = ends.conversion.next }; was = ap work_of ends.was; none = ap work_of ends.none; body = ends.ruling },
+        record { work = record { region = ends.conversion.region; written = ends.conversion.next }; was = ap convert_work ends.was; none = ap convert_work ends.none; body = ends.ruling },
         counted,
       )
-      (λ m to e. e) (λ _ unfinished. absurd (cc)) (λ other. absurd (cc)) (λ _. tt) counted
+      (λ m to e. e) (λ _ unfinished. absurd (cc)) (λ other. absurd (cc)) (λ _. ends.merging) (λ _. tt) counted
 
   -- ---- a step was refused
 
@@ -81,7 +81,7 @@ module _ {D F : Type 0} (content : D → Content) (failures : D → ℕ) (gave :
 
   pub step_no_memory : (new : D) (after : StoresState) → after ≡ stores → new ≡ disk → convert_turn stores ≡ Moved → stores.converting ≡ None
       → Does content failures gave before (seen content new after count false) Convert (Refused NoMemory)
-  step_no_memory new after same same_disk due none = rw (same_disk, same) (refused content failures gave disk stores count false Convert NoMemory refl stands refl (refl, due_same ∙ due, ap work_of none))
+  step_no_memory new after same same_disk due none = rw (same_disk, same) (refused content failures gave disk stores count false Convert NoMemory refl stands refl (refl, due_same ∙ due, ap convert_work none))
 
   -- a write or a sync failed
   pub step_broke : (new : D) (after : StoresState) (fault : F) → SameDisk (content disk) (content new) → is_work (convert_turn stores) ≡ true → Breaks (content disk) (content new) stores

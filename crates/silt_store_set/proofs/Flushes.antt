@@ -38,13 +38,13 @@ module _ {D F : Type 0} (content : D → Content) (failures : D → ℕ) (gave :
 
   -- the waiting rows are settled
   pub flushed : (new : D) (after : StoresState) → nat_lt stores.active.log.settled stores.active.log.used ≡ true → SameDisk (content disk) (content new) → Advances [] (content disk) (content new) stores after → IsQuiet (content new) after
-      → after.manifest ≡ stores.manifest → after.converting ≡ stores.converting → failures new ≡ failures disk
+      → after.manifest ≡ stores.manifest → after.converting ≡ stores.converting → after.merging ≡ stores.merging → failures new ≡ failures disk
       → Does content failures gave (seen content disk stores count false) (seen content new after count false) Flush (Acknowledged count)
-  flushed new after some same goes quiet manifest work counted =
+  flushed new after some same goes quiet manifest converting merging counted =
       let waits = tells_below stores.active.log.settled stores.active.log.used some in
       advanced content failures gave disk new stores after same stands [] count count Flush (Acknowledged count) goes (refl, refl) refl refl refl
       (refl, counted, λ none. absurd (some_wait (content disk) stores.active.log waits none)) (λ m to e. e)
-      (λ _ _. ap (λ m. m.ruling) manifest) (λ _. work) (λ _. quiet.none_wait) counted
+      (λ _ _. ap (λ m. m.ruling) manifest) (λ _. converting) (λ _. merging) (λ _. quiet.none_wait) counted
 
   -- a sync or the write of the gates failed
   pub flush_broke : (new : D) (after : StoresState) (fault : F) → SameDisk (content disk) (content new) → Breaks (content disk) (content new) stores → Remaps [] (content disk) (content new) stores after

@@ -15,7 +15,8 @@ use Rattle.silt_event.specs.Events.{Legal, accepted_commands, LifeHistory, Lives
 use Rattle.silt_store_set.specs.CoreState.{CoreState, map_of, Runs, Opens}
 use Rattle.silt_store_set.specs.CoreInvariant.{IsSafe}
 use Rattle.silt_image.specs.Header.{shape_of}
-use Rattle.silt_stores.specs.Calls.{SameDisk, StandsUnsorted}
+use Rattle.silt_image.specs.Meaning.{StandsFor}
+use Rattle.silt_stores.specs.Calls.{SameDisk}
 use Rattle.silt_recovery.specs.Opening.{LeavesNoOther}
 use Rattle.silt_store_set.specs.Opening.{OpeningCause}
 use Rattle.silt_store_set.proofs.Keeps.{keeps_runs, nines}
@@ -33,12 +34,11 @@ restarted value_len m old new restarts safe = record {
 }
 
 -- an image that stands for the map of a store of this shape is safe
-stands_safe : (value_len : ℕ) (shape : Shape) (m : Map) (image : List ℕ) → shape.value_len ≡ value_len → StandsUnsorted shape m image → IsSafe value_len m image
+stands_safe : (value_len : ℕ) (shape : Shape) (m : Map) (image : List ℕ) → shape.value_len ≡ value_len → StandsFor shape m image → IsSafe value_len m image
 stands_safe value_len shape m image same stands = record {
-  good = stands.stands.good;
-  has_len = ap (λ (s : Shape). s.value_len) stands.stands.has_shape ∙ same;
-  has_map = stands.stands.has_map;
-  no_entries = stands.no_entries;
+  good = stands.good;
+  has_len = ap (λ (s : Shape). s.value_len) stands.has_shape ∙ same;
+  has_map = stands.has_map;
 }
 
 module _ {D F : Type 0} (content : D → Content) (failures : D → ℕ) (gave : D → F → Type 0) (old : Content) (value_len : ℕ) (m : Map) (h : IsTrue old.honest) (safe : LeavesOnly old (IsSafe value_len m)) (events : List Event) where
@@ -50,10 +50,10 @@ module _ {D F : Type 0} (content : D → Content) (failures : D → ℕ) (gave :
       → (to : Map) × LifeHistory {F = F} m events (NotOpened refusal) to × LeavesOnly new (IsSafe value_len to)
   life_unopened disk refusal new leaves cause restarts = (
     m,
-    (opening_refused content gave old disk refusal h shown_safe.good shown_safe.no_entries cause, refl),
+    (opening_refused content gave old disk refusal h shown_safe.good cause, refl),
     restarted value_len m (content disk) new restarts (λ honest image left. elim (leaves.each honest image left) [
       | inl was ↦ safe.each h image was
-      | inr stands ↦ stands_safe value_len (shape_of old.shown) m image shown_safe.has_len (subst (λ (n : Map). StandsUnsorted (shape_of old.shown) n image) shown_safe.has_map stands)
+      | inr stands ↦ stands_safe value_len (shape_of old.shown) m image shown_safe.has_len (subst (λ (n : Map). StandsFor (shape_of old.shown) n image) shown_safe.has_map stands)
     ]),
   )
 
@@ -68,7 +68,7 @@ module _ {D F : Type 0} (content : D → Content) (failures : D → ℕ) (gave :
     m,
     (tt, refl),
     restarted value_len m (content core.disk) new restarts (λ honest image left.
-        stands_safe value_len core.shape m image (opened_len core opens) (subst (λ (n : Map). StandsUnsorted core.shape n image) (opens.base h ∙ shown_safe.has_map) (opens.safe.each honest image left))),
+        stands_safe value_len core.shape m image (opened_len core opens) (subst (λ (n : Map). StandsFor core.shape n image) (opens.base h ∙ shown_safe.has_map) (opens.safe.each honest image left))),
   )
 
   -- a store that was opened and did its events
@@ -98,7 +98,7 @@ module _ {D F : Type 0} (content : D → Content) (failures : D → ℕ) (gave :
         record {
           each = λ honest image left.
               subst (IsSafe value_len (map_after m kept.0)) (sym (left_at_rest restarts.rests honest image left))
-              (stands_safe value_len core.shape (map_after m kept.0) new.shown (opened_len core opens) (subst (λ (n : Map). StandsUnsorted core.shape (map_after n kept.0) new.shown) base kept.2));
+              (stands_safe value_len core.shape (map_after m kept.0) new.shown (opened_len core opens) (subst (λ (n : Map). StandsFor core.shape (map_after n kept.0) new.shown) base kept.2));
         },
       )
 

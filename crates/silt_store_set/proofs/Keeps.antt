@@ -2,6 +2,7 @@
 use Rattle.std.proofs.Common.{◌≡◌, ◌≤◌, ℕ, ◌+◌, ◌||◌, Bool, true, false, IsTrue, List, [], ◌∷◌, ◌++◌, length, refl, ap, sym, ◌∙◌, subst, arith, append_assoc, length-append}
 use Rattle.silt_device.specs.Disk.{Content, Left, LeavesOnly}
 use Rattle.silt_device.specs.Layout.{Shape}
+use Rattle.silt_image.specs.Meaning.{StandsFor}
 use Rattle.silt_event.specs.declared.event.Event.{Event}
 use Rattle.silt_event.specs.declared.event.Event.TheVariants.{Put, Delete, Flush, Get, Convert, Merge}
 use Rattle.silt_event.specs.declared.refusal.Refusal.TheVariants.{Failed}
@@ -10,7 +11,6 @@ use Rattle.silt_event.specs.declared.reply.Reply.TheVariants.{Accepted, Acknowle
 use Rattle.silt_event.specs.Commands.{Command, Map, map_after}
 use Rattle.silt_event.specs.Events.{Counts, accepted_command, accepted_commands, acknowledged_by, acknowledged_after, is_fault, is_failed, FailsAfterFault}
 use Rattle.silt_store_set.specs.CoreState.{CoreState, Cause, Does, Runs, LeavesNoneWaiting, StandsKept}
-use Rattle.silt_stores.specs.Calls.{StandsUnsorted}
 use Rattle.silt_store_set.proofs.Maps.{map_after-append, append_nil}
 use Rattle.silt_store_set.proofs.Calls.{none_refused}
 
@@ -163,8 +163,8 @@ module _ {D F : Type 0} (content : D → Content) (failures : D → ℕ) (gave :
               let one = acknowledged_one old next reply settled (length moves.moved) does.counts (does.settles h) now in
               omega (arith, acknowledged_more (acknowledged_by settled reply) (settled + length moves.moved) replies one, kept.1.acknowledged (settled + length moves.moved) now, length-append moves.moved kept.0);
         },
-        subst (λ (m : Map). StandsUnsorted old.shape m image) (sym (map_after-append old.base moves.moved kept.0))
-            (subst (λ (m : Map). StandsUnsorted old.shape (map_after m kept.0) image) moves.base (subst (λ (s : Shape). StandsUnsorted s (map_after next.base kept.0) image) does.shape kept.2)),
+        subst (λ (m : Map). StandsFor old.shape m image) (sym (map_after-append old.base moves.moved kept.0))
+            (subst (λ (m : Map). StandsFor old.shape (map_after m kept.0) image) moves.base (subst (λ (s : Shape). StandsFor s (map_after next.base kept.0) image) does.shape kept.2)),
       )
 
   -- the first call failed, and so did all after it
@@ -184,7 +184,7 @@ module _ {D F : Type 0} (content : D → Content) (failures : D → ℕ) (gave :
       )
 
   -- after a run each image stands for the base after what a stop may keep
-  pub keeps_runs : (old new : CoreState D) (events : List Event) (replies : List (Reply F)) → old.failed ≡ false → LeavesOnly (content old.disk) (StandsUnsorted old.shape old.base)
+  pub keeps_runs : (old new : CoreState D) (events : List Event) (replies : List (Reply F)) → old.failed ≡ false → LeavesOnly (content old.disk) (StandsFor old.shape old.base)
       → Runs content failures gave old events replies new → IsTrue (content old.disk).honest → (image : List ℕ) → Left (content new.disk) image → StandsKept old events replies image
   keeps_runs old new [] [] working safe runs h image left = (
     [],

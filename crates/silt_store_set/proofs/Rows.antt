@@ -16,7 +16,7 @@ use Rattle.silt_stores.specs.NextLog.{IsLowestFree, next_body}
 use Rattle.silt_stores.specs.Standing.{Stands, full_image, waiting_commands}
 use Rattle.silt_stores.specs.State.{StoresState, region_of}
 use Rattle.silt_stores.specs.RowWrite.{NeedsNext, TakesKey}
-use Rattle.silt_stores.proofs.Facts.{meaning}
+use Rattle.silt_stores.proofs.Meaning.{meaning}
 use Rattle.silt_event.specs.declared.event.Event.TheVariants.{Put, Delete}
 use Rattle.silt_event.specs.declared.refusal.Refusal.{Refusal}
 use Rattle.silt_event.specs.declared.refusal.Refusal.TheVariants.{Device, NoMemory, NoRoom, Spent}
@@ -83,14 +83,14 @@ module _ {D F : Type 0} (content : D → Content) (failures : D → ℕ) (gave :
   -- ---- the row was taken
 
   pub row_taken : (new : D) (after : StoresState) (k : Kind) (key : Key) (value : List ℕ) → MayWrite k before → SameDisk (content disk) (content new)
-      → Advances (command_of (stored_row k key value) ∷ []) (content disk) (content new) stores after → TakesKey (content disk) (content new) stores after key.0 (command_of (stored_row k key value)) → after.converting ≡ stores.converting → failures new ≡ failures disk
+      → Advances (command_of (stored_row k key value) ∷ []) (content disk) (content new) stores after → TakesKey (content disk) (content new) stores after key.0 (command_of (stored_row k key value)) → after.converting ≡ stores.converting → after.merging ≡ stores.merging → failures new ≡ failures disk
       → Does content failures gave before (seen content new after (count + 1) false) (row_event k key value) (Accepted (count + 1))
-  row_taken new after kind.Put key value may same goes taken work counted =
+  row_taken new after kind.Put key value may same goes taken converting merging counted =
       advanced content failures gave disk new stores after same stands (command_of (stored_row kind.Put key value) ∷ []) count (count + 1) (Put key value) (Accepted (count + 1)) goes (refl, refl) refl refl refl
-      (may, (takes new after (count + 1) key.0 _ same goes.stands taken, counted)) (λ m to e. e) (λ none. absurd (cc)) (λ _. work) (λ _. tt) counted
-  row_taken new after kind.Delete key value may same goes taken work counted =
+      (may, (takes new after (count + 1) key.0 _ same goes.stands taken, counted)) (λ m to e. e) (λ none. absurd (cc)) (λ _. converting) (λ _. merging) (λ _. tt) counted
+  row_taken new after kind.Delete key value may same goes taken converting merging counted =
       advanced content failures gave disk new stores after same stands (command_of (stored_row kind.Delete key value) ∷ []) count (count + 1) (Delete key) (Accepted (count + 1)) goes (refl, refl) refl refl refl
-      (may, (takes new after (count + 1) key.0 _ same goes.stands taken, counted)) (λ m to e. e) (λ none. absurd (cc)) (λ _. work) (λ _. tt) counted
+      (may, (takes new after (count + 1) key.0 _ same goes.stands taken, counted)) (λ m to e. e) (λ none. absurd (cc)) (λ _. converting) (λ _. merging) (λ _. tt) counted
 
   -- ---- a call failed
 

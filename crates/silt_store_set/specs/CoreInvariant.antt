@@ -1,16 +1,11 @@
 -- What is true of each store.
 use Rattle.std.specs.Prelude.{◌≡◌, ◌<◌, ◌^◌, ℕ, Bool, true, false, List}
-use Rattle.std.specs.Ordering.{nat_cmp}
-use Rattle.std.specs.declared.cmp.Ordering.{Ordering}
-use Rattle.std.specs.Cmp.Lexicographic.{slice_cmp}
 use Rattle.silt_device.specs.Disk.{Content, LeavesOnly, size}
 use Rattle.silt_device.specs.Layout.{Shape, device_size}
-use Rattle.silt_frame.specs.declared.key.Key.{Key}
 use Rattle.silt_event.specs.Commands.{Command, Map}
 use Rattle.silt_image.specs.Header.{shape_of}
 use Rattle.silt_image.specs.Meaning.{image_map, IsGood}
-use Rattle.silt_image.specs.Stores.{image_stores}
-use Rattle.silt_stores.specs.Calls.{HasBegun, HaveNoEntries}
+use Rattle.silt_stores.specs.Calls.{HasBegun}
 use Rattle.silt_stores.specs.Standing.{Stands}
 use Rattle.silt_stores.specs.State.{StoresState}
 
@@ -27,9 +22,8 @@ pub record IsCore (content : Content) (stores : StoresState) (count : ℕ) (fail
   pub stands : failed ≡ false → Stands content stores
   pub left : failed ≡ true → LeavesBegun content stores.manifest.shape
 
--- a good image with no sorted entries, with values of this length, stands for this map
+-- a good image, with values of this length, stands for this map
 pub record IsSafe (value_len : ℕ) (map : Map) (image : List ℕ) : Type 0 where
   pub good : IsGood image
   pub has_len : (shape_of image).value_len ≡ value_len
   pub has_map : image_map image ≡ map
-  pub no_entries : HaveNoEntries (image_stores image)

@@ -1,6 +1,7 @@
 -- What contracts see of a store, and what its calls do.
-use Rattle.std.specs.Prelude.{◌≡◌, ◌≢◌, ◌≤◌, ◌<◌, ◌-◌, ◌*◌, ◌^◌, ◌%◌, ◌⊎◌, ℕ, ◌+◌, Option, Some, None, Bool, true, false, IsTrue, List, [], ◌∷◌, ◌++◌, length}
+use Rattle.std.specs.Prelude.{◌≡◌, ◌≢◌, ◌≤◌, ◌<◌, ◌-◌, ◌*◌, ◌^◌, ◌%◌, ◌==◌, ◌&&◌, ◌⊎◌, ℕ, ◌+◌, not, Option, Some, None, Bool, true, false, IsTrue, List, [], ◌∷◌, ◌++◌, length}
 use Rattle.std.specs.FinMap.{get}
+use Rattle.std.specs.Option.{option_map}
 use Rattle.silt_device.specs.Disk.{Content, LeavesOnly}
 use Rattle.silt_device.specs.Layout.{Shape}
 use Rattle.silt_frame.specs.declared.key.Key.{Key}
@@ -8,12 +9,16 @@ use Rattle.silt_frame.specs.declared.key.Kind.{Kind}
 use Rattle.silt_frame.specs.declared.key.Kind.TheVariants as kind
 use Rattle.silt_event.specs.Commands.{Begins, Command, Map, delete, map_after, put}
 use Rattle.silt_image.specs.Header.{shape_of}
-use Rattle.silt_image.specs.Meaning.{image_map, IsGood}
+use Rattle.silt_image.specs.Meaning.{image_map, IsGood, StandsFor}
+use Rattle.silt_image.specs.Stores.{Stores, stores_named}
 use Rattle.silt_log.specs.Rows.{log_rows}
 use Rattle.silt_frame.specs.Rows.{StoredRow}
 use Rattle.silt_manifest.specs.declared.body.Body.{Body}
-use Rattle.silt_stores.specs.Calls.{CannotTake, HasBegun, SameDisk, StandsUnsorted}
+use Rattle.silt_merge.specs.Rows.{key_count, merged_rows}
+use Rattle.silt_merge.specs.State.{MergeState, steps_of}
+use Rattle.silt_stores.specs.Calls.{CannotTake, HasBegun, SameDisk}
 use Rattle.silt_stores.specs.Conversion.{IsLowestFreeHash, converted_body, is_work, progress_due}
+use Rattle.silt_stores.specs.Merge.{merge_progress, merge_sources, merged_body}
 use Rattle.silt_stores.specs.NextLog.{IsLowestFree, next_body}
 use Rattle.silt_stores.specs.Laws.{IsGoodWith}
 use Rattle.silt_event.specs.declared.event.Event.{Event}
@@ -28,14 +33,24 @@ use Rattle.silt_event.specs.declared.reply.Reply.TheVariants.{Accepted, Acknowle
 use Rattle.silt_event.specs.Events.{Step, Counts, accepted_command, accepted_commands, acknowledged_after, is_fault, is_failed, plain, PlainReply}
 
 -- a conversion under way: the hash region that it writes, and how many of the region's slots are written
-pub record Work : Type 0 where
+pub record ConvertWork : Type 0 where
   pub region : ℕ
   pub written : ℕ
 
+-- a merge under way: how many hash stores it takes, the oldest ones, and how many steps it took
+pub record MergeWork : Type 0 where
+  pub stores : ℕ
+  pub steps : ℕ
+
 -- of a conversion in memory
-abbrev pub work_of : Option ConversionState → Option Work
-work_of None = None
-work_of (Some conversion) = Some (record { region = conversion.region; written = conversion.next })
+abbrev pub convert_work : Option ConversionState → Option ConvertWork
+convert_work None = None
+convert_work (Some conversion) = Some (record { region = conversion.region; written = conversion.next })
+
+-- of a merge in memory
+abbrev pub merge_work : Option MergeState → Option MergeWork
+merge_work None = None
+merge_work (Some merge) = Some (record { stores = merge.stores; steps = steps_of merge })
 
 pub record CoreState (D : Type 0) : Type 0 where
   pub disk : D
@@ -48,8 +63,9 @@ pub record CoreState (D : Type 0) : Type 0 where
   pub base : Map
   -- the commands of the waiting rows
   pub waiting : List Command
-  -- the conversion under way
-  pub work : Option Work
+  -- the conversion and the merge under way
+  pub converting : Option ConvertWork
+  pub merging : Option MergeWork
   -- how many put rows there are
   pub charge : ℕ
   -- how many commands this life has accepted
@@ -103,26 +119,76 @@ abbrev pub HasFreeLog : {D : Type 0} → CoreState D → Type 0
 HasFreeLog core = ¬ AreAllInUse core
 
 -- how many slots a conversion has written
-abbrev pub written_of : Option Work → Option ℕ
+abbrev pub written_of : Option ConvertWork → Option ℕ
 written_of None = None
 written_of (Some work) = Some work.written
 
 -- the progress of the next step of conversion
 abbrev pub convert_due : {D : Type 0} → CoreState D → ProgressOf
-convert_due core = progress_due (length core.body.frozen) (length core.body.hashed) core.shape.hashes (4 * core.shape.buckets) (written_of core.work)
+convert_due core = progress_due (length core.body.frozen) (length core.body.hashed) core.shape.hashes (4 * core.shape.buckets) (written_of core.converting)
+
+-- the store is not failed, and there is a step of conversion to be done
+abbrev pub wants_convert : {D : Type 0} → CoreState D → Bool
+wants_convert core = not core.failed && is_work (convert_due core)
 
 -- one more slot is written than before, or the first slot of the lowest free region
-abbrev pub GoesOn : ℕ → Body → Option Work → Option Work → Type 0
-GoesOn hashes body (Some before) (Some after) = (after.region ≡ before.region) × (after.written ≡ before.written + 1)
-GoesOn hashes body None (Some after) = IsLowestFreeHash hashes body after.region × (after.written ≡ 1)
-GoesOn hashes body before None = ⊥
+abbrev pub ConvertGoesOn : ℕ → Body → Option ConvertWork → Option ConvertWork → Type 0
+ConvertGoesOn hashes body (Some before) (Some after) = (after.region ≡ before.region) × (after.written ≡ before.written + 1)
+ConvertGoesOn hashes body None (Some after) = IsLowestFreeHash hashes body after.region × (after.written ≡ 1)
+ConvertGoesOn hashes body before None = ⊥
 
 -- a conversion is finished: the hash store stands in front of the others, and the oldest log is no longer named
-pub record IsFinished (old_work new_work : Option Work) (old new : Body) : Type 0 where
-  pub work : Work
+pub record IsConverted (old_work new_work : Option ConvertWork) (old new : Body) : Type 0 where
+  pub work : ConvertWork
   pub was : old_work ≡ Some work
   pub none : new_work ≡ None
   pub body : new ≡ converted_body old work.region
+
+-- the stores of what is shown, with the gates of the waiting rows open
+abbrev pub stores_of : {D : Type 0} → CoreState D → Stores
+stores_of core = stores_named core.shape core.body core.full
+
+-- the rows that a merge takes: the entries, and those of its hash stores
+abbrev pub taken_by : {D : Type 0} → CoreState D → MergeWork → List StoredRow
+taken_by core work = merge_sources work.stores (stores_of core)
+
+-- a merge has decided all keys: it took a step for each slot of its hash stores, and one for each key of the rows that it takes
+abbrev pub has_decided : {D : Type 0} → CoreState D → MergeWork → Bool
+has_decided core work = work.steps == work.stores * (4 * core.shape.buckets) + key_count (taken_by core work)
+
+-- the progress of the next step of merging
+abbrev pub merge_due : {D : Type 0} → CoreState D → ProgressOf
+merge_due core = merge_progress (length core.body.hashed) (option_map (has_decided core) core.merging)
+
+-- the store is not failed, and there is a step of merging to be done
+abbrev pub wants_merge : {D : Type 0} → CoreState D → Bool
+wants_merge core = not core.failed && is_work (merge_due core)
+
+-- this progress of merging is due: on any device where there is work, and on an honest one exactly this
+pub record IsMergeDue {D : Type 0} (content : D → Content) (core : CoreState D) (progress : ProgressOf) : Type 0 where
+  pub work : is_work progress ≡ is_work (merge_due core)
+  pub exact : IsTrue (content core.disk).honest → progress ≡ merge_due core
+
+-- the next step of merging gathers a slot: the merge begins, or not all slots of its hash stores are gathered
+abbrev pub GathersNext : Shape → Option MergeWork → Type 0
+GathersNext shape None = Unit {0}
+GathersNext shape (Some work) = work.steps < work.stores * (4 * shape.buckets)
+
+-- one more step is taken, or the first one of a merge of all hash stores
+abbrev pub MergeGoesOn : Body → Option MergeWork → Option MergeWork → Type 0
+MergeGoesOn body (Some before) (Some after) = (after.stores ≡ before.stores) × (after.steps ≡ before.steps + 1)
+MergeGoesOn body None (Some after) = (after.stores ≡ length body.hashed) × (after.steps ≡ 1)
+MergeGoesOn body before None = ⊥
+
+-- A merge is finished: its hash stores are no longer named, and the other sorted region has the newest rows of what it took, where they
+-- are puts, in the order of their keys.
+pub record IsMerged {D : Type 0} (content : D → Content) (old new : CoreState D) : Type 0 where
+  pub work : MergeWork
+  pub was : old.merging ≡ Some work
+  pub none : new.merging ≡ None
+  pub written : ℕ
+  pub body : new.body ≡ merged_body old.body work.stores (1 - old.body.sorted) written
+  pub entries : IsTrue (content old.disk).honest → (stores_of new).entries ≡ merged_rows (taken_by old work)
 
 -- The write or sync that failed gave this fault in this very call, and the store is failed from now on.
 pub record FailsBy {D F : Type 0} (failures : D → ℕ) (gave : D → F → Type 0) (old new : CoreState D) (fault : F) : Type 0 where
@@ -220,23 +286,38 @@ module _ {D F : Type 0} (content : D → Content) (failures : D → ℕ) (gave :
   abbrev pub ConvertsTo : ProgressOf → Type 0
   ConvertsTo Idle = new ≡ old
   ConvertsTo Waiting = new ≡ old
-  ConvertsTo Moved = (new.body ≡ old.body) × GoesOn old.shape.hashes old.body old.work new.work
-  ConvertsTo Finished = IsFinished old.work new.work old.body new.body
+  ConvertsTo Moved = (new.body ≡ old.body) × ConvertGoesOn old.shape.hashes old.body old.converting new.converting
+  ConvertsTo Finished = IsConverted old.converting new.converting old.body new.body
 
   -- a step of conversion: what is due is done; only a first step takes memory, and only the last one writes the manifest
   abbrev pub ConvertCause : Reply F → Type 0
   ConvertCause (Progress progress) = (old.failed ≡ false) × (progress ≡ convert_due old) × ConvertsTo progress × (failures new.disk ≡ failures old.disk)
   ConvertCause (Refused Failed) = old.failed ≡ true
   ConvertCause (Refused Spent) = (old.failed ≡ false) × (convert_due old ≡ Finished) × (old.body.generation ≡ last_generation)
-  ConvertCause (Refused NoMemory) = (old.failed ≡ false) × (convert_due old ≡ Moved) × (old.work ≡ None)
+  ConvertCause (Refused NoMemory) = (old.failed ≡ false) × (convert_due old ≡ Moved) × (old.converting ≡ None)
   ConvertCause (Refused (Device fault)) =
       ((convert_due old ≡ Moved) × FailsRead gave old new fault) ⊎ ((is_work (convert_due old) ≡ true) × FailsBy failures gave old new fault)
   ConvertCause reply = ⊥
 
-  -- nothing is merged in this stage
+  -- what an answered step of merging does: it never waits
+  abbrev pub AnswersMerge : ProgressOf → Type 0
+  AnswersMerge Idle = new ≡ old
+  AnswersMerge Waiting = ⊥
+  AnswersMerge Moved = (new.body ≡ old.body) × MergeGoesOn old.body old.merging new.merging
+  AnswersMerge Finished = IsMerged content old new
+
+  -- why a step of merging lacks memory: the merge begins, a slot is gathered, or what the new sorted store keeps is made
+  abbrev pub MergeLacksMemory : Type 0
+  MergeLacksMemory = (IsMergeDue content old Moved × GathersNext old.shape old.merging) ⊎ (IsMergeDue content old Finished × (old.body.generation ≢ last_generation))
+
+  -- a step of merging: what is due is done, and only the last one writes the manifest
   abbrev pub MergeCause : Reply F → Type 0
-  MergeCause (Progress progress) = (old.failed ≡ false) × (progress ≡ Idle) × (new ≡ old)
+  MergeCause (Progress progress) = (old.failed ≡ false) × IsMergeDue content old progress × AnswersMerge progress × (failures new.disk ≡ failures old.disk)
   MergeCause (Refused Failed) = old.failed ≡ true
+  MergeCause (Refused Spent) = (old.failed ≡ false) × IsMergeDue content old Finished × (old.body.generation ≡ last_generation)
+  MergeCause (Refused NoMemory) = (old.failed ≡ false) × MergeLacksMemory
+  MergeCause (Refused (Device fault)) =
+      (IsMergeDue content old Moved × FailsRead gave old new fault) ⊎ ((is_work (merge_due old) ≡ true) × FailsBy failures gave old new fault)
   MergeCause reply = ⊥
 
   -- what stands where an event is given this reply
@@ -276,6 +357,11 @@ abbrev pub is_convert : Event → Bool
 is_convert Convert = true
 is_convert event = false
 
+-- the event is a step of merging
+abbrev pub is_merge : Event → Bool
+is_merge Merge = true
+is_merge event = false
+
 -- What one call does, whatever it answers: what it keeps, why it answers so, what becomes of the map, and what a stop may leave.
 pub record Does {D F : Type 0} (content : D → Content) (failures : D → ℕ) (gave : D → F → Type 0) (old new : CoreState D) (event : Event) (reply : Reply F) : Type 0 where
   -- the disk is as long and as honest as before, and the store has the same shape
@@ -289,8 +375,9 @@ pub record Does {D F : Type 0} (content : D → Content) (failures : D → ℕ) 
   pub failed : old.failed ≡ true → (new ≡ old) × (reply ≡ Refused Failed)
   -- a call that accepts nothing and finishes nothing leaves the named regions as they are
   pub keeps_body : new.failed ≡ false → accepted_command event reply ≡ [] → is_finished reply ≡ false → new.body ≡ old.body
-  -- only steps of conversion touch the conversion under way
-  pub keeps_work : new.failed ≡ false → is_convert event ≡ false → new.work ≡ old.work
+  -- only steps of conversion touch the conversion under way, and only steps of merging the merge under way
+  pub keeps_converting : new.failed ≡ false → is_convert event ≡ false → new.converting ≡ old.converting
+  pub keeps_merging : new.failed ≡ false → is_merge event ≡ false → new.merging ≡ old.merging
   -- the reply has its cause, and the store is then as this reply has it
   pub cause : Cause content failures gave old new event reply
   -- only a failed store answers Failed
@@ -311,7 +398,7 @@ pub record Does {D F : Type 0} (content : D → Content) (failures : D → ℕ) 
   -- an acknowledging reply leaves nothing waiting
   pub settles : IsTrue (content old.disk).honest → LeavesNoneWaiting new reply
   -- whatever a stop leaves stands for the base, or, where the call failed, for the base as it was after a beginning of what waited
-  pub safe : new.failed ≡ false → LeavesOnly (content new.disk) (StandsUnsorted new.shape new.base)
+  pub safe : new.failed ≡ false → LeavesOnly (content new.disk) (StandsFor new.shape new.base)
   pub crash : old.failed ≡ false → new.failed ≡ true → LeavesOnly (content new.disk) (HasBegun old.shape old.base old.waiting)
 
 -- why the entries are refused
@@ -338,11 +425,11 @@ pub record KeepsFrom {D F : Type 0} (old : CoreState D) (events : List Event) (r
 
 -- an image stands for the base after what a stop may keep of the run
 abbrev pub StandsKept : {D F : Type 0} → CoreState D → List Event → List (Reply F) → List ℕ → Type 0
-StandsKept old events replies image = (kept : List Command) × KeepsFrom old events replies kept × StandsUnsorted old.shape (map_after old.base kept) image
+StandsKept old events replies image = (kept : List Command) × KeepsFrom old events replies kept × StandsFor old.shape (map_after old.base kept) image
 
 -- ---- opening
 
--- a store that was taken up from a device: as the device stood, with nothing waiting, and no conversion under way
+-- a store that was taken up from a device: as the device stood, with nothing waiting, and no conversion and no merge under way
 pub record Opens {D : Type 0} (content : D → Content) (old : Content) (core : CoreState D) : Type 0 where
   pub disk : SameDisk old (content core.disk)
   pub count : core.count ≡ 0
@@ -350,11 +437,12 @@ pub record Opens {D : Type 0} (content : D → Content) (old : Content) (core : 
   pub good : IsTrue old.honest → IsGood old.shown
   pub has_shape : IsTrue old.honest → core.shape ≡ shape_of old.shown
   pub waiting : IsTrue old.honest → core.waiting ≡ []
-  pub work : core.work ≡ None
+  pub converting : core.converting ≡ None
+  pub merging : core.merging ≡ None
   pub base : IsTrue old.honest → core.base ≡ image_map old.shown
   pub has_map : IsTrue old.honest → map_of core ≡ image_map old.shown
   pub numbers : IsTrue old.honest → IsGoodWith core.shape core.body core.charge core.full
-  pub safe : LeavesOnly (content core.disk) (StandsUnsorted core.shape core.base)
+  pub safe : LeavesOnly (content core.disk) (StandsFor core.shape core.base)
 
 -- ---- a store as an answerer
 

@@ -11,7 +11,9 @@
 //!
 //! A row goes to the active log. Where that cannot take it, being full or by the placing rule of its table, it is frozen and
 //! another one is started. [`Core::convert`] rewrites the oldest frozen log as a hash store, one slot a call, and its region then is
-//! free again. A conversion under way is not kept over a stop; it begins anew. In this stage nothing is merged.
+//! free again. [`Core::merge`] merges all hash stores and the sorted store into a new sorted store, one slot or one key a call, and
+//! the regions of these then are free again; both may be under way at the same time, and neither touches the other's work. Work under
+//! way is not kept over a stop; it begins anew. [`Core::wants_convert`] and [`Core::wants_merge`] tell whether there is a step to be done.
 #![tactic(auto)]
 
 mod answerer;

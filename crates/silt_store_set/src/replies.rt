@@ -4,6 +4,7 @@ ghost use Rattle.silt_device.specs.Disk.{GaveAny, size};
 ghost use Rattle.silt_device.specs.Layout.{device_size};
 ghost use Rattle.silt_frame.specs.declared.key.Kind.TheVariants.{Delete};
 ghost use Rattle.silt_log.specs.Rows.{IsValueOf};
+ghost use Rattle.silt_stores.specs.Conversion.{is_work};
 ghost use Rattle.silt_stores.specs.Lookup.{IsLocation, value_at};
 ghost use Rattle.silt_store_set.specs.Replies.{ReadCause, change_reply, progress_reply};
 
@@ -44,6 +45,13 @@ pub fn copied<D: Disk>(
         Ok(()) => Ok(Value::new(bytes)),
         Err(fault) => Err(Refusal::Device(fault)),
     }
+}
+
+// Whether a step in the background that makes this progress is work.
+pub fn is_work(progress: Progress) -> bool
+    ensures { result ≡ is_work progress }
+{
+    matches!(progress, Progress::Moved | Progress::Finished)
 }
 
 // The reply to a put or a delete.

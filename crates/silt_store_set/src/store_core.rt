@@ -3,11 +3,11 @@ ghost use Rattle.std.specs.Prelude.{◌≡◌, ◌<◌, ◌≤◌, length, false
 ghost use Rattle.silt_event.specs.Events.{Legal};
 ghost use Rattle.silt_device.specs.Disk.{GaveAny, LeavesOnly};
 
-use crate::replies::{accepted, copied, progressed, zeros};
+use crate::replies::{accepted, copied, is_work, progressed, zeros};
 use crate::{Event, Progress, Refusal, Reply};
 use silt_device::{Disk, Geometry};
 use silt_frame::{Key, Kind, Value};
-use silt_stores::{ConvertError, EntriesError, Stores, TakeError};
+use silt_stores::{ConvertError, EntriesError, MergeError, Stores, TakeError};
 use std::alloc::{AllocError, Global};
 use std::collections::BTreeMap;
 use std::marker::Model;
@@ -37,14 +37,14 @@ impl<D: Disk> Model for Core<D> {
     ghost use Rattle.silt_event.specs.Commands.{map_code};
     ghost use Rattle.silt_image.specs.Meaning.{image_map};
     ghost use Rattle.silt_stores.specs.Standing.{full_image, waiting_commands};
-    ghost use Rattle.silt_store_set.specs.CoreState.{CoreState, work_of};
+    ghost use Rattle.silt_store_set.specs.CoreState.{CoreState, convert_work, merge_work};
     ghost use Rattle.silt_store_set.specs.CoreInvariant.{IsCore};
 
     ghost Value = { CoreState D };
 
     ghost coded = { Prim.hlevel (codes, map_code) };
 
-    ghost view = { λ a. record { disk = a.disk; shape = a.stores.manifest.shape; body = a.stores.manifest.ruling; full = full_image (D.content a.disk) a.stores; base = image_map (D.content a.disk).shown; waiting = waiting_commands (D.content a.disk) a.stores; work = work_of a.stores.converting; charge = a.stores.charge; count = a.count; failed = a.failed } };
+    ghost view = { λ a. record { disk = a.disk; shape = a.stores.manifest.shape; body = a.stores.manifest.ruling; full = full_image (D.content a.disk) a.stores; base = image_map (D.content a.disk).shown; waiting = waiting_commands (D.content a.disk) a.stores; converting = convert_work a.stores.converting; merging = merge_work a.stores.merging; charge = a.stores.charge; count = a.count; failed = a.failed } };
 
     ghost invariant = { λ a. IsCore (D.content a.disk) a.stores a.count a.failed };
 }
@@ -56,10 +56,11 @@ impl<D: Disk> Core<D> {
     ghost use Rattle.silt_frame.specs.declared.key.Key.{Key as KeyOf};
     ghost use Rattle.silt_log.specs.Rows.{IsValueOf};
     ghost use Rattle.silt_recovery.specs.Opening.{LeavesNoOther};
-    ghost use Rattle.silt_stores.specs.Calls.{SameDisk, StandsUnsorted};
+    ghost use Rattle.silt_image.specs.Meaning.{StandsFor};
+    ghost use Rattle.silt_stores.specs.Calls.{SameDisk};
     ghost use Rattle.silt_store_set.specs.CoreInvariant.{LeavesBegun};
     ghost use Rattle.silt_frame.specs.Rows.{key_cmp};
-    ghost use Rattle.silt_store_set.specs.CoreState.{CoreState, Does, Runs, Opens, EntriesCause, StandsKept, map_of, MayWrite, row_event};
+    ghost use Rattle.silt_store_set.specs.CoreState.{CoreState, Does, Runs, Opens, EntriesCause, StandsKept, map_of, MayWrite, row_event, wants_convert, wants_merge};
     ghost use Rattle.silt_event.specs.Events.{HasValueOf};
     ghost use Rattle.silt_store_set.specs.Opening.{OpeningCause};
     ghost use Rattle.silt_store_set.specs.Replies.{change_reply, flush_reply, get_reply, read_reply, progress_reply};
@@ -247,14 +248,45 @@ impl<D: Disk> Core<D> {
         }
     }
 
-    /// One step of merging. Nothing is merged in this stage.
-    pub fn merge(&mut self) -> Result<Progress, Refusal<D::Fault>>
+    /// One step of the merge of hash stores and the sorted store into a new sorted store. Where none is under way: `Idle` where there is
+    /// no hash store, else the merge of all of them begins. A step gathers one slot of a hash store, or decides one key, and answers
+    /// `Moved`; the one after the last key syncs, writes the manifest and answers `Finished`. A hash store that a conversion finishes
+    /// meanwhile stays in front. It never answers `Waiting`.
+    ///
+    /// It is decided in this order: `Failed`, `Spent` (the generation, where the manifest is to be written), its reads (`Device`) and
+    /// `NoMemory` (while slots are gathered, and where the manifest is to be written), its write or syncs (`Device`).
+    pub fn merge(&mut self, alloc: Global) -> Result<Progress, Refusal<D::Fault>>
         ensures { Does D.content D.failures (GaveAny D.gave) self.old self.new Merge (progress_reply result) }
     {
         if self.failed {
             return Err(Refusal::Failed);
         }
-        Ok(Progress::Idle)
+        match self.stores.merge(alloc, &mut self.disk) {
+            Ok(merged) => Ok(merged),
+            Err(MergeError::Write(fault)) => {
+                self.failed = true; // an entry or the manifest may stand in part
+                Err(Refusal::Device(fault))
+            }
+            Err(MergeError::Read(fault)) => Err(Refusal::Device(fault)),
+            Err(MergeError::Spent) => Err(Refusal::Spent),
+            Err(MergeError::NoMemory) => Err(Refusal::NoMemory),
+        }
+    }
+
+    /// Whether the store is not failed, and there is a step of conversion to be done: its answer is `Moved` or `Finished` where nothing
+    /// refuses it.
+    pub fn wants_convert(&self) -> bool
+        ensures { result ≡ wants_convert self.now }
+    {
+        !self.failed && is_work(self.stores.convert_turn())
+    }
+
+    /// Whether the store is not failed, and there is a step of merging to be done: its answer is `Moved` or `Finished` where nothing
+    /// refuses it.
+    pub fn wants_merge(&self) -> bool
+        ensures { result ≡ wants_merge self.now }
+    {
+        !self.failed && is_work(self.stores.merge_turn())
     }
 
     /// Does one event. A get whose value finds no memory is refused with `NoMemory`.
@@ -275,7 +307,7 @@ impl<D: Disk> Core<D> {
                 Err(refusal) => Reply::Refused(refusal),
             },
             Event::Convert => progressed(self.convert(alloc)),
-            Event::Merge => progressed(self.merge()),
+            Event::Merge => progressed(self.merge(alloc)),
         }
     }
 
@@ -329,7 +361,7 @@ impl<D: Disk> Core<D> {
     /// after a beginning of one list of commands.
     pub fn close(self) -> D
         ensures disk { result ≡ self.disk }
-        ensures safe { self.failed ≡ false → LeavesOnly (D.content result) (StandsUnsorted self.shape self.base) }
+        ensures safe { self.failed ≡ false → LeavesOnly (D.content result) (StandsFor self.shape self.base) }
         ensures left { LeavesBegun (D.content result) self.shape }
     {
         let Core {

@@ -24,7 +24,7 @@ use Rattle.silt_stores.specs.Calls.{Advances, Breaks, Remaps, SameDisk}
 use Rattle.silt_stores.proofs.Named.{named_body, named_shape, own_rows, rows_with_more}
 use Rattle.silt_stores.proofs.Facts.{active_is, base_is, has_active, rows_split}
 use Rattle.silt_stores.proofs.Chains.{advances_break, advances_remap}
-use Rattle.silt_stores.proofs.Standing.{Fits, after_same, fits_stand, frozen_stay, hashed_stay, named_with, rules_stay, shown_are, written_stays}
+use Rattle.silt_stores.proofs.Standing.{Fits, after_same, fits_stand, frozen_stay, hashed_stay, merged_stays, named_with, rules_stay, shown_are, written_stays}
 use Rattle.silt_stores.proofs.Wholes.{whole_with_active, written_with_active}
 
 -- the stores with another active log and another charge
@@ -75,6 +75,7 @@ module _ (old new : Content) (s : StoresState) (after : LogStoreState) (more : L
     frozen = frozen_stay old new s stands sizes changes;
     hashed = hashed_stay old new s stands sizes changes;
     written = written_with_active new s after charge stands.whole (written_stays old new s stands sizes changes);
+    merged = merged_stays old new s stands sizes changes;
     same_shape = named_shape s.manifest.shape s.manifest.ruling old.shown;
     same_body = named_body s.manifest.shape s.manifest.ruling old.shown;
     named = named;
@@ -83,7 +84,6 @@ module _ (old new : Content) (s : StoresState) (after : LogStoreState) (more : L
         counted ∙ ap (λ (n : ℕ). n + put_count more) (stands.counted (was h))
         ∙ sym (count_law (rows_of (shown_stores old s) ++ waiting_rows old s.active.log) more)
         ∙ ap put_count (append_assoc (rows_of (shown_stores old s)) (waiting_rows old s.active.log) more ∙ ap (λ (rows : List StoredRow). rows_of (shown_stores old s) ++ rows) (sym (waits (was h))));
-    no_entries = stands.no_entries;
   }
 
   -- the stores advance by the commands of the rows

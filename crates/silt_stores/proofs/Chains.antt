@@ -4,11 +4,11 @@ use Rattle.std.proofs.lemmas.List.{append-nil}
 use Rattle.silt_device.specs.Disk.{Content}
 use Rattle.silt_device.specs.Layout.{Shape}
 use Rattle.silt_event.specs.Commands.{Command, Map, map_after}
-use Rattle.silt_image.specs.Meaning.{image_map}
+use Rattle.silt_image.specs.Meaning.{StandsFor, image_map}
 use Rattle.silt_image.proofs.Rows.{map_after-append}
 use Rattle.silt_stores.specs.State.{StoresState}
 use Rattle.silt_stores.specs.Standing.{Stands, base_map, full_image, waiting_commands}
-use Rattle.silt_stores.specs.Calls.{Advances, Breaks, HasBegun, MovesIntoBase, Remaps, SameDisk, StandsUnsorted}
+use Rattle.silt_stores.specs.Calls.{Advances, Breaks, HasBegun, MovesIntoBase, Remaps, SameDisk}
 use Rattle.silt_stores.proofs.Facts.{base_safe, full_map}
 
 -- the disk after two calls
@@ -53,8 +53,8 @@ breaks_after a b c first second same later m breaks = record {
           rest = begun.begins.rest;
           is = append_assoc moves.moved begun.kept begun.begins.rest ∙ ap (λ (cs : List Command). moves.moved ++ cs) begun.begins.is ∙ moves.rest ∙ append-nil (waiting_commands a first);
         };
-        stands = subst (λ (m : Map). StandsUnsorted first.manifest.shape m image) (ap (λ (base : Map). map_after base begun.kept) moves.base ∙ sym (map_after-append (base_map a first) moves.moved begun.kept))
-            (subst (λ (s : Shape). StandsUnsorted s (map_after (base_map b second) begun.kept) image) m.shape begun.stands);
+        stands = subst (λ (m : Map). StandsFor first.manifest.shape m image) (ap (λ (base : Map). map_after base begun.kept) moves.base ∙ sym (map_after-append (base_map a first) moves.moved begun.kept))
+            (subst (λ (s : Shape). StandsFor s (map_after (base_map b second) begun.kept) image) m.shape begun.stands);
       };
 }
 
@@ -82,7 +82,7 @@ advances_break a b first second same m = record {
       record {
         kept = moves.moved;
         begins = record { rest = waiting_commands b second; is = moves.rest ∙ append-nil (waiting_commands a first) };
-        stands = subst (λ (m : Map). StandsUnsorted first.manifest.shape m image) moves.base (subst (λ (s : Shape). StandsUnsorted s (base_map b second) image) m.shape ((base_safe b second m.stands).each h image left));
+        stands = subst (λ (m : Map). StandsFor first.manifest.shape m image) moves.base (subst (λ (s : Shape). StandsFor s (base_map b second) image) m.shape ((base_safe b second m.stands).each h image left));
       };
 }
 

@@ -12,7 +12,6 @@ use Rattle.silt_log.proofs.Elsewhere.{all_count}
 use Rattle.silt_log.proofs.Waiting.{none_waiting}
 use Rattle.silt_log_store.specs.State.{IsLogStore, LogStoreState}
 use Rattle.silt_hash_store.specs.Conversion.{HasWritten}
-use Rattle.silt_hash_store.specs.State.{IsHashStore}
 use Rattle.silt_manifest.specs.Standing.{ManifestState, spare_slot}
 use Rattle.silt_manifest.specs.declared.body.Body.{Body}
 use Rattle.silt_image.specs.Stores.{Stores, stores_named}
@@ -23,21 +22,23 @@ use Rattle.silt_image.proofs.Named.{whole_law}
 use Rattle.silt_image.proofs.Rows.{new_active_law, new_log_law}
 use Rattle.silt_image.proofs.Sound.{frozen_law}
 use Rattle.silt_stores.specs.declared.next_log.NextLog.{NextLog}
-use Rattle.silt_stores.specs.State.{AreWhole, IsHashOf, IsSettled, StoresState, oldest_log, region_of}
+use Rattle.silt_sorted_store.specs.State.{SortedState}
+use Rattle.silt_stores.specs.State.{AreWhole, IsHashOf, IsSettled, StoresState, oldest_log, region_of, sorted_named}
 use Rattle.silt_stores.specs.Standing.{IsFrozen, Stands, shown_stores}
 use Rattle.silt_stores.specs.Calls.{Advances, IsQuiet, Remaps}
 use Rattle.silt_stores.specs.NextLog.{HasFrozen, IsEmptied, active_replaced, names_region}
 use Rattle.silt_stores.specs.Succession.{MayRule, NowRules}
 use Rattle.silt_stores.proofs.Named.{named_body, named_shape, own_rows}
 use Rattle.silt_stores.proofs.Facts.{base_is, shown_named, shown_sound}
-use Rattle.silt_stores.proofs.Elsewhere.{all_frozen_elsewhere, all_hashed_elsewhere, length-log_rows, outside_slot, written_all_elsewhere}
+use Rattle.silt_stores.proofs.Elsewhere.{length-log_rows, outside_slot}
 use Rattle.silt_stores.proofs.Chains.{advances_remap}
 use Rattle.silt_stores.proofs.Standing.{Fits}
-use Rattle.silt_stores.proofs.Wholes.{oldest_behind, under_way_in, written_in}
+use Rattle.silt_stores.proofs.Wholes.{merging_in, oldest_behind, under_way_in, written_in}
 use Rattle.silt_stores.proofs.NextBodies.{now_named, succeeds}
+use Rattle.silt_stores.proofs.Remains.{frozen_stays, hashed_stays, merged_stays, written_stays}
 use Rattle.silt_stores.proofs.Holdings.{may_follow}
 use Rattle.silt_stores.proofs.Flushes.{quiet}
-use Rattle.silt_stores.proofs.Freezes.{below_two, slot_apart, slot_before_conversion, store_elsewhere}
+use Rattle.silt_stores.proofs.Freezes.{below_two, store_elsewhere}
 
 -- the stores with a new log have the next body
 new_shape : (body : Body) (t : Stores) → (with_new_log body t).shape ≡ t.shape
@@ -105,7 +106,6 @@ module _ (old : Content) (s : StoresState) (next : NextLog) (stands : Stands old
     names = names;
     sound = λ h. frozen_law (shown_stores old s) next.body (shown_sound old s stands h);
     same_map = λ h. ap map_of_rows frozen_rows ∙ sym (base_is old s);
-    no_entries = ap (λ (b : Body). b.sorted_count) emptied.follows.body ∙ stands.no_entries;
     waiting = inl is_quiet;
   }
 
@@ -134,7 +134,13 @@ module _ (old : Content) (s : StoresState) (next : NextLog) (stands : Stands old
           (All-cons (IsSettled s.manifest.shape) s.active s.frozen (record { has_shape = stands.whole.has_shape; settled = is_quiet.settled }) stands.whole.settled);
       hash_regions = stands.whole.hash_regions ∙ ap (λ (b : Body). b.hashed) (sym emptied.follows.body) ∙ ap (λ (b : Body). b.hashed) (sym now.has_body);
       hashed = subst (λ (sh : Shape). All (IsHashOf sh) s.hashes) (sym now.has_shape) stands.whole.hashed;
+      sorted =
+          stands.whole.sorted ∙ ap (λ (sh : Shape). sorted_named sh s.manifest.ruling) (sym now.has_shape)
+          ∙ ap (λ (n : ℕ). let t : SortedState = record { shape = m.shape; region = n; count = s.manifest.ruling.sorted_count } in t) (ap (λ (b : Body). b.sorted) (sym emptied.follows.body ∙ sym now.has_body))
+          ∙ ap (λ (n : ℕ). let t : SortedState = record { shape = m.shape; region = m.ruling.sorted; count = n } in t) (ap (λ (b : Body). b.sorted_count) (sym emptied.follows.body ∙ sym now.has_body));
+      held = stands.whole.held;
       under_way = under_way_in s after s.converting now.has_shape (ap (λ (b : Body). b.hashed) now.has_body ∙ ap (λ (b : Body). b.hashed) emptied.follows.body) (omega arith) stands.whole.under_way;
+      merging = merging_in s after s.merging now.has_shape refl (omega arith) stands.whole.merging;
       most = subst (λ (sh : Shape). s.charge ≤ sh.sorted_capacity) (sym now.has_shape) stands.whole.most;
     }
 
@@ -162,17 +168,8 @@ module _ (old : Content) (s : StoresState) (next : NextLog) (stands : Stands old
     next_active = store_elsewhere old new next.store (slot_at (spare_slot s.manifest)) 4096 emptied.stands
         (stands.has_size ∙ ap device_size (sym store_shape)) sizes (outside_slot next.store.log.shape next.store.log.region (spare_slot s.manifest) slot_below) now.changes
 
-    frozen_after : All (IsFrozen new) s.frozen
-    frozen_after = all_frozen_elsewhere old new s (slot_at (spare_slot s.manifest)) 4096 stands now.changes (λ h. (slot_apart s.manifest.shape s.manifest.ruling (spare_slot s.manifest) slot_below).frozen)
-
-    hashed_after : All (IsHashStore new) s.hashes
-    hashed_after = all_hashed_elsewhere old new s (slot_at (spare_slot s.manifest)) 4096 stands now.changes (λ h. (slot_apart s.manifest.shape s.manifest.ruling (spare_slot s.manifest) slot_below).hashed)
-
     written_after : IfSome s.converting (HasWritten new (oldest_log after))
-    written_after = written_in new s (oldest_log after) s.converting (oldest_behind s.active s.frozen next.store s.active) stands.whole.under_way
-        (written_all_elsewhere old new s (slot_at (spare_slot s.manifest)) 4096 s.converting stands now.changes
-        (λ h. (slot_apart s.manifest.shape s.manifest.ruling (spare_slot s.manifest) slot_below).frozen)
-        (λ h. slot_before_conversion s (spare_slot s.manifest) slot_below) stands.whole.under_way stands.written)
+    written_after = written_in new s (oldest_log after) s.converting (oldest_behind s.active s.frozen next.store s.active) stands.whole.under_way (written_stays old new s stands sizes now.changes)
 
     fits : Fits new after frozen_stores
     unfolding with_new_log frozen_may_rule
@@ -182,9 +179,10 @@ module _ (old : Content) (s : StoresState) (next : NextLog) (stands : Stands old
       idle = now.idle;
       rules = now.rules;
       active = next_active;
-      frozen = All-cons (IsFrozen new) s.active s.frozen (settled_frozen new s.active old_active is_quiet.settled) frozen_after;
-      hashed = hashed_after;
+      frozen = All-cons (IsFrozen new) s.active s.frozen (settled_frozen new s.active old_active is_quiet.settled) (frozen_stays old new s stands sizes now.changes);
+      hashed = hashed_stays old new s stands sizes now.changes;
       written = written_after;
+      merged = merged_stays old new s stands sizes now.changes;
       same_shape = frozen_may_rule.has_shape ∙ sym now.has_shape;
       same_body = frozen_may_rule.has_body ∙ sym now.has_body;
       named = now_named old new s next.body stands frozen_may_rule sizes m now;
@@ -195,7 +193,6 @@ module _ (old : Content) (s : StoresState) (next : NextLog) (stands : Stands old
           stands.counted (back h)
           ∙ ap (λ (rows : List StoredRow). put_count (rows_of (shown_stores old s) ++ rows)) (none_waiting old s.active.log is_quiet.settled ∙ sym (none_waiting new next.store.log none_used))
           ∙ ap (λ (rows : List StoredRow). put_count (rows ++ waiting_rows new next.store.log)) (sym frozen_rows);
-      no_entries = ap (λ (b : Body). b.sorted_count) now.has_body ∙ frozen_may_rule.no_entries;
     }
 
     pub frozen_advances : Advances [] old new s (active_replaced s m next.store)
@@ -213,6 +210,8 @@ module _ (old : Content) (s : StoresState) (next : NextLog) (stands : Stands old
       ruling = now.has_body;
       frozen = omega arith;
       hashes = refl;
+      sorted = refl;
       converting = refl;
+      merging = refl;
       charge = refl;
     }

@@ -56,7 +56,7 @@ fewer_hashes s slot region b sound inside free =
 -- ---- fewer frozen logs
 
 -- the first numbers of a list have what the list has
-none_of_first : (ids : List ℕ) (n x : ℕ) → list_any (λ other. other == x) ids ≡ false → list_any (λ other. other == x) (take n ids) ≡ false
+pub none_of_first : (ids : List ℕ) (n x : ℕ) → list_any (λ other. other == x) ids ≡ false → list_any (λ other. other == x) (take n ids) ≡ false
 none_of_first [] zero x none = refl
 none_of_first [] (suc n) x none = refl
 none_of_first (id ∷ ids) zero x none = refl
@@ -67,7 +67,7 @@ none_of_first (id ∷ ids) (suc n) x none = elim (cases_Bool (eqb id x)) [
       ∙ none_of_first ids n x (ap (λ (b : Bool). b || list_any (λ other. other == x) ids) (sym other) ∙ none)
 ]
 
-distinct_first : (ids : List ℕ) (n : ℕ) → is_distinct ids ≡ true → is_distinct (take n ids) ≡ true
+pub distinct_first : (ids : List ℕ) (n : ℕ) → is_distinct ids ≡ true → is_distinct (take n ids) ≡ true
 distinct_first [] zero e = refl
 distinct_first [] (suc n) e = refl
 distinct_first (id ∷ ids) zero e = refl
@@ -75,7 +75,7 @@ distinct_first (id ∷ ids) (suc n) e =
     let parts = and_parts (not (list_any (λ other. other == id) ids)) (is_distinct ids) e in
     and_from _ _ (ap not (none_of_first ids n id (not-true _ parts.0))) (distinct_first ids n parts.1)
 
-below_first : (most : ℕ) (ids : List ℕ) (n : ℕ) → all_below most ids ≡ true → all_below most (take n ids) ≡ true
+pub below_first : (most : ℕ) (ids : List ℕ) (n : ℕ) → all_below most ids ≡ true → all_below most (take n ids) ≡ true
 below_first most [] zero e = refl
 below_first most [] (suc n) e = refl
 below_first most (id ∷ ids) zero e = refl

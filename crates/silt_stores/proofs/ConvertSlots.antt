@@ -2,9 +2,9 @@
 use Rattle.std.proofs.Common.{◌≡◌, ◌≢◌, ◌≤◌, ◌<◌, ℕ, ◌+◌, ◌*◌, false, IsTrue, List, [], Option, Some, None, Ok, inl, inr, refl, ap, sym, ◌∙◌, subst, arith}
 use Rattle.std.specs.Prelude.{IfSome}
 use Rattle.silt_device.specs.Disk.{ChangesWithin, Content, LeavesOnly, LiesOutside, Settles, Stays, Torn, size}
-use Rattle.silt_device.specs.Layout.{Shape, gates_at, hash_at, hash_size, log_len, row_len, slots_len}
+use Rattle.silt_device.specs.Layout.{Shape, entries_len, gates_at, hash_at, hash_size, log_len, row_len, slots_len, sorted_at}
 use Rattle.silt_device.proofs.Images.{failed_sync_within, left_after_failed_sync, left_after_sync, shown_left, sync_within, torn_wider}
-use Rattle.silt_device.proofs.Regions.{up_least}
+use Rattle.silt_device.proofs.Regions.{regions_apart, up_least}
 use Rattle.silt_manifest.proofs.Laws.{rules_elsewhere}
 use Rattle.silt_manifest.specs.declared.body.Body.{Body}
 use Rattle.silt_image.specs.Stores.{Stores, image_stores}
@@ -13,6 +13,7 @@ use Rattle.silt_hash_store.specs.Conversion.{ConversionState, HasWritten}
 use Rattle.silt_hash_store.specs.Slots.{hash_slot_at}
 use Rattle.silt_hash_store.proofs.Reading.{slot_inside}
 use Rattle.silt_hash_store.proofs.Writing.{behind_logs}
+use Rattle.silt_merge.specs.State.{MergeState}
 use Rattle.silt_stores.specs.State.{IsUnderWay, StoresState, names_hash, oldest_log}
 use Rattle.silt_stores.specs.Standing.{Stands, shown_stores}
 use Rattle.silt_stores.specs.Calls.{Advances, Breaks, Remaps, SameDisk}
@@ -20,7 +21,7 @@ use Rattle.silt_stores.proofs.Named.{named_body, named_shape}
 use Rattle.silt_stores.proofs.Facts.{active_below}
 use Rattle.silt_stores.proofs.Elsewhere.{named_below, not_among}
 use Rattle.silt_stores.proofs.Chains.{advances_break, advances_remap}
-use Rattle.silt_stores.proofs.Freezes.{IsApart, stays_on, stays_with}
+use Rattle.silt_stores.proofs.Freezes.{IsApart, IsOutsideMerge, merged_on, stays_on, stays_with}
 
 -- ---- places
 
@@ -33,6 +34,14 @@ slot_elsewhere shape region other slot differ below =
       | inl before ↦ inr (omega (arith, before, rows))
       | inr behind ↦ inl (omega (arith, behind, rows, ends))
     ]
+
+-- the entries of each sorted region lie behind the slots
+entries_behind : (shape : Shape) (region slot sorted : ℕ) → region < shape.hashes → slot < 4 * shape.buckets → LiesOutside (sorted_at shape sorted) (entries_len shape) (hash_slot_at shape region slot) (row_len shape)
+entries_behind shape region slot sorted there below =
+    let regions = regions_apart shape in
+    let slots = regions.hashes region shape.hashes there in
+    let ends : hash_slot_at shape region slot + row_len shape ≤ hash_at shape region + 4 * shape.buckets * row_len shape = slot_inside shape region slot (hash_at shape region + 4 * shape.buckets * row_len shape) (omega arith) below in
+    inl (omega (arith, ends, slots, regions.hash_end sorted))
 
 -- a slot lies in its region
 in_region : (shape : Shape) (region slot : ℕ) (before image : List ℕ) → slot < 4 * shape.buckets → Torn (hash_slot_at shape region slot) (row_len shape) before image → Torn (hash_at shape region) (hash_size shape) before image
@@ -66,7 +75,15 @@ module _ (old new : Content) (s : StoresState) (region slot : ℕ) (stands : Sta
     active = behind_logs s.manifest.shape s.manifest.ruling.active region slot (active_below old s stands);
     frozen = λ id named. behind_logs s.manifest.shape id region slot (named_below old s stands h id named);
     hashed = λ id named. slot_elsewhere s.manifest.shape id region slot (not_among s.manifest.ruling.hashed region id free named) below;
+    sorted = entries_behind s.manifest.shape region slot s.manifest.ruling.sorted there below;
   }
+
+  slot_before_entries : IsOutsideMerge s (hash_slot_at s.manifest.shape region slot) (row_len s.manifest.shape)
+  slot_before_entries = behind s.merging
+    where
+      behind : (o : Option MergeState) → IfSome o (λ merge. LiesOutside (sorted_at s.manifest.shape merge.region) (entries_len s.manifest.shape) (hash_slot_at s.manifest.shape region slot) (row_len s.manifest.shape))
+      behind None = tt
+      behind (Some merge) = entries_behind s.manifest.shape region slot merge.region there below
 
   outside_active : LiesOutside (gates_at s.active.log.shape s.active.log.region) (log_len s.active.log.shape) (hash_slot_at s.manifest.shape region slot) (row_len s.manifest.shape)
   outside_active =
@@ -77,9 +94,10 @@ module _ (old new : Content) (s : StoresState) (region slot : ℕ) (stands : Sta
   -- the stores stand on, with the conversion as it is then
   pub slot_advances : (converting : Option ConversionState) → IfSome converting (IsUnderWay s) → IfSome converting (HasWritten new (oldest_log s)) → Advances [] old new s (record s { converting = converting })
   slot_advances converting under_way written = stays_with old new s (hash_slot_at s.manifest.shape region slot) (row_len s.manifest.shape) stands sizes changes slot_apart outside_active
-      s.manifest converting refl refl stands.idle
+      s.manifest converting s.merging refl refl stands.idle
       (rules_elsewhere s.manifest (hash_slot_at s.manifest.shape region slot) (row_len s.manifest.shape) old new (omega (arith, stands.has_size)) (inr (omega arith)) changes stands.rules)
-      slot_named under_way written
+      slot_named under_way written stands.whole.merging
+      (merged_on old new s (hash_slot_at s.manifest.shape region slot) (row_len s.manifest.shape) stands sizes changes slot_apart outside_active (λ h. slot_before_entries))
 
   pub slot_map : (converting : Option ConversionState) → IfSome converting (IsUnderWay s) → IfSome converting (HasWritten new (oldest_log s)) → Remaps [] old new s (record s { converting = converting })
   slot_map converting under_way written = advances_remap [] old new s (record s { converting = converting }) slot_disk stands (slot_advances converting under_way written)
@@ -93,13 +111,17 @@ module _ (old new : Content) (s : StoresState) (stands : Stands old s) (sizes : 
   -- where nothing is changed, and each image has the same stores, the stores stand on
   still_advances : ChangesWithin 0 0 old new → LeavesOnly new (λ image. image_stores image ≡ Ok (shown_stores old s)) → Advances [] old new s s
   still_advances changes named = stays_on old new s 0 0 stands sizes changes
-      (λ h. record { active = inl (omega arith); frozen = λ id there. inl (omega arith); hashed = λ id there. inl (omega arith) }) (inl (omega arith))
-      (λ h. nowhere s.converting) s.manifest refl refl stands.idle
+      (λ h. record { active = inl (omega arith); frozen = λ id there. inl (omega arith); hashed = λ id there. inl (omega arith); sorted = inl (omega arith) }) (inl (omega arith))
+      (λ h. nowhere s.converting) (λ h. nowhere_merged s.merging) s.manifest refl refl stands.idle
       (rules_elsewhere s.manifest 0 0 old new (omega (arith, stands.has_size)) (inl (omega arith)) changes stands.rules) named
     where
       nowhere : (o : Option ConversionState) → IfSome o (λ conversion. LiesOutside (hash_at s.manifest.shape conversion.region) (slots_len s.manifest.shape) 0 0)
       nowhere None = tt
       nowhere (Some conversion) = inl (omega arith)
+
+      nowhere_merged : (o : Option MergeState) → IfSome o (λ merge. LiesOutside (sorted_at s.manifest.shape merge.region) (entries_len s.manifest.shape) 0 0)
+      nowhere_merged None = tt
+      nowhere_merged (Some merge) = inl (omega arith)
 
   pub sync_advances : Settles old new → Advances [] old new s s
   sync_advances settles = still_advances (sync_within 0 0 settles) (record {

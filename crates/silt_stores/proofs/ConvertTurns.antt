@@ -1,5 +1,5 @@
 -- The end of a conversion: the body that names the hash store, and the stores once it rules.
-use Rattle.std.proofs.Common.{inr, ◌≡◌, ◌≤◌, ◌<◌, ℕ, ◌+◌, ◌-◌, IsTrue, List, [], ◌∷◌, ◌++◌, length, map, take, Option, refl, ap, sym, ◌∙◌, subst, arith}
+use Rattle.std.proofs.Common.{inr, ◌≡◌, ◌≤◌, ◌<◌, ℕ, ◌-◌, IsTrue, List, [], ◌∷◌, ◌++◌, length, map, take, Option, Some, None, refl, ap, sym, ◌∙◌, subst, arith}
 use Rattle.std.specs.Prelude.{All, IfSome}
 use Rattle.std.proofs.lemmas.List.{length-map, take-map}
 use Rattle.std.proofs.lemmas.List.Elements.{All-cons, All-take}
@@ -9,10 +9,9 @@ use Rattle.silt_device.specs.Layout.{Shape, device_size, slot_at}
 use Rattle.silt_device.proofs.Images.{left_at_rest}
 use Rattle.silt_log.specs.Rows.{log_rows}
 use Rattle.silt_frame.specs.Rows.{StoredRow, put_count}
-use Rattle.silt_log.specs.State.{all_rows, waiting_rows}
+use Rattle.silt_log.specs.State.{all_rows}
 use Rattle.silt_log.specs.Calls.{KeepsRows}
 use Rattle.silt_log.proofs.Elsewhere.{log_rows_elsewhere}
-use Rattle.silt_log.proofs.Waiting.{waiting_kept}
 use Rattle.silt_log_store.specs.State.{IsFrozenStore}
 use Rattle.silt_log_store.proofs.Buckets.{bucket_count_is}
 use Rattle.silt_manifest.specs.Standing.{ManifestState, spare_slot}
@@ -23,18 +22,23 @@ use Rattle.silt_image.proofs.Named.{whole_law}
 use Rattle.silt_hash_store.specs.Conversion.{ConversionState, HasWritten}
 use Rattle.silt_hash_store.specs.State.{IsHashStore, IsHeldHash}
 use Rattle.silt_hash_store.proofs.Writing.{store_stands}
-use Rattle.silt_stores.specs.State.{AreWhole, IsHashOf, IsSettled, IsUnderWay, StoresState, oldest_log, region_of}
-use Rattle.silt_stores.specs.Standing.{IsFrozen, Stands, shown_stores}
+use Rattle.silt_hash_store.specs.State.{HashState}
+use Rattle.silt_merge.specs.State.{MergeState}
+use Rattle.silt_merge.specs.Merging.{HasMerged}
+use Rattle.silt_merge.proofs.Elsewhere.{oldest_stores_law}
+use Rattle.silt_sorted_store.specs.State.{SortedState}
+use Rattle.silt_stores.specs.State.{AreWhole, IsHashOf, IsMerging, IsSettled, IsUnderWay, StoresState, oldest_log, region_of, sorted_named}
+use Rattle.silt_stores.specs.Standing.{HasGathered, IsFrozen, Stands, shown_stores}
 use Rattle.silt_stores.specs.Calls.{Advances}
 use Rattle.silt_stores.specs.Succession.{MayRule, NowRules}
 use Rattle.silt_stores.specs.Conversion.{EndsConversion, MayReplace, converted_body, oldest_replaced, store_of}
 use Rattle.silt_stores.proofs.Named.{named_shape}
 use Rattle.silt_stores.proofs.Facts.{shown_named}
-use Rattle.silt_stores.proofs.Elsewhere.{all_frozen_elsewhere, all_hashed_elsewhere, frozen_named, indexed_same, named_below, outside_slot, scanned_all, written_all_elsewhere}
+use Rattle.silt_stores.proofs.Elsewhere.{frozen_named, indexed_same, named_below, outside_slot, scanned_all}
 use Rattle.silt_stores.proofs.Standing.{Fits}
-use Rattle.silt_stores.proofs.Freezes.{below_two, slot_apart, slot_before_conversion}
+use Rattle.silt_stores.proofs.Wholes.{merging_in}
 use Rattle.silt_stores.proofs.ConvertCounting.{may_end}
-use Rattle.silt_stores.proofs.Turns.{active_kept}
+use Rattle.silt_stores.proofs.Remains.{active_stays, frozen_stays, hashed_stays, merged_stays, slot_below, waiting_stays, written_stays}
 use Rattle.silt_stores.proofs.NextBodies.{now_named, succeeds}
 use Rattle.silt_stores.proofs.ConvertStores.{converted_named, converted_ruling, converted_shape}
 use Rattle.silt_stores.proofs.ConvertDone.{ending_counted, ending_full_sound, ending_map, ending_slots, ending_sound, ending_stores, oldest_frozen, oldest_shape, oldest_stands, way}
@@ -70,16 +74,12 @@ module _ (old : Content) (s : StoresState) (body : Body) (stands : Stands old s)
     names = names;
     sound = ending_sound old s stands ends.conversion ends.was;
     same_map = ending_map old s stands ends.conversion ends.was;
-    no_entries = ap (λ (b : Body). b.sorted_count) ends.is ∙ stands.no_entries;
     waiting = inr (ap (λ (b : Body). b.active) ends.is);
   }
 
   -- ---- once it rules
 
   module _ (new : Content) (sizes : size new ≡ size old) (m : ManifestState) (now : NowRules old new s body m) where
-    slot_below : spare_slot s.manifest < 2
-    slot_below = below_two (s.manifest.ruling.generation + 1)
-
     back : IsTrue new.honest → IsTrue old.honest
     back h = subst IsTrue now.changes.honest h
 
@@ -109,7 +109,13 @@ module _ (old : Content) (s : StoresState) (body : Body) (stands : Stands old s)
       settled = subst (λ (sh : Shape). All (IsSettled sh) (take (length s.frozen - 1) s.frozen)) (sym now.has_shape) (All-take (IsSettled s.manifest.shape) (length s.frozen - 1) s.frozen stands.whole.settled);
       hash_regions = ap (λ (l : List ℕ). ends.conversion.region ∷ l) stands.whole.hash_regions ∙ ap (λ (b : Body). b.hashed) (sym ruling_is);
       hashed = subst (λ (sh : Shape). All (IsHashOf sh) (store_of ends.conversion ∷ s.hashes)) (sym now.has_shape) (All-cons (IsHashOf s.manifest.shape) (store_of ends.conversion) s.hashes (held_of held) stands.whole.hashed);
+      sorted =
+          stands.whole.sorted ∙ ap (λ (sh : Shape). sorted_named sh s.manifest.ruling) (sym now.has_shape)
+          ∙ ap (λ (n : ℕ). let t : SortedState = record { shape = m.shape; region = n; count = s.manifest.ruling.sorted_count } in t) (ap (λ (b : Body). b.sorted) (sym ruling_is))
+          ∙ ap (λ (n : ℕ). let t : SortedState = record { shape = m.shape; region = m.ruling.sorted; count = n } in t) (ap (λ (b : Body). b.sorted_count) (sym ruling_is));
+      held = stands.whole.held;
       under_way = tt;
+      merging = merging_in s after s.merging now.has_shape refl (omega arith) stands.whole.merging;
       most = subst (λ (sh : Shape). s.charge - ((oldest_log s).puts - ends.conversion.puts) ≤ sh.sorted_capacity) (sym now.has_shape) (let most = stands.whole.most in omega (arith, most));
     }
 
@@ -118,24 +124,11 @@ module _ (old : Content) (s : StoresState) (body : Body) (stands : Stands old s)
 
     -- the active log is as it was
     keeps : KeepsRows old new s.active.log s.active.log
-    keeps = active_kept old new s (spare_slot s.manifest) slot_below stands sizes now.changes
+    keeps = active_stays old new s stands sizes now.changes
 
-    same_waiting : IsTrue old.honest → waiting_rows new s.active.log ≡ waiting_rows old s.active.log
-    same_waiting h = waiting_kept old new s.active.log s.active.log stands.active h keeps
-
-    -- so are the frozen logs, the hash stores, and what the conversion wrote
-    frozen_stay : All (IsFrozen new) s.frozen
-    frozen_stay = all_frozen_elsewhere old new s (slot_at (spare_slot s.manifest)) 4096 stands now.changes (λ h. (slot_apart s.manifest.shape s.manifest.ruling (spare_slot s.manifest) slot_below).frozen)
-
-    hashed_stay : All (IsHashStore new) s.hashes
-    hashed_stay = all_hashed_elsewhere old new s (slot_at (spare_slot s.manifest)) 4096 stands now.changes (λ h. (slot_apart s.manifest.shape s.manifest.ruling (spare_slot s.manifest) slot_below).hashed)
-
-    written_stays : HasWritten new (oldest_log s) ends.conversion
-    written_stays =
-        subst (λ (o : Option ConversionState). IfSome o (HasWritten new (oldest_log s))) ends.was
-        (written_all_elsewhere old new s (slot_at (spare_slot s.manifest)) 4096 s.converting stands now.changes
-        (λ h. (slot_apart s.manifest.shape s.manifest.ruling (spare_slot s.manifest) slot_below).frozen) (λ h. slot_before_conversion s (spare_slot s.manifest) slot_below)
-        stands.whole.under_way stands.written)
+    -- and so is what the conversion wrote
+    slots_stay : HasWritten new (oldest_log s) ends.conversion
+    slots_stay = subst (λ (o : Option ConversionState). IfSome o (HasWritten new (oldest_log s))) ends.was (written_stays old new s stands sizes now.changes)
 
     -- the oldest log is as it was in whatever a stop leaves
     last_inside : length s.frozen - 1 < length s.frozen
@@ -151,11 +144,11 @@ module _ (old : Content) (s : StoresState) (body : Body) (stands : Stands old s)
         let fits : device_size (oldest_log s).log.shape ≡ length first = ap device_size log_shape ∙ sym stands.has_size ∙ sym long in
         log_rows_elsewhere (oldest_log s).log.shape (oldest_log s).log.region (slot_at (spare_slot s.manifest)) 4096 first image
         (subst (λ (sh : Shape). (oldest_log s).log.region < sh.logs) (sym log_shape) there_is) (omega (arith, fits))
-        (outside_slot (oldest_log s).log.shape (oldest_log s).log.region (spare_slot s.manifest) slot_below) torn
+        (outside_slot (oldest_log s).log.shape (oldest_log s).log.region (spare_slot s.manifest) (slot_below old new s stands sizes now.changes)) torn
 
     oldest_stays : IsFrozenStore new (oldest_log s)
     oldest_stays =
-        let is : IsFrozen new (oldest_log s) = frozen_stay (length s.frozen - 1) s.active last_inside in
+        let is : IsFrozen new (oldest_log s) = frozen_stays old new s stands sizes now.changes (length s.frozen - 1) s.active last_inside in
         let was : IsFrozen old (oldest_log s) = oldest_frozen old s stands under_way.some_frozen in
         let log_stands : IsFrozenStore old (oldest_log s) = oldest_stands old s stands under_way.some_frozen in
         record {
@@ -179,9 +172,20 @@ module _ (old : Content) (s : StoresState) (body : Body) (stands : Stands old s)
 
     store_is : IsHashStore new (store_of ends.conversion)
     store_is = record {
-      sound = λ h. (store_stands new (oldest_log s) ends.conversion (count h) ends.done oldest_stays written_stays).sound h;
-      tagged = λ h. (store_stands new (oldest_log s) ends.conversion (count h) ends.done oldest_stays written_stays).tagged h;
+      sound = λ h. (store_stands new (oldest_log s) ends.conversion (count h) ends.done oldest_stays slots_stay).sound h;
+      tagged = λ h. (store_stands new (oldest_log s) ends.conversion (count h) ends.done oldest_stays slots_stay).tagged h;
+      counted = λ h. (store_stands new (oldest_log s) ends.conversion (count h) ends.done oldest_stays slots_stay).counted h;
     }
+
+    -- a merge has gathered and written what it had: its stores are the oldest ones still
+    gathered_stays : IfSome s.merging (HasGathered new after)
+    gathered_stays = in_front s.merging stands.whole.merging (merged_stays old new s stands sizes now.changes)
+      where
+        in_front : (o : Option MergeState) → IfSome o (IsMerging s) → IfSome o (HasGathered new s) → IfSome o (HasGathered new after)
+        in_front None merging merged = tt
+        in_front (Some merge) merging merged =
+            let way : IsMerging s merge = merging in
+            subst (λ (l : List HashState). HasMerged new l s.sorted merge) (sym (oldest_stores_law (store_of ends.conversion ∷ []) s.hashes merge.stores way.most)) merged
 
     fits : AreWhole (oldest_replaced s m ends.conversion) → Fits new after converted_stores
     unfolding converted_may_rule
@@ -191,9 +195,10 @@ module _ (old : Content) (s : StoresState) (body : Body) (stands : Stands old s)
       idle = now.idle;
       rules = now.rules;
       active = record { log = keeps.stands; index = indexed_same old new s.active back (λ h. keeps.all (back h)) stands.indexed };
-      frozen = All-take (IsFrozen new) (length s.frozen - 1) s.frozen frozen_stay;
-      hashed = All-cons (IsHashStore new) (store_of ends.conversion) s.hashes store_is hashed_stay;
+      frozen = All-take (IsFrozen new) (length s.frozen - 1) s.frozen (frozen_stays old new s stands sizes now.changes);
+      hashed = All-cons (IsHashStore new) (store_of ends.conversion) s.hashes store_is (hashed_stays old new s stands sizes now.changes);
       written = tt;
+      merged = gathered_stays;
       same_shape = converted_may_rule.has_shape ∙ sym now.has_shape;
       same_body = converted_may_rule.has_body ∙ sym now.has_body;
       named = now_named old new s body stands converted_may_rule sizes m now;
@@ -203,8 +208,7 @@ module _ (old : Content) (s : StoresState) (body : Body) (stands : Stands old s)
           (ending_full_sound old s stands ends.conversion ends.was (back h)));
       counted = λ h.
           ending_counted old s stands ends.conversion ends.was ends.done (back h) (s.charge - ((oldest_log s).puts - ends.conversion.puts)) refl
-          ∙ ap (λ (rows : List StoredRow). put_count (rows_of converted_stores ++ rows)) (sym (same_waiting (back h)));
-      no_entries = ap (λ (b : Body). b.sorted_count) now.has_body ∙ converted_may_rule.no_entries;
+          ∙ ap (λ (rows : List StoredRow). put_count (rows_of converted_stores ++ rows)) (sym (waiting_stays old new s stands sizes now.changes (back h)));
     }
 
     -- and stand on
@@ -213,4 +217,4 @@ module _ (old : Content) (s : StoresState) (body : Body) (stands : Stands old s)
     converted_advances finished is_whole is =
         let whole_after : AreWhole (oldest_replaced s m ends.conversion) = subst AreWhole is is_whole in
         subst (λ (t : StoresState). Advances [] old new s t) (sym is)
-        (succeeds old new s body stands converted_may_rule sizes m now after (fits whole_after) now.has_shape (λ h. ap (map command_of) (same_waiting h)))
+        (succeeds old new s body stands converted_may_rule sizes m now after (fits whole_after) now.has_shape (λ h. ap (map command_of) (waiting_stays old new s stands sizes now.changes h)))

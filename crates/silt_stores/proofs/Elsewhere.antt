@@ -1,13 +1,14 @@
--- What a change in one place of the disk leaves of the logs, the hash stores and the conversion in other places.
+-- What a change in one place of the disk leaves of the logs, the hash stores, the conversion and the merge in other places.
 use Rattle.std.proofs.Common.{◌≡◌, ◌≢◌, ◌≤◌, ◌<◌, ℕ, ◌+◌, ◌*◌, ◌-◌, ◌%◌, ◌==◌, true, false, IsTrue, List, suc, length, map, get_or, Option, Some, None, inl, inr, ap, sym, ◌∙◌, subst, arith}
 use Rattle.std.specs.Prelude.{All, Contains, IfSome}
 use Rattle.std.specs.List.{list_any, list_all}
 use Rattle.std.proofs.lemmas.List.{get_or-map, length-map}
+use Rattle.std.proofs.lemmas.List.Elements.{All-drop}
 use Rattle.std.proofs.lemmas.List.Folds.{list_any_at}
 use Rattle.std.proofs.lemmas.List.FromFn.{length-map-range_with_len}
 use Rattle.std.proofs.lemmas.Bool.Decides.{nat_tests}
 use Rattle.silt_device.specs.Disk.{ChangesWithin, Content, LiesOutside, size}
-use Rattle.silt_device.specs.Layout.{Shape, device_size, gates_at, hash_at, hash_size, log_len, log_size, row_len, slot_at, slots_len}
+use Rattle.silt_device.specs.Layout.{Shape, device_size, entries_len, gates_at, hash_at, hash_size, log_len, log_size, row_len, slot_at, slots_len, sorted_at, sorted_size}
 use Rattle.silt_device.proofs.Regions.{next_region, regions_apart, up_least}
 use Rattle.silt_log.specs.Rows.{first_rows, log_rows, open_count, row_at, rows_from}
 use Rattle.silt_frame.specs.Rows.{has_known_kind, StoredRow, keys_of, put_count}
@@ -25,8 +26,11 @@ use Rattle.silt_image.proofs.Frame.{names_regions, pieces_apart}
 use Rattle.silt_image.proofs.Named.{apart_of, whole_law}
 use Rattle.silt_manifest.specs.Body.{is_well_formed}
 use Rattle.silt_manifest.specs.declared.body.Body.{Body}
-use Rattle.silt_stores.specs.State.{IsHashOf, IsUnderWay, StoresState, hash_region_of, oldest_log, region_of}
-use Rattle.silt_stores.specs.Standing.{IsFrozen, Stands, shown_stores}
+use Rattle.silt_merge.specs.State.{MergeState, oldest_stores}
+use Rattle.silt_merge.proofs.Elsewhere.{merged_elsewhere}
+use Rattle.silt_sorted_store.specs.State.{SortedState}
+use Rattle.silt_stores.specs.State.{IsHashOf, IsMerging, IsUnderWay, StoresState, hash_region_of, oldest_log, region_of}
+use Rattle.silt_stores.specs.Standing.{HasGathered, IsFrozen, Stands, shown_stores}
 use Rattle.silt_stores.proofs.Facts.{shown_named}
 use Rattle.silt_stores.proofs.Named.{named_body, named_shape}
 
@@ -55,6 +59,17 @@ slots_behind_log shape region hash below = inl (log_ends (log_size shape) shape.
 -- and so does a manifest slot
 pub slots_behind_manifest : (shape : Shape) (hash slot : ℕ) → slot < 2 → LiesOutside (hash_at shape hash) (slots_len shape) (slot_at slot) 4096
 slots_behind_manifest shape hash slot below = inl (omega (arith, below))
+
+-- the entries of each sorted region lie behind the logs
+pub log_ends_before : (size logs region hashes rest : ℕ) → region < logs → 12288 + region * size + size ≤ 12288 + logs * size + hashes + rest
+log_ends_before size logs region hashes rest below = omega (arith, next_region region logs size below)
+
+pub entries_behind_log : (shape : Shape) (region sorted : ℕ) → region < shape.logs → LiesOutside (sorted_at shape sorted) (entries_len shape) (gates_at shape region) (log_size shape)
+entries_behind_log shape region sorted below = inl (log_ends_before (log_size shape) shape.logs region (shape.hashes * hash_size shape) (sorted * sorted_size shape) below)
+
+-- and behind the manifest
+pub entries_behind_manifest : (shape : Shape) (sorted slot : ℕ) → slot < 2 → LiesOutside (sorted_at shape sorted) (entries_len shape) (slot_at slot) 4096
+entries_behind_manifest shape sorted slot below = inl (omega (arith, below))
 
 -- ---- frozen logs
 
@@ -124,6 +139,10 @@ module _ (content : Content) (s : StoresState) (stands : Stands content s) (hone
   named_below region (k, inside, here) =
       (names_regions s.manifest.shape (s.manifest.ruling.generation % 2) s.manifest.ruling ruling_sound).logs region (suc k, omega (arith, inside), here)
 
+  -- also each hash region
+  pub hash_below : (region : ℕ) → Contains s.manifest.ruling.hashed region → region < s.manifest.shape.hashes
+  hash_below region named = (names_regions s.manifest.shape (s.manifest.ruling.generation % 2) s.manifest.ruling ruling_sound).hashes region named
+
   -- and the frozen ones are not the active one
   pub not_active : (region : ℕ) → Contains s.manifest.ruling.frozen region → region ≢ s.manifest.ruling.active
   not_active region there = not_among s.manifest.ruling.frozen s.manifest.ruling.active region (apart_of s.manifest.shape (s.manifest.ruling.generation % 2) s.manifest.ruling ruling_sound) there
@@ -164,6 +183,7 @@ all_hashed_elsewhere old new s at count stands changes outside k d inside =
     record {
       sound = λ h. (stays (back h)).sound h;
       tagged = λ h. (stays (back h)).tagged h;
+      counted = λ h. (stays (back h)).counted h;
     }
 
 -- ---- the conversion
@@ -220,3 +240,33 @@ written_all_elsewhere old new s at count (Some conversion) stands changes outsid
       subst (λ (sh : Shape). LiesOutside (hash_at sh conversion.region) (slots_len sh) at count) (sym way.has_shape) (apart h),
     ))
     is
+
+-- ---- the merge
+
+-- a merge under way has gathered and written what it had after a change outside its entries, those of the sorted store and the slots of the hash stores
+pub merged_all_elsewhere : (old new : Content) (s : StoresState) (at count : ℕ) (o : Option MergeState) → Stands old s → ChangesWithin at count old new
+    → (IsTrue old.honest → (region : ℕ) → Contains s.manifest.ruling.hashed region → LiesOutside (hash_at s.manifest.shape region) (slots_len s.manifest.shape) at count)
+    → (IsTrue old.honest → LiesOutside (sorted_at s.manifest.shape s.manifest.ruling.sorted) (entries_len s.manifest.shape) at count)
+    → (IsTrue old.honest → IfSome o (λ merge. LiesOutside (sorted_at s.manifest.shape merge.region) (entries_len s.manifest.shape) at count))
+    → IfSome o (IsMerging s) → IfSome o (HasGathered old s) → IfSome o (HasGathered new s)
+merged_all_elsewhere old new s at count None stands changes outside behind apart merging is = tt
+merged_all_elsewhere old new s at count (Some merge) stands changes outside behind apart merging is =
+    let way : IsMerging s merge = merging in
+    let is_shape : s.sorted.shape ≡ s.manifest.shape = ap (λ (t : SortedState). t.shape) stands.whole.sorted in
+    let is_region : s.sorted.region ≡ s.manifest.ruling.sorted = ap (λ (t : SortedState). t.region) stands.whole.sorted in
+    let fits : device_size s.sorted.shape ≤ size old = subst (λ (sh : Shape). device_size sh ≤ size old) (sym is_shape) (omega (arith, stands.has_size)) in
+    let slots : IsTrue old.honest → All (λ (store : HashState). LiesOutside (hash_at s.sorted.shape store.region) (slots_len s.sorted.shape) at count) (oldest_stores merge.stores s.hashes) =
+    λ h. All-drop (λ (store : HashState). LiesOutside (hash_at s.sorted.shape store.region) (slots_len s.sorted.shape) at count) (length s.hashes - merge.stores) s.hashes
+    (λ k d inside. subst (λ (sh : Shape). LiesOutside (hash_at sh (get_or s.hashes k d).region) (slots_len sh) at count) (sym is_shape) (outside h (get_or s.hashes k d).region (hash_named s stands.whole.hash_regions k d inside))) in
+    let stays : IsTrue old.honest → HasGathered new s merge =
+    λ h. merged_elsewhere (oldest_stores merge.stores s.hashes) s.sorted merge old new at count stands.whole.held way.held fits
+    (subst (λ (sh : Shape). LiesOutside (sorted_at sh merge.region) (entries_len sh) at count) (sym is_shape) (apart h))
+    (subst (λ (n : ℕ). LiesOutside (sorted_at s.sorted.shape n) (entries_len s.sorted.shape) at count) (sym is_region)
+    (subst (λ (sh : Shape). LiesOutside (sorted_at sh s.manifest.ruling.sorted) (entries_len sh) at count) (sym is_shape) (behind h)))
+    (slots h) changes is in
+    record {
+      shape = is.shape;
+      counted = is.counted;
+      apart = is.apart;
+      merged = λ h. (stays (subst IsTrue changes.honest h)).merged h;
+    }

@@ -13,13 +13,12 @@ use Rattle.silt_log.proofs.Elsewhere.{all_are_settled_and_waiting}
 use Rattle.silt_log.proofs.Exits.{log_inside}
 use Rattle.silt_event.specs.Commands.{Map, map_after}
 use Rattle.silt_image.specs.Stores.{Stores, image_stores}
-use Rattle.silt_image.specs.Meaning.{HasActive, IsSound, command_of, image_charge, image_map, map_of_rows, rows_of, with_log_rows}
+use Rattle.silt_image.specs.Meaning.{HasActive, IsSound, StandsFor, command_of, image_charge, image_map, map_of_rows, rows_of, with_log_rows}
 use Rattle.silt_image.proofs.Verdict.{rows_law, stands_law}
 use Rattle.silt_stores.specs.State.{StoresState}
 use Rattle.silt_stores.specs.Standing.{Stands, base_map, current_map, full_image, shown_stores}
-use Rattle.silt_stores.specs.Calls.{StandsUnsorted}
-use Rattle.silt_stores.specs.Laws.{IsGoodWith, StandingLaw}
-use Rattle.silt_stores.proofs.Named.{active_named, map_with_more, named_body, named_here, named_shape, region_torn, rows_with_more, sound_settled, stands_unsorted, stores_map, with_body, with_shape}
+use Rattle.silt_stores.specs.Laws.{IsGoodWith}
+use Rattle.silt_stores.proofs.Named.{active_named, map_with_more, named_body, named_here, named_shape, region_torn, rows_with_more, sound_settled, stands_for, stores_map, with_body, with_shape}
 
 -- the map of the settled rows
 pub base_is : (content : Content) (s : StoresState) → base_map content s ≡ map_of_rows (rows_of (shown_stores content s))
@@ -151,34 +150,22 @@ module _ (content : Content) (s : StoresState) (stands : Stands content s) where
   shown_map honest = stores_map (shown_stores content s) content.shown (shown_named honest) ∙ sym (base_is content s)
 
   -- each image stands for the base
-  pub base_stands : IsTrue content.honest → (image : List ℕ) → image_stores image ≡ Ok (shown_stores content s) → StandsUnsorted s.manifest.shape (base_map content s) image
-  base_stands honest image is = stands_unsorted s.manifest.shape s.manifest.ruling (shown_stores content s) (base_map content s) image is
-      (named_shape s.manifest.shape s.manifest.ruling content.shown) (named_body s.manifest.shape s.manifest.ruling content.shown) (shown_sound honest) (sym (base_is content s)) stands.no_entries
+  pub base_stands : IsTrue content.honest → (image : List ℕ) → image_stores image ≡ Ok (shown_stores content s) → StandsFor s.manifest.shape (base_map content s) image
+  base_stands honest image is = stands_for s.manifest.shape (shown_stores content s) (base_map content s) image is
+      (named_shape s.manifest.shape s.manifest.ruling content.shown) (shown_sound honest) (sym (base_is content s))
 
-  pub base_safe : LeavesOnly content (StandsUnsorted s.manifest.shape (base_map content s))
+  pub base_safe : LeavesOnly content (StandsFor s.manifest.shape (base_map content s))
   base_safe = record { each = λ honest image left. base_stands honest image (stands.named.each honest image left) }
 
   -- an image with these rows in the active log, in which nothing is found
   pub stands_with_rows : IsTrue content.honest → (image : List ℕ) (more : List StoredRow)
       → image_stores image ≡ Ok (with_log_rows s.manifest.ruling.active (settled_rows content s.active.log ++ more) (shown_stores content s))
       → IsSound (with_log_rows s.manifest.ruling.active (settled_rows content s.active.log ++ more) (shown_stores content s))
-      → StandsUnsorted s.manifest.shape (map_after (base_map content s) (map command_of more)) image
+      → StandsFor s.manifest.shape (map_after (base_map content s) (map command_of more)) image
   stands_with_rows honest image more is sound =
       let t : Stores = with_log_rows s.manifest.ruling.active (settled_rows content s.active.log ++ more) (shown_stores content s) in
-      stands_unsorted s.manifest.shape s.manifest.ruling t (map_after (base_map content s) (map command_of more)) image is
+      stands_for s.manifest.shape t (map_after (base_map content s) (map command_of more)) image is
       (with_shape s.manifest.ruling.active (settled_rows content s.active.log ++ more) (shown_stores content s) ∙ named_shape s.manifest.shape s.manifest.ruling content.shown)
-      (with_body s.manifest.ruling.active (settled_rows content s.active.log ++ more) (shown_stores content s) ∙ named_body s.manifest.shape s.manifest.ruling content.shown)
       sound
       (map_with_more (shown_stores content s) s.manifest.ruling.active (settled_rows content s.active.log) (waiting_rows content s.active.log) active_is (has_active honest) more
       ∙ ap (λ (m : Map). map_after m (map command_of more)) (sym (base_is content s)))
-      stands.no_entries
-
--- what all images mean
-pub meaning : StandingLaw
-meaning content s stands = record {
-  full = full_map content s stands;
-  shown = shown_map content s stands;
-  safe = base_safe content s stands;
-  numbers = full_numbers content s stands;
-  rows = full_rows content s stands;
-}

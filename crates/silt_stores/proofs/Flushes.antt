@@ -22,7 +22,7 @@ use Rattle.silt_stores.specs.Calls.{Advances, Breaks, IsQuiet, Remaps, SameDisk}
 use Rattle.silt_stores.proofs.Named.{map_with_more, named_body, named_shape, rows_with_more, sound_some, with_body, with_shape}
 use Rattle.silt_stores.proofs.Facts.{active_is, all_sound, base_is, full_map, has_active, map_with_rows, rows_split, stands_with_rows, torn_active}
 use Rattle.silt_stores.proofs.Chains.{advances_remap}
-use Rattle.silt_stores.proofs.Standing.{Fits, fits_stand, frozen_stay, full_with, hashed_stay, named_with, rules_stay, shown_are, written_stays}
+use Rattle.silt_stores.proofs.Standing.{Fits, fits_stand, frozen_stay, full_with, hashed_stay, merged_stays, named_with, rules_stay, shown_are, written_stays}
 use Rattle.silt_stores.proofs.Appends.{with_active}
 use Rattle.silt_stores.proofs.Wholes.{whole_with_active, written_with_active}
 
@@ -100,6 +100,7 @@ module _ (old new : Content) (s : StoresState) (after : LogStoreState) (stands :
       frozen = frozen_stay old new s stands sizes changed;
       hashed = hashed_stay old new s stands sizes changed;
       written = written_with_active new s after s.charge stands.whole (written_stays old new s stands sizes changed);
+      merged = merged_stays old new s stands sizes changed;
       same_shape = same_shape;
       same_body = same_body;
       named = named;
@@ -109,7 +110,6 @@ module _ (old new : Content) (s : StoresState) (after : LogStoreState) (stands :
           (subst (λ (rows : List StoredRow). IsSound (with_log_rows s.manifest.ruling.active rows (shown_stores old s))) (sym (opens.log.all (was h) ∙ rows_split old s stands)) (all_sound old s stands (was h))));
       counted = λ h.
           stands.counted (was h) ∙ ap put_count (sym (now_rows (was h)) ∙ sym (append-nil (rows_of now)) ∙ ap (λ (rows : List StoredRow). rows_of now ++ rows) (sym none));
-      no_entries = stands.no_entries;
     }
 
     pub flushed : Advances [] old new s (with_active s after s.charge)

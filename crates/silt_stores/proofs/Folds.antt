@@ -9,6 +9,7 @@ use Rattle.std.specs.Map.{lookup}
 use Rattle.std.proofs.lemmas.Cmp.{eq_by_cmp_equiv, nat_list_cmp_total}
 use Rattle.std.proofs.lemmas.List.{drop_more, length-drop, map-append, take_all, take_more}
 use Rattle.std.proofs.lemmas.List.Elements.{filter-append}
+use Rattle.std.proofs.lemmas.Option.{get_or_from_slice_get, slice_get_within}
 use Rattle.silt_device.specs.Layout.{Shape}
 use Rattle.silt_frame.specs.declared.key.Key.{Key}
 use Rattle.silt_hash_store.specs.Slots.{rows_before, slot_row}
@@ -17,7 +18,9 @@ use Rattle.silt_event.specs.Commands.{Command, Map, changed, delete, map_after, 
 use Rattle.silt_image.specs.Meaning.{command_of, oldest_first}
 use Rattle.silt_image.specs.Stores.{hash_rows}
 use Rattle.silt_image.proofs.Rows.{map_after-append}
-use Rattle.silt_frame.specs.Rows.{has_known_kind, StoredRow, key_cmp}
+use Rattle.silt_sorted_store.specs.OnlyRow.{HasEntry}
+use Rattle.silt_frame.specs.Rows.{entry_row, has_known_kind, StoredRow, key_cmp, stored_row}
+use Rattle.silt_frame.specs.declared.key.Kind.TheVariants.{Put}
 use Rattle.silt_stores.specs.Lookup.{AreEntriesOf}
 use Rattle.silt_stores.specs.Entries.{DoesRows}
 
@@ -34,6 +37,14 @@ does_put row key before after kind same updates m are q =
     ∙ ap (λ (b : Bool). cond b (Some row.value) (get m q.0)) (tied key.0 q.0)
     ∙ sym (get-insert nat_list_cmp_total m key.0 row.value q.0)
     ∙ ap (λ (c : Command). get (changed m c) q.0) (sym is)
+
+-- a row that is this put was done
+pub does_row : (row : StoredRow) (key : Key) (value : List ℕ) (before after : BTreeMap Key (List ℕ)) → row.kind ≡ 1 → key.0 ≡ row.key → value ≡ row.value → DoesRows (stored_row Put key value ∷ []) before after → DoesRows (row ∷ []) before after
+does_row row key value before after kind same_key same_value does =
+    let is : stored_row Put key value ≡ row = ap (λ (n : ℕ). record { kind = n; key = key.0; value = value }) (sym kind)
+    ∙ ap (λ (k : List ℕ). record { kind = row.kind; key = k; value = value }) same_key
+    ∙ ap (λ (v : List ℕ). record { kind = row.kind; key = row.key; value = v }) same_value in
+    subst (λ (r : StoredRow). DoesRows (r ∷ []) before after) is does
 
 -- a delete was done
 pub does_delete : (row : StoredRow) (key : Key) (before after : BTreeMap Key (List ℕ)) → (row.kind == 1) ≡ false → row.key ≡ key.0 → tree.UpdatesBy key_cmp (key_cmp key) before after None → DoesRows (row ∷ []) before after
@@ -59,6 +70,13 @@ does_more rows more a b c first second m are =
 pub does_next : (rows : List StoredRow) (n : ℕ) (row : StoredRow) (a b c : BTreeMap Key (List ℕ)) → n < length rows → get_or rows n row ≡ row → DoesRows (take n rows) a b → DoesRows (row ∷ []) b c → DoesRows (take (n + 1) rows) a c
 does_next rows n row a b c inside is first second =
     subst (λ (l : List StoredRow). DoesRows l a c) (sym (take_more rows n row inside ∙ ap (λ (r : StoredRow). take n rows ++ r ∷ []) is)) (does_more (take n rows) (row ∷ []) a b c first second)
+
+-- one more entry was done
+pub does_entry : (rows : List StoredRow) (place : ℕ) (bytes : List ℕ) (key : Key) (value : List ℕ) (a b c : BTreeMap Key (List ℕ)) → HasEntry rows place bytes → key.0 ≡ take 20 bytes → value ≡ drop 20 bytes
+    → DoesRows (take place rows) a b → DoesRows (stored_row Put key value ∷ []) b c → DoesRows (take (place + 1) rows) a c
+does_entry rows place bytes key value a b c there key_is value_is first second =
+    let row : StoredRow = entry_row bytes in
+    does_next rows place row a b c (slice_get_within rows place row there) (get_or_from_slice_get rows place row row there) first (does_row row key value b c refl key_is value_is second)
 
 -- ---- rows of hash stores
 

@@ -4,7 +4,7 @@ use Rattle.std.specs.Prelude.{Contains, IfSome}
 use Rattle.std.proofs.lemmas.List.{append-nil, take-append-drop}
 use Rattle.std.proofs.Math.Nat.{mod-lt}
 use Rattle.silt_device.specs.Disk.{ChangesWithin, Content, LeavesOnly, LiesOutside, size}
-use Rattle.silt_device.specs.Layout.{Shape, device_size, gates_at, hash_at, log_len, log_size, slot_at, slots_len}
+use Rattle.silt_device.specs.Layout.{Shape, device_size, entries_len, gates_at, hash_at, log_len, log_size, slot_at, slots_len, sorted_at}
 use Rattle.silt_device.proofs.Images.{within_wider}
 use Rattle.silt_device.proofs.Regions.{up_least}
 use Rattle.silt_log.specs.Rows.{log_rows}
@@ -25,28 +25,34 @@ use Rattle.silt_image.specs.Stores.{Stores, image_stores}
 use Rattle.silt_image.specs.Meaning.{IsSound, command_of, map_of_rows, names_log, rows_of, with_log_rows}
 use Rattle.silt_image.proofs.Named.{whole_law}
 use Rattle.silt_image.proofs.Rows.{unnamed_law}
-use Rattle.silt_stores.specs.State.{IsUnderWay, StoresState, oldest_log}
-use Rattle.silt_stores.specs.Standing.{Stands, base_map, current_map, full_image, shown_stores, waiting_commands}
+use Rattle.silt_merge.specs.State.{MergeState}
+use Rattle.silt_stores.specs.State.{IsMerging, IsUnderWay, StoresState, oldest_log}
+use Rattle.silt_stores.specs.Standing.{HasGathered, Stands, base_map, current_map, full_image, shown_stores, waiting_commands}
 use Rattle.silt_stores.specs.Calls.{Advances, Breaks, IsQuiet, Remaps, SameDisk}
 use Rattle.silt_stores.specs.NextLog.{names_region}
 use Rattle.silt_stores.proofs.Named.{named_body, named_shape, region_torn}
 use Rattle.silt_stores.proofs.Facts.{active_size, base_is, shown_named}
-use Rattle.silt_stores.proofs.Elsewhere.{all_frozen_elsewhere, all_hashed_elsewhere, indexed_same, not_among, outside_other, outside_slot, slots_behind_log, slots_behind_manifest, written_all_elsewhere}
+use Rattle.silt_stores.proofs.Elsewhere.{all_frozen_elsewhere, all_hashed_elsewhere, entries_behind_log, entries_behind_manifest, indexed_same, merged_all_elsewhere, not_among, outside_other, outside_slot, slots_behind_log, slots_behind_manifest, written_all_elsewhere}
 use Rattle.silt_stores.proofs.Chains.{advances_break, advances_remap}
 use Rattle.silt_stores.proofs.Standing.{Fits, fits_stand, shown_are}
 use Rattle.silt_stores.proofs.Wholes.{whole_with}
 
 -- ---- a change that leaves the stores as they are
 
--- outside the regions of all logs and the slots of all hash stores
+-- outside the regions of all logs, the slots of all hash stores and the entries of the sorted store
 pub record IsApart (shape : Shape) (body : Body) (at count : ℕ) : Type 0 where
   pub active : LiesOutside (gates_at shape body.active) (log_len shape) at count
   pub frozen : (region : ℕ) → Contains body.frozen region → LiesOutside (gates_at shape region) (log_len shape) at count
   pub hashed : (region : ℕ) → Contains body.hashed region → LiesOutside (hash_at shape region) (slots_len shape) at count
+  pub sorted : LiesOutside (sorted_at shape body.sorted) (entries_len shape) at count
 
 -- outside the slots of a conversion under way
 abbrev pub IsOutsideConversion : StoresState → ℕ → ℕ → Type 0
 IsOutsideConversion s at count = IfSome s.converting (λ conversion. LiesOutside (hash_at s.manifest.shape conversion.region) (slots_len s.manifest.shape) at count)
+
+-- outside the entries of a merge under way
+abbrev pub IsOutsideMerge : StoresState → ℕ → ℕ → Type 0
+IsOutsideMerge s at count = IfSome s.merging (λ merge. LiesOutside (sorted_at s.manifest.shape merge.region) (entries_len s.manifest.shape) at count)
 
 -- a log store under a change elsewhere
 pub store_elsewhere : (old new : Content) (store : LogStoreState) (at count : ℕ) → IsLogStore old store → size old ≡ device_size store.log.shape → size new ≡ size old
@@ -67,11 +73,11 @@ module _ (old new : Content) (s : StoresState) (at count : ℕ) (stands : Stands
   kept = log_elsewhere old new s.active.log at count stands.active (omega (arith, active_size old s stands)) sizes outside changes
 
   -- the stores that stand in this state, with rows that wait as they waited
-  module _ (m : ManifestState) (converting : Option ConversionState) (same_shape : m.shape ≡ s.manifest.shape) (same_ruling : m.ruling ≡ s.manifest.ruling) (idle : m.prepared ≡ None) (rules : Rules m new)
+  module _ (m : ManifestState) (converting : Option ConversionState) (merging : Option MergeState) (same_shape : m.shape ≡ s.manifest.shape) (same_ruling : m.ruling ≡ s.manifest.ruling) (idle : m.prepared ≡ None) (rules : Rules m new)
       (named : LeavesOnly new (λ image. image_stores image ≡ Ok (shown_stores old s)))
-      (under_way : IfSome converting (IsUnderWay s)) (written : IfSome converting (HasWritten new (oldest_log s))) where
+      (under_way : IfSome converting (IsUnderWay s)) (written : IfSome converting (HasWritten new (oldest_log s))) (is_merging : IfSome merging (IsMerging s)) (merged : IfSome merging (HasGathered new s)) where
     abbrev after : StoresState
-    after = record s { manifest = m; converting = converting }
+    after = record s { manifest = m; converting = converting; merging = merging }
 
     back : IsTrue new.honest → IsTrue old.honest
     back h = subst IsTrue changes.honest h
@@ -85,13 +91,14 @@ module _ (old new : Content) (s : StoresState) (at count : ℕ) (stands : Stands
     fits_on : Fits new after (shown_stores old s)
     fits_on = record {
       has_size = sizes ∙ stands.has_size ∙ ap device_size (sym same_shape);
-      whole = whole_with s m converting same_shape same_ruling under_way stands.whole;
+      whole = whole_with s m converting merging same_shape same_ruling under_way is_merging stands.whole;
       idle = idle;
       rules = rules;
       active = record { log = kept.stands; index = indexed_same old new s.active back (λ h. kept.all (back h)) stands.indexed };
       frozen = all_frozen_elsewhere old new s at count stands changes (λ h. (apart h).frozen);
       hashed = all_hashed_elsewhere old new s at count stands changes (λ h. (apart h).hashed);
       written = written;
+      merged = merged;
       same_shape = t_shape;
       same_body = t_body;
       named = named;
@@ -101,7 +108,6 @@ module _ (old new : Content) (s : StoresState) (at count : ℕ) (stands : Stands
           (subst (λ (n : ℕ). IsSound (with_log_rows n (all_rows old s.active.log) (shown_stores old s))) active_of (stands.sound (back h)));
       counted = λ h.
           stands.counted (back h) ∙ ap (λ (rows : List StoredRow). put_count (rows_of (shown_stores old s) ++ rows)) (sym (waiting_kept old new s.active.log s.active.log stands.active (back h) kept));
-      no_entries = ap (λ (b : Body). b.sorted_count) same_ruling ∙ stands.no_entries;
     }
 
     -- they stand on
@@ -119,12 +125,17 @@ module _ (old new : Content) (s : StoresState) (at count : ℕ) (stands : Stands
       };
     }
 
-  -- so do the stores with their conversion as it is, after a change outside its slots
-  pub stays_on : (IsTrue old.honest → IsOutsideConversion s at count) → (m : ManifestState) → m.shape ≡ s.manifest.shape → m.ruling ≡ s.manifest.ruling → m.prepared ≡ None → Rules m new
+  -- what a merge has gathered and written, after a change outside its entries
+  pub merged_on : (IsTrue old.honest → IsOutsideMerge s at count) → IfSome s.merging (HasGathered new s)
+  merged_on outside_merge = merged_all_elsewhere old new s at count s.merging stands changes (λ h. (apart h).hashed) (λ h. (apart h).sorted) outside_merge stands.whole.merging stands.merged
+
+  -- so do the stores with their conversion and their merge as they are, after a change outside their slots and entries
+  pub stays_on : (IsTrue old.honest → IsOutsideConversion s at count) → (IsTrue old.honest → IsOutsideMerge s at count) → (m : ManifestState) → m.shape ≡ s.manifest.shape → m.ruling ≡ s.manifest.ruling → m.prepared ≡ None → Rules m new
       → LeavesOnly new (λ image. image_stores image ≡ Ok (shown_stores old s)) → Advances [] old new s (record s { manifest = m })
-  stays_on apart_too m same_shape same_ruling idle rules named =
-      stays_with m s.converting same_shape same_ruling idle rules named stands.whole.under_way
-      (written_all_elsewhere old new s at count s.converting stands changes (λ h. (apart h).frozen) apart_too stands.whole.under_way stands.written)
+  stays_on outside_slots outside_merge m same_shape same_ruling idle rules named =
+      stays_with m s.converting s.merging same_shape same_ruling idle rules named stands.whole.under_way
+      (written_all_elsewhere old new s at count s.converting stands changes (λ h. (apart h).frozen) outside_slots stands.whole.under_way stands.written)
+      stands.whole.merging (merged_on outside_merge)
 
 -- ---- the region of the new log
 
@@ -135,12 +146,13 @@ not_named body region free id there = not_among (body.active ∷ body.frozen) re
 pub later_contains : (first : ℕ) (ids : List ℕ) (id : ℕ) → Contains ids id → Contains (first ∷ ids) id
 later_contains first ids id (k, inside, here) = (suc k, omega (arith, inside), here)
 
--- it lies apart from the logs and the hash stores
+-- it lies apart from the logs, the hash stores and the sorted store
 pub region_apart : (shape : Shape) (body : Body) (region : ℕ) → region < shape.logs → names_region body region ≡ false → IsApart shape body (gates_at shape region) (log_size shape)
 region_apart shape body region below free = record {
   active = outside_other shape body.active region (not_named body region free body.active (0, omega arith, refl));
   frozen = λ id there. outside_other shape id region (not_named body region free id (later_contains body.active body.frozen id there));
   hashed = λ id there. slots_behind_log shape region id below;
+  sorted = entries_behind_log shape region body.sorted below;
 }
 
 -- and apart from the slots of a conversion
@@ -150,6 +162,14 @@ region_before_conversion s region below = behind s.converting
     behind : (o : Option ConversionState) → IfSome o (λ conversion. LiesOutside (hash_at s.manifest.shape conversion.region) (slots_len s.manifest.shape) (gates_at s.manifest.shape region) (log_size s.manifest.shape))
     behind None = tt
     behind (Some conversion) = slots_behind_log s.manifest.shape region conversion.region below
+
+-- and from the entries of a merge
+pub region_before_merge : (s : StoresState) (region : ℕ) → region < s.manifest.shape.logs → IsOutsideMerge s (gates_at s.manifest.shape region) (log_size s.manifest.shape)
+region_before_merge s region below = behind s.merging
+  where
+    behind : (o : Option MergeState) → IfSome o (λ merge. LiesOutside (sorted_at s.manifest.shape merge.region) (entries_len s.manifest.shape) (gates_at s.manifest.shape region) (log_size s.manifest.shape))
+    behind None = tt
+    behind (Some merge) = entries_behind_log s.manifest.shape region merge.region below
 
 module _ (old new : Content) (s : StoresState) (region : ℕ) (stands : Stands old s) (below : region < s.manifest.shape.logs) (free : names_region s.manifest.ruling region ≡ false)
     (sizes : size new ≡ size old) (gates : ChangesWithin (gates_at s.manifest.shape region) s.manifest.shape.log_capacity old new) where
@@ -176,7 +196,7 @@ module _ (old new : Content) (s : StoresState) (region : ℕ) (stands : Stands o
   -- the stores stand on
   pub cleared : Advances [] old new s s
   cleared = stays_on old new s (gates_at s.manifest.shape region) (log_size s.manifest.shape) stands sizes in_region (λ h. region_apart s.manifest.shape s.manifest.ruling region below free) outside_active
-      (λ h. region_before_conversion s region below) s.manifest refl refl stands.idle
+      (λ h. region_before_conversion s region below) (λ h. region_before_merge s region below) s.manifest refl refl stands.idle
       (rules_elsewhere s.manifest (gates_at s.manifest.shape region) (log_size s.manifest.shape) old new (omega (arith, stands.has_size)) (inr (omega arith)) in_region stands.rules)
       free_named
 
@@ -213,12 +233,13 @@ full_quiet content s settled =
 pub quiet_map : (content : Content) (s : StoresState) → IsQuiet content s → current_map content s ≡ base_map content s
 quiet_map content s is = ap (map_after (base_map content s)) is.none_wait
 
--- a slot of the manifest lies apart from the logs and the hash stores
+-- a slot of the manifest lies apart from the logs, the hash stores and the sorted store
 pub slot_apart : (shape : Shape) (body : Body) (slot : ℕ) → slot < 2 → IsApart shape body (slot_at slot) 4096
 slot_apart shape body slot below = record {
   active = outside_slot shape body.active slot below;
   frozen = λ region there. outside_slot shape region slot below;
   hashed = λ region there. slots_behind_manifest shape region slot below;
+  sorted = entries_behind_manifest shape body.sorted slot below;
 }
 
 -- and apart from the slots of a conversion
@@ -228,6 +249,14 @@ slot_before_conversion s slot below = behind s.converting
     behind : (o : Option ConversionState) → IfSome o (λ conversion. LiesOutside (hash_at s.manifest.shape conversion.region) (slots_len s.manifest.shape) (slot_at slot) 4096)
     behind None = tt
     behind (Some conversion) = slots_behind_manifest s.manifest.shape conversion.region slot below
+
+-- and from the entries of a merge
+pub slot_before_merge : (s : StoresState) (slot : ℕ) → slot < 2 → IsOutsideMerge s (slot_at slot) 4096
+slot_before_merge s slot below = behind s.merging
+  where
+    behind : (o : Option MergeState) → IfSome o (λ merge. LiesOutside (sorted_at s.manifest.shape merge.region) (entries_len s.manifest.shape) (slot_at slot) 4096)
+    behind None = tt
+    behind (Some merge) = entries_behind_manifest s.manifest.shape merge.region slot below
 
 pub below_two : (n : ℕ) → n % 2 < 2
 below_two n = mod-lt n (omega arith)

@@ -26,3 +26,13 @@ pub mod ConvertDone
 pub mod ConvertSlots
 pub mod ConvertTurns
 pub mod ConvertSteps
+pub mod Viewing
+pub mod MergeStores
+pub mod Remains
+pub mod MergeDone
+pub mod MergeCounting
+pub mod MergeEntries
+pub mod MergeSteps
+pub mod MergeTurns
+pub mod MergeSwaps
+pub mod Meaning

@@ -1,5 +1,5 @@
 -- What a walk through the stores finds.
-use Rattle.std.proofs.Common.{◌≡◌, ◌≢◌, ◌<◌, ◌*◌, ℕ, ◌==◌, Bool, true, false, cond, if◌then◌else◌, IsTrue, List, [], ◌∷◌, ◌++◌, suc, zero, inl, inr, length, filter, map, take, get_or, slice_get, reverse, find, Option, Some, None, option_map, option_and_then, refl, ap, sym, ◌∙◌, arith, append_assoc}
+use Rattle.std.proofs.Common.{◌≡◌, ◌≢◌, ◌<◌, ◌*◌, ℕ, ◌==◌, Bool, true, false, cond, if◌then◌else◌, IsTrue, List, [], ◌∷◌, ◌++◌, suc, zero, inl, inr, length, filter, map, take, get_or, slice_get, reverse, find, Option, Some, None, option_map, option_and_then, refl, ap, sym, ◌∙◌, subst, arith, append_assoc}
 use Rattle.std.specs.Prelude.{All}
 use Rattle.std.specs.Option.{is_some, option_or}
 use Rattle.std.specs.Str.{bytes_eq}
@@ -30,16 +30,20 @@ use Rattle.silt_log_store.specs.declared.store.Found.{Found}
 use Rattle.silt_manifest.specs.declared.body.Body.{Body}
 use Rattle.silt_event.specs.Commands.{Map, map_after}
 use Rattle.silt_image.specs.Stores.{hash_part, hash_rows, log_part, sorted_rows, stores_named}
-use Rattle.silt_image.specs.Meaning.{hash_findings, holds_key, known_rows, map_of_rows, oldest_first, part_rows, rows_of}
+use Rattle.silt_image.specs.Meaning.{hash_findings, holds_key, known_rows, map_of_rows, oldest_first, part_rows, rows_of, sorted_findings}
 use Rattle.silt_image.specs.Laws.{newest_row, value_given}
 use Rattle.silt_image.proofs.Rows.{map_law, newest_law}
+use Rattle.silt_image.proofs.Sound.{finds_nothing}
+use Rattle.silt_sorted_store.specs.OnlyRow.{FindsEntry, HasNoEntry, IsOnlyRow}
+use Rattle.silt_sorted_store.specs.State.{SortedState, entries_of}
+use Rattle.silt_sorted_store.proofs.Entries.{entries_law}
 use Rattle.silt_stores.specs.declared.location.Holder.{Holder}
-use Rattle.silt_stores.specs.declared.location.Holder.TheVariants.{Active, Frozen, Hashed}
+use Rattle.silt_stores.specs.declared.location.Holder.TheVariants.{Active, Frozen, Hashed, Sorted}
 use Rattle.silt_stores.specs.State.{StoresState, hash_region_of, region_of}
 use Rattle.silt_stores.specs.Standing.{Stands, current_map, shown_stores, waiting_commands}
 use Rattle.silt_stores.specs.Entries.{hashed_rows}
-use Rattle.silt_stores.specs.Lookup.{FindsFrozen, FindsHashed, frozen_at, hash_store_at, hash_rows_of, located, row_in, value_at}
-use Rattle.silt_stores.proofs.Facts.{active_rows, base_is, rows_split}
+use Rattle.silt_stores.specs.Lookup.{FindsFrozen, FindsHashed, entry_in, frozen_at, hash_store_at, hash_rows_of, located, row_in, value_at}
+use Rattle.silt_stores.proofs.Facts.{active_rows, base_is, rows_split, shown_sound}
 use Rattle.silt_stores.proofs.Elsewhere.{scanned_all}
 
 -- ---- the last row of a key
@@ -86,6 +90,14 @@ newest_last (first ∷ rows) key (suc place) row is =
       has_key = is.has_key;
       last = λ later past inside. is.last (suc later) (omega (arith, past)) (omega (arith, inside));
     }))
+
+-- where a row is the only one of the key
+newest_only : (rows : List StoredRow) (key : List ℕ) (place : ℕ) (row : StoredRow) → IsOnlyRow rows key place row → newest_row rows key ≡ Some row
+newest_only rows key place row is = newest_last rows key place row (record {
+  there = is.there;
+  has_key = is.has_key;
+  last = λ later past inside same. absurd (let here = is.only later inside same in omega (arith, past, here));
+})
 
 -- ---- the row of a key in a hash store
 
@@ -211,6 +223,15 @@ rows_in content store = all_rows content store.log
 abbrev pub known_in : Content → HashState → List StoredRow
 known_in content store = filter has_known_kind (hash_rows_of content store)
 
+-- the rows behind those of the logs: the entries, and the rows of the hash stores
+abbrev pub rows_behind : Content → StoresState → List StoredRow
+rows_behind content s = entries_of content s.sorted ++ hashed_rows content s
+
+-- the value of an entry that is there
+pub entry_value : (content : Content) (store : SortedState) (place : ℕ) (row : StoredRow) → slice_get (entries_of content store) place ≡ Some row → (entry_in content store place).value ≡ row.value
+entry_value content store place row there =
+    ap (λ (r : StoredRow). r.value) (get_or_from_slice_get (entries_of content store) place row (record { kind = 1; key = []; value = [] }) there)
+
 -- two functions that agree on each element
 map_agree : {X Y : Type 0} (f g : X → Y) (xs : List X) → All (λ x. f x ≡ g x) xs → map f xs ≡ map g xs
 map_agree f g [] same = refl
@@ -223,18 +244,23 @@ map_twice : {X Y Z : Type 0} (f : Y → Z) (g : X → Y) (xs : List X) → map f
 map_twice f g [] = refl
 map_twice f g (x ∷ xs) = ap (λ zs. f (g x) ∷ zs) (map_twice f g xs)
 
--- of stores without sorted entries these are the rows
-pub named_rows : (shape : Shape) (body : Body) (image : List ℕ) → body.sorted_count ≡ 0
-    → rows_of (stores_named shape body image)
-    ≡ oldest_first (map (λ region. filter has_known_kind (hash_rows shape region image)) body.hashed) ++ (oldest_first (map (λ region. log_rows shape region image) body.frozen) ++ log_rows shape body.active image)
-unfolding rows_of stores_named sorted_rows
-named_rows shape body image none =
-    let hashed : List (List StoredRow) = map known_rows (map (hash_part shape image) body.hashed) in
+-- the entries of stores that are named
+named_entries : (shape : Shape) (body : Body) (image : List ℕ) → (stores_named shape body image).entries ≡ sorted_rows shape body.sorted body.sorted_count image
+unfolding stores_named
+named_entries shape body image = refl
+
+-- and all their rows
+pub named_rows : (shape : Shape) (body : Body) (image : List ℕ) → rows_of (stores_named shape body image)
+    ≡ sorted_rows shape body.sorted body.sorted_count image ++ oldest_first (map (λ region. filter has_known_kind (hash_rows shape region image)) body.hashed)
+    ++ (oldest_first (map (λ region. log_rows shape region image) body.frozen) ++ log_rows shape body.active image)
+unfolding rows_of stores_named
+named_rows shape body image =
+    let entries : List StoredRow = sorted_rows shape body.sorted body.sorted_count image in
     let frozen : List (List StoredRow) = map part_rows (map (log_part shape image) body.frozen) in
     let newest : List StoredRow = log_rows shape body.active image in
-    ap (λ (n : ℕ). sorted_rows shape body.sorted n image ++ oldest_first hashed ++ (oldest_first frozen ++ newest)) none
-    ∙ ap (λ (stores : List (List StoredRow)). oldest_first stores ++ (oldest_first frozen ++ newest)) (map_twice known_rows (hash_part shape image) body.hashed)
-    ∙ ap (λ (logs : List (List StoredRow)). oldest_first (map (λ region. filter has_known_kind (hash_rows shape region image)) body.hashed) ++ (oldest_first logs ++ newest)) (map_twice part_rows (log_part shape image) body.frozen)
+    ap (λ (stores : List (List StoredRow)). entries ++ oldest_first stores ++ (oldest_first frozen ++ newest)) (map_twice known_rows (hash_part shape image) body.hashed)
+    ∙ ap (λ (logs : List (List StoredRow)). entries ++ oldest_first (map (λ region. filter has_known_kind (hash_rows shape region image)) body.hashed) ++ (oldest_first logs ++ newest))
+    (map_twice part_rows (log_part shape image) body.frozen)
 
 module _ (content : Content) (s : StoresState) (stands : Stands content s) (honest : IsTrue content.honest) where
   -- the rows of the frozen logs
@@ -258,23 +284,36 @@ module _ (content : Content) (s : StoresState) (stands : Stands content s) (hone
       let store : HashState = get_or s.hashes k d in
       ap (λ (sh : Shape). filter has_known_kind (hash_rows sh store.region content.shown)) (sym (stands.whole.hashed k d inside).has_shape))
 
-  -- all rows, the oldest first: those of the hash stores, of the frozen logs and of the active one
-  pub rows_by_log : rows_of (shown_stores content s) ++ waiting_rows content s.active.log ≡ hashed_rows content s ++ oldest_first (map (rows_in content) s.frozen) ++ all_rows content s.active.log
+  -- the entries
+  entries_shown : sorted_rows s.manifest.shape s.manifest.ruling.sorted s.manifest.ruling.sorted_count content.shown ≡ entries_of content s.sorted
+  entries_shown = ap (entries_of content) (sym stands.whole.sorted)
+
+  -- in which nothing is found
+  pub entries_sound : sorted_findings (entries_of content s.sorted) ≡ []
+  entries_sound =
+      subst (λ (rows : List StoredRow). sorted_findings rows ≡ []) (named_entries s.manifest.shape s.manifest.ruling content.shown ∙ entries_shown)
+      (finds_nothing (shown_stores content s) (shown_sound content s stands honest)).entries
+
+  -- all rows, the oldest first: the entries, those of the hash stores, of the frozen logs and of the active one
+  pub rows_by_log : rows_of (shown_stores content s) ++ waiting_rows content s.active.log ≡ rows_behind content s ++ oldest_first (map (rows_in content) s.frozen) ++ all_rows content s.active.log
   rows_by_log =
-      let hashed : List StoredRow = hashed_rows content s in
+      let behind : List StoredRow = rows_behind content s in
       let frozen : List StoredRow = oldest_first (map (rows_in content) s.frozen) in
+      let hash_parts : List (List StoredRow) = map (λ region. filter has_known_kind (hash_rows s.manifest.shape region content.shown)) s.manifest.ruling.hashed in
+      let frozen_parts : List (List StoredRow) = map (λ region. log_rows s.manifest.shape region content.shown) s.manifest.ruling.frozen in
       let shown : List StoredRow = log_rows s.manifest.shape s.manifest.ruling.active content.shown in
       ap (λ (rows : List StoredRow). rows ++ waiting_rows content s.active.log)
-      (named_rows s.manifest.shape s.manifest.ruling content.shown stands.no_entries
-      ∙ ap (λ (stores : List (List StoredRow)). oldest_first stores ++ (oldest_first (map (λ region. log_rows s.manifest.shape region content.shown) s.manifest.ruling.frozen) ++ shown)) hash_store_rows
-      ∙ ap (λ (logs : List (List StoredRow)). hashed ++ (oldest_first logs ++ shown)) frozen_rows
-      ∙ ap (λ (rows : List StoredRow). hashed ++ (frozen ++ rows)) (active_rows content s stands content.shown ∙ stands.active.images.each honest content.shown (shown_left content))
-      ∙ sym (append_assoc hashed frozen (settled_rows content s.active.log)))
-      ∙ append_assoc (hashed ++ frozen) (settled_rows content s.active.log) (waiting_rows content s.active.log)
-      ∙ ap (λ (rows : List StoredRow). hashed ++ frozen ++ rows) (sym (rows_split content s stands))
+      (named_rows s.manifest.shape s.manifest.ruling content.shown
+      ∙ ap (λ (rows : List StoredRow). rows ++ oldest_first hash_parts ++ (oldest_first frozen_parts ++ shown)) entries_shown
+      ∙ ap (λ (stores : List (List StoredRow)). entries_of content s.sorted ++ oldest_first stores ++ (oldest_first frozen_parts ++ shown)) hash_store_rows
+      ∙ ap (λ (logs : List (List StoredRow)). behind ++ (oldest_first logs ++ shown)) frozen_rows
+      ∙ ap (λ (rows : List StoredRow). behind ++ (frozen ++ rows)) (active_rows content s stands content.shown ∙ stands.active.images.each honest content.shown (shown_left content))
+      ∙ sym (append_assoc behind frozen (settled_rows content s.active.log)))
+      ∙ append_assoc (behind ++ frozen) (settled_rows content s.active.log) (waiting_rows content s.active.log)
+      ∙ ap (λ (rows : List StoredRow). behind ++ frozen ++ rows) (sym (rows_split content s stands))
 
   -- the map from which lookups answer
-  pub current_is : current_map content s ≡ map_of_rows (hashed_rows content s ++ oldest_first (map (rows_in content) s.frozen) ++ all_rows content s.active.log)
+  pub current_is : current_map content s ≡ map_of_rows (rows_behind content s ++ oldest_first (map (rows_in content) s.frozen) ++ all_rows content s.active.log)
   current_is =
       ap (λ (m : Map). map_after m (waiting_commands content s)) (base_is content s)
       ∙ sym (map_law (rows_of (shown_stores content s)) (waiting_rows content s.active.log))
@@ -282,13 +321,13 @@ module _ (content : Content) (s : StoresState) (stands : Stands content s) (hone
 
   -- what it has for a key
   current_get : (key : List ℕ) → get (current_map content s) key
-      ≡ option_and_then value_given (option_or (newest_row (all_rows content s.active.log) key) (option_or (newest_row (oldest_first (map (rows_in content) s.frozen)) key) (newest_row (hashed_rows content s) key)))
+      ≡ option_and_then value_given (option_or (newest_row (all_rows content s.active.log) key) (option_or (newest_row (oldest_first (map (rows_in content) s.frozen)) key) (newest_row (rows_behind content s) key)))
   current_get key =
       let frozen : List StoredRow = oldest_first (map (rows_in content) s.frozen) in
       ap (λ (m : Map). get m key) current_is
-      ∙ newest_law (hashed_rows content s ++ frozen ++ all_rows content s.active.log) key
-      ∙ ap (option_and_then value_given) (newest_append (hashed_rows content s ++ frozen) (all_rows content s.active.log) key
-      ∙ ap (option_or (newest_row (all_rows content s.active.log) key)) (newest_append (hashed_rows content s) frozen key))
+      ∙ newest_law (rows_behind content s ++ frozen ++ all_rows content s.active.log) key
+      ∙ ap (option_and_then value_given) (newest_append (rows_behind content s ++ frozen) (all_rows content s.active.log) key
+      ∙ ap (option_or (newest_row (all_rows content s.active.log) key)) (newest_append (rows_behind content s) frozen key))
 
   -- ---- a row that is found
 
@@ -317,16 +356,16 @@ module _ (content : Content) (s : StoresState) (stands : Stands content s) (hone
   pub found_active : (key : List ℕ) (found : Found) → FindsLast (all_rows content s.active.log) key (Some found) → get (current_map content s) key ≡ option_map (value_at content s) (located Active found)
   found_active key found (row, is, kind) =
       current_get key
-      ∙ ap (λ (o : Option StoredRow). option_and_then value_given (option_or o (option_or (newest_row (oldest_first (map (rows_in content) s.frozen)) key) (newest_row (hashed_rows content s) key))))
+      ∙ ap (λ (o : Option StoredRow). option_and_then value_given (option_or o (option_or (newest_row (oldest_first (map (rows_in content) s.frozen)) key) (newest_row (rows_behind content s) key))))
       (newest_last (all_rows content s.active.log) key found.place row is)
       ∙ located_value Active found row kind (row_value s.active key found.place row is)
 
   -- the active log has none
   past_active : (key : List ℕ) → HasNoRow (all_rows content s.active.log) key
-      → get (current_map content s) key ≡ option_and_then value_given (option_or (newest_row (oldest_first (map (rows_in content) s.frozen)) key) (newest_row (hashed_rows content s) key))
+      → get (current_map content s) key ≡ option_and_then value_given (option_or (newest_row (oldest_first (map (rows_in content) s.frozen)) key) (newest_row (rows_behind content s) key))
   past_active key none =
       current_get key
-      ∙ ap (λ (o : Option StoredRow). option_and_then value_given (option_or o (option_or (newest_row (oldest_first (map (rows_in content) s.frozen)) key) (newest_row (hashed_rows content s) key))))
+      ∙ ap (λ (o : Option StoredRow). option_and_then value_given (option_or o (option_or (newest_row (oldest_first (map (rows_in content) s.frozen)) key) (newest_row (rows_behind content s) key))))
       (newest_none (all_rows content s.active.log) key none)
 
   -- the rows of a frozen log, by its number
@@ -342,23 +381,25 @@ module _ (content : Content) (s : StoresState) (stands : Stands content s) (hone
       → get (current_map content s) key ≡ option_map (value_at content s) (located (Frozen number) found)
   found_frozen key number found inside none (before, (row, is, kind)) =
       past_active key none
-      ∙ ap (λ (o : Option StoredRow). option_and_then value_given (option_or o (newest_row (hashed_rows content s) key)))
+      ∙ ap (λ (o : Option StoredRow). option_and_then value_given (option_or o (newest_row (rows_behind content s) key)))
       (walk_some (map (rows_in content) s.frozen) key number row (omega (arith, inside, length-map s.frozen (rows_in content)))
       (λ index below. frozen_lacks key index (omega (arith, below, inside)) (before index below))
       (ap (λ (rows : List StoredRow). newest_row rows key) (rows_at number inside) ∙ newest_last (all_rows content (frozen_at s number).log) key found.place row is))
       ∙ located_value (Frozen number) found row kind (row_value (frozen_at s number) key found.place row is)
 
   -- no log has one
-  past_frozen : (key : List ℕ) → HasNoRow (all_rows content s.active.log) key → FindsFrozen content s key None → get (current_map content s) key ≡ option_and_then value_given (newest_row (hashed_rows content s) key)
+  past_frozen : (key : List ℕ) → HasNoRow (all_rows content s.active.log) key → FindsFrozen content s key None
+      → get (current_map content s) key ≡ option_and_then value_given (option_or (newest_row (hashed_rows content s) key) (newest_row (entries_of content s.sorted) key))
   past_frozen key none frozen =
       past_active key none
-      ∙ ap (λ (o : Option StoredRow). option_and_then value_given (option_or o (newest_row (hashed_rows content s) key)))
+      ∙ ap (λ (o : Option StoredRow). option_and_then value_given (option_or o (newest_row (rows_behind content s) key)))
       (walk_none (map (rows_in content) s.frozen) key
       (λ index inside. let here : index < length s.frozen = omega (arith, inside, length-map s.frozen (rows_in content)) in frozen_lacks key index here (frozen index here)))
+      ∙ ap (option_and_then value_given) (newest_append (entries_of content s.sorted) (hashed_rows content s) key)
 
   -- the rows of a hash store, by its number
   known_at : (index : ℕ) → index < length s.hashes → get_or (map (known_in content) s.hashes) index [] ≡ known_in content (hash_store_at s index)
-  known_at index inside = get_or-map (known_in content) s.hashes index (record { shape = s.manifest.shape; region = 0; tags = [] }) [] inside
+  known_at index inside = get_or-map (known_in content) s.hashes index (record { shape = s.manifest.shape; region = 0; tags = []; puts = 0 }) [] inside
 
   -- one that has no row of a key
   hash_lacks : (key : List ℕ) (index : ℕ) → index < length s.hashes → holds_key key (hash_rows_of content (hash_store_at s index)) ≡ false → newest_row (get_or (map (known_in content) s.hashes) index []) key ≡ None
@@ -369,17 +410,34 @@ module _ (content : Content) (s : StoresState) (stands : Stands content s) (hone
       → FindsHashed content s key (Some (number, found)) → get (current_map content s) key ≡ option_map (value_at content s) (located (Hashed number) found)
   found_hashed key number found inside none frozen (before, (row, there, has_key, kind)) =
       let store : HashState = hash_store_at s number in
-      let stands_there = stands.hashed number (record { shape = s.manifest.shape; region = 0; tags = [] }) inside in
+      let stands_there = stands.hashed number (record { shape = s.manifest.shape; region = 0; tags = []; puts = 0 }) inside in
       past_frozen key none frozen
-      ∙ ap (option_and_then value_given)
+      ∙ ap (λ (o : Option StoredRow). option_and_then value_given (option_or o (newest_row (entries_of content s.sorted) key)))
       (walk_some (map (known_in content) s.hashes) key number row (omega (arith, inside, length-map s.hashes (known_in content)))
       (λ index below. hash_lacks key index (omega (arith, below, inside)) (before index below))
       (ap (λ (rows : List StoredRow). newest_row rows key) (known_at number inside) ∙ newest_found store.shape store.region content.shown key (stands_there.sound honest) found row there has_key kind))
       ∙ located_value (Hashed number) found row kind (hash_there store.shape store.region content.shown key found.place row there).1
 
-  -- no store has one
-  pub found_nowhere : (key : List ℕ) → HasNoRow (all_rows content s.active.log) key → FindsFrozen content s key None → FindsHashed content s key None → get (current_map content s) key ≡ None
-  found_nowhere key none frozen hashed =
+  -- no hash store has one
+  past_hashed : (key : List ℕ) → HasNoRow (all_rows content s.active.log) key → FindsFrozen content s key None → FindsHashed content s key None
+      → get (current_map content s) key ≡ option_and_then value_given (newest_row (entries_of content s.sorted) key)
+  past_hashed key none frozen hashed =
       past_frozen key none frozen
-      ∙ ap (option_and_then value_given) (walk_none (map (known_in content) s.hashes) key
+      ∙ ap (λ (o : Option StoredRow). option_and_then value_given (option_or o (newest_row (entries_of content s.sorted) key)))
+      (walk_none (map (known_in content) s.hashes) key
       (λ index inside. let here : index < length s.hashes = omega (arith, inside, length-map s.hashes (known_in content)) in hash_lacks key index here (hashed index here)))
+
+  -- the row is an entry
+  pub found_sorted : (key : List ℕ) (place : ℕ) → HasNoRow (all_rows content s.active.log) key → FindsFrozen content s key None → FindsHashed content s key None
+      → FindsEntry (entries_of content s.sorted) key (Some place) → get (current_map content s) key ≡ option_map (value_at content s) (Some (record { holder = Sorted; place = place }))
+  found_sorted key place none frozen hashed (row, is) =
+      let one : row.kind ≡ 1 = (entries_law s.sorted.shape s.sorted.region s.sorted.count content.shown).puts place row is.there in
+      past_hashed key none frozen hashed
+      ∙ ap (option_and_then value_given) (newest_only (entries_of content s.sorted) key place row is)
+      ∙ ap (λ (n : ℕ). if n == 1 then Some row.value else None) one
+      ∙ ap Some (sym (entry_value content s.sorted place row is.there))
+
+  -- no store has one
+  pub found_nowhere : (key : List ℕ) → HasNoRow (all_rows content s.active.log) key → FindsFrozen content s key None → FindsHashed content s key None
+      → HasNoEntry (entries_of content s.sorted) key → get (current_map content s) key ≡ None
+  found_nowhere key none frozen hashed lacks = past_hashed key none frozen hashed ∙ ap (option_and_then value_given) (newest_none (entries_of content s.sorted) key lacks)

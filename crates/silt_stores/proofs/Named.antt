@@ -14,7 +14,6 @@ use Rattle.silt_image.proofs.Frame.{log_region_law}
 use Rattle.silt_image.proofs.Rows.{append_law, map_law, own_rows_law}
 use Rattle.silt_image.proofs.Sound.{beginning_law}
 use Rattle.silt_image.proofs.Verdict.{rows_law, stands_law}
-use Rattle.silt_stores.specs.Calls.{HaveNoEntries, StandsUnsorted}
 
 -- ---- one image
 
@@ -59,13 +58,9 @@ pub stores_map : (t : Stores) (image : List ℕ) → image_stores image ≡ Ok t
 unfolding image_map
 stores_map t image is = ap map_of_rows (rows_law image t is)
 
--- an image with sound stores that have no entries
-pub stands_unsorted : (shape : Shape) (body : Body) (t : Stores) (m : Map) (image : List ℕ) → image_stores image ≡ Ok t → t.shape ≡ shape → t.body ≡ body → IsSound t → map_of_rows (rows_of t) ≡ m
-    → body.sorted_count ≡ 0 → StandsUnsorted shape m image
-stands_unsorted shape body t m image is same_shape same_body sound has_map none = record {
-  stands = subst (λ (n : Map). StandsFor shape n image) has_map (subst (λ (s : Shape). StandsFor s (map_of_rows (rows_of t)) image) same_shape (stands_law image t is sound));
-  no_entries = subst HaveNoEntries (sym is) (ap (λ (b : Body). b.sorted_count) same_body ∙ none);
-}
+-- an image with sound stores
+pub stands_for : (shape : Shape) (t : Stores) (m : Map) (image : List ℕ) → image_stores image ≡ Ok t → t.shape ≡ shape → IsSound t → map_of_rows (rows_of t) ≡ m → StandsFor shape m image
+stands_for shape t m image is same_shape sound has_map = subst (λ (n : Map). StandsFor shape n image) has_map (subst (λ (s : Shape). StandsFor s (map_of_rows (rows_of t)) image) same_shape (stands_law image t is sound))
 
 -- ---- the rows of the active log
 

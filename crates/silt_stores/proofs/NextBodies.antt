@@ -7,15 +7,15 @@ use Rattle.silt_device.proofs.Images.{shown_left, within_trans, within_wider}
 use Rattle.silt_manifest.specs.Ruling.{ruling_manifest}
 use Rattle.silt_manifest.specs.Standing.{ManifestState, Rules, RulesOldOrNew, spare_slot}
 use Rattle.silt_manifest.specs.declared.body.Body.{Body}
-use Rattle.silt_image.specs.Meaning.{image_map, map_of_rows, rows_of}
+use Rattle.silt_image.specs.Meaning.{StandsFor, image_map, map_of_rows, rows_of}
 use Rattle.silt_image.specs.Stores.{Stores, image_stores}
 use Rattle.silt_stores.specs.State.{StoresState}
 use Rattle.silt_stores.specs.Standing.{Stands, base_map, shown_stores, waiting_commands}
-use Rattle.silt_stores.specs.Calls.{Advances, Breaks, Remaps, StandsUnsorted}
+use Rattle.silt_stores.specs.Calls.{Advances, Breaks, Remaps}
 use Rattle.silt_stores.specs.Succession.{MayRule, NowRules}
 use Rattle.silt_stores.proofs.Facts.{active_is, base_is, base_stands}
 use Rattle.silt_stores.proofs.Freezes.{below_two}
-use Rattle.silt_stores.proofs.Named.{named_shape, stands_unsorted, stores_map}
+use Rattle.silt_stores.proofs.Named.{named_shape, stands_for, stores_map}
 use Rattle.silt_stores.proofs.Standing.{Fits, fits_stand, shown_are}
 use Rattle.silt_stores.proofs.Turns.{begun_none, quiet_remap, ruled_named, same_named, waiting_remap}
 
@@ -87,8 +87,8 @@ module _ (old new : Content) (s : StoresState) (body : Body) (stands : Stands ol
           ];
     }
 
-    next_stands : IsTrue old.honest → (image : List ℕ) → image_stores image ≡ Ok may.stores → StandsUnsorted s.manifest.shape (base_map old s) image
-    next_stands h image is = stands_unsorted s.manifest.shape body may.stores (base_map old s) image is may.has_shape may.has_body (may.sound h) (may.same_map h) may.no_entries
+    next_stands : IsTrue old.honest → (image : List ℕ) → image_stores image ≡ Ok may.stores → StandsFor s.manifest.shape (base_map old s) image
+    next_stands h image is = stands_for s.manifest.shape may.stores (base_map old s) image is may.has_shape (may.sound h) (may.same_map h)
 
     -- whatever a stop leaves stands for the base
     pub manifest_breaks : Breaks old new s

@@ -2,7 +2,7 @@
 use Rattle.std.proofs.Common.{◌≡◌, ℕ, IsTrue, List, [], ◌∷◌, ◌++◌, Option, Some, None, Ok, inr, ap, sym, ◌∙◌, subst, arith}
 use Rattle.std.specs.Prelude.{All, IfSome}
 use Rattle.silt_device.specs.Disk.{ChangesWithin, Content, LeavesOnly, LiesOutside, Torn, size}
-use Rattle.silt_device.specs.Layout.{Shape, device_size, gates_at, hash_at, log_size, slots_len}
+use Rattle.silt_device.specs.Layout.{Shape, device_size, entries_len, gates_at, hash_at, log_size, slots_len, sorted_at}
 use Rattle.silt_device.proofs.Images.{shown_left, torn_trans}
 use Rattle.silt_log.specs.Rows.{log_rows}
 use Rattle.silt_frame.specs.Rows.{StoredRow, put_count}
@@ -16,10 +16,11 @@ use Rattle.silt_image.specs.Meaning.{IsSound, rows_of, with_log_rows}
 use Rattle.silt_manifest.specs.Standing.{Rules}
 use Rattle.silt_manifest.proofs.Laws.{rules_elsewhere}
 use Rattle.silt_stores.specs.State.{AreWhole, StoresState, oldest_log}
-use Rattle.silt_stores.specs.Standing.{IsFrozen, Stands, shown_stores}
+use Rattle.silt_merge.specs.State.{MergeState}
+use Rattle.silt_stores.specs.Standing.{HasGathered, IsFrozen, Stands, shown_stores}
 use Rattle.silt_stores.proofs.Named.{named_here}
 use Rattle.silt_stores.proofs.Facts.{active_below, full_torn, torn_active}
-use Rattle.silt_stores.proofs.Elsewhere.{all_frozen_elsewhere, all_hashed_elsewhere, not_active, outside_other, slots_behind_log, written_all_elsewhere}
+use Rattle.silt_stores.proofs.Elsewhere.{all_frozen_elsewhere, all_hashed_elsewhere, entries_behind_log, merged_all_elsewhere, not_active, outside_other, slots_behind_log, written_all_elsewhere}
 
 -- the stores that are shown are those that all images have
 pub shown_are : (content : Content) (s : StoresState) (t : Stores) → t.shape ≡ s.manifest.shape → t.body ≡ s.manifest.ruling → LeavesOnly content (λ image. image_stores image ≡ Ok t) → IsTrue content.honest → shown_stores content s ≡ t
@@ -35,12 +36,12 @@ pub record Fits (content : Content) (s : StoresState) (t : Stores) : Type 0 wher
   pub frozen : All (IsFrozen content) s.frozen
   pub hashed : All (IsHashStore content) s.hashes
   pub written : IfSome s.converting (HasWritten content (oldest_log s))
+  pub merged : IfSome s.merging (HasGathered content s)
   pub same_shape : t.shape ≡ s.manifest.shape
   pub same_body : t.body ≡ s.manifest.ruling
   pub named : LeavesOnly content (λ image. image_stores image ≡ Ok t)
   pub sound : IsTrue content.honest → IsSound (with_log_rows s.manifest.ruling.active (all_rows content s.active.log) t)
   pub counted : IsTrue content.honest → s.charge ≡ put_count (rows_of t ++ waiting_rows content s.active.log)
-  pub no_entries : s.manifest.ruling.sorted_count ≡ 0
 
 pub fits_stand : (content : Content) (s : StoresState) (t : Stores) → Fits content s t → Stands content s
 fits_stand content s t fits =
@@ -55,11 +56,11 @@ fits_stand content s t fits =
       frozen = fits.frozen;
       hashed = fits.hashed;
       written = fits.written;
+      merged = fits.merged;
       named = record { each = λ h image left. fits.named.each h image left ∙ ap Ok (sym (is h)) };
       sound = λ h. subst (λ (u : Stores). IsSound (with_log_rows s.active.log.region (all_rows content s.active.log) u)) (sym (is h))
           (subst (λ (n : ℕ). IsSound (with_log_rows n (all_rows content s.active.log) t)) (sym fits.whole.active_region) (fits.sound h));
       counted = λ h. fits.counted h ∙ ap (λ (u : Stores). put_count (rows_of u ++ waiting_rows content s.active.log)) (sym (is h));
-      no_entries = fits.no_entries;
     }
 
 -- what stands before both of two lists can be left out
@@ -103,6 +104,18 @@ module _ (old new : Content) (s : StoresState) (stands : Stands old s) (sizes : 
       behind : (o : Option ConversionState) → IfSome o (λ conversion. LiesOutside (hash_at s.manifest.shape conversion.region) (slots_len s.manifest.shape) (gates_at s.manifest.shape s.manifest.ruling.active) (log_size s.manifest.shape))
       behind None = tt
       behind (Some conversion) = slots_behind_log s.manifest.shape s.manifest.ruling.active conversion.region (active_below old s stands)
+
+  -- and a merge has gathered and written what it had
+  pub merged_stays : IfSome s.merging (HasGathered new s)
+  merged_stays = merged_all_elsewhere old new s (gates_at s.manifest.shape s.manifest.ruling.active) (log_size s.manifest.shape) s.merging stands changes_active
+      (λ h region there. slots_behind_log s.manifest.shape s.manifest.ruling.active region (active_below old s stands))
+      (λ h. entries_behind_log s.manifest.shape s.manifest.ruling.active s.manifest.ruling.sorted (active_below old s stands))
+      (λ h. behind s.merging)
+      stands.whole.merging stands.merged
+    where
+      behind : (o : Option MergeState) → IfSome o (λ merge. LiesOutside (sorted_at s.manifest.shape merge.region) (entries_len s.manifest.shape) (gates_at s.manifest.shape s.manifest.ruling.active) (log_size s.manifest.shape))
+      behind None = tt
+      behind (Some merge) = entries_behind_log s.manifest.shape s.manifest.ruling.active merge.region (active_below old s stands)
 
   -- with these rows of the log in each image, each has the stores with them
   pub named_with : (rows : List StoredRow) → LeavesOnly new (λ image. log_rows s.active.log.shape s.active.log.region image ≡ rows)

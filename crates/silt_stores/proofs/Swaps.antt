@@ -36,7 +36,7 @@ last_off xs rest x d o both some =
 
 module _ (s : StoresState) (m : ManifestState) (may : MayReplace s m) (ended : ConversionState) (taken : Option ConversionState) (taken_is : taken ≡ s.converting) (taken_some : taken ≡ Some ended)
     (log : LogStoreState) (frozen : List LogStoreState) (popped : Option LogStoreState) (frozen_items : s.frozen ≡ frozen ++ option_to_list popped) (popped_some : popped ≡ Some log)
-    (made : HashState) (made_is : made ≡ record { shape = ended.shape; region = ended.region; tags = ended.tags }) (made_held : IsHeldHash made) (hashes : List HashState) (hashes_are : hashes ≡ insert s.hashes 0 made)
+    (made : HashState) (made_is : made ≡ record { shape = ended.shape; region = ended.region; tags = ended.tags; puts = ended.puts }) (made_held : IsHeldHash made) (hashes : List HashState) (hashes_are : hashes ≡ insert s.hashes 0 made)
     (converting : Option ConversionState) (converting_is : converting ≡ None) (log_puts puts dropped charge : ℕ) (log_puts_are : log_puts ≡ log.puts) (puts_are : puts ≡ ended.puts)
     (dropped_is : dropped ≡ log_puts - puts) (charge_is : charge ≡ s.charge - dropped) where
   same : ended ≡ may.conversion
@@ -61,7 +61,7 @@ module _ (s : StoresState) (m : ManifestState) (may : MayReplace s m) (ended : C
       )
 
   abbrev parts : List LogStoreState → List HashState → Option ConversionState → ℕ → StoresState
-  parts f h o n = record { manifest = m; active = s.active; frozen = f; hashes = h; converting = o; charge = n }
+  parts f h o n = record s { manifest = m; frozen = f; hashes = h; converting = o; charge = n }
 
   -- the stores afterwards
   pub replaced_are : parts frozen hashes converting charge ≡ oldest_replaced s m may.conversion
@@ -72,5 +72,5 @@ module _ (s : StoresState) (m : ManifestState) (may : MayReplace s m) (ended : C
       ∙ ap (parts (take (length s.frozen - 1) s.frozen) (store_of may.conversion ∷ s.hashes) None) charge_now
 
   -- are whole
-  pub replaced_whole : AreWhole (record { manifest = m; active = s.active; frozen = frozen; hashes = hashes; converting = converting; charge = charge })
+  pub replaced_whole : AreWhole (record s { manifest = m; frozen = frozen; hashes = hashes; converting = converting; charge = charge })
   replaced_whole = subst AreWhole (sym replaced_are) (may.whole (subst IsHeldHash is_store made_held))

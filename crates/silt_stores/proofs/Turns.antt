@@ -11,18 +11,18 @@ use Rattle.silt_manifest.specs.Ruling.{manifest_found, ruling_manifest}
 use Rattle.silt_manifest.specs.declared.body.Body.{Body}
 use Rattle.silt_image.specs.Stores.{Stores, image_stores, stores_named}
 use Rattle.silt_event.specs.Commands.{Map, map_after}
-use Rattle.silt_image.specs.Meaning.{command_of, image_map, map_of_rows, rows_of}
+use Rattle.silt_image.specs.Meaning.{StandsFor, command_of, image_map, map_of_rows, rows_of}
 use Rattle.silt_image.proofs.Frame.{manifest_law}
 use Rattle.silt_stores.specs.State.{StoresState}
 use Rattle.silt_stores.specs.Standing.{Stands, base_map, full_image, shown_stores, waiting_commands}
-use Rattle.silt_stores.specs.Calls.{HasBegun, IsQuiet, StandsUnsorted}
+use Rattle.silt_stores.specs.Calls.{HasBegun, IsQuiet}
 use Rattle.silt_stores.proofs.Named.{named_body, named_here, named_shape}
 use Rattle.silt_stores.proofs.Facts.{full_map, opened_map}
 use Rattle.silt_stores.proofs.Elsewhere.{outside_slot}
 use Rattle.silt_stores.proofs.Freezes.{IsApart, found_ruling, full_quiet, kept, quiet_map, slot_apart}
 
 -- an image that stands for the base stands for it after none of what waited
-pub begun_none : (content : Content) (s : StoresState) (image : List ℕ) → StandsUnsorted s.manifest.shape (base_map content s) image → HasBegun s.manifest.shape (base_map content s) (waiting_commands content s) image
+pub begun_none : (content : Content) (s : StoresState) (image : List ℕ) → StandsFor s.manifest.shape (base_map content s) image → HasBegun s.manifest.shape (base_map content s) (waiting_commands content s) image
 begun_none content s image stands = record { kept = []; begins = record { rest = waiting_commands content s; is = refl }; stands = stands }
 
 -- the active log lies outside the slots

@@ -7,17 +7,19 @@ use Rattle.std.proofs.lemmas.List.{get_or_default}
 use Rattle.silt_device.specs.Disk.{Content}
 use Rattle.silt_hash_store.specs.Lookup.{FindsRow}
 use Rattle.silt_hash_store.specs.State.{HashState, IsHashStore}
-use Rattle.silt_image.specs.Meaning.{holds_key}
+use Rattle.silt_image.specs.Meaning.{holds_key, sorted_findings}
 use Rattle.silt_log.specs.State.{all_rows}
 use Rattle.silt_log_store.specs.State.{IsIndexed, LogStoreState}
 use Rattle.silt_log_store.specs.LastRow.{FindsLast, HasNoRow}
 use Rattle.silt_log_store.specs.declared.store.Found.{Found}
-use Rattle.silt_stores.specs.declared.location.Holder.TheVariants.{Active, Frozen, Hashed}
+use Rattle.silt_sorted_store.specs.OnlyRow.{FindsEntry}
+use Rattle.silt_sorted_store.specs.State.{entries_of}
+use Rattle.silt_stores.specs.declared.location.Holder.TheVariants.{Active, Frozen, Hashed, Sorted}
 use Rattle.silt_stores.specs.declared.location.Location.{Location}
 use Rattle.silt_stores.specs.State.{StoresState}
 use Rattle.silt_stores.specs.Standing.{Stands}
 use Rattle.silt_stores.specs.Lookup.{FindsFrozen, FindsHashed, Locates, frozen_at, hash_store_at, hash_rows_of, located, value_at}
-use Rattle.silt_stores.proofs.Lookups.{found_active, found_frozen, found_hashed, found_nowhere}
+use Rattle.silt_stores.proofs.Lookups.{entries_sound, found_active, found_frozen, found_hashed, found_nowhere, found_sorted}
 
 -- what a frozen log finds, by its number
 log_finds : (content : Content) (s : StoresState) (items : List LogStoreState) (number : ℕ) (store : LogStoreState) (key : List ℕ) (o : Option Found)
@@ -41,7 +43,7 @@ hash_finds : (content : Content) (s : StoresState) (items : List HashState) (num
     → items ≡ s.hashes → number < length items → store ≡ get_or items number store → Stands content s → IsTrue content.honest
     → (IsTrue content.honest → IsHashStore content store → FindsRow (hash_rows_of content store) key o) → FindsRow (hash_rows_of content (hash_store_at s number)) key o
 hash_finds content s items number store key o are inside is stands honest finds =
-    let none : HashState = record { shape = s.manifest.shape; region = 0; tags = [] } in
+    let none : HashState = record { shape = s.manifest.shape; region = 0; tags = []; puts = 0 } in
     let below : number < length s.hashes = subst (λ (l : List HashState). number < length l) are inside in
     let here : store ≡ hash_store_at s number = is ∙ ap (λ (l : List HashState). get_or l number store) are ∙ get_or_default s.hashes number store none below in
     subst (λ (t : HashState). FindsRow (hash_rows_of content t) key o) here (finds honest (subst (IsHashStore content) (sym here) (stands.hashed number none below)))
@@ -120,6 +122,23 @@ module _ (content : Content) (view s : StoresState) (is : view ≡ s) (key : Lis
         let there : (number < length s.hashes) × (found.place < 4 * s.manifest.shape.buckets) = subst (λ (w : Option (ℕ × Found)). IfSome w (λ row. (row.0 < length s.hashes) × (row.1.place < 4 * s.manifest.shape.buckets))) some inside in
         found_hashed content s stands honest key number found there.0 (active_lacks honest) (frozen_lack honest) (subst (FindsHashed content s key) some (hash_walks stands honest)) ∙ ap (option_map (value_at content s)) (sym location_is)
 
-    -- no store has one
-    pub locates_none : hash_walked ≡ None → Locates content s key None
-    locates_none gone honest = found_nowhere content s stands honest key (active_lacks honest) (frozen_lack honest) (subst (FindsHashed content s key) gone (hash_walks stands honest))
+    -- no hash store has one, and this is what the sorted store has
+    module _ (gone : hash_walked ≡ None) (entry : Option ℕ)
+        (looks : IsTrue content.honest → sorted_findings (entries_of content view.sorted) ≡ [] → FindsEntry (entries_of content view.sorted) key entry) where
+      hashes_lack : IsTrue content.honest → FindsHashed content s key None
+      hashes_lack honest = subst (FindsHashed content s key) gone (hash_walks stands honest)
+
+      entry_found : IsTrue content.honest → FindsEntry (entries_of content s.sorted) key entry
+      entry_found honest =
+          subst (λ (v : StoresState). IsTrue content.honest → sorted_findings (entries_of content v.sorted) ≡ [] → FindsEntry (entries_of content v.sorted) key entry) is looks honest
+          (entries_sound content s stands honest)
+
+      -- it has one
+      pub locates_sorted : (place : ℕ) → entry ≡ Some place → Locates content s key (Some (record { holder = Sorted; place = place }))
+      locates_sorted place some honest =
+          found_sorted content s stands honest key place (active_lacks honest) (frozen_lack honest) (hashes_lack honest) (subst (FindsEntry (entries_of content s.sorted) key) some (entry_found honest))
+
+      -- no store has one
+      pub locates_none : entry ≡ None → Locates content s key None
+      locates_none nothing honest =
+          found_nowhere content s stands honest key (active_lacks honest) (frozen_lack honest) (hashes_lack honest) (subst (FindsEntry (entries_of content s.sorted) key) nothing (entry_found honest))

@@ -6,10 +6,11 @@ use Rattle.std.proofs.lemmas.List.{get_or_default}
 use Rattle.silt_device.specs.Disk.{Content}
 use Rattle.silt_device.specs.Layout.{Shape}
 use Rattle.silt_hash_store.specs.Conversion.{ConversionState, HasWritten}
+use Rattle.silt_merge.specs.State.{MergeState}
 use Rattle.silt_log_store.specs.State.{LogStoreState}
 use Rattle.silt_manifest.specs.Standing.{ManifestState}
 use Rattle.silt_manifest.specs.declared.body.Body.{Body}
-use Rattle.silt_stores.specs.State.{AreWhole, IsHashOf, IsSettled, IsUnderWay, StoresState, oldest_log}
+use Rattle.silt_stores.specs.State.{AreWhole, IsHashOf, IsMerging, IsSettled, IsUnderWay, StoresState, oldest_log, sorted_named}
 
 -- ---- the oldest log
 
@@ -43,6 +44,19 @@ pub written_in : (content : Content) (s : StoresState) (log : LogStoreState) (o 
 written_in content s log None same is written = tt
 written_in content s log (Some conversion) same is written = subst (λ (l : LogStoreState). HasWritten content l conversion) (sym (same is.some_frozen)) written
 
+-- ---- a merge
+
+-- it is under way in stores with the same shape and sorted region, and with no fewer hash stores
+pub merging_in : (s t : StoresState) (o : Option MergeState) → t.manifest.shape ≡ s.manifest.shape → t.sorted.region ≡ s.sorted.region → length s.hashes ≤ length t.hashes → IfSome o (IsMerging s) → IfSome o (IsMerging t)
+merging_in s t None same_shape same_region more is = tt
+merging_in s t (Some merge) same_shape same_region more is = record {
+  has_shape = is.has_shape ∙ sym same_shape;
+  apart = λ e. is.apart (sym same_region ∙ e);
+  some = is.some;
+  most = omega (arith, is.most, more);
+  held = is.held;
+}
+
 -- ---- whole stores
 
 -- with another active log of the same region
@@ -55,7 +69,10 @@ whole_with_active s after charge whole same_shape same_region most = record {
   settled = whole.settled;
   hash_regions = whole.hash_regions;
   hashed = whole.hashed;
+  sorted = whole.sorted;
+  held = whole.held;
   under_way = under_way_in s (record s { active = after; charge = charge }) s.converting refl refl (omega arith) whole.under_way;
+  merging = merging_in s (record s { active = after; charge = charge }) s.merging refl refl (omega arith) whole.merging;
   most = most;
 }
 
@@ -64,16 +81,19 @@ pub written_with_active : (content : Content) (s : StoresState) (after : LogStor
     → IfSome s.converting (HasWritten content (oldest_log (record s { active = after; charge = charge })))
 written_with_active content s after charge whole written = written_in content s (oldest_log (record s { active = after; charge = charge })) s.converting (oldest_any s.frozen after s.active) whole.under_way written
 
--- with another manifest of the same shape and the same ruling body, and with this conversion
-pub whole_with : (s : StoresState) (m : ManifestState) (converting : Option ConversionState) → m.shape ≡ s.manifest.shape → m.ruling ≡ s.manifest.ruling → IfSome converting (IsUnderWay s) → AreWhole s
-    → AreWhole (record s { manifest = m; converting = converting })
-whole_with s m converting same_shape same_ruling under_way whole = record {
+-- with another manifest of the same shape and the same ruling body, and with this conversion and this merge
+pub whole_with : (s : StoresState) (m : ManifestState) (converting : Option ConversionState) (merging : Option MergeState) → m.shape ≡ s.manifest.shape → m.ruling ≡ s.manifest.ruling
+    → IfSome converting (IsUnderWay s) → IfSome merging (IsMerging s) → AreWhole s → AreWhole (record s { manifest = m; converting = converting; merging = merging })
+whole_with s m converting merging same_shape same_ruling under_way is_merging whole = record {
   has_shape = whole.has_shape ∙ sym same_shape;
   active_region = whole.active_region ∙ ap (λ (b : Body). b.active) (sym same_ruling);
   frozen_regions = whole.frozen_regions ∙ ap (λ (b : Body). b.frozen) (sym same_ruling);
   settled = subst (λ (sh : Shape). All (IsSettled sh) s.frozen) (sym same_shape) whole.settled;
   hash_regions = whole.hash_regions ∙ ap (λ (b : Body). b.hashed) (sym same_ruling);
   hashed = subst (λ (sh : Shape). All (IsHashOf sh) s.hashes) (sym same_shape) whole.hashed;
-  under_way = under_way_in s (record s { manifest = m; converting = converting }) converting same_shape (ap (λ (b : Body). b.hashed) same_ruling) (omega arith) under_way;
+  sorted = whole.sorted ∙ ap (λ (sh : Shape). sorted_named sh s.manifest.ruling) (sym same_shape) ∙ ap (sorted_named m.shape) (sym same_ruling);
+  held = whole.held;
+  under_way = under_way_in s (record s { manifest = m; converting = converting; merging = merging }) converting same_shape (ap (λ (b : Body). b.hashed) same_ruling) (omega arith) under_way;
+  merging = merging_in s (record s { manifest = m; converting = converting; merging = merging }) merging same_shape refl (omega arith) is_merging;
   most = subst (λ (sh : Shape). s.charge ≤ sh.sorted_capacity) (sym same_shape) whole.most;
 }

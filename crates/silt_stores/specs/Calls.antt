@@ -1,14 +1,12 @@
 -- What the calls of the stores do.
-use Rattle.std.specs.Prelude.{◌≡◌, ◌+◌, ◌^◌, ◌-◌, ◌⊎◌, ℕ, IsTrue, List, [], ◌∷◌, ◌++◌, length, Some, None, Result, Ok, Err}
+use Rattle.std.specs.Prelude.{◌≡◌, ◌+◌, ◌^◌, ◌-◌, ◌⊎◌, ℕ, IsTrue, List, [], ◌∷◌, ◌++◌, length, Some, None}
 use Rattle.std.specs.FinMap.{get}
 use Rattle.silt_cuckoo.specs.Index.{index_of_keys}
 use Rattle.silt_device.specs.Disk.{Content, LeavesOnly, size}
 use Rattle.silt_device.specs.Layout.{Shape}
 use Rattle.silt_event.specs.Commands.{Command, Map, map_after, Begins}
-use Rattle.silt_image.specs.Stores.{Stores, image_stores}
 use Rattle.silt_image.specs.Meaning.{StandsFor, image_map}
 use Rattle.silt_frame.specs.Rows.{keys_of, StoredRow}
-use Rattle.silt_image.specs.declared.damage.Finding.{Finding}
 use Rattle.silt_stores.specs.State.{StoresState}
 use Rattle.silt_stores.specs.Standing.{Stands, base_map, current_map, full_image, waiting_commands}
 
@@ -16,6 +14,15 @@ use Rattle.silt_stores.specs.Standing.{Stands, base_map, current_map, full_image
 pub record SameDisk (old new : Content) : Type 0 where
   pub size : size new ≡ size old
   pub honest : new.honest ≡ old.honest
+
+-- but for the active log and the charge all is as it was in memory
+pub record StaysBehind (before after : StoresState) : Type 0 where
+  pub manifest : after.manifest ≡ before.manifest
+  pub frozen : after.frozen ≡ before.frozen
+  pub hashes : after.hashes ≡ before.hashes
+  pub sorted : after.sorted ≡ before.sorted
+  pub converting : after.converting ≡ before.converting
+  pub merging : after.merging ≡ before.merging
 
 -- a beginning of what waited, and these commands behind it, went into the base
 pub record MovesIntoBase (adds : List Command) (old new : Content) (before after : StoresState) : Type 0 where
@@ -29,21 +36,11 @@ pub record Advances (adds : List Command) (old new : Content) (before after : St
   pub shape : after.manifest.shape ≡ before.manifest.shape
   pub moves : IsTrue old.honest → MovesIntoBase adds old new before after
 
--- the stores of an image have no sorted entries
-abbrev pub HaveNoEntries : Result Stores Finding → Type 0
-HaveNoEntries (Ok s) = s.body.sorted_count ≡ 0
-HaveNoEntries (Err finding) = ⊥
-
--- an image with no sorted entries, as all are in this stage, stands for this map
-pub record StandsUnsorted (shape : Shape) (map : Map) (image : List ℕ) : Type 0 where
-  pub stands : StandsFor shape map image
-  pub no_entries : HaveNoEntries (image_stores image)
-
 -- an image stands for the base after a beginning of the commands that waited
 pub record HasBegun (shape : Shape) (base : Map) (waiting : List Command) (image : List ℕ) : Type 0 where
   pub kept : List Command
   pub begins : Begins kept waiting
-  pub stands : StandsUnsorted shape (map_after base kept) image
+  pub stands : StandsFor shape (map_after base kept) image
 
 -- whatever a stop leaves stands for the base after a beginning of what waited
 abbrev pub Breaks : Content → Content → StoresState → Type 0

@@ -69,6 +69,8 @@ pub record Finishes (before after : StoresState) : Type 0 where
   pub ruling : after.manifest.ruling ≡ converted_body before.manifest.ruling conversion.region
   pub active : after.active ≡ before.active
   pub frozen : after.frozen ≡ take (length before.frozen - 1) before.frozen
+  pub sorted : after.sorted ≡ before.sorted
+  pub merging : after.merging ≡ before.merging
 
 -- what a step changes in memory
 abbrev pub StepsOn : Progress → StoresState → StoresState → Type 0
@@ -107,7 +109,7 @@ pub record EndsConversion (s : StoresState) (body : Body) : Type 0 where
 
 -- the hash store of a conversion
 abbrev pub store_of : ConversionState → HashState
-store_of conversion = record { shape = conversion.shape; region = conversion.region; tags = conversion.tags }
+store_of conversion = record { shape = conversion.shape; region = conversion.region; tags = conversion.tags; puts = conversion.puts }
 
 -- in memory: under this manifest, the hash store of this conversion stands in front of the others, and the oldest log is gone with
 -- the puts that the hash store does not have
@@ -117,7 +119,9 @@ oldest_replaced s manifest conversion = record {
   active = s.active;
   frozen = take (length s.frozen - 1) s.frozen;
   hashes = store_of conversion ∷ s.hashes;
+  sorted = s.sorted;
   converting = None;
+  merging = s.merging;
   charge = s.charge - ((oldest_log s).puts - conversion.puts);
 }
 

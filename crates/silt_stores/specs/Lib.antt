@@ -6,5 +6,6 @@ pub mod Entries
 pub mod Succession
 pub mod NextLog
 pub mod Conversion
+pub mod Merge
 pub mod RowWrite
 pub mod Laws

@@ -20,10 +20,11 @@ use Rattle.silt_log_store.specs.declared.store.Found.{Found}
 use Rattle.silt_log_store.specs.LastRow.{FindsLast, HasNoRow}
 use Rattle.silt_log_store.specs.State.{LogStoreState}
 use Rattle.silt_stores.specs.declared.location.Holder.{Holder}
-use Rattle.silt_stores.specs.declared.location.Holder.TheVariants.{Active, Frozen, Hashed}
+use Rattle.silt_stores.specs.declared.location.Holder.TheVariants.{Active, Frozen, Hashed, Sorted}
 use Rattle.silt_stores.specs.declared.location.Location.{Location}
 use Rattle.silt_stores.specs.declared.entries.EntriesError.{EntriesError}
 use Rattle.silt_stores.specs.declared.entries.EntriesError.TheVariants.{Device, NoMemory}
+use Rattle.silt_sorted_store.specs.State.{SortedState, entries_of}
 use Rattle.silt_stores.specs.State.{StoresState}
 use Rattle.silt_stores.specs.Standing.{current_map}
 
@@ -33,17 +34,18 @@ frozen_at s index = get_or s.frozen index s.active
 
 -- the hash store of this number, the newest first
 abbrev pub hash_store_at : StoresState → ℕ → HashState
-hash_store_at s index = get_or s.hashes index (record { shape = s.manifest.shape; region = 0; tags = [] })
+hash_store_at s index = get_or s.hashes index (record { shape = s.manifest.shape; region = 0; tags = []; puts = 0 })
 
 -- the rows that a hash store shows, slot by slot
 abbrev pub hash_rows_of : Content → HashState → List StoredRow
 hash_rows_of content store = hash_rows store.shape store.region content.shown
 
--- there is a row of this place in the active log, in a frozen log, or a slot of this number in a hash store
+-- there is a row of this place in the active log, in a frozen log, a slot of this number in a hash store, or an entry at this place
 abbrev pub IsPlace : StoresState → Holder → ℕ → Type 0
 IsPlace s Active place = place < s.active.log.used
 IsPlace s (Frozen index) place = (index < length s.frozen) × (place < (frozen_at s index).log.used)
 IsPlace s (Hashed index) place = (index < length s.hashes) × (place < 4 * s.manifest.shape.buckets)
+IsPlace s Sorted place = place < s.sorted.count
 
 -- the row at a location is there
 abbrev pub IsLocation : StoresState → Location → Type 0
@@ -53,11 +55,16 @@ IsLocation s location = IsPlace s location.holder location.place
 abbrev pub located : Holder → Found → Option Location
 located holder found = if is_put found.kind then Some (record { holder = holder; place = found.place }) else None
 
+-- the entry at this place of a sorted store, as a put
+abbrev pub entry_in : Content → SortedState → ℕ → StoredRow
+entry_in content store place = get_or (entries_of content store) place (record { kind = 1; key = []; value = [] })
+
 -- the row at a place of a holder
 abbrev pub row_in : Content → StoresState → Holder → ℕ → StoredRow
 row_in content s Active place = row_at s.active.log.shape s.active.log.region content.shown place
 row_in content s (Frozen index) place = row_at (frozen_at s index).log.shape (frozen_at s index).log.region content.shown place
 row_in content s (Hashed index) place = slot_row (hash_store_at s index).shape (hash_store_at s index).region content.shown place
+row_in content s Sorted place = entry_in content s.sorted place
 
 -- the value of the row at a location
 abbrev pub value_at : Content → StoresState → Location → List ℕ

@@ -62,7 +62,9 @@ pub record HasFrozen (next : NextLog) (content : Content) (before after : Stores
   pub ruling : after.manifest.ruling ≡ next.body
   pub frozen : length after.frozen ≡ length before.frozen + 1
   pub hashes : after.hashes ≡ before.hashes
+  pub sorted : after.sorted ≡ before.sorted
   pub converting : after.converting ≡ before.converting
+  pub merging : after.merging ≡ before.merging
   pub charge : after.charge ≡ before.charge
 
 -- ---- between the steps
@@ -74,7 +76,9 @@ active_replaced s manifest log = record {
   active = log;
   frozen = s.active ∷ s.frozen;
   hashes = s.hashes;
+  sorted = s.sorted;
   converting = s.converting;
+  merging = s.merging;
   charge = s.charge;
 }
 

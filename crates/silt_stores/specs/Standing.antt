@@ -13,6 +13,8 @@ use Rattle.silt_log.specs.State.{IsLog, all_rows, waiting_rows}
 use Rattle.silt_log.specs.State as log
 use Rattle.silt_log_store.specs.State.{LogStoreState, IsIndexed}
 use Rattle.silt_manifest.specs.Standing.{Rules}
+use Rattle.silt_merge.specs.Merging.{HasMerged}
+use Rattle.silt_merge.specs.State.{MergeState, oldest_stores}
 use Rattle.silt_stores.specs.State.{StoresState, AreWhole, oldest_log}
 
 -- ---- what they mean
@@ -44,8 +46,12 @@ pub record IsFrozen (content : Content) (store : LogStoreState) : Type 0 where
   pub rows : IsTrue content.honest → store.log.used ≡ open_count store.log.shape store.log.region content.shown
   pub indexed : IsIndexed content store
 
+-- a merge has gathered and written what is due so far, of the oldest hash stores and the sorted store
+abbrev pub HasGathered : Content → StoresState → MergeState → Type 0
+HasGathered content s merge = HasMerged content (oldest_stores merge.stores s.hashes) s.sorted merge
+
 -- The stores fit their disk: whatever a stop leaves has the stores that are shown, and nothing is found in these, also once the
--- waiting rows are settled. A conversion has written what is due so far. In this stage there are no sorted entries.
+-- waiting rows are settled. A conversion and a merge have written what is due so far.
 pub record Stands (content : Content) (s : StoresState) : Type 0 where
   pub has_size : size content ≡ device_size s.manifest.shape
   pub whole : AreWhole s
@@ -56,7 +62,7 @@ pub record Stands (content : Content) (s : StoresState) : Type 0 where
   pub frozen : All (IsFrozen content) s.frozen
   pub hashed : All (IsHashStore content) s.hashes
   pub written : IfSome s.converting (HasWritten content (oldest_log s))
+  pub merged : IfSome s.merging (HasGathered content s)
   pub named : LeavesOnly content (λ image. image_stores image ≡ Ok (shown_stores content s))
   pub sound : IsTrue content.honest → IsSound (with_log_rows s.active.log.region (all_rows content s.active.log) (shown_stores content s))
   pub counted : IsTrue content.honest → s.charge ≡ put_count (rows_of (shown_stores content s) ++ waiting_rows content s.active.log)
-  pub no_entries : s.manifest.ruling.sorted_count ≡ 0

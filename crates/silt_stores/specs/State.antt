@@ -1,5 +1,5 @@
 -- The stores of a device as they are held in memory.
-use Rattle.std.specs.Prelude.{◌≡◌, ◌≤◌, ◌<◌, ◌-◌, ◌*◌, ◌==◌, ℕ, Bool, false, List, All, length, map, get_or, Option, IfSome}
+use Rattle.std.specs.Prelude.{◌≡◌, ◌≢◌, ◌≤◌, ◌<◌, ◌-◌, ◌*◌, ◌==◌, ℕ, Bool, false, List, All, length, map, get_or, Option, IfSome}
 use Rattle.std.specs.List.{list_any}
 use Rattle.silt_device.specs.Layout.{Shape}
 use Rattle.silt_hash_store.specs.Conversion.{ConversionState}
@@ -7,15 +7,20 @@ use Rattle.silt_hash_store.specs.State.{HashState, IsHeldHash}
 use Rattle.silt_log_store.specs.State.{LogStoreState}
 use Rattle.silt_manifest.specs.Standing.{ManifestState}
 use Rattle.silt_manifest.specs.declared.body.Body.{Body}
+use Rattle.silt_merge.specs.State.{MergeState, IsHeldMerge}
+use Rattle.silt_sorted_store.specs.State.{SortedState, IsHeldSorted}
 
 -- The manifest; the log that takes writes; the full logs behind it, the newest first; the hash stores behind these, the newest
--- first; the oldest log's conversion, where one is under way; and how many put rows there are, those that wait included.
+-- first; the sorted store behind them all; the oldest log's conversion and the merge of hash stores and the sorted store, where they
+-- are under way; and how many put rows there are, those that wait included.
 pub record StoresState : Type 0 where
   pub manifest : ManifestState
   pub active : LogStoreState
   pub frozen : List LogStoreState
   pub hashes : List HashState
+  pub sorted : SortedState
   pub converting : Option ConversionState
+  pub merging : Option MergeState
   pub charge : ℕ
 
 -- the region of a log
@@ -52,8 +57,20 @@ pub record IsUnderWay (s : StoresState) (conversion : ConversionState) : Type 0 
   pub free : names_hash s.manifest.ruling conversion.region ≡ false
   pub most : conversion.next ≤ 4 * s.manifest.shape.buckets
 
--- the logs and the hash stores are those that the ruling body names, a conversion writes a free region, and no more rows are puts
--- than the store may hold
+-- a merge of the oldest hash stores, at least one, and the sorted store into the other sorted region
+pub record IsMerging (s : StoresState) (merge : MergeState) : Type 0 where
+  pub has_shape : merge.shape ≡ s.manifest.shape
+  pub apart : s.sorted.region ≢ merge.region
+  pub some : 0 < merge.stores
+  pub most : merge.stores ≤ length s.hashes
+  pub held : IsHeldMerge merge
+
+-- the sorted store that a body names
+abbrev pub sorted_named : Shape → Body → SortedState
+sorted_named shape body = record { shape = shape; region = body.sorted; count = body.sorted_count }
+
+-- the stores are those that the ruling body names, a conversion and a merge write free regions, and no more rows are puts than the
+-- store may hold
 pub record AreWhole (s : StoresState) : Type 0 where
   pub has_shape : s.active.log.shape ≡ s.manifest.shape
   pub active_region : s.active.log.region ≡ s.manifest.ruling.active
@@ -61,7 +78,10 @@ pub record AreWhole (s : StoresState) : Type 0 where
   pub settled : All (IsSettled s.manifest.shape) s.frozen
   pub hash_regions : map hash_region_of s.hashes ≡ s.manifest.ruling.hashed
   pub hashed : All (IsHashOf s.manifest.shape) s.hashes
+  pub sorted : s.sorted ≡ sorted_named s.manifest.shape s.manifest.ruling
+  pub held : IsHeldSorted s.sorted
   pub under_way : IfSome s.converting (IsUnderWay s)
+  pub merging : IfSome s.merging (IsMerging s)
   pub most : s.charge ≤ s.manifest.shape.sorted_capacity
 
 -- what holds of the stores on any device: there is room in memory for as many frozen logs and hash stores as a device can have

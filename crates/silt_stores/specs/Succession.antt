@@ -21,7 +21,6 @@ pub record MayRule (content : Content) (s : StoresState) (body : Body) : Type 0 
   pub names : LeavesOnly content (λ image. stores_named s.manifest.shape body image ≡ stores)
   pub sound : IsTrue content.honest → IsSound stores
   pub same_map : IsTrue content.honest → map_of_rows (rows_of stores) ≡ base_map content s
-  pub no_entries : body.sorted_count ≡ 0
   pub waiting : IsQuiet content s ⊎ (body.active ≡ s.manifest.ruling.active)
 
 -- by this manifest the body rules in whatever a stop leaves, and but for its slot the disk is as it was

@@ -1,11 +1,11 @@
 // The conversion of the oldest frozen log into a hash store, one slot a step.
-ghost use Rattle.std.specs.Prelude.{◌≡◌, ◌<◌, ◌*◌, ◌-◌, ◌^◌, [], length, false, true, None, IsSome, IfOk, IfErr, IfSome, IfNone, OnOk, OnErr, MatchResult};
+ghost use Rattle.std.specs.Prelude.{◌≡◌, ◌<◌, ◌*◌, ◌-◌, ◌^◌, [], length, false, true, None, IsSome, IsTrue, IfOk, IfErr, IfSome, IfNone, OnOk, OnErr, MatchResult};
 ghost use Rattle.silt_device.specs.Disk.{CountsFault, GaveAny, Rests};
 ghost use Rattle.silt_stores.specs.Calls.{Advances, Breaks, Remaps, SameDisk};
 ghost use Rattle.silt_stores.specs.Conversion.{AreAllHashesNamed, ConvertErrorCause, Converts, EndsConversion, Finishes, IsLowestFreeHash, MayReplace, convert_turn, converted_body, is_work, oldest_replaced};
 ghost use Rattle.silt_event.specs.declared.progress.Progress.TheVariants.{Finished, Moved};
 ghost use Rattle.silt_stores.specs.State.{AreWhole, names_hash};
-ghost use Rattle.silt_stores.specs.Standing.{Stands};
+ghost use Rattle.silt_stores.specs.Standing.{Stands, shown_stores};
 
 use crate::stores::{LAST_GENERATION, Stores};
 use silt_device::Disk;
@@ -147,14 +147,15 @@ impl Stores {
         Ok(Progress::Moved)
     }
 
-    // Syncs the slots, so that whatever a stop leaves has them.
-    fn settle_slots<D: Disk>(&self, disk: &mut D) -> Result<(), D::Fault>
+    // Syncs what a conversion or a merge has written, so that whatever a stop leaves has it.
+    pub(crate) fn settle_work<D: Disk>(&self, disk: &mut D) -> Result<(), D::Fault>
         requires stands { Stands (D.content disk.old) self.now }
         ensures same { SameDisk (D.content disk.old) (D.content disk.new) }
         ensures failures { MatchResult result (λ _. D.failures disk.new ≡ D.failures disk.old) (CountsFault D.failures D.gave disk.old disk.new) }
         ensures ok { OnOk result (Advances [] (D.content disk.old) (D.content disk.new) self.now self.now) }
         ensures map { Remaps [] (D.content disk.old) (D.content disk.new) self.now self.now }
         ensures rests { OnOk result (Rests (D.content disk.new)) }
+        ensures stores { OnOk result (IsTrue (D.content disk.old).honest → shown_stores (D.content disk.new) self.now ≡ shown_stores (D.content disk.old) self.now) }
         ensures err { OnErr result (Breaks (D.content disk.old) (D.content disk.new) self.now) }
     {
         disk.sync()?;
@@ -194,7 +195,7 @@ impl Stores {
         ensures shape { self.new.manifest.shape ≡ self.old.manifest.shape }
         ensures err { OnErr result (Breaks (D.content disk.old) (D.content disk.new) self.old) }
     {
-        self.settle_slots(disk)?;
+        self.settle_work(disk)?;
         let manifest = self.change_manifest(disk, body)?;
         self.replace_oldest(manifest);
         Ok(())

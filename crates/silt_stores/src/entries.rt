@@ -1,11 +1,13 @@
-// All keys with their values, from the rows of the hash stores and of the logs.
+// All keys with their values, from the entries of the sorted store and the rows of the hash stores and of the logs.
 ghost use Rattle.std.specs.Prelude.{◌≡◌, ◌<◌, ◌≤◌, ◌*◌, [], ◌∷◌, length, filter, IsTrue, IfErr, IfOk, OnOk};
 ghost use Rattle.silt_device.specs.Disk.{GaveAny, size};
-ghost use Rattle.silt_device.specs.Layout.{device_size, row_len};
+ghost use Rattle.silt_device.specs.Layout.{device_size, entry_len, row_len};
 ghost use Rattle.silt_hash_store.specs.Slots.{slot_row};
 ghost use Rattle.silt_image.specs.Stores.{hash_rows};
-ghost use Rattle.silt_frame.specs.Rows.{has_known_kind, row_of};
+ghost use Rattle.silt_frame.specs.Rows.{has_known_kind, row_of, stored_row};
+ghost use Rattle.silt_frame.specs.declared.key.Kind.TheVariants.{Put};
 ghost use Rattle.silt_log.specs.State.{all_rows};
+ghost use Rattle.silt_sorted_store.specs.State.{entries_of};
 ghost use Rattle.silt_stores.specs.Entries.{DoesRows, IsPutOf, hashed_rows};
 ghost use Rattle.silt_stores.specs.Lookup.{EntriesErrorCause};
 
@@ -14,6 +16,7 @@ use silt_device::Disk;
 use silt_frame::{HEAD_LEN, KEY_LEN, Key, Kind, Value};
 use silt_hash_store::HashStore;
 use silt_log_store::LogStore;
+use silt_sorted_store::SortedStore;
 use std::alloc::{AllocError, Global};
 use std::collections::BTreeMap;
 
@@ -29,6 +32,20 @@ pub enum EntriesError<F> {
     NoMemory,
 }
 
+// Does a put: its key has its value.
+fn put_value(
+    alloc: Global,
+    key: Key,
+    value: &[u8],
+    entries: &mut BTreeMap<Key, Value>,
+) -> Result<(), AllocError>
+    ensures { OnOk result (DoesRows (stored_row Put key value.now ∷ []) entries.old entries.new) }
+{
+    let value = value.to_vec(alloc)?;
+    let _older = entries.insert(key, Value::new(value))?;
+    Ok(())
+}
+
 // Does the row in these bytes: a put sets its key's value, and a delete takes it away.
 fn do_row(alloc: Global, bytes: &[u8], entries: &mut BTreeMap<Key, Value>) -> Result<(), AllocError>
     requires { 21 ≤ length bytes.now }
@@ -38,8 +55,7 @@ fn do_row(alloc: Global, bytes: &[u8], entries: &mut BTreeMap<Key, Value>) -> Re
     key.copy_from_slice(&bytes[1..HEAD_LEN]);
     let key = Key(key);
     if bytes[0] == PUT {
-        let value = bytes[HEAD_LEN..].to_vec(alloc)?;
-        let _older = entries.insert(key, Value::new(value))?;
+        put_value(alloc, key, &bytes[HEAD_LEN..], entries)?;
     } else {
         let _older = entries.remove(&key);
     }
@@ -158,6 +174,48 @@ pub fn do_hash_store<D: Disk>(
     Ok(())
 }
 
+// Does the entries of a sorted store as puts, from the first on. Each is read once, into these bytes.
+fn do_entries<D: Disk>(
+    alloc: Global,
+    disk: &D,
+    store: &SortedStore,
+    bytes: &mut [u8],
+    entries: &mut BTreeMap<Key, Value>,
+) -> Result<(), EntriesError<D::Fault>>
+    requires size { device_size store.now.shape ≤ size (D.content disk.now) }
+    requires bytes { length bytes.old ≡ entry_len store.now.shape }
+    ensures ok { IsTrue (D.content disk.now).honest → OnOk result (DoesRows (entries_of (D.content disk.now) store.now) entries.old entries.new) }
+    ensures cause { IfErr result (EntriesErrorCause (GaveAny D.gave disk.now)) }
+{
+    for place in 0..store.len() {
+        let key = match store.entry(disk, place, bytes) {
+            Ok(key) => key,
+            Err(fault) => return Err(EntriesError::Device(fault)),
+        };
+        let Ok(()) = put_value(alloc, key, &bytes[KEY_LEN..], entries) else {
+            return Err(EntriesError::NoMemory);
+        };
+    }
+    Ok(())
+}
+
+// Does the entries of a sorted store as puts, from the first on.
+pub fn do_sorted_store<D: Disk>(
+    alloc: Global,
+    disk: &D,
+    store: &SortedStore,
+    entries: &mut BTreeMap<Key, Value>,
+) -> Result<(), EntriesError<D::Fault>>
+    requires { device_size store.now.shape ≤ size (D.content disk.now) }
+    ensures ok { IsTrue (D.content disk.now).honest → OnOk result (DoesRows (entries_of (D.content disk.now) store.now) entries.old entries.new) }
+    ensures cause { IfErr result (EntriesErrorCause (GaveAny D.gave disk.now)) }
+{
+    let Ok(mut bytes) = vec![in alloc; 0u8; store.geometry().entry_len()] else {
+        return Err(EntriesError::NoMemory);
+    };
+    do_entries(alloc, disk, store, &mut bytes, entries)
+}
+
 impl Stores {
     ghost use Rattle.silt_stores.specs.Lookup.{AreEntriesOf};
     ghost use Rattle.silt_stores.specs.Standing.{Stands, current_map};
@@ -179,7 +237,8 @@ impl Stores {
         Ok(())
     }
 
-    /// All keys with their values: the rows are done one after the other from the oldest, each read once.
+    /// All keys with their values: the entries of the sorted store and then the rows are done one after the other from the oldest,
+    /// each read once.
     ///
     /// # Errors
     ///
@@ -194,6 +253,7 @@ impl Stores {
         ensures cause { IfErr result (EntriesErrorCause (GaveAny D.gave disk.now)) }
     {
         let mut entries = BTreeMap::new(alloc);
+        do_sorted_store(alloc, disk, &self.sorted, &mut entries)?;
         self.do_hash_stores(alloc, disk, &mut entries)?;
         for index in (0..self.frozen.len()).rev() {
             do_log(alloc, disk, &self.frozen[index], &mut entries)?;

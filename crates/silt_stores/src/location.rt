@@ -14,6 +14,8 @@ pub enum Holder {
     Frozen(usize),
     /// A hash store, by its place among these, the newest first.
     Hashed(usize),
+    /// The sorted store.
+    Sorted,
 }
 
 /// Where a row stands: its store, and its place or its slot there.

@@ -1,4 +1,4 @@
-// The lookup of a key: the active log, then the frozen ones, then the hash stores.
+// The lookup of a key: the active log, then the frozen ones, then the hash stores, then the sorted store.
 ghost use Rattle.std.specs.Prelude.{◌≡◌, ◌<◌, ◌≤◌, ◌*◌, ℕ, length, true, false, Ok, IsTrue, IfOk, IfErr, IfSome, OnOk};
 ghost use Rattle.silt_device.specs.Disk.{GaveAny, size};
 ghost use Rattle.silt_device.specs.Layout.{device_size};
@@ -62,7 +62,8 @@ impl Stores {
     }
 
     /// Where the row stands that has a key's value: the active log, then the frozen ones and then the hash stores are gone
-    /// through, each the newest first, and the first row of the key that is found decides. A delete ends the lookup with none.
+    /// through, each the newest first, and the sorted store last. The first row of the key that is found decides. A delete ends the
+    /// lookup with none.
     ///
     /// # Errors
     ///
@@ -79,8 +80,14 @@ impl Stores {
         if let Some((index, found)) = self.find_frozen(disk, key)? {
             return Ok(located(Holder::Frozen(index), found));
         }
-        match self.find_hashed(disk, key)? {
-            Some((index, found)) => Ok(located(Holder::Hashed(index), found)),
+        if let Some((index, found)) = self.find_hashed(disk, key)? {
+            return Ok(located(Holder::Hashed(index), found));
+        }
+        match self.sorted.find(disk, key)? {
+            Some(place) => Ok(Some(Location {
+                holder: Holder::Sorted,
+                place,
+            })),
             None => Ok(None),
         }
     }
@@ -106,6 +113,7 @@ impl Stores {
             Holder::Active => read_log_value(disk, &self.active, location.place, out),
             Holder::Frozen(index) => read_log_value(disk, &self.frozen[index], location.place, out),
             Holder::Hashed(index) => self.hashes[index].read_value(disk, location.place, out),
+            Holder::Sorted => self.sorted.read_value(disk, location.place, out),
         }
     }
 

@@ -56,6 +56,7 @@ impl Stores {
         ensures map { OnOk result (Remaps (command_of (stored_row kind key.now value.now) ∷ []) (D.content disk.old) (D.content disk.new) self.old self.new) }
         ensures charge { OnOk result (self.new.charge ≡ self.old.charge + puts_of kind) }
         ensures converting { OnOk result (self.new.converting ≡ self.old.converting) }
+        ensures merging { OnOk result (self.new.merging ≡ self.old.merging) }
         ensures ruling { OnOk result (TakesKey (D.content disk.old) (D.content disk.new) self.old self.new key.now.0 (command_of (stored_row kind key.now value.now))) }
         ensures err { IfErr result (TakeCause D.content (GaveAny D.gave) (CountsFault D.failures D.gave) disk.old disk.new self.old self.new key.now.0) }
     {
@@ -90,6 +91,7 @@ impl Stores {
         ensures map { OnOk result (Remaps (command_of (stored_row kind key.now value.now) ∷ []) (D.content disk.old) (D.content disk.new) self.old self.new) }
         ensures charge { OnOk result (self.new.charge ≡ self.old.charge + puts_of kind) }
         ensures converting { OnOk result (self.new.converting ≡ self.old.converting) }
+        ensures merging { OnOk result (self.new.merging ≡ self.old.merging) }
         ensures ruling { OnOk result (TurnsFor (D.content disk.old) (D.content disk.new) self.old self.new key.now.0 (command_of (stored_row kind key.now value.now))) }
         ensures err { IfErr result (TakeCause D.content (GaveAny D.gave) (CountsFault D.failures D.gave) disk.old disk.new self.old self.new key.now.0) }
     {

@@ -14,6 +14,8 @@ use silt_frame::{Key, Kind};
 use silt_hash_store::{Conversion, HashStore};
 use silt_log_store::{LogStore, Placing};
 use silt_manifest::{Body, Manifest};
+use silt_merge::Merge;
+use silt_sorted_store::SortedStore;
 use std::alloc::Global;
 use std::marker::Model;
 use std::mem;
@@ -21,8 +23,8 @@ use std::mem;
 // The generation after which there is none.
 pub(crate) const LAST_GENERATION: u64 = (1 << 63) - 1;
 
-/// The stores of a device: the manifest, the active log, the frozen logs, the hash stores, the conversion under way, and how many
-/// put rows there are.
+/// The stores of a device: the manifest, the active log, the frozen logs, the hash stores, the sorted store, the conversion and the
+/// merge under way, and how many put rows there are.
 #[derive(Drop)]
 pub struct Stores {
     pub(crate) manifest: Manifest,
@@ -31,8 +33,11 @@ pub struct Stores {
     pub(crate) frozen: Vec<LogStore>,
     // The newest first.
     pub(crate) hashes: Vec<HashStore>,
+    pub(crate) sorted: SortedStore,
     // Of the oldest frozen log.
     pub(crate) converting: Option<Conversion>,
+    // Of the oldest hash stores and the sorted store.
+    pub(crate) merging: Option<Merge>,
     // How many put rows there are, those that wait included.
     pub(crate) charge: u32,
 }
@@ -43,9 +48,9 @@ impl Model for Stores {
 
     ghost Value = { StoresState };
 
-    ghost view = { λ a. record { manifest = a.manifest; active = a.active; frozen = a.frozen.items; hashes = a.hashes.items; converting = a.converting; charge = a.charge } };
+    ghost view = { λ a. record { manifest = a.manifest; active = a.active; frozen = a.frozen.items; hashes = a.hashes.items; sorted = a.sorted; converting = a.converting; merging = a.merging; charge = a.charge } };
 
-    ghost invariant = { λ a. AreHeld (record { manifest = a.manifest; active = a.active; frozen = a.frozen.items; hashes = a.hashes.items; converting = a.converting; charge = a.charge }) (vec_capacity a.frozen) (vec_capacity a.hashes) };
+    ghost invariant = { λ a. AreHeld (record { manifest = a.manifest; active = a.active; frozen = a.frozen.items; hashes = a.hashes.items; sorted = a.sorted; converting = a.converting; merging = a.merging; charge = a.charge }) (vec_capacity a.frozen) (vec_capacity a.hashes) };
 }
 
 impl Stores {
@@ -53,30 +58,33 @@ impl Stores {
     ghost use Rattle.silt_log_store.specs.Calls.{IsPlacingFor};
     ghost use Rattle.silt_stores.specs.State.{StoresState, AreHeld, AreWhole};
     ghost use Rattle.silt_stores.specs.Standing.{Stands, waiting_commands};
-    ghost use Rattle.silt_stores.specs.Calls.{Advances, Breaks, CannotTake, IsQuiet, Remaps, SameDisk};
+    ghost use Rattle.silt_stores.specs.Calls.{Advances, Breaks, CannotTake, IsQuiet, Remaps, SameDisk, StaysBehind};
     ghost use Rattle.silt_stores.specs.NextLog.{HasFrozen, IsEmptied, IsNextLog, NoNextCause, active_replaced, empty_store};
     ghost use Rattle.silt_stores.specs.Succession.{MayRule, NowRules};
 
     /// The stores with these parts, where the frozen logs and the hash stores stand the newest first, in `Vec`s with room for seven
-    /// and for sixteen. No conversion is under way.
+    /// and for sixteen. No conversion and no merge is under way.
     pub fn new(
         manifest: Manifest,
         active: LogStore,
         frozen: Vec<LogStore>,
         hashes: Vec<HashStore>,
+        sorted: SortedStore,
         charge: u32,
     ) -> Self
-        requires whole { AreWhole (record { manifest = manifest; active = active; frozen = frozen.items; hashes = hashes.items; converting = None; charge = charge }) }
+        requires whole { AreWhole (record { manifest = manifest; active = active; frozen = frozen.items; hashes = hashes.items; sorted = sorted; converting = None; merging = None; charge = charge }) }
         requires room { 7 ≤ vec_capacity frozen }
         requires hash_room { 16 ≤ vec_capacity hashes }
-        ensures { result ≡ record { manifest = manifest; active = active; frozen = frozen.items; hashes = hashes.items; converting = None; charge = charge } }
+        ensures { result ≡ record { manifest = manifest; active = active; frozen = frozen.items; hashes = hashes.items; sorted = sorted; converting = None; merging = None; charge = charge } }
     {
         Stores {
             manifest,
             active,
             frozen,
             hashes,
+            sorted,
             converting: None,
+            merging: None,
             charge,
         }
     }
@@ -151,7 +159,8 @@ impl Stores {
         ensures ok { OnOk result (Advances (command_of (stored_row kind key.now value.now) ∷ []) (D.content disk.old) (D.content disk.new) self.old self.new) }
         ensures map { OnOk result (Remaps (command_of (stored_row kind key.now value.now) ∷ []) (D.content disk.old) (D.content disk.new) self.old self.new) }
         ensures waits { IsTrue (D.content disk.old).honest → OnOk result (waiting_commands (D.content disk.new) self.new ≡ waiting_commands (D.content disk.old) self.old ++ command_of (stored_row kind key.now value.now) ∷ []) }
-        ensures state { OnOk result ((self.new.manifest ≡ self.old.manifest) × (self.new.frozen ≡ self.old.frozen) × (self.new.hashes ≡ self.old.hashes) × (self.new.converting ≡ self.old.converting) × (self.new.charge ≡ self.old.charge + puts_of kind)) }
+        ensures behind { OnOk result (StaysBehind self.old self.new) }
+        ensures charge { OnOk result (self.new.charge ≡ self.old.charge + puts_of kind) }
         ensures err { OnErr result (Breaks (D.content disk.old) (D.content disk.new) self.old) }
         ensures unmapped { OnErr result (Remaps [] (D.content disk.old) (D.content disk.new) self.old self.new) }
         ensures unchanged { OnErr result (self.new ≡ self.old) }
@@ -175,7 +184,8 @@ impl Stores {
         ensures ok { OnOk result (Advances [] (D.content disk.old) (D.content disk.new) self.old self.new) }
         ensures map { Remaps [] (D.content disk.old) (D.content disk.new) self.old self.new }
         ensures quiet { OnOk result (IsQuiet (D.content disk.new) self.new) }
-        ensures state { (self.new.manifest ≡ self.old.manifest) × (self.new.frozen ≡ self.old.frozen) × (self.new.hashes ≡ self.old.hashes) × (self.new.converting ≡ self.old.converting) × (self.new.charge ≡ self.old.charge) }
+        ensures behind { StaysBehind self.old self.new }
+        ensures charge { self.new.charge ≡ self.old.charge }
         ensures err { OnErr result (Breaks (D.content disk.old) (D.content disk.new) self.old) }
     {
         self.active.open_gates(disk)?;
@@ -216,7 +226,8 @@ impl Stores {
         ensures ok { OnOk result (Advances [] (D.content disk.old) (D.content disk.new) self.old self.new) }
         ensures map { Remaps [] (D.content disk.old) (D.content disk.new) self.old self.new }
         ensures quiet { OnOk result (IsQuiet (D.content disk.new) self.new) }
-        ensures state { (self.new.manifest ≡ self.old.manifest) × (self.new.frozen ≡ self.old.frozen) × (self.new.hashes ≡ self.old.hashes) × (self.new.converting ≡ self.old.converting) × (self.new.charge ≡ self.old.charge) }
+        ensures behind { StaysBehind self.old self.new }
+        ensures charge { self.new.charge ≡ self.old.charge }
         ensures err { OnErr result (Breaks (D.content disk.old) (D.content disk.new) self.old) }
     {
         if !self.has_waiting() {

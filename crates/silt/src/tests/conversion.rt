@@ -8,7 +8,7 @@ use std::rt::Files;
 use std::test::Fail;
 
 // A whole conversion where a hash region has eight slots.
-const CONVERSION: &str =
+pub(crate) const CONVERSION: &str =
     "convert\nconvert\nconvert\nconvert\nconvert\nconvert\nconvert\nconvert\nconvert\n";
 
 // Compares the answers to a script of these parts with such parts.
@@ -24,7 +24,8 @@ fn converts<S: Files<File = File> + AllocGlobal + Abort>(
 }
 
 // What a whole conversion answers.
-const CONVERTED: &str = "moved\nmoved\nmoved\nmoved\nmoved\nmoved\nmoved\nmoved\nfinished\n";
+pub(crate) const CONVERTED: &str =
+    "moved\nmoved\nmoved\nmoved\nmoved\nmoved\nmoved\nmoved\nfinished\n";
 
 // What is answered to the five puts.
 const FIVE_ACCEPTED: &str = "opened\naccepted 1\naccepted 2\naccepted 3\naccepted 4\naccepted 5\n";

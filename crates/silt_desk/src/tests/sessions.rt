@@ -290,7 +290,7 @@ fn many_calls<D: Disk, N: Naming + Send + Sync, R: Threads + Wait + Abort + Sync
     requires accepted { (accepted.name ≡ N.accepted_name) × (accepted.parts ≡ N.seats) }
     requires seats { N.seats ≡ 6 }
 {
-    let (desk, seats) = seated::<D, N>(alloc, core, 400_000, calls, accepted)?;
+    let (desk, seats) = seated::<D, N>(alloc, core, 1_000_000, calls, accepted)?;
     let shared: Shared<D, Kept, N> = RwLock::new(desk);
     let seats = run_all(rt, alloc, &shared, seats, turns)?;
     let (settled, _) = settle(rt, &shared, seats).ok().ok_or("all are here")?;

@@ -48,6 +48,11 @@ const fn slot(region: u32, slot: u32) -> Finding {
     Finding::Damaged(Place::Hash { region, slot })
 }
 
+// An entry of the sorted store.
+const fn entry(place: u32) -> Finding {
+    Finding::Damaged(Place::Sorted(place))
+}
+
 // One byte of an empty store is changed: in the header, then in manifest slot 0, then the gate of slot 1.
 #[test]
 fn finds_each_damaged_byte(rt: HostRuntime) -> Result<(), Fail> {
@@ -69,9 +74,9 @@ fn finds_each_damaged_byte(rt: HostRuntime) -> Result<(), Fail> {
         (8192, 0xA7, Finding::Damaged(Place::Slot(1))),
         // hash region 0 is named twice
         (4144, 2, Finding::Damaged(Place::Slot(0))),
-        // a sorted entry, which no store has yet
-        (4216, 1, NO_SLOT),
-        (4216, 8, NO_SLOT),
+        // two sorted entries, whose keys are zeros both, and more than there is room for
+        (4216, 2, entry(1)),
+        (4216, 9, Finding::Damaged(Place::Slot(0))),
     ];
     for (place, byte, found) in cases {
         let bytes = changed(&rt, alloc, &whole, &[(place, byte)])?;
@@ -326,5 +331,128 @@ fn counts_the_puts_of_hash_stores(rt: HostRuntime) -> Result<(), Fail> {
         ..full
     };
     assert_eq!(rt; looked_at(&rt, alloc, &deleted)?, Ok(nine));
+    Ok(())
+}
+
+// Sorted region 0 has its entries at 36,864 and region 1 at 40,960, 22 bytes each: a key and its value. Here the keys of three
+// entries of region 0 rise: the first two in their first byte, the last two in their last one.
+const THREE_ENTRIES: [(usize, u8); 5] = [
+    (4216, 3),
+    (36_864, 1),
+    (36_886, 2),
+    (36_908, 2),
+    (36_927, 1),
+];
+
+// Each entry counts as a put, beside those in the logs and the hash stores.
+#[test]
+fn counts_the_sorted_entries(rt: HostRuntime) -> Result<(), Fail> {
+    let alloc = rt.alloc();
+    let alone = changed(&rt, alloc, &whole(alloc)?, &THREE_ENTRIES)?;
+    let three = Report {
+        entries: 3,
+        charge: 3,
+        ..EMPTY
+    };
+    assert_eq!(rt; looked_at(&rt, alloc, &alone)?, Ok(three));
+    let logged = changed(&rt, alloc, &alone, &THREE_ROWS)?;
+    let bytes = changed(&rt, alloc, &logged, &HASHED_ROWS)?;
+    let rows = Report {
+        active_rows: 2,
+        frozen: 1,
+        frozen_rows: 1,
+        hashes: 1,
+        hash_rows: 3,
+        entries: 3,
+        charge: 7,
+        ..EMPTY
+    };
+    assert_eq!(rt; looked_at(&rt, alloc, &bytes)?, Ok(rows));
+    let one = changed(&rt, alloc, &whole(alloc)?, &[(4216, 1)])?;
+    let single = Report {
+        entries: 1,
+        charge: 1,
+        ..EMPTY
+    };
+    assert_eq!(rt; looked_at(&rt, alloc, &one)?, Ok(single));
+    Ok(())
+}
+
+// With eight entries that rise the store is full: a put in the log is too many, a delete is not.
+#[test]
+fn counts_the_entries_with_the_puts(rt: HostRuntime) -> Result<(), Fail> {
+    let alloc = rt.alloc();
+    let mut bytes = changed(&rt, alloc, &whole(alloc)?, &[(4216, 8)])?;
+    for place in 0..8usize {
+        assert!(rt; bytes.len() == 45_056);
+        bytes[36_864 + place * 22] = place as u8;
+    }
+    let full = Report {
+        entries: 8,
+        charge: 8,
+        ..EMPTY
+    };
+    assert_eq!(rt; looked_at(&rt, alloc, &bytes)?, Ok(full));
+    let put = changed(&rt, alloc, &bytes, &[(12_288, 0xA7), (16_384, 1)])?;
+    assert_eq!(rt; looked_at(&rt, alloc, &put)?, Err(CHARGE));
+    let deleted = changed(&rt, alloc, &put, &[(16_384, 2)])?;
+    let marked = Report {
+        active_rows: 1,
+        ..full
+    };
+    assert_eq!(rt; looked_at(&rt, alloc, &deleted)?, Ok(marked));
+    // entries that do not rise are found before the charge
+    let equal = changed(&rt, alloc, &put, &[(36_864 + 7 * 22, 6)])?;
+    assert_eq!(rt; looked_at(&rt, alloc, &equal)?, Err(entry(7)));
+    Ok(())
+}
+
+// Each change is made to what the earlier ones left: what is found first decides. Two keys are equal, whatever the values are; then
+// one lies below the key before it; then an earlier one does. The hash stores and the logs are looked at before.
+#[test]
+fn finds_the_first_damaged_entry(rt: HostRuntime) -> Result<(), Fail> {
+    let alloc = rt.alloc();
+    let named = changed(&rt, alloc, &whole(alloc)?, &HASHED_ROWS)?;
+    let mut bytes = changed(&rt, alloc, &named, &THREE_ENTRIES)?;
+    let cases: [(usize, u8, Finding); 7] = [
+        (36_927, 0, entry(2)),
+        (36_928, 9, entry(2)),
+        (36_908, 1, entry(2)),
+        (36_886, 1, entry(1)),
+        (36_886, 0, entry(1)),
+        (28_833, 3, slot(0, 7)),
+        (12_288, 0xA7, row(0, 0)),
+    ];
+    for (place, byte, found) in cases {
+        assert!(rt; place < bytes.len());
+        bytes[place] = byte;
+        assert_eq!(rt;
+            looked_at(&rt, alloc, &bytes)?,
+            Err(found),
+            "{byte} at {place}"
+        );
+    }
+    Ok(())
+}
+
+// The entries are those of the region that the manifest names.
+#[test]
+fn looks_at_the_sorted_region_that_is_named(rt: HostRuntime) -> Result<(), Fail> {
+    let alloc = rt.alloc();
+    let first = changed(&rt, alloc, &whole(alloc)?, &THREE_ENTRIES)?;
+    let second = changed(&rt, alloc, &first, &[(4212, 1)])?;
+    assert_eq!(rt; looked_at(&rt, alloc, &second)?, Err(entry(1)));
+    let rising = changed(
+        &rt,
+        alloc,
+        &second,
+        &[(40_982, 1), (41_004, 2), (36_886, 0)],
+    )?;
+    let three = Report {
+        entries: 3,
+        charge: 3,
+        ..EMPTY
+    };
+    assert_eq!(rt; looked_at(&rt, alloc, &rising)?, Ok(three));
     Ok(())
 }

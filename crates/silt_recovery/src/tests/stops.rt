@@ -151,6 +151,25 @@ fn hands_on_each_fault_of_a_hash_slot(rt: HostRuntime) -> Result<(), Fail> {
     Ok(())
 }
 
+// The keys of three sorted entries are read in three reads more.
+#[test]
+fn hands_on_each_fault_of_an_entry(rt: HostRuntime) -> Result<(), Fail> {
+    let alloc = rt.alloc();
+    let mut bytes = formatted(alloc, small()?)?.shown().to_vec(alloc)?;
+    assert!(rt; bytes.len() == 45_056);
+    bytes[4216] = 3;
+    bytes[36_886] = 1;
+    bytes[36_908] = 2;
+    for number in 1..9u64 {
+        let disk = FaultDisk::new(MemDisk::with_bytes(alloc, &bytes)?, Call::Read, number);
+        let answer = check(alloc, &disk);
+        let is_fault = matches!(&answer, Err(OpenError::Device(_)));
+        assert_eq!(rt; is_fault, number < 8, "{number}");
+        assert_eq!(rt; answer.is_ok(), number == 8, "{number}");
+    }
+    Ok(())
+}
+
 // What the gates of the header, of the manifest's slots and of the first log are after a stop at each call of a formatting, on a device
 // of ones whose pending bytes are then all new: a gate is closed with a zero, and opened with 0xA7.
 #[test]

@@ -24,7 +24,7 @@ use std::thread::{self, Threads};
 const SESSIONS: u32 = 64;
 
 // How many commands each session asks.
-const COMMANDS: u32 = 200;
+const COMMANDS: u32 = 40;
 
 /// A connection, and the value that its key should have.
 #[derive(Drop)]

@@ -20,7 +20,7 @@ enum Finding {
 }
 
 // One byte of a device is changed.
-const BYTES: [(usize, u8, Finding); 44] = [
+const BYTES: [(usize, u8, Finding); 45] = [
     // the header's gate, the magic bytes and the version
     (0, 0x00, Finding::NotFormatted),
     (0, 0xFF, Finding::NotFormatted),
@@ -55,7 +55,8 @@ const BYTES: [(usize, u8, Finding); 44] = [
     (4144, 3, Finding::Damaged(Place::Slot(0))),
     (4212, 1, Finding::Keys(2)),
     (4212, 2, Finding::Damaged(Place::Slot(0))),
-    (4216, 1, Finding::Damaged(Place::NoSlot)),
+    (4216, 1, Finding::Keys(3)),
+    (4216, 2, Finding::Damaged(Place::Sorted(1))),
     (4216, 9, Finding::Damaged(Place::Slot(0))),
     (4217, 1, Finding::Keys(2)),
     // slot 1: of generation 0, which is not its own

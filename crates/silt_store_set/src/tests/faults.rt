@@ -54,7 +54,7 @@ fn is_failed(rt: &impl Abort, alloc: Global, core: &mut Core<FaultDisk>) {
     assert_eq!(rt; answer(core.delete(alloc, &key(1))), Err(9));
     assert_eq!(rt; answer(core.flush()), Err(9));
     assert_eq!(rt; answer(core.convert(alloc)), Err(9));
-    assert_eq!(rt; answer(core.merge()), Err(9));
+    assert_eq!(rt; answer(core.merge(alloc)), Err(9));
     assert!(rt; matches!(core.entries(alloc), Err(Refusal::Failed)));
 }
 

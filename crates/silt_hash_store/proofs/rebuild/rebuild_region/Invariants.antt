@@ -6,7 +6,7 @@ abbrev pub invariant-loop-slot : goal.invariant-loop-slot
 invariant-loop-slot g l = record {
   shape : l.rebuilt.store.shape ≡ l.fn.region.geometry;
   number : l.rebuilt.store.region ≡ l.fn.region.number;
-  puts : l.rebuilt.puts ≤ l.rebuilt.rows;
+  puts : l.rebuilt.store.puts ≤ l.rebuilt.rows;
   rows : l.rebuilt.rows ≤ l.slot;
   grown : IsTrue (g.D.Disk.content l.disk).honest → IsGrown l.rebuilt (g.D.Disk.content l.disk).shown l.slot;
 }

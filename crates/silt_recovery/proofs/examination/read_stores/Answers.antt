@@ -1,12 +1,12 @@
-use Rattle.std.proofs.Common.{◌<◌, ◌≤◌, ◌+◌, ℕ, IsTrue, List, [], ◌∷◌, All, length, refl, sym, ap, ◌∙◌, subst, arith}
+use Rattle.std.proofs.Common.{◌≡◌, ◌<◌, ◌≤◌, ◌+◌, ℕ, IsTrue, List, [], ◌∷◌, All, length, sym, ◌∙◌, subst, arith}
 use Rattle.std.proofs.lemmas.Result.{err_from_is_err_and}
 use Rattle.silt_device.specs.Disk.{GaveAny}
 use Rattle.silt_manifest.specs.Standing.{ruling_slot}
-use Rattle.silt_manifest.specs.declared.body.Body.{Body}
+use Rattle.silt_recovery.specs.Entries.{HasFirstEntry}
 use Rattle.silt_recovery.specs.Hashes.{HasFirstSlot}
 use Rattle.silt_recovery.specs.Logs.{HasFirstFinding}
 use Rattle.silt_recovery.specs.Refusals.{IsFound}
-use Rattle.silt_recovery.proofs.Examinations.{HasRegions, active_refused, charge_refused, frozen_refused, hashed_refused, held, named_so, regions_so, rows_counted}
+use Rattle.silt_recovery.proofs.Examinations.{HasRegions, active_refused, charge_refused, entry_refused, frozen_refused, hashed_refused, held, named_so, regions_so, rows_counted}
 use Rattle.silt_recovery.proofs.Refusals.{refused_weaker}
 use Rattle.silt_recovery.proofs.examination.read_stores.Goals as goal
 
@@ -66,16 +66,41 @@ returns-in_err-hashes-clause-cause g c =
     (hashed_refused content shape body named c.in_ok-active.ensures.sound c.as_slice.result.now c.as_slice.ensures.value c.in_ok-frozen.frozen.stores.items c.in_ok-frozen.frozen.puts c.in_ok-frozen.ensures.read
     c.as_slice-2.result.now c.as_slice-2.ensures.value) c.in_err-hashes.ensures.cause)
 
+pub read_entries-requires-clause-region : goal.read_entries-requires-clause-region
+read_entries-requires-clause-region g c κs within =
+    let all : HasRegions c.geometry-geometry.result c.ruling-body.result =
+    regions_so c.args.manifest (ruling_slot c.args.manifest) c.geometry-geometry.result c.ruling-body.result c.geometry-geometry.ensures.value c.ruling-body.ensures.value c.sorted_capacity.ensures.limits c.ruling-body.ensures.sound in
+    all.sorted
+
+pub read_entries-requires-clause-count : goal.read_entries-requires-clause-count
+read_entries-requires-clause-count g c κs within =
+    let all : HasRegions c.geometry-geometry.result c.ruling-body.result =
+    regions_so c.args.manifest (ruling_slot c.args.manifest) c.geometry-geometry.result c.ruling-body.result c.geometry-geometry.ensures.value c.ruling-body.ensures.value c.sorted_capacity.ensures.limits c.ruling-body.ensures.sound in
+    all.room
+
+pub returns-in_err-sorted-clause-cause : goal.returns-in_err-sorted-clause-cause
+returns-in_err-sorted-clause-cause g c =
+    let content = g.D.Disk.content c.args.disk.now in
+    let shape = c.geometry-geometry.result in
+    let body = c.ruling-body.result in
+    let named = named_so content c.args.manifest shape body c.geometry-geometry.ensures.value c.ruling-body.ensures.value c.requires.named in
+    let refused = err_from_is_err_and c.from_residual-in_err-sorted.result c.from_residual-in_err-sorted.ensures.1 in
+    rw (refused.1, refused.2) (refused_weaker (λ finding. IsTrue content.honest → HasFirstEntry shape content.shown body.sorted body.sorted_count finding) (λ finding. IsTrue content.honest → IsFound content.shown finding)
+    (GaveAny g.D.Disk.gave c.args.disk.now) c.in_err-sorted.field-0.0
+    (entry_refused content shape body named c.in_ok-active.ensures.sound c.as_slice.result.now c.as_slice.ensures.value c.in_ok-frozen.frozen.stores.items c.in_ok-frozen.frozen.puts c.in_ok-frozen.ensures.read
+    c.as_slice-2.result.now c.as_slice-2.ensures.value c.in_ok-hashes.hashes.stores.items c.in_ok-hashes.hashes.puts c.in_ok-hashes.hashes.rows c.in_ok-hashes.ensures.read) c.in_err-sorted.ensures.cause)
+
 pub returns-then-charge-most-clause-cause : goal.returns-then-charge-most-clause-cause
 returns-then-charge-most-clause-cause g c =
     let content = g.D.Disk.content c.args.disk.now in
     let shape = c.geometry-geometry.result in
     let body = c.ruling-body.result in
     let named = named_so content c.args.manifest shape body c.geometry-geometry.ensures.value c.ruling-body.ensures.value c.requires.named in
-    let no_entries = ap (λ (b : Body). b.sorted_count) c.ruling-body.ensures.value ∙ c.requires.no_entries in
-    let many : shape.sorted_capacity < c.from-newest.result + c.in_ok-frozen.frozen.puts + c.in_ok-hashes.hashes.puts = omega (arith, c.if-charge-most.true, c.from-most.ensures, c.sorted_capacity.ensures.value) in
+    let many : shape.sorted_capacity < c.from-newest.result + c.in_ok-frozen.frozen.puts + c.in_ok-hashes.hashes.puts + c.in_ok-sorted.sorted.count =
+    omega (arith, c.if-charge-most.true, c.from-most.ensures, c.sorted_capacity.ensures.value, c.from-entries.ensures, c.len.ensures.value) in
     charge_refused content shape body named c.in_ok-active.ensures.sound c.as_slice.result.now c.as_slice.ensures.value c.in_ok-frozen.frozen.stores.items c.in_ok-frozen.frozen.puts c.in_ok-frozen.ensures.read
-    no_entries c.as_slice-2.result.now c.as_slice-2.ensures.value c.in_ok-hashes.hashes.stores.items c.in_ok-hashes.hashes.puts c.in_ok-hashes.hashes.rows c.in_ok-hashes.ensures.read
+    c.as_slice-2.result.now c.as_slice-2.ensures.value c.in_ok-hashes.hashes.stores.items c.in_ok-hashes.hashes.puts c.in_ok-hashes.hashes.rows c.in_ok-hashes.ensures.read
+    c.in_ok-sorted.sorted c.in_ok-sorted.ensures.store c.len.ensures.held c.in_ok-sorted.ensures.sound
     c.from-newest.result (λ h. c.from-newest.ensures ∙ c.puts.ensures.value ∙ c.in_ok-active.ensures.counted h) many
 
 pub returns-clause-holds : goal.returns-clause-holds
@@ -84,13 +109,14 @@ returns-clause-holds g c =
     let shape = c.geometry-geometry.result in
     let body = c.ruling-body.result in
     let named = named_so content c.args.manifest shape body c.geometry-geometry.ensures.value c.ruling-body.ensures.value c.requires.named in
-    let no_entries = ap (λ (b : Body). b.sorted_count) c.ruling-body.ensures.value ∙ c.requires.no_entries in
-    let charge : ℕ = c.from-newest.result + c.in_ok-frozen.frozen.puts + c.in_ok-hashes.hashes.puts in
+    let charge : ℕ = c.from-newest.result + c.in_ok-frozen.frozen.puts + c.in_ok-hashes.hashes.puts + c.from-entries.result in
+    let total : charge ≡ c.from-newest.result + c.in_ok-frozen.frozen.puts + c.in_ok-hashes.hashes.puts + c.in_ok-sorted.sorted.count = omega (arith, c.from-entries.ensures, c.len.ensures.value) in
     let most : charge ≤ shape.sorted_capacity = omega (arith, c.if-charge-most.false, c.from-most.ensures, c.sorted_capacity.ensures.value) in
     held content shape body named c.in_ok-active.ensures.sound c.as_slice.result.now c.as_slice.ensures.value c.in_ok-frozen.frozen.stores.items c.in_ok-frozen.frozen.puts c.in_ok-frozen.ensures.read
-    no_entries c.as_slice-2.result.now c.as_slice-2.ensures.value c.in_ok-hashes.hashes.stores.items c.in_ok-hashes.hashes.puts c.in_ok-hashes.hashes.rows c.in_ok-hashes.ensures.read
+    c.as_slice-2.result.now c.as_slice-2.ensures.value c.in_ok-hashes.hashes.stores.items c.in_ok-hashes.hashes.puts c.in_ok-hashes.hashes.rows c.in_ok-hashes.ensures.read
+    c.in_ok-sorted.sorted c.in_ok-sorted.ensures.store c.len.ensures.held c.in_ok-sorted.ensures.sound
     c.from-newest.result (λ h. c.from-newest.ensures ∙ c.puts.ensures.value ∙ c.in_ok-active.ensures.counted h) c.args.manifest c.geometry-geometry.ensures.value c.ruling-body.ensures.value
-    c.in_ok-active.active charge c.sorted_capacity.ensures.limits c.requires.size c.requires.idle c.requires.rules c.in_ok-active.ensures.read c.in_ok-active.ensures.region refl most
+    c.in_ok-active.active charge c.sorted_capacity.ensures.limits c.requires.size c.requires.idle c.requires.rules c.in_ok-active.ensures.read c.in_ok-active.ensures.region total most
 
 pub returns-clause-hash_rows : goal.returns-clause-hash_rows
 returns-clause-hash_rows g c =
@@ -98,7 +124,6 @@ returns-clause-hash_rows g c =
     let shape = c.geometry-geometry.result in
     let body = c.ruling-body.result in
     let named = named_so content c.args.manifest shape body c.geometry-geometry.ensures.value c.ruling-body.ensures.value c.requires.named in
-    let no_entries = ap (λ (b : Body). b.sorted_count) c.ruling-body.ensures.value ∙ c.requires.no_entries in
     rows_counted content shape body named c.in_ok-active.ensures.sound c.as_slice.result.now c.as_slice.ensures.value c.in_ok-frozen.frozen.stores.items c.in_ok-frozen.frozen.puts c.in_ok-frozen.ensures.read
-    no_entries c.as_slice-2.result.now c.as_slice-2.ensures.value c.in_ok-hashes.hashes.stores.items c.in_ok-hashes.hashes.puts c.in_ok-hashes.hashes.rows c.in_ok-hashes.ensures.read
-    c.from-newest.result (λ h. c.from-newest.ensures ∙ c.puts.ensures.value ∙ c.in_ok-active.ensures.counted h) c.args.manifest c.geometry-geometry.ensures.value c.ruling-body.ensures.value
+    c.as_slice-2.result.now c.as_slice-2.ensures.value c.in_ok-hashes.hashes.stores.items c.in_ok-hashes.hashes.puts c.in_ok-hashes.hashes.rows c.in_ok-hashes.ensures.read
+    c.args.manifest c.geometry-geometry.ensures.value c.ruling-body.ensures.value

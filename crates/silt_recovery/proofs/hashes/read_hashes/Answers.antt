@@ -22,10 +22,10 @@ loop-region-preserved g c =
     let content = g.D.Disk.content c.args.disk.now in
     let next = c.in_ok-rebuilt.ensures in
     let read = one_more_hash content c.args.geometry c.args.regions.now c.loop-region.region-index c.loop-region.stores.items c.loop-region.puts c.loop-region.rows c.loop-region-test.true c.loop-region.invariant.read
-    c.in_ok-rebuilt.rebuilt.store c.from-puts.result c.in_ok-rebuilt.rebuilt.rows next.region next.read next.sound (λ h. c.from-puts.ensures ∙ next.charged h) next.counted in
+    c.in_ok-rebuilt.rebuilt.store c.from-puts.result c.in_ok-rebuilt.rebuilt.rows next.region next.read next.sound (c.from-puts.ensures ∙ c.puts.ensures.value) next.counted in
     record {
       read = subst (λ (stores : List HashState). AreReadHashes content c.args.geometry (take (c.loop-region.region-index + 1) c.args.regions.now) stores (c.loop-region.puts + c.from-puts.result) (c.loop-region.rows + c.in_ok-rebuilt.rebuilt.rows)) (sym {A = List HashState} c.in-Ok-push.ensures.items) read;
-      most_puts = omega (arith, next.most.0, c.from-puts.ensures, c.loop-region.invariant.most_puts);
+      most_puts = omega (arith, next.most.0, c.from-puts.ensures, c.puts.ensures.value, c.loop-region.invariant.most_puts);
       most_rows = omega (arith, next.most.1, c.loop-region.invariant.most_rows);
       room = omega (arith, c.in-Ok-push.ensures.capacity, c.loop-region.invariant.room);
     }

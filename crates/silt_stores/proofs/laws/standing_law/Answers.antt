@@ -1,4 +1,4 @@
-use Rattle.silt_stores.proofs.Facts.{meaning}
+use Rattle.silt_stores.proofs.Meaning.{meaning}
 use Rattle.silt_stores.proofs.laws.standing_law.Goals as goal
 
 pub returns : goal.returns

@@ -1,7 +1,6 @@
-use Rattle.std.proofs.Common.{ap}
 use Rattle.silt_merge.specs.State.{MergeState}
 use Rattle.silt_merge.proofs.Ending.{decided_held}
-use Rattle.silt_merge.proofs.Viewing.{next_left, state_of}
+use Rattle.silt_merge.proofs.Viewing.{state_of}
 use Rattle.silt_merge.proofs.merge.Merge.mark_decided.Goals as goal
 
 pub invariant_of-self : goal.invariant_of-self

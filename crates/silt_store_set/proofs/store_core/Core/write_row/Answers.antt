@@ -8,7 +8,7 @@ returns-in-Ok g c =
     let may = rw (← c.self.view_is) at c.requires.may in
     let working = may_working c.args.kind (seen g.D.Disk.content c.self.inside.disk c.self.inside.stores c.self.inside.count c.self.inside.failed) may in
     rw (← c.self.view_is, working) (row_taken g.D.Disk.content g.D.Disk.failures (GaveAny g.D.Disk.gave) c.self.inside.disk c.self.inside.stores c.self.inside.count
-    (c.self.invariant.stands working) c.take.new.disk c.take.new.self c.args.kind c.args.key.now c.args.value.now (rw working at may) c.take.ensures.same c.in-Ok.ensures.ok c.in-Ok.ensures.ruling c.in-Ok.ensures.converting c.in-Ok.ensures.failures)
+    (c.self.invariant.stands working) c.take.new.disk c.take.new.self c.args.kind c.args.key.now c.args.value.now (rw working at may) c.take.ensures.same c.in-Ok.ensures.ok c.in-Ok.ensures.ruling c.in-Ok.ensures.converting c.in-Ok.ensures.merging c.in-Ok.ensures.failures)
 
 pub returns-in-Err-Write : goal.returns-in-Err-Write
 returns-in-Err-Write g c =

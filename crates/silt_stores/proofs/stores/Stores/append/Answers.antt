@@ -4,7 +4,16 @@ use Rattle.silt_stores.specs.Standing.{Stands}
 use Rattle.silt_frame.specs.Rows.{puts_of}
 use Rattle.silt_stores.proofs.Appends.{appended, appended_map, appended_waits, not_appended_breaks, not_appended_map}
 use Rattle.silt_stores.proofs.Exits.{on_err}
+use Rattle.silt_stores.proofs.Viewing.{state_of}
 use Rattle.silt_stores.proofs.stores.Stores.append.Goals as goal
+
+pub invariant_of-self-2 : goal.invariant_of-self-2
+invariant_of-self-2 g c =
+    let stands = subst (λ (v : StoresState). Stands (g.D.Disk.content c.args.disk.now) v) (sym c.self.view_is) c.requires.stands in
+    let room = subst (λ (v : StoresState). v.active.log.used < v.active.log.shape.log_capacity) (sym c.self.view_is) c.requires.placing.room in
+    let most = subst (λ (v : StoresState). v.charge + puts_of c.args.kind ≤ v.manifest.shape.sorted_capacity) (sym c.self.view_is) c.requires.charge in
+    let goes = appended _ _ (state_of c.self.inside) c.take.new.self c.args.kind c.args.key.now c.args.value.now _ stands c.take.ensures.size room c.take.ensures.changes c.take.ensures.images c.in_ok-take.ensures.ok (ap (λ (n : ℕ). c.self.inside.charge + n) c.puts.ensures.value) most in
+    record { whole = goes.stands.whole; enough = c.self.invariant.enough; enough_hashes = c.self.invariant.enough_hashes }
 
 pub returns-in_err-take-clause-err : goal.returns-in_err-take-clause-err
 returns-in_err-take-clause-err g c =

@@ -9,12 +9,13 @@ use Rattle.silt_stores.specs.Standing.{Stands}
 use Rattle.silt_stores.specs.Conversion.{convert_turn}
 use Rattle.silt_event.specs.declared.progress.Progress.TheVariants.{Moved}
 use Rattle.silt_stores.proofs.ConvertSteps.{begin_converts, begin_turn, begin_waits, err_of, first_advances, first_failed_breaks, first_failed_map, first_map, started_shape, step_cause}
+use Rattle.silt_stores.proofs.Viewing.{state_of}
 use Rattle.silt_stores.proofs.stores.Stores.begin_conversion.Goals as goal
 
 pub returns-in_default-lowest_free_hash-clause-converts :
     goal.returns-in_default-lowest_free_hash-clause-converts
 returns-in_default-lowest_free_hash-clause-converts g c =
-    let stores : StoresState = record { manifest = c.self.inside.manifest; active = c.self.inside.active; frozen = c.self.inside.frozen.items; hashes = c.self.inside.hashes.items; converting = c.self.inside.converting; charge = c.self.inside.charge } in
+    let stores : StoresState = state_of c.self.inside in
     let none : stores.converting ≡ None = subst (λ (v : StoresState). v.converting ≡ None) (sym c.self.view_is) c.requires.none in
     let read = sym (ap option_copied c.in-Some.is) ∙ c.last.ensures.value ∙ ap (λ (l : List LogStoreState). slice_get l (length l - 1)) c.deref.ensures.value in
     let hashes = c.hashes.ensures.value ∙ ap (λ (sh : Shape). sh.hashes) c.geometry-geometry.ensures.value in
@@ -22,7 +23,7 @@ returns-in_default-lowest_free_hash-clause-converts g c =
 
 pub returns-in_default-start-clause-err : goal.returns-in_default-start-clause-err
 returns-in_default-start-clause-err g c =
-    let stores : StoresState = record { manifest = c.self.inside.manifest; active = c.self.inside.active; frozen = c.self.inside.frozen.items; hashes = c.self.inside.hashes.items; converting = c.self.inside.converting; charge = c.self.inside.charge } in
+    let stores : StoresState = state_of c.self.inside in
     let none : stores.converting ≡ None = subst (λ (v : StoresState). v.converting ≡ None) (sym c.self.view_is) c.requires.none in
     let read = sym (ap option_copied c.in-Some.is) ∙ c.last.ensures.value ∙ ap (λ (l : List LogStoreState). slice_get l (length l - 1)) c.deref.ensures.value in
     let hashes = c.hashes.ensures.value ∙ ap (λ (sh : Shape). sh.hashes) c.geometry-geometry.ensures.value in
@@ -31,7 +32,7 @@ returns-in_default-start-clause-err g c =
 
 pub step-requires-clause-size : goal.step-requires-clause-size
 step-requires-clause-size g c κs within =
-    let stores : StoresState = record { manifest = c.self.inside.manifest; active = c.self.inside.active; frozen = c.self.inside.frozen.items; hashes = c.self.inside.hashes.items; converting = c.self.inside.converting; charge = c.self.inside.charge } in
+    let stores : StoresState = state_of c.self.inside in
     let none : stores.converting ≡ None = subst (λ (v : StoresState). v.converting ≡ None) (sym c.self.view_is) c.requires.none in
     let read = sym (ap option_copied c.in-Some.is) ∙ c.last.ensures.value ∙ ap (λ (l : List LogStoreState). slice_get l (length l - 1)) c.deref.ensures.value in
     let hashes = c.hashes.ensures.value ∙ ap (λ (sh : Shape). sh.hashes) c.geometry-geometry.ensures.value in
@@ -42,7 +43,7 @@ step-requires-clause-size g c κs within =
 
 pub returns-in_err-step-clause-err : goal.returns-in_err-step-clause-err
 returns-in_err-step-clause-err g c =
-    let stores : StoresState = record { manifest = c.self.inside.manifest; active = c.self.inside.active; frozen = c.self.inside.frozen.items; hashes = c.self.inside.hashes.items; converting = c.self.inside.converting; charge = c.self.inside.charge } in
+    let stores : StoresState = state_of c.self.inside in
     let none : stores.converting ≡ None = subst (λ (v : StoresState). v.converting ≡ None) (sym c.self.view_is) c.requires.none in
     let read = sym (ap option_copied c.in-Some.is) ∙ c.last.ensures.value ∙ ap (λ (l : List LogStoreState). slice_get l (length l - 1)) c.deref.ensures.value in
     let hashes = c.hashes.ensures.value ∙ ap (λ (sh : Shape). sh.hashes) c.geometry-geometry.ensures.value in
@@ -58,7 +59,7 @@ returns-in_err-step-clause-err g c =
 
 pub invariant_of-self : goal.invariant_of-self
 invariant_of-self g c =
-    let stores : StoresState = record { manifest = c.self.inside.manifest; active = c.self.inside.active; frozen = c.self.inside.frozen.items; hashes = c.self.inside.hashes.items; converting = c.self.inside.converting; charge = c.self.inside.charge } in
+    let stores : StoresState = state_of c.self.inside in
     let none : stores.converting ≡ None = subst (λ (v : StoresState). v.converting ≡ None) (sym c.self.view_is) c.requires.none in
     let read = sym (ap option_copied c.in-Some.is) ∙ c.last.ensures.value ∙ ap (λ (l : List LogStoreState). slice_get l (length l - 1)) c.deref.ensures.value in
     let hashes = c.hashes.ensures.value ∙ ap (λ (sh : Shape). sh.hashes) c.geometry-geometry.ensures.value in
@@ -70,7 +71,7 @@ invariant_of-self g c =
 
 pub returns-clause-ok : goal.returns-clause-ok
 returns-clause-ok g c =
-    let stores : StoresState = record { manifest = c.self.inside.manifest; active = c.self.inside.active; frozen = c.self.inside.frozen.items; hashes = c.self.inside.hashes.items; converting = c.self.inside.converting; charge = c.self.inside.charge } in
+    let stores : StoresState = state_of c.self.inside in
     let none : stores.converting ≡ None = subst (λ (v : StoresState). v.converting ≡ None) (sym c.self.view_is) c.requires.none in
     let read = sym (ap option_copied c.in-Some.is) ∙ c.last.ensures.value ∙ ap (λ (l : List LogStoreState). slice_get l (length l - 1)) c.deref.ensures.value in
     let hashes = c.hashes.ensures.value ∙ ap (λ (sh : Shape). sh.hashes) c.geometry-geometry.ensures.value in
@@ -81,7 +82,7 @@ returns-clause-ok g c =
 
 pub returns-clause-map : goal.returns-clause-map
 returns-clause-map g c =
-    let stores : StoresState = record { manifest = c.self.inside.manifest; active = c.self.inside.active; frozen = c.self.inside.frozen.items; hashes = c.self.inside.hashes.items; converting = c.self.inside.converting; charge = c.self.inside.charge } in
+    let stores : StoresState = state_of c.self.inside in
     let none : stores.converting ≡ None = subst (λ (v : StoresState). v.converting ≡ None) (sym c.self.view_is) c.requires.none in
     let read = sym (ap option_copied c.in-Some.is) ∙ c.last.ensures.value ∙ ap (λ (l : List LogStoreState). slice_get l (length l - 1)) c.deref.ensures.value in
     let hashes = c.hashes.ensures.value ∙ ap (λ (sh : Shape). sh.hashes) c.geometry-geometry.ensures.value in
@@ -92,7 +93,7 @@ returns-clause-map g c =
 
 pub returns-clause-converts : goal.returns-clause-converts
 returns-clause-converts g c =
-    let stores : StoresState = record { manifest = c.self.inside.manifest; active = c.self.inside.active; frozen = c.self.inside.frozen.items; hashes = c.self.inside.hashes.items; converting = c.self.inside.converting; charge = c.self.inside.charge } in
+    let stores : StoresState = state_of c.self.inside in
     let none : stores.converting ≡ None = subst (λ (v : StoresState). v.converting ≡ None) (sym c.self.view_is) c.requires.none in
     let read = sym (ap option_copied c.in-Some.is) ∙ c.last.ensures.value ∙ ap (λ (l : List LogStoreState). slice_get l (length l - 1)) c.deref.ensures.value in
     let hashes = c.hashes.ensures.value ∙ ap (λ (sh : Shape). sh.hashes) c.geometry-geometry.ensures.value in

@@ -1,4 +1,4 @@
-use Rattle.silt_stores.proofs.Walks.{locates_active, locates_frozen, locates_hashed, locates_none, none_of}
+use Rattle.silt_stores.proofs.Walks.{locates_active, locates_frozen, locates_hashed, locates_none, locates_sorted, none_of}
 use Rattle.silt_stores.proofs.stores.Stores.find.Goals as goal
 
 pub returns-in-Some-clause-located : goal.returns-in-Some-clause-located
@@ -15,7 +15,14 @@ returns-in-Some-3-clause-located g c = λ stands.
     c.in_ok-index.field-0 c.in_ok-index.ensures.found stands (none_of _ c.in_default-2.not-Some) c.in_ok-index-2.field-0 c.in_ok-index-2.ensures.found
     c.in-Some-3.index c.in-Some-3.found c.located-in-Some-3.result c.in_ok-index-2.ensures.there c.in-Some-3.is c.located-in-Some-3.ensures
 
+pub returns-in-Some-4-clause-located : goal.returns-in-Some-4-clause-located
+returns-in-Some-4-clause-located g c = λ stands.
+    locates_sorted (g.D.Disk.content c.args.disk.now) _ c.args.self.now c.self.view_is c.args.key.now.0 _ c.in_ok-found.ensures.last (none_of _ c.in_default.not-Some)
+    c.in_ok-index.field-0 c.in_ok-index.ensures.found stands (none_of _ c.in_default-2.not-Some) c.in_ok-index-2.field-0 c.in_ok-index-2.ensures.found (none_of _ c.in_default-3.not-Some)
+    c.in_ok-place.field-0 c.in_ok-place.ensures.entry c.in-Some-4.place c.in-Some-4.is
+
 pub returns-in-None-clause-located : goal.returns-in-None-clause-located
 returns-in-None-clause-located g c = λ stands.
     locates_none (g.D.Disk.content c.args.disk.now) _ c.args.self.now c.self.view_is c.args.key.now.0 _ c.in_ok-found.ensures.last (none_of _ c.in_default.not-Some)
-    c.in_ok-index.field-0 c.in_ok-index.ensures.found stands (none_of _ c.in_default-2.not-Some) c.in_ok-index-2.field-0 c.in_ok-index-2.ensures.found c.in-None.is
+    c.in_ok-index.field-0 c.in_ok-index.ensures.found stands (none_of _ c.in_default-2.not-Some) c.in_ok-index-2.field-0 c.in_ok-index-2.ensures.found (none_of _ c.in_default-3.not-Some)
+    c.in_ok-place.field-0 c.in_ok-place.ensures.entry c.in-None.is

@@ -5,25 +5,26 @@ use Rattle.silt_stores.specs.declared.next_log.NextLog.{NextLog}
 use Rattle.silt_stores.specs.State.{StoresState}
 use Rattle.silt_stores.specs.NextLog.{AreAllNamed, IsLowestFree, empty_store, next_body}
 use Rattle.silt_stores.proofs.Holdings.{has_room, is_next, no_room, not_all}
+use Rattle.silt_stores.proofs.Viewing.{state_of}
 use Rattle.silt_stores.proofs.stores.Stores.next_log.Goals as goal
 
 pub returns-in_default-clause-err : goal.returns-in_default-clause-err
 returns-in_default-clause-err c =
-    let stores : StoresState = record { manifest = c.self.inside.manifest; active = c.self.inside.active; frozen = c.self.inside.frozen.items; hashes = c.self.inside.hashes.items; converting = c.self.inside.converting; charge = c.self.inside.charge } in
+    let stores : StoresState = state_of c.self.inside in
     let logs = c.logs.ensures.value ∙ ap (λ (sh : Shape). sh.logs) c.geometry-geometry.ensures.value in
     let named = subst (λ (b : Body). AreAllNamed c.logs.result b) c.ruling-ruling.ensures.value c.in_default.ensures.none in
     rw (← c.self.view_is) (no_room stores _ c.logs.result logs c.self.invariant.whole c.ruling-ruling.ensures.sound named)
 
 pub returns-then-ruling-eq-LAST_GENERATION-clause-err : goal.returns-then-ruling-eq-LAST_GENERATION-clause-err
 returns-then-ruling-eq-LAST_GENERATION-clause-err c =
-    let stores : StoresState = record { manifest = c.self.inside.manifest; active = c.self.inside.active; frozen = c.self.inside.frozen.items; hashes = c.self.inside.hashes.items; converting = c.self.inside.converting; charge = c.self.inside.charge } in
+    let stores : StoresState = state_of c.self.inside in
     let logs = c.logs.ensures.value ∙ ap (λ (sh : Shape). sh.logs) c.geometry-geometry.ensures.value in
     let lowest = subst (λ (b : Body). IsLowestFree c.logs.result b c.in-Some.region) c.ruling-ruling.ensures.value c.in-Some.ensures.some in
     rw (← c.self.view_is) (not_all stores (has_room stores _ c.logs.result c.in-Some.region logs c.self.invariant.whole c.ruling-ruling.ensures.sound lowest), ap (λ (b : Body). b.generation) (sym c.ruling-ruling.ensures.value) ∙ c.if-ruling-eq-LAST_GENERATION.true)
 
 pub returns-in-Ok-clause-ok : goal.returns-in-Ok-clause-ok
 returns-in-Ok-clause-ok c =
-    let stores : StoresState = record { manifest = c.self.inside.manifest; active = c.self.inside.active; frozen = c.self.inside.frozen.items; hashes = c.self.inside.hashes.items; converting = c.self.inside.converting; charge = c.self.inside.charge } in
+    let stores : StoresState = state_of c.self.inside in
     let logs = c.logs.ensures.value ∙ ap (λ (sh : Shape). sh.logs) c.geometry-geometry.ensures.value in
     let lowest = subst (λ (b : Body). IsLowestFree c.logs.result b c.in-Some.region) c.ruling-ruling.ensures.value c.in-Some.ensures.some in
     let next : NextLog = record { store = c.in-Ok.store; body = c.next_body.result } in
@@ -34,7 +35,7 @@ returns-in-Ok-clause-ok c =
 
 pub returns-in-Err-clause-err : goal.returns-in-Err-clause-err
 returns-in-Err-clause-err c =
-    let stores : StoresState = record { manifest = c.self.inside.manifest; active = c.self.inside.active; frozen = c.self.inside.frozen.items; hashes = c.self.inside.hashes.items; converting = c.self.inside.converting; charge = c.self.inside.charge } in
+    let stores : StoresState = state_of c.self.inside in
     let logs = c.logs.ensures.value ∙ ap (λ (sh : Shape). sh.logs) c.geometry-geometry.ensures.value in
     let lowest = subst (λ (b : Body). IsLowestFree c.logs.result b c.in-Some.region) c.ruling-ruling.ensures.value c.in-Some.ensures.some in
     rw (← c.self.view_is) (

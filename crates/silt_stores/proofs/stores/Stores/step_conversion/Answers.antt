@@ -9,11 +9,12 @@ use Rattle.silt_stores.specs.Standing.{Stands}
 use Rattle.silt_stores.specs.Conversion.{convert_turn}
 use Rattle.silt_event.specs.declared.progress.Progress.TheVariants.{Moved}
 use Rattle.silt_stores.proofs.ConvertSteps.{err_of, next_advances, next_failed_breaks, next_failed_map, next_map, step_cause}
+use Rattle.silt_stores.proofs.Viewing.{state_of}
 use Rattle.silt_stores.proofs.stores.Stores.step_conversion.Goals as goal
 
 pub returns-in_err-step-clause-err : goal.returns-in_err-step-clause-err
 returns-in_err-step-clause-err g c =
-    let stores : StoresState = record { manifest = c.self.inside.manifest; active = c.self.inside.active; frozen = c.self.inside.frozen.items; hashes = c.self.inside.hashes.items; converting = c.self.inside.converting; charge = c.self.inside.charge } in
+    let stores : StoresState = state_of c.self.inside in
     let after : StoresState = record stores { converting = Some c.step.new.self } in
     let stands = subst (λ (v : StoresState). Stands (g.D.Disk.content c.args.disk.now) v) (sym c.self.view_is) c.requires.stands in
     let turn = subst (λ (v : StoresState). convert_turn v ≡ Moved) (sym c.self.view_is) c.requires.turn in
@@ -26,7 +27,7 @@ returns-in_err-step-clause-err g c =
 
 pub returns-clause-ok : goal.returns-clause-ok
 returns-clause-ok g c =
-    let stores : StoresState = record { manifest = c.self.inside.manifest; active = c.self.inside.active; frozen = c.self.inside.frozen.items; hashes = c.self.inside.hashes.items; converting = c.self.inside.converting; charge = c.self.inside.charge } in
+    let stores : StoresState = state_of c.self.inside in
     let stands = subst (λ (v : StoresState). Stands (g.D.Disk.content c.args.disk.now) v) (sym c.self.view_is) c.requires.stands in
     let turn = subst (λ (v : StoresState). convert_turn v ≡ Moved) (sym c.self.view_is) c.requires.turn in
     let read = sym (ap option_copied c.in-Some-last.is) ∙ c.last.ensures.value ∙ ap (λ (l : List LogStoreState). slice_get l (length l - 1)) c.deref.ensures.value in
@@ -34,7 +35,7 @@ returns-clause-ok g c =
 
 pub returns-clause-map : goal.returns-clause-map
 returns-clause-map g c =
-    let stores : StoresState = record { manifest = c.self.inside.manifest; active = c.self.inside.active; frozen = c.self.inside.frozen.items; hashes = c.self.inside.hashes.items; converting = c.self.inside.converting; charge = c.self.inside.charge } in
+    let stores : StoresState = state_of c.self.inside in
     let stands = subst (λ (v : StoresState). Stands (g.D.Disk.content c.args.disk.now) v) (sym c.self.view_is) c.requires.stands in
     let turn = subst (λ (v : StoresState). convert_turn v ≡ Moved) (sym c.self.view_is) c.requires.turn in
     let read = sym (ap option_copied c.in-Some-last.is) ∙ c.last.ensures.value ∙ ap (λ (l : List LogStoreState). slice_get l (length l - 1)) c.deref.ensures.value in

@@ -1,0 +1,172 @@
+-- What a step of merging does, from what that of the stores in memory does.
+use Rattle.std.proofs.Common.{◌≡◌, ◌<◌, ℕ, ◌+◌, ◌-◌, ◌*◌, ◌%◌, ◌^◌, ◌==◌, ◌⊎◌, inl, inr, Bool, false, true, IsTrue, [], length, Option, Some, None, IfSome, refl, ap, sym, ◌∙◌, subst, arith}
+use Rattle.std.specs.Option.{option_map}
+use Rattle.std.proofs.lemmas.Bool.{cases_Bool, eqb-true, eq-eqb}
+use Rattle.std.proofs.lemmas.List.{length-map}
+use Rattle.std.proofs.lemmas.Nat.{mul-add-lt}
+use Rattle.std.proofs.Math.Nat.{mul_comm}
+use Rattle.silt_device.specs.Disk.{Content}
+use Rattle.silt_device.specs.Layout.{Shape}
+use Rattle.silt_event.specs.declared.event.Event.TheVariants.{Merge}
+use Rattle.silt_event.specs.declared.progress.Progress.{Progress as ProgressOf}
+use Rattle.silt_event.specs.declared.progress.Progress.TheVariants.{Idle, Waiting, Moved, Finished}
+use Rattle.silt_event.specs.declared.refusal.Refusal.TheVariants.{Device, NoMemory, Spent}
+use Rattle.silt_event.specs.declared.reply.Reply.TheVariants.{Progress, Refused}
+use Rattle.silt_merge.specs.Merging.{TakesMemory}
+use Rattle.silt_merge.specs.Rows.{key_count, merged_rows}
+use Rattle.silt_merge.specs.State.{MergeState, is_done, oldest_stores, steps_of}
+use Rattle.silt_stores.specs.Calls.{Advances, Breaks, IsLastGeneration, Remaps, SameDisk}
+use Rattle.silt_stores.specs.Conversion.{is_work}
+use Rattle.silt_stores.specs.Merge.{EndsMerged, HasMergedEntries, IsDoneBySteps, IsNextMerge, MayLackMemory, Merges, MergesOn, full_stores, merge_progress, merge_sources, merge_turn, merged_body}
+use Rattle.silt_stores.specs.Standing.{Stands}
+use Rattle.silt_stores.specs.State.{IsMerging, StoresState, hash_region_of}
+use Rattle.silt_stores.proofs.Meaning.{meaning}
+use Rattle.silt_store_set.specs.CoreState.{CoreState, Does, GathersNext, IsMergeDue, MergeGoesOn, MergeLacksMemory, has_decided, merge_due, merge_work}
+use Rattle.silt_store_set.proofs.Calls.{seen, advanced, answered, broke, refused}
+
+-- a test of two numbers tells what holds exactly where they are the same
+tells_same : (a b : ℕ) (c : Bool) → (c ≡ true → a ≡ b) → (a ≡ b → c ≡ true) → (a == b) ≡ c
+tells_same a b true gives takes = eq-eqb a b (gives refl)
+tells_same a b false gives takes = elim (cases_Bool (a == b)) [
+  | inl same ↦ absurd (let no : false ≡ true = takes (eqb-true a b same) in cc)
+  | inr other ↦ other
+]
+
+-- where a merge is under way there is work
+some_work : (hashes : ℕ) (done : Bool) → is_work (merge_progress hashes (Some done)) ≡ true
+some_work hashes true = refl
+some_work hashes false = refl
+
+-- a slot before the end of the stores is a number below that of all slots
+slot_below : (store stores slot slots : ℕ) → store < stores → slot < slots → store * slots + slot < stores * slots
+slot_below store stores slot slots store_in slot_in = subst (λ (n : ℕ). store * slots + slot < n) (mul_comm slots stores) (mul-add-lt store slots slot stores store_in slot_in)
+
+-- a step in memory as contracts see it
+goes_on : (s : StoresState) (before : Option MergeState) (after : MergeState) → length s.hashes ≡ length s.manifest.ruling.hashed → IsNextMerge s before after
+    → MergeGoesOn s.manifest.ruling (merge_work before) (merge_work (Some after))
+goes_on s None after named step = (step.0 ∙ named, step.1)
+goes_on s (Some before) after named step = (step.0.stores, step.1)
+
+module _ {D F : Type 0} (content : D → Content) (failures : D → ℕ) (gave : D → F → Type 0) (disk : D) (stores : StoresState) (count : ℕ) (stands : Stands (content disk) stores) where
+  -- the store before
+  abbrev before : CoreState D
+  before = seen content disk stores count false
+
+  -- as many hash stores are in memory as the body names
+  hash_count : length stores.hashes ≡ length stores.manifest.ruling.hashed
+  hash_count = sym (length-map stores.hashes hash_region_of) ∙ ap length stands.whole.hash_regions
+
+  -- ---- what is due
+
+  decided_same : (o : Option MergeState) → IfSome o (IsMerging stores) → IfSome o (IsDoneBySteps (content disk) stores)
+      → option_map (has_decided before) (merge_work o) ≡ option_map (λ (merge : MergeState). is_done merge stores.sorted) o
+  decided_same None merging done = refl
+  decided_same (Some merge) merging done =
+      let keys : ℕ = key_count (merge_sources merge.stores (full_stores (content disk) stores)) in
+      let slots : merge.stores * (4 * stores.manifest.shape.buckets) + keys ≡ merge.stores * (4 * merge.shape.buckets) + keys = ap (λ (s : Shape). merge.stores * (4 * s.buckets) + keys) (sym merging.has_shape) in
+      ap Some (tells_same (steps_of merge) (merge.stores * (4 * stores.manifest.shape.buckets) + keys) (is_done merge stores.sorted) (λ d. done.0 d ∙ sym slots) (λ e. done.1 (e ∙ slots)))
+
+  -- what is due is the same in memory and in the body's words: on an honest disk
+  due_same : IsTrue (content disk).honest → merge_due before ≡ merge_turn stores
+  due_same h =
+      ap (λ (n : ℕ). merge_progress n (option_map (has_decided before) (merge_work stores.merging))) (sym hash_count)
+      ∙ ap (merge_progress (length stores.hashes)) (decided_same stores.merging stands.whole.merging ((meaning (content disk) stores stands).merging h))
+
+  both_work : (o : Option MergeState)
+      → is_work (merge_progress (length stores.hashes) (option_map (has_decided before) (merge_work o))) ≡ is_work (merge_progress (length stores.hashes) (option_map (λ (merge : MergeState). is_done merge stores.sorted) o))
+  both_work None = refl
+  both_work (Some merge) = some_work (length stores.hashes) _ ∙ sym (some_work (length stores.hashes) (is_done merge stores.sorted))
+
+  -- there is work in memory where there is in the body's words: on any disk
+  pub work_same : is_work (merge_due before) ≡ is_work (merge_turn stores)
+  work_same =
+      ap (λ (n : ℕ). is_work (merge_progress n (option_map (has_decided before) (merge_work stores.merging)))) (sym hash_count)
+      ∙ both_work stores.merging
+
+  due : (progress : ProgressOf) → progress ≡ merge_turn stores → IsMergeDue content before progress
+  due progress is = record { work = ap is_work is ∙ sym work_same; exact = λ h. is ∙ sym (due_same h) }
+
+  -- ---- a step was answered
+
+  -- the merge under way writes the sorted region that is not named
+  other_region : (o : Option MergeState) → IfSome o (IsMerging stores) → (merge : MergeState) → o ≡ Some merge → merge.region ≡ 1 - stores.manifest.ruling.sorted
+  other_region None merging merge was = absurd (cc)
+  other_region (Some same) merging merge was =
+      let is : IsMerging stores merge = subst (λ (p : Option MergeState). IfSome p (IsMerging stores)) was merging in
+      let named : stores.sorted.region ≡ stores.manifest.ruling.sorted = ap (λ s. s.region) stands.whole.sorted in
+      omega (arith, is.apart, is.held.there, stands.whole.held.region, named)
+
+  entries_are : (new : D) (after : StoresState) (merge : MergeState) → stores.merging ≡ Some merge → HasMergedEntries (content disk) (content new) stores after
+      → (full_stores (content new) after).entries ≡ merged_rows (merge_sources merge.stores (full_stores (content disk) stores))
+  entries_are new after merge was has =
+      subst (λ (o : Option MergeState). IfSome o (λ m. (full_stores (content new) after).entries ≡ merged_rows (merge_sources m.stores (full_stores (content disk) stores)))) was has
+
+  pub stepped : (progress : ProgressOf) (new : D) (after : StoresState) → SameDisk (content disk) (content new) → Advances [] (content disk) (content new) stores after
+      → Merges progress stores after → (progress ≡ Finished → IsTrue (content disk).honest → HasMergedEntries (content disk) (content new) stores after)
+      → (is_work progress ≡ false → new ≡ disk) → failures new ≡ failures disk
+      → Does content failures gave before (seen content new after count false) Merge (Progress progress)
+  stepped Idle new after same goes merges entries quiet counted =
+      rw (quiet refl, merges.done) (answered content failures gave disk stores count false Merge (Progress Idle) refl stands refl refl refl (refl, due Idle merges.due, refl, refl) (λ _. refl) (λ _. tt))
+  stepped Waiting new after same goes merges entries quiet counted = absurd merges.done
+  stepped Moved new after same goes merges entries quiet counted =
+      let moves : MergesOn stores after = merges.done in
+      let ruling : after.manifest.ruling ≡ stores.manifest.ruling = ap (λ (s : StoresState). s.manifest.ruling) moves.is in
+      let merging : after.merging ≡ Some moves.merge = ap (λ (s : StoresState). s.merging) moves.is in
+      let on : MergeGoesOn stores.manifest.ruling (merge_work stores.merging) (merge_work after.merging) = rw merging (goes_on stores stores.merging moves.merge hash_count moves.step) in
+      advanced content failures gave disk new stores after same stands [] count count Merge (Progress Moved) goes refl refl refl refl
+      (refl, due Moved merges.due, (ruling, on), counted) (λ m to e. e) (λ _ _. ruling) (λ _. ap (λ (s : StoresState). s.converting) moves.is) (λ other. absurd (cc)) (λ _. tt) counted
+  stepped Finished new after same goes merges entries quiet counted =
+      let ends : EndsMerged stores after = merges.done in
+      let region : ends.merge.region ≡ 1 - stores.manifest.ruling.sorted = other_region stores.merging stands.whole.merging ends.merge ends.was in
+      advanced content failures gave disk new stores after same stands [] count count Merge (Progress Finished) goes refl refl refl refl (
+        refl,
+        due Finished merges.due,
+        record {
+          work = record { stores = ends.merge.stores; steps = steps_of ends.merge };
+          was = ap merge_work ends.was;
+          none = ap merge_work ends.none;
+          written = ends.merge.written;
+          body = ends.ruling ∙ ap (λ (n : ℕ). merged_body stores.manifest.ruling ends.merge.stores n ends.merge.written) region;
+          entries = λ h. entries_are new after ends.merge ends.was (entries refl h);
+        },
+        counted,
+      )
+      (λ m to e. e) (λ _ unfinished. absurd (cc)) (λ _. ends.converting) (λ other. absurd (cc)) (λ _. tt) counted
+
+  -- ---- a step was refused
+
+  pub step_unread : (new : D) (after : StoresState) (fault : F) → after ≡ stores → new ≡ disk → merge_turn stores ≡ Moved → gave disk fault
+      → Does content failures gave before (seen content new after count false) Merge (Refused (Device fault))
+  step_unread new after fault same same_disk turn given =
+      rw (same_disk, same) (refused content failures gave disk stores count false Merge (Device fault) refl stands refl (inl (due Moved (sym turn), record { given = given; working = refl; same = refl })))
+
+  pub step_spent : (new : D) (after : StoresState) → after ≡ stores → new ≡ disk → merge_turn stores ≡ Finished → IsLastGeneration stores
+      → Does content failures gave before (seen content new after count false) Merge (Refused Spent)
+  step_spent new after same same_disk turn last = rw (same_disk, same) (refused content failures gave disk stores count false Merge Spent refl stands refl (refl, due Finished (sym turn), last))
+
+  -- a merge that gathers a slot has not gathered all of them
+  gathers : (o : Option MergeState) → IfSome o (IsMerging stores) → IfSome o (λ (merge : MergeState). TakesMemory (content disk) (oldest_stores merge.stores stores.hashes) merge)
+      → GathersNext stores.manifest.shape (merge_work o)
+  gathers None merging takes = tt
+  gathers (Some merge) merging takes =
+      let slots : 4 * merge.shape.buckets ≡ 4 * stores.manifest.shape.buckets = ap (λ (s : Shape). 4 * s.buckets) merging.has_shape in
+      let below : merge.store * (4 * merge.shape.buckets) + merge.slot < merge.stores * (4 * merge.shape.buckets) = slot_below merge.store merge.stores merge.slot (4 * merge.shape.buckets) takes.gathers merging.held.slot in
+      subst (λ (n : ℕ). steps_of merge < merge.stores * n) slots (omega (arith, below, merging.held.gathers takes.gathers))
+
+  lacks : ((merge_turn stores ≡ Moved) × MayLackMemory (content disk) stores) ⊎ ((merge_turn stores ≡ Finished) × (IsLastGeneration stores → ⊥))
+      → MergeLacksMemory content failures gave before before
+  lacks (inl (turn, may)) = inl (due Moved (sym turn), gathers stores.merging stands.whole.merging may)
+  lacks (inr (turn, more)) = inr (due Finished (sym turn), more)
+
+  pub step_no_memory : (new : D) (after : StoresState) → after ≡ stores → new ≡ disk
+      → ((merge_turn stores ≡ Moved) × MayLackMemory (content disk) stores) ⊎ ((merge_turn stores ≡ Finished) × (IsLastGeneration stores → ⊥))
+      → Does content failures gave before (seen content new after count false) Merge (Refused NoMemory)
+  step_no_memory new after same same_disk why = rw (same_disk, same) (refused content failures gave disk stores count false Merge NoMemory refl stands refl (refl, lacks why))
+
+  -- a write or a sync failed
+  pub step_broke : (new : D) (after : StoresState) (fault : F) → SameDisk (content disk) (content new) → is_work (merge_turn stores) ≡ true → Breaks (content disk) (content new) stores
+      → Remaps [] (content disk) (content new) stores after → after.manifest.shape ≡ stores.manifest.shape → gave new fault → failures new ≡ (failures disk + 1) % 2 ^ 64
+      → Does content failures gave before (seen content new after count true) Merge (Refused (Device fault))
+  step_broke new after fault same work breaks remaps shape given counted =
+      broke content failures gave disk new stores after same stands count Merge fault breaks shape remaps
+      (inr (work_same ∙ work, record { given = given; counted = counted; failed = refl })) counted

@@ -1,0 +1,16 @@
+-- The stores as their record.
+use Rattle.silt_stores.specs.State.{StoresState}
+use Rattle.silt_stores.specs.declared.stores.Stores.TheInside.{Inside}
+
+-- what the stores are seen as
+abbrev pub state_of : Inside → StoresState
+state_of a = record {
+  manifest = a.manifest;
+  active = a.active;
+  frozen = a.frozen.items;
+  hashes = a.hashes.items;
+  sorted = a.sorted;
+  converting = a.converting;
+  merging = a.merging;
+  charge = a.charge;
+}
