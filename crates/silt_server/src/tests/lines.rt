@@ -2,6 +2,7 @@
 
 use crate::tests::{Open, ask, serve_beside, small};
 use silt_device::{Fill, MemDisk, Stop};
+use silt_recovery::check;
 use std::alloc::Global;
 use std::net::SocketAddr;
 use std::test::Fail;
@@ -58,5 +59,45 @@ fn tells_what_is_not_settled(rt: HostRuntime) -> Result<(), Fail> {
         got.as_slice(),
         b"unsettled 1\nrefused 9 Failed\nrefused 9 Failed\n".as_slice()
     );
+    Ok(())
+}
+
+const FIVE_PUTS: &[u8] =
+    b"put 0100000000000000000000000000000000000000 0001\nput 0200000000000000000000000000000000000000 0002\nput 0300000000000000000000000000000000000000 0003\nput 0400000000000000000000000000000000000000 0004\nput 0500000000000000000000000000000000000000 0005\n";
+
+// Five puts, of which the fifth freezes a log of four rows: it is converted in nine steps, and merged in thirteen. With the five puts
+// and their flushes these are thirty-two calls.
+#[test]
+fn finishes_what_is_wanted(rt: HostRuntime) -> Result<(), Fail> {
+    let alloc = rt.alloc();
+    let ended = serve_beside(
+        &rt,
+        alloc,
+        small(alloc)?,
+        Some(100),
+        1,
+        &Open,
+        |addr: SocketAddr| { ask(&rt, alloc, addr, FIVE_PUTS) },
+    )?;
+    let got = ended.got?;
+    let due = b"accepted 1\naccepted 2\naccepted 3\naccepted 4\naccepted 5\n";
+    assert_eq!(rt; got.as_slice(), due.as_slice());
+    assert_eq!(rt; ended.status, 0);
+    assert!(rt; ended.written.as_slice().ends_with(b"\ncalls 32\n"));
+    let report = check(alloc, &ended.disk).ok().ok_or("a report")?;
+    assert_eq!(rt;
+        (report.generation, report.active, report.active_rows),
+        (3, 1, 1)
+    );
+    assert_eq!(rt;
+        (
+            report.frozen,
+            report.frozen_rows,
+            report.hashes,
+            report.hash_rows
+        ),
+        (0, 0, 0, 0)
+    );
+    assert_eq!(rt; (report.entries, report.charge), (4, 5));
     Ok(())
 }
