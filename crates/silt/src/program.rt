@@ -15,7 +15,7 @@ use silt_store_set::Served;
 use silt_words::{Job, WordsError, read_words};
 use std::alloc::Global;
 use std::io::{self, Read, Write};
-use std::net::{Net, TcpListener};
+use std::net::{Net, TcpListener, TcpStream};
 use std::sync::Wait;
 use std::thread::Threads;
 
@@ -23,17 +23,10 @@ use std::thread::Threads;
 /// where it is refused or a reader or writer fails, 2 where the words name no job.
 pub fn program<
     S: DiskSource,
-    H: Net<Listener = TcpListener> + Threads + Wait + Sync,
+    H: Net<Listener = TcpListener, Stream = TcpStream> + Threads + Wait + Sync,
     R: Read,
     W: Write,
->(
-    rt: &H,
-    alloc: Global,
-    source: S,
-    words: &[String],
-    reader: &mut R,
-    writer: &mut W,
-) -> u8
+>(rt: &H, alloc: Global, source: S, words: &[String], reader: &mut R, writer: &mut W) -> u8
 where
     S::Disk: Served,
     ensures done { result ≡ 0 → (job : JobOf) × NamesJob (map string_bytes words.now) job
@@ -58,7 +51,7 @@ pub fn status_of(ended: io::Result<u8>) -> u8
 /// The reader's or the writer's, and want of memory for the text of a reply.
 pub fn answer<
     S: DiskSource,
-    H: Net<Listener = TcpListener> + Threads + Wait + Sync,
+    H: Net<Listener = TcpListener, Stream = TcpStream> + Threads + Wait + Sync,
     R: Read,
     W: Write,
 >(
@@ -83,17 +76,10 @@ where
 // Does a job, and answers the status.
 fn do_job<
     S: DiskSource,
-    H: Net<Listener = TcpListener> + Threads + Wait + Sync,
+    H: Net<Listener = TcpListener, Stream = TcpStream> + Threads + Wait + Sync,
     R: Read,
     W: Write,
->(
-    rt: &H,
-    alloc: Global,
-    source: S,
-    job: Job<'_>,
-    reader: &mut R,
-    writer: &mut W,
-) -> io::Result<u8>
+>(rt: &H, alloc: Global, source: S, job: Job<'_>, reader: &mut R, writer: &mut W) -> io::Result<u8>
 where
     S::Disk: Served,
     ensures told { IfOk result (λ status. (status ≡ 0) ⊎ ((status ≡ 1) × TellsJob S.Disk.Disk.content S.Disk.Disk.failures (GaveAny S.Disk.Disk.gave) (S.opened source) (S.not_opened source) (S.created source) (S.not_created source)

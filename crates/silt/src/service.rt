@@ -10,7 +10,7 @@ use silt_store_set::Refusal;
 use silt_words::Service;
 use std::alloc::Global;
 use std::io::{self, Write};
-use std::net::{Net, TcpListener};
+use std::net::{Net, TcpListener, TcpStream};
 use std::sync::Wait;
 use std::thread::Threads;
 
@@ -30,7 +30,7 @@ impl Gate for Open {
 /// The writer's, and want of memory for the text of a line.
 pub fn serve_file<
     S: DiskSource,
-    H: Net<Listener = TcpListener> + Threads + Wait + Sync,
+    H: Net<Listener = TcpListener, Stream = TcpStream> + Threads + Wait + Sync,
     W: Write,
 >(
     rt: &H,
@@ -51,9 +51,7 @@ pub fn serve_file<
     };
     let sessions = service.sessions.unwrap_or(0);
     let audit = service.audit.map(u64::from);
-    let (disk, ended) = serve_on(
-        rt, alloc, &listener, disk, audit, sessions, &Open, writer,
-    );
+    let (disk, ended) = serve_on(rt, alloc, &listener, disk, audit, sessions, &Open, writer);
     (Some(disk), done_or_failed(ended))
 }
 

@@ -13,9 +13,12 @@ use silt_device::FileDisks;
 use silt_words::WordsError;
 use std::fs::File;
 use std::io::{self, Cursor, ErrorKind, Read, Write};
+use std::net::{Net, TcpListener, TcpStream};
 use std::process::Abort;
 use std::rt::Files;
+use std::sync::Wait;
 use std::test::Fail;
+use std::thread::Threads;
 
 // Values of two bytes, two buckets, four rows a log.
 pub(crate) const SMALL: &str = "silt script 2 2 4 2 2 8";
@@ -77,17 +80,20 @@ fn words<S: AllocGlobal>(rt: &S, text: &str) -> Result<Vec<String>, Fail> {
 }
 
 // Runs the program on a text, and compares its status and what it writes.
-pub(crate) fn answers<S: Files<File = File> + AllocGlobal + Abort>(
-    rt: &S,
-    call: &str,
-    text: &[u8],
-    status: u8,
-    output: &[u8],
-) -> Result<(), Fail> {
+pub(crate) fn answers<
+    S: Files<File = File>
+        + AllocGlobal
+        + Abort
+        + Net<Listener = TcpListener, Stream = TcpStream>
+        + Threads
+        + Wait
+        + Sync,
+>(rt: &S, call: &str, text: &[u8], status: u8, output: &[u8]) -> Result<(), Fail> {
     let words = words(rt, call)?;
     let mut reader = Cursor::new(text);
     let mut out = Vec::new(rt.alloc());
     let code = program(
+        rt,
         rt.alloc(),
         FileDisks::new(rt),
         words.as_slice(),
@@ -143,6 +149,7 @@ fn answers_any_pieces(rt: HostRuntime) -> Result<(), Fail> {
         let mut out = Vec::new(rt.alloc());
         assert_eq!(rt;
             program(
+                &rt,
                 rt.alloc(),
                 FileDisks::new(&rt),
                 words.as_slice(),
@@ -170,6 +177,7 @@ fn ends_by_a_reader_that_fails(rt: HostRuntime) -> Result<(), Fail> {
     let mut out = Vec::new(rt.alloc());
     assert_eq!(rt;
         program(
+            &rt,
             rt.alloc(),
             FileDisks::new(&rt),
             words.as_slice(),
@@ -207,6 +215,7 @@ fn ends_by_a_writer_that_fails(rt: HostRuntime) -> Result<(), Fail> {
         };
         assert_eq!(rt;
             program(
+                &rt,
                 rt.alloc(),
                 FileDisks::new(&rt),
                 words.as_slice(),

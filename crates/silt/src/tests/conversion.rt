@@ -3,21 +3,27 @@
 use crate::tests::freeze::{FIVE_PUTS, joined};
 use crate::tests::{SMALL, answers};
 use std::fs::File;
+use std::net::{Net, TcpListener, TcpStream};
 use std::process::Abort;
 use std::rt::Files;
+use std::sync::Wait;
 use std::test::Fail;
+use std::thread::Threads;
 
 // A whole conversion where a hash region has eight slots.
 pub(crate) const CONVERSION: &str =
     "convert\nconvert\nconvert\nconvert\nconvert\nconvert\nconvert\nconvert\nconvert\n";
 
 // Compares the answers to a script of these parts with such parts.
-fn converts<S: Files<File = File> + AllocGlobal + Abort>(
-    rt: &S,
-    call: &str,
-    parts: &[&str],
-    output: &[&str],
-) -> Result<(), Fail> {
+fn converts<
+    S: Files<File = File>
+        + AllocGlobal
+        + Abort
+        + Net<Listener = TcpListener, Stream = TcpStream>
+        + Threads
+        + Wait
+        + Sync,
+>(rt: &S, call: &str, parts: &[&str], output: &[&str]) -> Result<(), Fail> {
     let text = joined(rt, parts)?;
     let output = joined(rt, output)?;
     answers(rt, call, &text, 0, &output)

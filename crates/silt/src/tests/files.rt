@@ -7,9 +7,12 @@ use crate::tests::{Pieces, Short, answers, words};
 use silt_device::{Disk, FileDisk, FileDisks};
 use std::fs::{self, File};
 use std::io::{self, Cursor};
+use std::net::{Net, TcpListener, TcpStream};
 use std::process::Abort;
 use std::rt::Files;
+use std::sync::Wait;
 use std::test::Fail;
+use std::thread::Threads;
 
 // Makes a folder, without what an earlier run left in it.
 fn make_folder(runtime: &HostRuntime, name: &str) -> io::Result<()> {
@@ -47,6 +50,7 @@ fn formats_a_file_again(rt: HostRuntime) -> Result<(), Fail> {
         let mut reader = Cursor::new(b"".as_slice());
         assert_eq!(rt;
             program(
+                &rt,
                 rt.alloc(),
                 FileDisks::new(&rt),
                 words.as_slice(),
@@ -116,11 +120,15 @@ fn runs_on_a_file(rt: HostRuntime) -> Result<(), Fail> {
 }
 
 // Each line is refused by this reply on the store in the file `lines/disk`.
-fn refuses<S: Files<File = File> + AllocGlobal + Abort>(
-    rt: &S,
-    lines: &[&str],
-    reply: &[u8],
-) -> Result<(), Fail> {
+fn refuses<
+    S: Files<File = File>
+        + AllocGlobal
+        + Abort
+        + Net<Listener = TcpListener, Stream = TcpStream>
+        + Threads
+        + Wait
+        + Sync,
+>(rt: &S, lines: &[&str], reply: &[u8]) -> Result<(), Fail> {
     let mut text = Vec::new(rt.alloc());
     let mut output = b"opened\n".to_vec(rt.alloc())?;
     for line in lines {
@@ -212,6 +220,7 @@ fn ends_a_life_by_a_fault(rt: HostRuntime) -> Result<(), Fail> {
     let mut out = Vec::new(rt.alloc());
     assert_eq!(rt;
         program(
+            &rt,
             rt.alloc(),
             FileDisks::new(&rt),
             words.as_slice(),
@@ -230,6 +239,7 @@ fn ends_a_life_by_a_fault(rt: HostRuntime) -> Result<(), Fail> {
         };
         assert_eq!(rt;
             program(
+                &rt,
                 rt.alloc(),
                 FileDisks::new(&rt),
                 words.as_slice(),

@@ -3,9 +3,12 @@
 use crate::tests::freeze::with_keys;
 use crate::tests::{SMALL, answers};
 use std::fs::File;
+use std::net::{Net, TcpListener, TcpStream};
 use std::process::Abort;
 use std::rt::Files;
+use std::sync::Wait;
 use std::test::Fail;
+use std::thread::Threads;
 
 // An unknown word, or a wrong number of words. A stop line with a bad number or fill is one too.
 pub(crate) const BAD_LINES: [&str; 21] = [
@@ -54,11 +57,15 @@ pub(crate) const BAD_VALUES: [&str; 5] = [
 ];
 
 // Each line is refused by this reply, and the next one is answered.
-fn refuses<S: Files<File = File> + AllocGlobal + Abort>(
-    rt: &S,
-    lines: &[&str],
-    reply: &str,
-) -> Result<(), Fail> {
+fn refuses<
+    S: Files<File = File>
+        + AllocGlobal
+        + Abort
+        + Net<Listener = TcpListener, Stream = TcpStream>
+        + Threads
+        + Wait
+        + Sync,
+>(rt: &S, lines: &[&str], reply: &str) -> Result<(), Fail> {
     for line in lines {
         let mut text = with_keys(rt, line)?;
         text.extend_from_slice(b"\r\nflush\n")?;

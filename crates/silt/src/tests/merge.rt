@@ -4,9 +4,12 @@ use crate::tests::answers;
 use crate::tests::conversion::{CONVERSION, CONVERTED};
 use crate::tests::freeze::joined;
 use std::fs::File;
+use std::net::{Net, TcpListener, TcpStream};
 use std::process::Abort;
 use std::rt::Files;
+use std::sync::Wait;
 use std::test::Fail;
+use std::thread::Threads;
 
 // As many steps of merging as one hash store has slots, and so many answers.
 const GATHERING: &str = "merge\nmerge\nmerge\nmerge\nmerge\nmerge\nmerge\nmerge\n";
@@ -14,12 +17,15 @@ const GATHERING: &str = "merge\nmerge\nmerge\nmerge\nmerge\nmerge\nmerge\nmerge\
 const GATHERED: &str = "moved\nmoved\nmoved\nmoved\nmoved\nmoved\nmoved\nmoved\n";
 
 // Compares the answers to a script of these parts with such parts.
-fn merges<S: Files<File = File> + AllocGlobal + Abort>(
-    rt: &S,
-    call: &str,
-    parts: &[&str],
-    output: &[&str],
-) -> Result<(), Fail> {
+fn merges<
+    S: Files<File = File>
+        + AllocGlobal
+        + Abort
+        + Net<Listener = TcpListener, Stream = TcpStream>
+        + Threads
+        + Wait
+        + Sync,
+>(rt: &S, call: &str, parts: &[&str], output: &[&str]) -> Result<(), Fail> {
     let text = joined(rt, parts)?;
     let output = joined(rt, output)?;
     answers(rt, call, &text, 0, &output)
