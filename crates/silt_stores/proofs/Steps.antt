@@ -5,6 +5,7 @@ use Rattle.silt_log_store.specs.State.{LogStoreState}
 use Rattle.silt_manifest.specs.Standing.{ManifestState}
 use Rattle.silt_stores.specs.declared.next_log.NextLog.{NextLog}
 use Rattle.silt_stores.specs.State.{StoresState}
+use Rattle.silt_stores.specs.Calls.{StaysBehind}
 use Rattle.silt_stores.specs.NextLog.{HasFrozen, IsLowestFree, IsNextLog, empty_store, next_body}
 
 -- the next log of stores with the same manifest and as many frozen logs
@@ -19,15 +20,15 @@ next_for s t next manifest frozen is = record {
 }
 
 -- the first log of later stores
-pub frozen_from : (next : NextLog) (content : Content) (first before after : StoresState) → before.frozen ≡ first.frozen → before.hashes ≡ first.hashes → before.converting ≡ first.converting → before.sorted ≡ first.sorted → before.merging ≡ first.merging → before.charge ≡ first.charge → HasFrozen next content before after → HasFrozen next content first after
-frozen_from next content first before after frozen hashes converting sorted merging charge has = record {
+pub frozen_from : (next : NextLog) (content : Content) (first before after : StoresState) → StaysBehind first before → before.charge ≡ first.charge → HasFrozen next content before after → HasFrozen next content first after
+frozen_from next content first before after behind charge has = record {
   quiet = has.quiet;
   active = has.active;
   ruling = has.ruling;
-  frozen = has.frozen ∙ ap (λ (l : List LogStoreState). length l + 1) frozen;
-  hashes = has.hashes ∙ hashes;
-  sorted = has.sorted ∙ sorted;
-  converting = has.converting ∙ converting;
-  merging = has.merging ∙ merging;
+  frozen = has.frozen ∙ ap (λ (l : List LogStoreState). length l + 1) behind.frozen;
+  hashes = has.hashes ∙ behind.hashes;
+  sorted = has.sorted ∙ behind.sorted;
+  converting = has.converting ∙ behind.converting;
+  merging = has.merging ∙ behind.merging;
   charge = has.charge ∙ charge;
 }

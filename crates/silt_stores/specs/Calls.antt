@@ -15,6 +15,15 @@ pub record SameDisk (old new : Content) : Type 0 where
   pub size : size new ≡ size old
   pub honest : new.honest ≡ old.honest
 
+-- but for the active log and the charge all is as it was in memory
+pub record StaysBehind (before after : StoresState) : Type 0 where
+  pub manifest : after.manifest ≡ before.manifest
+  pub frozen : after.frozen ≡ before.frozen
+  pub hashes : after.hashes ≡ before.hashes
+  pub sorted : after.sorted ≡ before.sorted
+  pub converting : after.converting ≡ before.converting
+  pub merging : after.merging ≡ before.merging
+
 -- a beginning of what waited, and these commands behind it, went into the base
 pub record MovesIntoBase (adds : List Command) (old new : Content) (before after : StoresState) : Type 0 where
   pub moved : List Command

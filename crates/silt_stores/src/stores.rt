@@ -58,7 +58,7 @@ impl Stores {
     ghost use Rattle.silt_log_store.specs.Calls.{IsPlacingFor};
     ghost use Rattle.silt_stores.specs.State.{StoresState, AreHeld, AreWhole};
     ghost use Rattle.silt_stores.specs.Standing.{Stands, waiting_commands};
-    ghost use Rattle.silt_stores.specs.Calls.{Advances, Breaks, CannotTake, IsQuiet, Remaps, SameDisk};
+    ghost use Rattle.silt_stores.specs.Calls.{Advances, Breaks, CannotTake, IsQuiet, Remaps, SameDisk, StaysBehind};
     ghost use Rattle.silt_stores.specs.NextLog.{HasFrozen, IsEmptied, IsNextLog, NoNextCause, active_replaced, empty_store};
     ghost use Rattle.silt_stores.specs.Succession.{MayRule, NowRules};
 
@@ -159,7 +159,8 @@ impl Stores {
         ensures ok { OnOk result (Advances (command_of (stored_row kind key.now value.now) ∷ []) (D.content disk.old) (D.content disk.new) self.old self.new) }
         ensures map { OnOk result (Remaps (command_of (stored_row kind key.now value.now) ∷ []) (D.content disk.old) (D.content disk.new) self.old self.new) }
         ensures waits { IsTrue (D.content disk.old).honest → OnOk result (waiting_commands (D.content disk.new) self.new ≡ waiting_commands (D.content disk.old) self.old ++ command_of (stored_row kind key.now value.now) ∷ []) }
-        ensures state { OnOk result ((self.new.manifest ≡ self.old.manifest) × (self.new.frozen ≡ self.old.frozen) × (self.new.hashes ≡ self.old.hashes) × (self.new.converting ≡ self.old.converting) × (self.new.sorted ≡ self.old.sorted) × (self.new.merging ≡ self.old.merging) × (self.new.charge ≡ self.old.charge + puts_of kind)) }
+        ensures behind { OnOk result (StaysBehind self.old self.new) }
+        ensures charge { OnOk result (self.new.charge ≡ self.old.charge + puts_of kind) }
         ensures err { OnErr result (Breaks (D.content disk.old) (D.content disk.new) self.old) }
         ensures unmapped { OnErr result (Remaps [] (D.content disk.old) (D.content disk.new) self.old self.new) }
         ensures unchanged { OnErr result (self.new ≡ self.old) }
@@ -183,7 +184,8 @@ impl Stores {
         ensures ok { OnOk result (Advances [] (D.content disk.old) (D.content disk.new) self.old self.new) }
         ensures map { Remaps [] (D.content disk.old) (D.content disk.new) self.old self.new }
         ensures quiet { OnOk result (IsQuiet (D.content disk.new) self.new) }
-        ensures state { (self.new.manifest ≡ self.old.manifest) × (self.new.frozen ≡ self.old.frozen) × (self.new.hashes ≡ self.old.hashes) × (self.new.converting ≡ self.old.converting) × (self.new.sorted ≡ self.old.sorted) × (self.new.merging ≡ self.old.merging) × (self.new.charge ≡ self.old.charge) }
+        ensures behind { StaysBehind self.old self.new }
+        ensures charge { self.new.charge ≡ self.old.charge }
         ensures err { OnErr result (Breaks (D.content disk.old) (D.content disk.new) self.old) }
     {
         self.active.open_gates(disk)?;
@@ -224,7 +226,8 @@ impl Stores {
         ensures ok { OnOk result (Advances [] (D.content disk.old) (D.content disk.new) self.old self.new) }
         ensures map { Remaps [] (D.content disk.old) (D.content disk.new) self.old self.new }
         ensures quiet { OnOk result (IsQuiet (D.content disk.new) self.new) }
-        ensures state { (self.new.manifest ≡ self.old.manifest) × (self.new.frozen ≡ self.old.frozen) × (self.new.hashes ≡ self.old.hashes) × (self.new.converting ≡ self.old.converting) × (self.new.sorted ≡ self.old.sorted) × (self.new.merging ≡ self.old.merging) × (self.new.charge ≡ self.old.charge) }
+        ensures behind { StaysBehind self.old self.new }
+        ensures charge { self.new.charge ≡ self.old.charge }
         ensures err { OnErr result (Breaks (D.content disk.old) (D.content disk.new) self.old) }
     {
         if !self.has_waiting() {

@@ -10,7 +10,7 @@ use Rattle.silt_stores.proofs.Commits.{frozen_advances, frozen_map, frozen_may_r
 use Rattle.silt_stores.proofs.stores.Stores.freeze.Goals as goal
 
 pub clear_region-requires-clause-next : goal.clear_region-requires-clause-next
-clear_region-requires-clause-next g c κs within = next_for c.args.self.now c.settle.new.self c.args.next c.settle.ensures.state.0 c.settle.ensures.state.1 c.requires.next
+clear_region-requires-clause-next g c κs within = next_for c.args.self.now c.settle.new.self c.args.next c.settle.ensures.behind.manifest c.settle.ensures.behind.frozen c.requires.next
 
 pub returns-in_err-clear_region-clause-map : goal.returns-in_err-clear_region-clause-map
 returns-in_err-clear_region-clause-map g c = remaps_trans [] [] (g.D.Disk.content c.args.disk.now) (g.D.Disk.content c.settle.new.disk) (g.D.Disk.content c.clear_region.new.disk) c.args.self.now c.settle.new.self c.settle.new.self c.settle.ensures.same c.settle.ensures.map c.clear_region.ensures.map
@@ -58,4 +58,4 @@ returns-clause-frozen g c =
     let has = subst (λ (t : StoresState). HasFrozen c.clear_region.new.next (g.D.Disk.content c.change_manifest.new.disk) c.settle.new.self t) (sym c.replace_active.ensures) (has_frozen (g.D.Disk.content c.clear_region.new.disk) c.settle.new.self c.clear_region.new.next c.in_ok-clear_region.ensures.ok.stands c.in_ok-clear_region.ensures.quiet c.in_ok-clear_region.ensures.emptied
     (g.D.Disk.content c.change_manifest.new.disk) c.change_manifest.ensures.same.size c.in_ok-manifest.manifest c.in_ok-manifest.ensures.ok) in
     subst (λ (n : NextLog). HasFrozen n (g.D.Disk.content c.change_manifest.new.disk) c.args.self.now c.replace_active.new.self) c.clear_region.ensures.next
-    (frozen_from c.clear_region.new.next (g.D.Disk.content c.change_manifest.new.disk) c.args.self.now c.settle.new.self c.replace_active.new.self c.settle.ensures.state.1 c.settle.ensures.state.2 c.settle.ensures.state.3 c.settle.ensures.state.4 c.settle.ensures.state.5 c.settle.ensures.state.6 has)
+    (frozen_from c.clear_region.new.next (g.D.Disk.content c.change_manifest.new.disk) c.args.self.now c.settle.new.self c.replace_active.new.self c.settle.ensures.behind c.settle.ensures.charge has)

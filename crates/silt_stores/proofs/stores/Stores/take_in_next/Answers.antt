@@ -16,7 +16,7 @@ returns-in-Ok-append-clause-ok g c =
 pub returns-in-Ok-append-clause-ruling : goal.returns-in-Ok-append-clause-ruling
 returns-in-Ok-append-clause-ruling g c =
     turns_for (command_of (stored_row c.args.kind c.args.key.now c.args.value.now)) (g.D.Disk.content c.args.disk.now) (g.D.Disk.content c.freeze.new.disk) (g.D.Disk.content c.append.new.disk)
-    c.args.self.now c.freeze.new.self c.append.new.self c.in-Ok.next c.args.key.now.0 c.freeze.ensures.same c.requires.needs c.in-Ok.ensures.ok c.in_default.ensures.frozen c.in-Ok-append.ensures.state.0
+    c.args.self.now c.freeze.new.self c.append.new.self c.in-Ok.next c.args.key.now.0 c.freeze.ensures.same c.requires.needs c.in-Ok.ensures.ok c.in_default.ensures.frozen c.in-Ok-append.ensures.behind.manifest
     (returns-in-Ok-append-clause-ok g c) c.in-Ok-append.ensures.waits
 
 pub returns-in-Err-append-clause-err : goal.returns-in-Err-append-clause-err
