@@ -201,9 +201,11 @@ fn blank(alloc: Global) -> Result<Vec<u8>, Fail> {
 fn finds_crafted_damage(rt: HostRuntime) -> Result<(), Fail> {
     let alloc = rt.alloc();
     let whole = blank(alloc)?;
-    assert_eq!(rt; whole.len(), 45_056);
-    let short = find_damage(&rt, alloc, &whole[..45_055])?;
-    assert_eq!(rt; short, Finding::Damaged(Place::Length));
+    let mut short = blank(alloc)?;
+    let _last = short.pop();
+    assert_eq!(rt; short.len(), 45_055);
+    let found = find_damage(&rt, alloc, &short)?;
+    assert_eq!(rt; found, Finding::Damaged(Place::Length));
     let crafted: [(&[(usize, u8)], Finding); 3] = [
         (&[(8192, 0xA7)], Finding::Damaged(Place::Slot(1))),
         (&[(4216, 2)], Finding::Damaged(Place::Sorted(1))),
