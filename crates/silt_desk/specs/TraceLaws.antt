@@ -106,10 +106,10 @@ settles_more a c base waiting s t h old step moves =
     let all : commands_of (a.calls ++ c ∷ []) ≡ commands_of a.calls ++ own = commands_more a.calls c in
     let count : t.count ≡ a.count + length (commands_of (a.calls ++ c ∷ [])) = omega (arith, step.adds, old.counted, ap length all, length-append (commands_of a.calls) own) in
     let rest : (old.moved ++ moves.moved) ++ t.waiting ≡ waiting ++ commands_of (a.calls ++ c ∷ []) =
-        append_assoc old.moved moves.moved t.waiting ∙ ap (λ (cs : List Command). old.moved ++ cs) moves.rest ∙ sym (append_assoc old.moved s.waiting own)
-        ∙ ap (λ (cs : List Command). cs ++ own) old.rest ∙ append_assoc waiting (commands_of a.calls) own ∙ ap (λ (cs : List Command). waiting ++ cs) (sym all) in
+    append_assoc old.moved moves.moved t.waiting ∙ ap (λ (cs : List Command). old.moved ++ cs) moves.rest ∙ sym (append_assoc old.moved s.waiting own)
+    ∙ ap (λ (cs : List Command). cs ++ own) old.rest ∙ append_assoc waiting (commands_of a.calls) own ∙ ap (λ (cs : List Command). waiting ++ cs) (sym all) in
     let long : length (old.moved ++ moves.moved) + length t.waiting ≡ length waiting + length (commands_of (a.calls ++ c ∷ [])) =
-        sym (length-append (old.moved ++ moves.moved) t.waiting) ∙ ap length rest ∙ length-append waiting (commands_of (a.calls ++ c ∷ [])) in
+    sym (length-append (old.moved ++ moves.moved) t.waiting) ∙ ap length rest ∙ length-append waiting (commands_of (a.calls ++ c ∷ [])) in
     record {
       moved = old.moved ++ moves.moved;
       rest = rest;
@@ -117,7 +117,7 @@ settles_more a c base waiting s t h old step moves =
       counted = count;
       acknowledged = λ settled sum.
           let before : acknowledged_after settled (replies_of a.calls) ≤ settled + length (old.moved ++ moves.moved) =
-              omega (arith, old.acknowledged settled sum, length-append old.moved moves.moved) in
+          omega (arith, old.acknowledged settled sum, length-append old.moved moves.moved) in
           let now : settled + length (old.moved ++ moves.moved) + length t.waiting ≡ t.count = omega (arith, long, count, sum) in
           subst (λ (n : ℕ). n ≤ settled + length (old.moved ++ moves.moved)) (sym (acknowledged_more settled a.calls c))
           (acknowledged_one c.reply (acknowledged_after settled (replies_of a.calls)) s.count t.count (settled + length (old.moved ++ moves.moved)) t step.counts (step.settles h) now before);
@@ -160,11 +160,13 @@ survives_on a c opening s t survives step =
             waiting = waiting;
             opens = opens;
             settled = λ working. absurd (let no : false ≡ true = sym working ∙ ap (λ (x : SeenStore). x.failed) stays.0 ∙ failed in cc);
-            left = record { each = λ h image left.
-                subst (λ (shape : Shape). StandsRecorded (with_call a c) shape base waiting image) (sym step.shape)
-                (records_on a c s.shape base waiting image
-                    (ap (λ (r : PlainReply). accepted_command c.event r) stays.1 ∙ none_refused c.event Failed) (λ n. ap (λ (r : PlainReply). acknowledged_by n r) stays.1)
-                    ((subst (λ (x : SeenStore). LeavesOnly x.content (StandsRecorded a s.shape base waiting)) (sym stays.0) survives.left).each h image left)) };
+            left = record {
+              each = λ h image left.
+                  subst (λ (shape : Shape). StandsRecorded (with_call a c) shape base waiting image) (sym step.shape)
+                  (records_on a c s.shape base waiting image
+                  (ap (λ (r : PlainReply). accepted_command c.event r) stays.1 ∙ none_refused c.event Failed) (λ n. ap (λ (r : PlainReply). acknowledged_by n r) stays.1)
+                  ((subst (λ (x : SeenStore). LeavesOnly x.content (StandsRecorded a s.shape base waiting)) (sym stays.0) survives.left).each h image left));
+            };
           }
       | false ↦ λ working. elim [
         | false ↦ λ goes.
@@ -177,11 +179,12 @@ survives_on a c opening s t survives step =
               left = record { each = λ h image left. keeps_settled (with_call a c) base waiting t image (settled h) ((step.safe goes).each h image left) };
             }
         | true ↦ λ fails. record {
-            base = base;
-            waiting = waiting;
-            opens = opens;
-            settled = λ still. absurd (let no : false ≡ true = sym still ∙ fails in cc);
-            left = record { each = λ h image left.
+          base = base;
+          waiting = waiting;
+          opens = opens;
+          settled = λ still. absurd (let no : false ≡ true = sym still ∙ fails in cc);
+          left = record {
+            each = λ h image left.
                 let old = survives.settled working (was h) in
                 let torn = (step.crash working fails).each h image left in
                 let fault = fault_adds c.event c.reply (step.faulted working fails) in
@@ -196,8 +199,9 @@ survives_on a c opening s t survives step =
                   },
                   subst (λ (m : Map). StandsFor s.shape m image) (ap (λ (m : Map). map_after m torn.kept) old.has_base ∙ sym (map_after-append base old.moved torn.kept)) torn.stands,
                 ) in
-                subst (λ (shape : Shape). StandsRecorded (with_call a c) shape base waiting image) (sym step.shape) (records_on a c s.shape base waiting image fault.0 fault.1 before) };
-          }
+                subst (λ (shape : Shape). StandsRecorded (with_call a c) shape base waiting image) (sym step.shape) (records_on a c s.shape base waiting image fault.0 fault.1 before);
+          };
+        }
       ]
     ] in
     go s.failed refl t.failed refl

@@ -70,11 +70,7 @@ pub fn serve_on<D: Disk, G: Gate + Sync, R: Threads + Wait + Sync, W: Write>(
 /// # Errors
 ///
 /// The writer's, and want of memory for the text of a line.
-pub fn refuse_network<D: Disk, W: Write>(
-    alloc: Global,
-    disk: D,
-    out: &mut W,
-) -> (D, io::Result<u8>)
+pub fn refuse_network<D: Disk, W: Write>(alloc: Global, disk: D, out: &mut W) -> (D, io::Result<u8>)
     ensures { IfOk result.1 (λ status. status ≡ 1) }
 {
     match Core::open(alloc, disk) {
