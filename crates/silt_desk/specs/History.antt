@@ -29,8 +29,8 @@ count_accepted [] = 0
 count_accepted (c ∷ calls) = accepted_by c.reply + count_accepted calls
 
 -- what was asked, in order
-abbrev pub events_of : List RecordedCall → List Event
-events_of calls = map (λ (c : RecordedCall). c.event) calls
+abbrev pub called_events : List RecordedCall → List Event
+called_events calls = map (λ (c : RecordedCall). c.event) calls
 
 -- what was answered, in order
 abbrev pub replies_of : List RecordedCall → List (Reply (Unit {0}))
@@ -38,7 +38,7 @@ replies_of calls = map (λ (c : RecordedCall). c.reply) calls
 
 -- the commands that were accepted, in order
 abbrev pub commands_of : List RecordedCall → List Command
-commands_of calls = accepted_commands (events_of calls) (replies_of calls)
+commands_of calls = accepted_commands (called_events calls) (replies_of calls)
 
 -- the calls of one seat, in order
 abbrev pub calls_of_seat : ℕ → List RecordedCall → List RecordedCall
@@ -52,4 +52,4 @@ OthersStayLaw = (other : ℕ) (calls : List RecordedCall) (c : RecordedCall) →
 -- The calls are a history of one thread: done one after the other by a plain map they have these replies, and take the count of
 -- accepted commands and the map from the first to the last.
 abbrev pub Replays : ℕ → Map → List RecordedCall → ℕ → Map → Type 0
-Replays count opening calls end to = Legal count opening (events_of calls) (replies_of calls) end to
+Replays count opening calls end to = Legal count opening (called_events calls) (replies_of calls) end to

@@ -15,13 +15,13 @@ plain_answer (Ok a) = Ok a
 plain_answer (Err refusal) = Err (plain_refusal refusal)
 
 -- what was asked, where these are the bytes of the value
-abbrev pub event_of : Note → List ℕ → Event
-event_of (Put key answer) value = event.Put key value
-event_of (Delete key answer) value = event.Delete key
-event_of (Flush answer) value = event.Flush
-event_of (Get key answer) value = event.Get key
-event_of (Convert answer) value = event.Convert
-event_of (Merge answer) value = event.Merge
+abbrev pub noted_event : Note → List ℕ → Event
+noted_event (Put key answer) value = event.Put key value
+noted_event (Delete key answer) value = event.Delete key
+noted_event (Flush answer) value = event.Flush
+noted_event (Get key answer) value = event.Get key
+noted_event (Convert answer) value = event.Convert
+noted_event (Merge answer) value = event.Merge
 
 -- what was answered, where these are the bytes of the value
 abbrev pub reply_of : Note → List ℕ → Reply (Unit {0})

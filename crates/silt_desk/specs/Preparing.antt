@@ -10,6 +10,6 @@ NotPreparedCause full takes Full = full
 NotPreparedCause full takes NoMemory = takes
 
 -- the refusal by which that is told
-abbrev pub refusal_of : {F : Type 0} → NotPrepared → Refusal F
-refusal_of Full = refusal.HistoryFull
-refusal_of NoMemory = refusal.NoMemory
+abbrev pub unprepared_refusal : {F : Type 0} → NotPrepared → Refusal F
+unprepared_refusal Full = refusal.HistoryFull
+unprepared_refusal NoMemory = refusal.NoMemory

@@ -14,9 +14,9 @@ use Rattle.silt_store_set.proofs.Calls.{none_refused}
 use Rattle.silt_store_set.proofs.Keeps.{fault_adds}
 use Rattle.silt_store_set.proofs.Maps.{map_after-append, append_nil}
 use Rattle.silt_desk.specs.declared.call.RecordedCall.{RecordedCall}
-use Rattle.silt_desk.specs.History.{OthersStayLaw, accepted_by, calls_of_seat, commands_of, count_accepted, events_of, replies_of, Replays}
+use Rattle.silt_desk.specs.History.{OthersStayLaw, accepted_by, calls_of_seat, commands_of, count_accepted, called_events, replies_of, Replays}
 use Rattle.silt_desk.specs.Seeing.{MovesSeen, NoneWaits, SeenStore, SeenStep}
-use Rattle.silt_desk.specs.Traces.{HasEntries, HasSettled, IsHistory, Keeping, StandsRecorded, Survives, with_call}
+use Rattle.silt_desk.specs.Traces.{ListsMap, HasSettled, IsHistory, Keeping, StandsRecorded, Survives, with_call}
 
 -- a number modulo 2^64 after an addition
 pub next_count : (a b n k m : ℕ) → a ≡ n % 2 ^ 64 → b ≡ (a + k) % 2 ^ 64 → m ≡ n + k → b ≡ m % 2 ^ 64
@@ -32,7 +32,7 @@ legal_more count m (e ∷ events) (r ∷ replies) mid between event reply end to
 legal_more count m [] (r ∷ replies) mid between event reply end to legal counts step = absurd legal
 legal_more count m (e ∷ events) [] mid between event reply end to legal counts step = absurd legal
 
-events_more : (calls : List RecordedCall) (c : RecordedCall) → events_of (calls ++ c ∷ []) ≡ events_of calls ++ c.event ∷ []
+events_more : (calls : List RecordedCall) (c : RecordedCall) → called_events (calls ++ c ∷ []) ≡ called_events calls ++ c.event ∷ []
 events_more [] c = refl
 events_more (x ∷ calls) c = ap (λ events. x.event ∷ events) (events_more calls c)
 
@@ -45,8 +45,8 @@ pub replays_more : (count : ℕ) (m : Map) (calls : List RecordedCall) (mid : �
     → Replays count m calls mid between → Counts mid c.reply end → Step between c.event c.reply to → Replays count m (calls ++ c ∷ []) end to
 replays_more count m calls mid between c end to replays counts step =
     subst (λ events. Legal count m events (replies_of (calls ++ c ∷ [])) end to) (sym (events_more calls c))
-    (subst (λ replies. Legal count m (events_of calls ++ c.event ∷ []) replies end to) (sym (replies_more calls c))
-    (legal_more count m (events_of calls) (replies_of calls) mid between c.event c.reply end to replays counts step))
+    (subst (λ replies. Legal count m (called_events calls ++ c.event ∷ []) replies end to) (sym (replies_more calls c))
+    (legal_more count m (called_events calls) (replies_of calls) mid between c.event c.reply end to replays counts step))
 
 -- ---- numbers of calls
 
@@ -250,7 +250,7 @@ settles_none kept store none count = record {
 }
 
 -- a history with no calls yet, of this store as it stands
-pub history_opens : (kept : Keeping) (store : SeenStore) → kept.calls ≡ [] → kept.count ≡ store.count → (IsTrue store.content.honest → HasEntries kept.opening store.map)
+pub history_opens : (kept : Keeping) (store : SeenStore) → kept.calls ≡ [] → kept.count ≡ store.count → (IsTrue store.content.honest → ListsMap kept.opening store.map)
     → (IsTrue store.content.honest → store.map ≡ map_after store.base store.waiting) → LeavesOnly store.content (StandsFor store.shape store.base) → IsHistory kept store
 history_opens kept store none count entries has_map safe = record {
   map = store.map;

@@ -12,7 +12,7 @@ use Rattle.silt_image.specs.Meaning.{StandsFor}
 use Rattle.silt_store_set.specs.CoreState.{KeepsFrom}
 use Rattle.silt_frame.specs.Rows.{key_cmp}
 use Rattle.silt_desk.specs.declared.call.RecordedCall.{RecordedCall}
-use Rattle.silt_desk.specs.History.{Replays, commands_of, events_of, replies_of}
+use Rattle.silt_desk.specs.History.{Replays, commands_of, called_events, replies_of}
 use Rattle.silt_desk.specs.Seeing.{SeenStore}
 
 pub record Keeping : Type 0 where
@@ -25,8 +25,8 @@ pub record Keeping : Type 0 where
   pub most : ℕ
 
 -- these are the entries of the map
-abbrev pub HasEntries : List (Key × List ℕ) → Map → Type 0
-HasEntries entries map = (key : Key) → lookup (is_at (key_cmp key)) entries ≡ get map key.0
+abbrev pub ListsMap : List (Key × List ℕ) → Map → Type 0
+ListsMap entries map = (key : Key) → lookup (is_at (key_cmp key)) entries ≡ get map key.0
 
 -- the history with one call more
 abbrev pub with_call : Keeping → RecordedCall → Keeping
@@ -36,7 +36,7 @@ with_call kept c = record { opening = kept.opening; count = kept.count; calls = 
 -- accepted since, with each one that was acknowledged
 abbrev pub StandsRecorded : Keeping → Shape → Map → List Command → List ℕ → Type 0
 StandsRecorded kept shape base waiting image =
-    (cs : List Command) × KeepsFrom waiting kept.count (events_of kept.calls) (replies_of kept.calls) cs × StandsFor shape (map_after base cs) image
+    (cs : List Command) × KeepsFrom waiting kept.count (called_events kept.calls) (replies_of kept.calls) cs × StandsFor shape (map_after base cs) image
 
 -- what went into the base since the history began, at a base with these commands waiting, holds all that was acknowledged, and the rest waits
 pub record HasSettled (kept : Keeping) (base : Map) (waiting : List Command) (store : SeenStore) : Type 0 where
@@ -58,6 +58,6 @@ pub record Survives (kept : Keeping) (opening : Map) (store : SeenStore) : Type 
 -- what they may keep.
 pub record IsHistory (kept : Keeping) (store : SeenStore) : Type 0 where
   pub map : Map
-  pub entries : IsTrue store.content.honest → HasEntries kept.opening map
+  pub entries : IsTrue store.content.honest → ListsMap kept.opening map
   pub replays : IsTrue store.content.honest → Replays kept.count map kept.calls store.count store.map
   pub survives : Survives kept map store

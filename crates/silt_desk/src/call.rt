@@ -4,7 +4,7 @@ ghost use Rattle.silt_event.specs.Events.{plain_refusal};
 ghost use Rattle.silt_store_set.specs.Replies.{change_reply, get_reply, progress_reply};
 ghost use Rattle.silt_event.specs.declared.reply.Reply.TheVariants as reply_case;
 ghost use Rattle.silt_desk.specs.History.{accepted_by, is_recorded};
-ghost use Rattle.silt_desk.specs.Notes.{event_of, plain_answer, reply_of};
+ghost use Rattle.silt_desk.specs.Notes.{noted_event, plain_answer, reply_of};
 
 use silt_event::{Event, Progress, Refusal, Reply};
 use silt_frame::{Key, Value};
@@ -53,7 +53,7 @@ impl Note {
 
     /// The call and its answer, where these are the bytes of the value.
     pub fn with_value(self, bytes: Vec<u8>) -> (Event, Reply<()>)
-        ensures event { result.0 ≡ event_of self bytes.items }
+        ensures event { result.0 ≡ noted_event self bytes.items }
         ensures reply { result.1 ≡ reply_of self bytes.items }
     {
         match self {

@@ -2,8 +2,8 @@
 ghost use Rattle.std.specs.Prelude.{◌≡◌, ◌≢◌, ℕ, ◌+◌, ◌<◌, ◌%◌, ◌^◌, Some, Ok, false, IsTrue, length, IfOk, IfErr, OnOk, MatchResult, vec_len, vec_capacity, slice_get};
 ghost use Rattle.silt_event.specs.Events.{plain};
 ghost use Rattle.silt_desk.specs.DeskState.{Notes};
-ghost use Rattle.silt_desk.specs.Notes.{event_of, reply_of};
-ghost use Rattle.silt_desk.specs.Preparing.{refusal_of};
+ghost use Rattle.silt_desk.specs.Notes.{noted_event, reply_of};
+ghost use Rattle.silt_desk.specs.Preparing.{unprepared_refusal};
 ghost use Rattle.silt_desk.specs.Seats.{accepted_of, calls_of, fresh};
 
 use crate::call::{Note, plain};
@@ -58,7 +58,7 @@ fn note<T: Trace, N: Naming>(
 )
     requires room { T.is_full trace.old → ⊥ }
     requires fits { T.fits (vec_capacity room) (length value.now) }
-    ensures { Notes T.extends trace.old trace.new ledgers.old ledgers.new seat.old seat.new (event_of note value.now) (reply_of note value.now) }
+    ensures { Notes T.extends trace.old trace.new ledgers.old ledgers.new seat.old seat.new (noted_event note value.now) (reply_of note value.now) }
 {
     if note.is_recorded() {
         trace.record(seat.number(), note, value, room);
@@ -68,7 +68,7 @@ fn note<T: Trace, N: Naming>(
 
 // Why a call is refused for which no record can be made.
 fn refusal<F>(lack: NotPrepared) -> Refusal<F>
-    ensures { result ≡ refusal_of lack }
+    ensures { result ≡ unprepared_refusal lack }
 {
     match lack {
         NotPrepared::Full => Refusal::HistoryFull,

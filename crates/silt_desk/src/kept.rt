@@ -3,7 +3,7 @@ ghost use Rattle.std.specs.Prelude.{◌≡◌, ◌≤◌, ◌≢◌, [], length,
 ghost use Rattle.silt_device.specs.Disk.{GaveAny};
 ghost use Rattle.silt_store_set.specs.CoreState.{EntriesCause, map_of};
 ghost use Rattle.silt_desk.specs.Seeing.{seen};
-ghost use Rattle.silt_desk.specs.Traces.{HasEntries, IsHistory};
+ghost use Rattle.silt_desk.specs.Traces.{ListsMap, IsHistory};
 
 use crate::call::{Note, RecordedCall};
 use crate::trace::{NotPrepared, Trace};
@@ -46,7 +46,7 @@ impl Kept {
     ///
     /// `Failed`, `Device` with the fault of a read, `NoMemory`.
     pub fn new<D: Disk>(alloc: Global, core: &Core<D>, most: u64) -> Result<Kept, Refusal<D::Fault>>
-        ensures entries { IsTrue (D.content core.now.disk).honest → IfOk result (λ kept. HasEntries kept.opening (map_of core.now)) }
+        ensures entries { IsTrue (D.content core.now.disk).honest → IfOk result (λ kept. ListsMap kept.opening (map_of core.now)) }
         ensures count { IfOk result (λ kept. kept.count ≡ core.now.count) }
         ensures calls { IfOk result (λ kept. (kept.calls ≡ []) × (kept.most ≡ most)) }
         ensures working { OnOk result (core.now.failed ≡ false) }

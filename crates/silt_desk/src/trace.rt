@@ -1,7 +1,7 @@
 // What a desk remembers of its calls.
 ghost use Rattle.std.specs.Prelude.{◌≡◌, ℕ, ◌+◌, ◌%◌, ◌^◌, MatchResult, length, vec_capacity};
 ghost use Rattle.silt_desk.specs.History.{accepted_by, call};
-ghost use Rattle.silt_desk.specs.Notes.{event_of, reply_of};
+ghost use Rattle.silt_desk.specs.Notes.{noted_event, reply_of};
 ghost use Rattle.silt_desk.specs.Seeing.{SeenStore, SeenStep};
 ghost use Rattle.silt_desk.specs.Preparing.{NotPreparedCause};
 ghost use Rattle.silt_desk.specs.declared.call.RecordedCall.{RecordedCall as Recorded};
@@ -46,7 +46,7 @@ pub trait Trace: Drop {
     fn record(&mut self, seat: u64, note: Note, value: &[u8], room: Vec<u8>)
         requires room { is_full self.old → ⊥ }
         requires fits { fits (vec_capacity room) (length value.now) }
-        ensures { extends self.old (call seat (event_of note value.now) (reply_of note value.now)) self.new };
+        ensures { extends self.old (call seat (noted_event note value.now) (reply_of note value.now)) self.new };
 
     /// How many calls are recorded, and how many of them are accepted commands, both modulo 2^64.
     fn numbers(&self) -> (u64, u64)
