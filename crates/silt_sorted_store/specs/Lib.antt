@@ -3,3 +3,4 @@ pub mod Region
 pub mod OnlyRow
 pub mod Rebuild
 pub mod Laws
+pub mod Index
