@@ -1,5 +1,5 @@
 use Rattle.silt_sorted_store.proofs.Entries.{entry_read}
-use Rattle.silt_sorted_store.proofs.store.SortedStore.entry.Goals as goal
+use Rattle.silt_sorted_store.proofs.sorted_entries.SortedEntries.entry.Goals as goal
 
 pub returns-clause-entry : goal.returns-clause-entry
 returns-clause-entry g c = λ honest.

@@ -1,6 +1,6 @@
 use Rattle.std.proofs.Common.{arith}
 use Rattle.silt_sorted_store.proofs.Entries.{key_read}
-use Rattle.silt_sorted_store.proofs.store.SortedStore.read_key.Goals as goal
+use Rattle.silt_sorted_store.proofs.sorted_entries.SortedEntries.read_key.Goals as goal
 
 pub returns-clause-key : goal.returns-clause-key
 returns-clause-key g c = λ honest.

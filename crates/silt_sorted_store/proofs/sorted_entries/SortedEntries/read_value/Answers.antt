@@ -1,6 +1,6 @@
 use Rattle.std.proofs.Common.{arith}
 use Rattle.silt_sorted_store.proofs.Entries.{value_read}
-use Rattle.silt_sorted_store.proofs.store.SortedStore.read_value.Goals as goal
+use Rattle.silt_sorted_store.proofs.sorted_entries.SortedEntries.read_value.Goals as goal
 
 pub returns-clause-value : goal.returns-clause-value
 returns-clause-value g c = λ honest.
