@@ -153,6 +153,7 @@ impl SortedEntries {
         ensures keys { IsTrue (D.content disk.now).honest → OnOk result (HoldsKeys (entries_of (D.content disk.now) self.now) place count (entry_len self.now.shape) out.new) }
         ensures fault { IfErr result (GaveAny D.gave disk.now) }
     {
+        let _count = self.len(); // so the entries lie within the region
         disk.read(self.entry_at(place), out)?;
         Ok(())
     }

@@ -95,9 +95,15 @@ impl SortedStore {
     fn locate(&self, key: &Key) -> Option<u32>
         ensures below { IfSome result (λ place. place < self.now.sorted.count) }
         ensures place { (rows : List StoredRow) → length rows ≡ self.now.sorted.count → IsIndexOf rows self.now.index → IsPlaceOfKey rows key.now.0 result }
+        ensures held { IsHeldSorted self.now.sorted }
     {
+        let count = self.entries.len();
         let place = u32::try_from(self.index.locate_marked(key)?).ok()?;
-        if place < self.entries.len() { Some(place) } else { None }
+        if place < count {
+            Some(place)
+        } else {
+            None
+        }
     }
 
     /// The place of the entry with this key, none where no entry has it. It reads one key, or none where the index has no place.

@@ -63,13 +63,7 @@ enum Outcome {
 }
 
 // What a rebuild of so many entries of a region comes to.
-fn rebuild<D: Disk>(
-    alloc: Global,
-    disk: &D,
-    geometry: Geometry,
-    region: u32,
-    count: u32,
-) -> Outcome
+fn rebuild<D: Disk>(alloc: Global, disk: &D, geometry: Geometry, region: u32, count: u32) -> Outcome
     requires region { region < 2 }
     requires count { count ≤ geometry.sorted_capacity }
     requires size { device_size geometry ≤ size (D.content disk.now) }
@@ -104,7 +98,10 @@ fn finds_each_key_and_no_other(rt: HostRuntime) -> Result<(), Fail> {
     let geometry = small()?;
     let mut disk = MemDisk::new(rt.alloc(), geometry.size() as usize)?;
     fill(&mut disk, 8)?;
-    assert_eq!(rt; rebuild(rt.alloc(), &disk, geometry, 1, 8), Outcome::Rebuilt(8));
+    assert_eq!(rt;
+        rebuild(rt.alloc(), &disk, geometry, 1, 8),
+        Outcome::Rebuilt(8)
+    );
     for place in 0..8 {
         assert_eq!(rt;
             find(rt.alloc(), &disk, geometry, 8, &key(10 + 10 * place, 0)),
@@ -119,8 +116,14 @@ fn finds_each_key_and_no_other(rt: HostRuntime) -> Result<(), Fail> {
             Some(None)
         );
     }
-    assert_eq!(rt; find(rt.alloc(), &disk, geometry, 8, &key(85, 0)), Some(None));
-    assert_eq!(rt; find(rt.alloc(), &disk, geometry, 7, &key(80, 0)), Some(None));
+    assert_eq!(rt;
+        find(rt.alloc(), &disk, geometry, 8, &key(85, 0)),
+        Some(None)
+    );
+    assert_eq!(rt;
+        find(rt.alloc(), &disk, geometry, 7, &key(80, 0)),
+        Some(None)
+    );
     Ok(())
 }
 
@@ -155,9 +158,18 @@ fn keys_rise_by_their_bytes(rt: HostRuntime) -> Result<(), Fail> {
     write_entry(&mut disk, 0, &key(0, 255), [0, 0])?;
     write_entry(&mut disk, 1, &key(1, 0), [0, 1])?;
     write_entry(&mut disk, 2, &key(1, 1), [0, 2])?;
-    assert_eq!(rt; rebuild(rt.alloc(), &disk, geometry, 1, 3), Outcome::Rebuilt(3));
-    assert_eq!(rt; find(rt.alloc(), &disk, geometry, 3, &key(1, 0)), Some(Some(1)));
-    assert_eq!(rt; find(rt.alloc(), &disk, geometry, 3, &key(0, 254)), Some(None));
+    assert_eq!(rt;
+        rebuild(rt.alloc(), &disk, geometry, 1, 3),
+        Outcome::Rebuilt(3)
+    );
+    assert_eq!(rt;
+        find(rt.alloc(), &disk, geometry, 3, &key(1, 0)),
+        Some(Some(1))
+    );
+    assert_eq!(rt;
+        find(rt.alloc(), &disk, geometry, 3, &key(0, 254)),
+        Some(None)
+    );
     Ok(())
 }
 
@@ -168,10 +180,19 @@ fn the_first_entry_that_does_not_rise_decides(rt: HostRuntime) -> Result<(), Fai
     let mut disk = MemDisk::new(rt.alloc(), geometry.size() as usize)?;
     fill(&mut disk, 6)?;
     write_entry(&mut disk, 4, &key(15, 0), [0, 0])?;
-    assert_eq!(rt; rebuild(rt.alloc(), &disk, geometry, 1, 6), Outcome::Damaged(4));
-    assert_eq!(rt; rebuild(rt.alloc(), &disk, geometry, 1, 4), Outcome::Rebuilt(4));
+    assert_eq!(rt;
+        rebuild(rt.alloc(), &disk, geometry, 1, 6),
+        Outcome::Damaged(4)
+    );
+    assert_eq!(rt;
+        rebuild(rt.alloc(), &disk, geometry, 1, 4),
+        Outcome::Rebuilt(4)
+    );
     write_entry(&mut disk, 2, &key(20, 0), [0, 0])?;
-    assert_eq!(rt; rebuild(rt.alloc(), &disk, geometry, 1, 6), Outcome::Damaged(2));
+    assert_eq!(rt;
+        rebuild(rt.alloc(), &disk, geometry, 1, 6),
+        Outcome::Damaged(2)
+    );
     Ok(())
 }
 
@@ -181,9 +202,18 @@ fn a_blank_region_has_at_most_one_entry(rt: HostRuntime) -> Result<(), Fail> {
     let geometry = small()?;
     let mut disk = MemDisk::new(rt.alloc(), geometry.size() as usize)?;
     fill(&mut disk, 8)?;
-    assert_eq!(rt; rebuild(rt.alloc(), &disk, geometry, 0, 2), Outcome::Damaged(1));
-    assert_eq!(rt; rebuild(rt.alloc(), &disk, geometry, 0, 1), Outcome::Rebuilt(1));
-    assert_eq!(rt; rebuild(rt.alloc(), &disk, geometry, 0, 0), Outcome::Rebuilt(0));
+    assert_eq!(rt;
+        rebuild(rt.alloc(), &disk, geometry, 0, 2),
+        Outcome::Damaged(1)
+    );
+    assert_eq!(rt;
+        rebuild(rt.alloc(), &disk, geometry, 0, 1),
+        Outcome::Rebuilt(1)
+    );
+    assert_eq!(rt;
+        rebuild(rt.alloc(), &disk, geometry, 0, 0),
+        Outcome::Rebuilt(0)
+    );
     assert!(rt; SortedEntries::new(geometry, 0, 0).is_empty());
     assert!(rt; !SortedEntries::new(geometry, 0, 1).is_empty());
     Ok(())

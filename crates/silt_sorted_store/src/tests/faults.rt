@@ -142,7 +142,15 @@ fn a_rebuild_reads_in_chunks(rt: HostRuntime) -> Result<(), Fail> {
 #[test]
 fn a_rebuild_refuses_at_the_borders_of_chunks(rt: HostRuntime) -> Result<(), Fail> {
     let geometry = long()?;
-    for (place, byte) in [(1, 1), (14, 14), (14, 1), (15, 15), (15, 1), (16, 16), (19, 0)] {
+    for (place, byte) in [
+        (1, 1),
+        (14, 14),
+        (14, 1),
+        (15, 15),
+        (15, 1),
+        (16, 16),
+        (19, 0),
+    ] {
         let mut disk = MemDisk::new(rt.alloc(), geometry.size() as usize)?;
         fill_long(&mut disk)?;
         write_long_key(&mut disk, place, &last(byte))?;
@@ -172,6 +180,9 @@ fn finds_keys_that_differ_in_the_last_bits(rt: HostRuntime) -> Result<(), Fail> 
         );
     }
     assert_eq!(rt; find(rt.alloc(), &disk, geometry, 20, &last(0)), Some(None));
-    assert_eq!(rt; find(rt.alloc(), &disk, geometry, 20, &last(21)), Some(None));
+    assert_eq!(rt;
+        find(rt.alloc(), &disk, geometry, 20, &last(21)),
+        Some(None)
+    );
     Ok(())
 }

@@ -120,12 +120,7 @@ fn turned(key: &Key, at: usize) -> Key
 }
 
 // How many of these keys and of their neighbours, five for each, are looked for as by a plain search.
-fn count_agreeing<D: Disk>(
-    alloc: Global,
-    disk: &D,
-    geometry: Geometry,
-    keys: &[Key],
-) -> Option<u64>
+fn count_agreeing<D: Disk>(alloc: Global, disk: &D, geometry: Geometry, keys: &[Key]) -> Option<u64>
     requires count { length keys.now ≤ geometry.sorted_capacity }
     requires size { device_size geometry ≤ size (D.content disk.now) }
 {
@@ -151,6 +146,9 @@ fn finds_what_a_plain_search_finds(rt: HostRuntime) -> Result<(), Fail> {
     let mut disk = MemDisk::new(rt.alloc(), geometry.size() as usize)?;
     write_keys(&mut disk, &keys)?;
     assert!(rt; keys.is_sorted());
-    assert_eq!(rt; count_agreeing(rt.alloc(), &disk, geometry, &keys), Some(12_000));
+    assert_eq!(rt;
+        count_agreeing(rt.alloc(), &disk, geometry, &keys),
+        Some(12_000)
+    );
     Ok(())
 }

@@ -40,12 +40,7 @@ fn reads_values_and_entries(rt: HostRuntime) -> Result<(), Fail> {
 }
 
 // What a get of a key among eight entries fills these two bytes with, where one has it. None where a read fails.
-fn get<D: Disk>(
-    alloc: Global,
-    disk: &D,
-    geometry: Geometry,
-    key: &Key,
-) -> Option<(bool, [u8; 2])>
+fn get<D: Disk>(alloc: Global, disk: &D, geometry: Geometry, key: &Key) -> Option<(bool, [u8; 2])>
     requires value_len { geometry.value_len ≡ 2 }
     requires count { 8 ≤ geometry.sorted_capacity }
     requires size { device_size geometry ≤ size (D.content disk.now) }
@@ -66,9 +61,18 @@ fn gets_the_value_of_each_key(rt: HostRuntime) -> Result<(), Fail> {
     fill(&mut disk, 8)?;
     for place in 0..8 {
         let first = 10 + 10 * place;
-        assert_eq!(rt; get(rt.alloc(), &disk, geometry, &key(first, 0)), Some((true, [7, place])));
-        assert_eq!(rt; get(rt.alloc(), &disk, geometry, &key(first, 1)), Some((false, [9, 9])));
-        assert_eq!(rt; get(rt.alloc(), &disk, geometry, &key(first + 1, 0)), Some((false, [9, 9])));
+        assert_eq!(rt;
+            get(rt.alloc(), &disk, geometry, &key(first, 0)),
+            Some((true, [7, place]))
+        );
+        assert_eq!(rt;
+            get(rt.alloc(), &disk, geometry, &key(first, 1)),
+            Some((false, [9, 9]))
+        );
+        assert_eq!(rt;
+            get(rt.alloc(), &disk, geometry, &key(first + 1, 0)),
+            Some((false, [9, 9]))
+        );
     }
     Ok(())
 }
@@ -81,7 +85,10 @@ fn encodes_the_index_of_keys(rt: HostRuntime) -> Result<(), Fail> {
     fill(&mut disk, 1)?;
     let entries = SortedEntries::new(geometry, 1, 1);
     let store = SortedStore::encode(rt.alloc(), entries, &[key(10, 0)])?;
-    assert_eq!(rt; (store.region(), store.len(), store.is_empty()), (1, 1, false));
+    assert_eq!(rt;
+        (store.region(), store.len(), store.is_empty()),
+        (1, 1, false)
+    );
     assert_eq!(rt; store.geometry(), geometry);
     assert_eq!(rt; store.entries().len(), 1);
     Ok(())
