@@ -1,9 +1,9 @@
 -- A marked trie that is built from keys given one after the other, in 256 groups by first byte.
-use Rattle.std.specs.Prelude.{◌≡◌, ℕ, ◌+◌, ◌-◌, ◌*◌, ◌^◌, ◌<◌, ◌≤◌, Bool, true, All, List, ◌++◌, length, take, slice_get, slice_index_or, Option, Some, None, map}
+use Rattle.std.specs.Prelude.{◌≡◌, ℕ, ◌+◌, ◌-◌, ◌*◌, ◌^◌, ◌<◌, ◌≤◌, Bool, true, All, List, [], ◌∷◌, ◌++◌, length, take, slice_index_or, Option, Some, None}
 use Rattle.std.specs.Ordering.{nat_cmp, is_lt}
 use Rattle.std.specs.Cmp.Lexicographic.{slice_cmp}
 use Rattle.silt_frame.specs.declared.key.Key.{Key}
-use Rattle.silt_trie.specs.Code.{IsCodable}
+use Rattle.silt_trie.specs.Code.{Follows, IsCodable}
 use Rattle.silt_trie.specs.Coded.{bytes_of}
 use Rattle.silt_trie.specs.Marks.{grouped_code, marks_of, number_of_bits, prefix_of}
 use Rattle.silt_trie.specs.declared.marks.Mark.{Mark}
@@ -32,20 +32,31 @@ abbrev pub group_under_way : Option Key → ℕ
 group_under_way None = 0
 group_under_way (Some last) = group_of last.0
 
+-- a key lies above another, in its group or in a later one
+pub record MayFollow (a b : List ℕ) : Type 0 where
+  pub above : Follows 0 a b
+  pub later : group_of a ≤ group_of b
+  pub grouped : group_of a ≡ group_of b → Follows 8 a b
+
 -- The first n groups of keys are done: the code and the marks are theirs, and the keys of group n wait
 pub record HasGroups (n : ℕ) (keys : List (List ℕ)) (b : Building) : Type 0 where
   pub done : List (List ℕ)
   pub keys_are : keys ≡ done ++ bytes_of b.group
+  pub count_is : b.count ≡ length keys
   pub lower : All (λ key. group_of key < n) done
   pub alike : All (λ key. group_of key ≡ n) (bytes_of b.group)
   pub code_is : b.code ≡ grouped_code 8 done 0
   pub marks_are : b.marks ≡ take (n * 2 ^ (b.levels - 8)) (marks_of b.levels 8 done 0 0 0)
 
+-- keys end with this one, or there is none
+abbrev pub EndWith : List (List ℕ) → Option Key → Type 0
+EndWith keys None = keys ≡ []
+EndWith keys (Some last) = (front : List (List ℕ)) × (keys ≡ front ++ last.0 ∷ [])
+
 -- this is built of the keys
 pub record IsBuildingOf (keys : List (List ℕ)) (b : Building) : Type 0 where
   pub codable : IsCodable keys 0
-  pub count_is : b.count ≡ length keys
-  pub last_is : map (λ (key : Key). key.0) b.last ≡ slice_get keys (length keys - 1)
+  pub last_is : EndWith keys b.last
   pub groups : HasGroups (group_under_way b.last) keys b
 
 -- the group under way can be coded, its last key is the last one, and there are marks of 8 to 24 bits

@@ -1,5 +1,5 @@
 //! Code with marks of its own.
-ghost use Rattle.std.specs.Prelude.{◌≡◌, ℕ, ◌+◌, ◌-◌, ◌*◌, ◌/◌, ◌^◌, ◌<◌, ◌≤◌, [], ◌∷◌, ◌++◌, length, IfOk, IfSome};
+ghost use Rattle.std.specs.Prelude.{◌≡◌, ℕ, ◌+◌, ◌-◌, ◌*◌, ◌/◌, ◌^◌, ◌<◌, ◌≤◌, [], ◌∷◌, ◌++◌, length, min, IfOk, IfSome};
 ghost use Rattle.silt_trie.specs.Code.{IsCodable};
 ghost use Rattle.silt_trie.specs.Coded.{bytes_of};
 ghost use Rattle.silt_trie.specs.Marks.{IsMadeOf, IsMarkedPlace, IsPlaceBetween, MarkedCode};
@@ -11,12 +11,10 @@ use silt_frame::Key;
 use silt_gamma::BitWriter;
 use std::alloc::{AllocError, Global};
 use std::marker::Model;
+use std::mem::size_of;
 
 /// How many keys a mark is for, at most, where keys are spread evenly.
 const KEYS_A_MARK: usize = 160;
-
-/// How many bytes a mark takes.
-const MARK_BYTES: usize = 8;
 
 /// The codes of groups of keys, with marks of all prefixes of some bits, so that a look walks no
 /// more than the code of the keys with one prefix.
@@ -120,11 +118,12 @@ impl MarkedTrie {
         self.bits.len()
     }
 
-    /// How many bytes of memory code and marks take.
+    /// How many bytes of memory code and marks take, or the most that a `usize` can count.
     pub fn memory(&self) -> usize
-        ensures { result ≡ (length self.now.code + 7) / 8 + 8 * length self.now.marks }
+        ensures { result ≡ min ((length self.now.code + 7) / 8 + 8 * length self.now.marks) (2 ^ 64 - 1) }
     {
-        self.bits.len().div_ceil(8) + MARK_BYTES * self.marks.len()
+        let code = self.bits.len().div_ceil(8);
+        code.saturating_add(self.marks.len().saturating_mul(size_of::<Mark>()))
     }
 
     /// The only place at which the key can stand; None where it is none of the keys for sure. This

@@ -1,12 +1,14 @@
 //! Builds a trie with marks from keys that are given one after the other.
-ghost use Rattle.std.specs.Prelude.{◌≡◌, ◌×◌, ℕ, true, false, None, ◌+◌, ◌-◌, ◌^◌, ◌<◌, ◌≤◌, List, [], ◌∷◌, ◌++◌, Some, Ok, length, IfOk, OnOk};
-ghost use Rattle.silt_trie.specs.Building.{Building, HasGroups, IsBuildingOf, IsHeldBuilding, group_of, group_under_way, is_above};
+ghost use Rattle.std.specs.Prelude.{◌≡◌, ℕ, true, false, None, ◌+◌, ◌-◌, ◌^◌, ◌<◌, ◌≤◌, List, [], ◌∷◌, ◌++◌, Some, Ok, length, IsTrue, IfOk, OnOk};
+ghost use Rattle.std.specs.Ordering.{nat_cmp, is_lt};
+ghost use Rattle.std.specs.Cmp.Lexicographic.{slice_cmp};
+ghost use Rattle.silt_trie.specs.Building.{Building, HasGroups, IsBuildingOf, IsHeldBuilding, MayFollow, group_of, group_under_way, is_above};
 ghost use Rattle.silt_trie.specs.Marks.{IsMadeOf};
 
 use super::marked_code::write_marked;
 use super::marked_trie::{MarkedTrie, levels_for};
 use super::marks::Mark;
-use silt_frame::Key;
+use silt_frame::{KEY_LEN, Key};
 use silt_gamma::BitWriter;
 use std::alloc::{AllocError, Global};
 use std::marker::Model;
@@ -123,11 +125,7 @@ impl MarkedTrieBuilder {
         ensures same { next ≤ group_under_way self.old.last → self.new ≡ self.old }
         ensures stays { (self.new.count ≡ self.old.count) × (self.new.last ≡ self.old.last) }
     {
-        let first = match self.last {
-            Some(last) => group_of(&last),
-            None => 0,
-        };
-        for _ in first..next {
+        for _group in group_under_way(self.last)..next {
             self.code_group()?;
         }
         Ok(())
@@ -164,12 +162,32 @@ fn group_of(key: &Key) -> usize
     usize::from(key.0[0])
 }
 
-/// Whether a key lies above the last one.
-fn is_above(last: Option<Key>, key: &Key) -> bool
-    ensures { result ≡ is_above last key.now.0 }
+/// The group under way: that of the last key.
+fn group_under_way(last: Option<Key>) -> usize
+    ensures group { result ≡ group_under_way last }
+    ensures within { result < 256 }
 {
     match last {
-        Some(last) => last.cmp(key).is_lt(),
+        Some(last) => group_of(&last),
+        None => 0,
+    }
+}
+
+/// Whether a key lies above the last one.
+fn is_above(last: Option<Key>, key: &Key) -> bool
+    ensures above { result ≡ is_above last key.now.0 }
+    ensures next { IsTrue result → (before : Key) → last ≡ Some before → MayFollow before.0 key.now.0 }
+{
+    match last {
+        Some(last) => is_below(&last.0, &key.0),
         None => true,
     }
+}
+
+/// Whether the bytes of the first key lie below those of the second.
+fn is_below(low: &[u8; KEY_LEN], high: &[u8; KEY_LEN]) -> bool
+    ensures below { result ≡ is_lt (slice_cmp nat_cmp low.now high.now) }
+    ensures next { IsTrue result → MayFollow low.now high.now }
+{
+    low.cmp(high).is_lt()
 }
