@@ -2,7 +2,6 @@
 use Rattle.std.proofs.Common.{◌≡◌, ℕ, ◌+◌, ◌-◌, ◌^◌, ◌<◌, ◌≤◌, true, List, [], ◌∷◌, ◌++◌, length, take, get_or, inl, inr, ◌*◌, Option, Some, None, refl, sym, ap, ◌∙◌, subst, arith}
 use Rattle.std.proofs.lemmas.List.{append_assoc, get_or_push, length_push, map-append}
 use Rattle.std.proofs.lemmas.List.Elements.{All-push}
-use Rattle.std.specs.List.{All}
 use Rattle.std.specs.Ordering.{nat_cmp, is_lt}
 use Rattle.std.specs.Cmp.Lexicographic.{slice_cmp}
 use Rattle.std.specs.declared.cmp.Ordering.{Ordering}
@@ -87,17 +86,17 @@ waiting_push old now key new held few empty same last next new_is =
     let within = held.few.0 in
     let before = get_or now.group (length now.group - 1) key in
     let first : 0 < length (bytes_of now.group) → Follows 8 (get_or (bytes_of now.group) (length (bytes_of now.group) - 1) []) key.0 = λ some.
-        let is : old.last ≡ Some before = sym last ∙ held.last_is key (omega arith) in
-        let above = next before is in
-        let later = above.later in
-        let way : group_under_way old.last ≡ group_of before.0 = ap group_under_way is in
-        let here : group_of before.0 ≡ group_of key.0 = elim (cases_lt (group_of before.0) (group_of key.0)) [
-          | inl earlier ↦ let none = ap length (empty (omega arith)) in absurd (omega arith)
-          | inr upto ↦ omega arith
-        ] in
-        let place : length (bytes_of now.group) - 1 ≡ length now.group - 1 = omega arith in
-        let bytes : get_or (bytes_of now.group) (length (bytes_of now.group) - 1) [] ≡ before.0 = ap (λ (i : ℕ). get_or (bytes_of now.group) i []) place ∙ bytes_at now.group (length now.group - 1) key (omega arith) in
-        subst (λ (ks : List ℕ). Follows 8 ks key.0) (sym bytes) (above.grouped here) in
+    let is : old.last ≡ Some before = sym last ∙ held.last_is key (omega arith) in
+    let above = next before is in
+    let later = above.later in
+    let way : group_under_way old.last ≡ group_of before.0 = ap group_under_way is in
+    let here : group_of before.0 ≡ group_of key.0 = elim (cases_lt (group_of before.0) (group_of key.0)) [
+      | inl earlier ↦ let none = ap length (empty (omega arith)) in absurd (omega arith)
+      | inr upto ↦ omega arith
+    ] in
+    let place : length (bytes_of now.group) - 1 ≡ length now.group - 1 = omega arith in
+    let bytes : get_or (bytes_of now.group) (length (bytes_of now.group) - 1) [] ≡ before.0 = ap (λ (i : ℕ). get_or (bytes_of now.group) i []) place ∙ bytes_at now.group (length now.group - 1) key (omega arith) in
+    subst (λ (ks : List ℕ). Follows 8 ks key.0) (sym bytes) (above.grouped here) in
     let codable = codable_push 8 (bytes_of now.group) key.0 held.codable (omega arith) first in
     subst (λ (ks : List (List ℕ)). IsCodable ks 8) (sym (ap bytes_of new_is ∙ bytes_push now.group key)) codable
 

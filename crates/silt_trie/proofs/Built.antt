@@ -1,11 +1,10 @@
 -- Lemmas on a trie that is built from keys given one after the other.
 use Rattle.std.proofs.Common.{◌≡◌, ℕ, ◌+◌, ◌-◌, ◌*◌, ◌^◌, ◌<◌, ◌≤◌, List, [], ◌∷◌, ◌++◌, length, take, Option, Some, None, Result, IfOk, refl, sym, ap, ◌∙◌, subst, arith}
-use Rattle.std.specs.List.{All}
 use Rattle.std.proofs.lemmas.List.{append-nil, length-append, take_all}
 use Rattle.std.proofs.lemmas.List.Elements.{All-append}
 use Rattle.std.proofs.lemmas.Result.{IfOk-weaker}
 use Rattle.silt_frame.specs.declared.key.Key.{Key}
-use Rattle.silt_trie.specs.Building.{Building, HasGroups, IsBuildingOf, group_of, group_under_way, EndWith}
+use Rattle.silt_trie.specs.Building.{Building, HasGroups, IsBuildingOf, group_of, group_under_way}
 use Rattle.silt_trie.specs.Code.{IsCodable, trie_code}
 use Rattle.silt_trie.specs.Coded.{bytes_of}
 use Rattle.silt_trie.specs.Marks.{IsMadeOf, MarkedCode, grouped_code, marks_of}
@@ -67,7 +66,7 @@ coded_group n keys old new place small has most levels count none place_is code 
     }
 
 -- where all groups are coded it is made of all keys
-pub made_of : (keys : List (List ℕ)) (b : Building) (made : MarkedCode) → IsCodable keys 0 → HasGroups 256 keys b → 8 ≤ b.levels → made ≡ record {code = b.code; marks = b.marks ++ record { start = length b.code; place = b.count } ∷ []; count = b.count; depth = 0; groups = 8; levels = b.levels} → IsMadeOf keys made
+pub made_of : (keys : List (List ℕ)) (b : Building) (made : MarkedCode) → IsCodable keys 0 → HasGroups 256 keys b → 8 ≤ b.levels → made ≡ record { code = b.code; marks = b.marks ++ record { start = length b.code; place = b.count } ∷ []; count = b.count; depth = 0; groups = 8; levels = b.levels } → IsMadeOf keys made
 made_of keys b made codable has most made_is =
     let done = has.done in
     let none : bytes_of b.group ≡ [] = none_below (λ key. group_of key ≡ 256) (bytes_of b.group) (λ key is. let small = number_below 8 0 key in omega arith) has.alike in
@@ -91,10 +90,6 @@ pub record CodesGroups (first at : ℕ) (old new : Building) : Type 0 where
   pub same : at ≤ first → new ≡ old
   pub stays : (new.count ≡ old.count) × (new.last ≡ old.last)
 
--- at first nothing is
-pub codes_none : (first : ℕ) (b : Building) → CodesGroups first first b b
-codes_none first b = record { from = omega arith; coded = λ keys has. has; empty = λ h. absurd (omega arith); same = λ h. refl; stays = (refl, refl) }
-
 -- one group more
 pub codes_more : (first at : ℕ) (old now new : Building) → at < 256 → CodesGroups first at old now → ((n : ℕ) (keys : List (List ℕ)) → n < 256 → HasGroups n keys now → HasGroups (n + 1) keys new) → new.group ≡ [] → (new.count ≡ now.count) × (new.last ≡ now.last) → CodesGroups first (at + 1) old new
 codes_more first at old now new small codes coded empty stays =
@@ -114,10 +109,10 @@ way_small (Some last) = number_below 8 0 last.0
 
 -- code and marks with the mark behind all keys are made of the keys that they are built of
 pub finished : {E : Type 0} (r : Result MarkedCode E) (old seen now : Building) → now ≡ seen → ((keys : List (List ℕ)) → HasGroups (group_under_way old.last) keys old → group_under_way old.last ≤ 256 → HasGroups 256 keys seen) → 8 ≤ now.levels
-    → IfOk r (λ made. made ≡ record {code = now.code; marks = now.marks ++ record { start = length now.code; place = now.count } ∷ []; count = now.count; depth = 0; groups = 8; levels = now.levels})
+    → IfOk r (λ made. made ≡ record { code = now.code; marks = now.marks ++ record { start = length now.code; place = now.count } ∷ []; count = now.count; depth = 0; groups = 8; levels = now.levels })
     → IfOk r (λ made. (keys : List (List ℕ)) → IsBuildingOf keys old → IsMadeOf keys made)
-finished r old seen now view coded most = IfOk-weaker r (λ made. made ≡ record {code = now.code; marks = now.marks ++ record { start = length now.code; place = now.count } ∷ []; count = now.count; depth = 0; groups = 8; levels = now.levels})
+finished r old seen now view coded most = IfOk-weaker r (λ made. made ≡ record { code = now.code; marks = now.marks ++ record { start = length now.code; place = now.count } ∷ []; count = now.count; depth = 0; groups = 8; levels = now.levels })
     (λ made. (keys : List (List ℕ)) → IsBuildingOf keys old → IsMadeOf keys made)
     (λ made made_is keys building.
-        let small = way_small old.last in
-        made_of keys now made building.codable (subst (λ (b : Building). HasGroups 256 keys b) (sym view) (coded keys building.groups (omega arith))) most made_is)
+    let small = way_small old.last in
+    made_of keys now made building.codable (subst (λ (b : Building). HasGroups 256 keys b) (sym view) (coded keys building.groups (omega arith))) most made_is)

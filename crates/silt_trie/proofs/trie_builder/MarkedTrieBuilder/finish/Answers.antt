@@ -1,5 +1,3 @@
-use Rattle.std.proofs.Common.{ℕ, List, ap, ◌∙◌, subst, arith}
-use Rattle.silt_trie.specs.Building.{Building, HasGroups}
 use Rattle.silt_trie.proofs.Built.{finished}
 use Rattle.silt_trie.proofs.trie_builder.MarkedTrieBuilder.finish.Goals as goal
 
