@@ -1,0 +1,23 @@
+-- The index of a sorted store: the coded tries of its keys, in memory.
+use Rattle.std.specs.Prelude.{◌≡◌, ℕ, ◌<◌, IsTrue, List, [], length, get_or, Option, Some}
+use Rattle.silt_device.specs.Disk.{Content}
+use Rattle.silt_frame.specs.Rows.{StoredRow, keys_of}
+use Rattle.silt_sorted_store.specs.State.{SortedState, entries_of}
+use Rattle.silt_trie.specs.Marks.{IsMadeOf, MarkedCode}
+
+-- entries of a sorted region, and an index in memory
+pub record IndexedState : Type 0 where
+  pub sorted : SortedState
+  pub index : MarkedCode
+
+-- the index is made of the keys of these rows
+abbrev pub IsIndexOf : List StoredRow → MarkedCode → Type 0
+IsIndexOf rows index = IsMadeOf (keys_of rows) index
+
+-- on an honest disk the index is that of the entries
+abbrev pub IsIndexed : Content → SortedState → MarkedCode → Type 0
+IsIndexed content sorted index = IsTrue content.honest → IsIndexOf (entries_of content sorted) index
+
+-- where a row has the key, this is its place
+abbrev pub IsPlaceOfKey : List StoredRow → List ℕ → Option ℕ → Type 0
+IsPlaceOfKey rows key found = (place : ℕ) → place < length rows → get_or (keys_of rows) place [] ≡ key → found ≡ Some place
