@@ -1,5 +1,5 @@
 -- The keys of entries that were read together.
-use Rattle.std.proofs.Common.{◌≡◌, ℕ, ◌+◌, ◌*◌, ◌<◌, ◌≤◌, List, [], ◌++◌, length, take, drop, slice_range, sym, ap, ◌∙◌, arith, length-append}
+use Rattle.std.proofs.Common.{◌≡◌, ℕ, ◌+◌, ◌*◌, ◌<◌, ◌≤◌, List, ◌++◌, length, take, drop, slice_range, sym, ap, ◌∙◌, arith, length-append}
 use Rattle.std.proofs.lemmas.List.{take-append-drop}
 use Rattle.std.proofs.Math.Nat.{add-mul, mul-le-mul_right}
 use Rattle.silt_device.specs.Layout.{Shape, device_size, entry_len}
@@ -29,6 +29,12 @@ keys_read shape region total image place count at n bytes within here long fits 
     let part : slice_range image (at + i * len) (at + i * len + 20) ≡ slice_range bytes (i * len) (i * len + 20) =
     slice_of_slice image at n (i * len) 20 (omega (arith, inside)) fits ∙ ap (λ b. slice_range b (i * len) (i * len + 20)) (sym read) in
     key_read shape region total image (place + i) (at + i * len) (slice_range bytes (i * len) (i * len + 20)) (omega (arith, within, below)) there (omega (arith, inside, fits)) (sym part)
+
+-- a buffer that has room for `most` of them has room for fewer
+pub chunk_fits : (shape : Shape) (next most len room : ℕ) → next ≤ most → len ≡ entry_len shape → most * entry_len shape ≤ room → next * len ≤ room
+chunk_fits shape next most len room fewer is fits =
+    let rise : next * len ≤ most * len = mul-le-mul_right len fewer in
+    omega (arith, rise, ap (λ (n : ℕ). most * n) is, fits)
 
 -- what is read over the front of a buffer leaves its length
 pub written_back : (new old : List ℕ) (n : ℕ) → length new ≡ length (take n old) → length (new ++ drop n old) ≡ length old

@@ -195,9 +195,7 @@ impl SortedStore {
             (GaveAny D.gave disk.now)) }
     {
         let entries = SortedEntries::new(geometry, region, count);
-        match index_entries(alloc, disk, &entries) {
-            Ok(index) => Ok(SortedStore { entries, index }),
-            Err(error) => Err(error),
-        }
+        let index = index_entries(alloc, disk, &entries)?;
+        Ok(SortedStore { entries, index })
     }
 }

@@ -5,6 +5,19 @@ use Rattle.silt_sorted_store.proofs.Checking.{indexing_more, indexing_refused}
 use Rattle.silt_sorted_store.proofs.Chunks.{key_in_part}
 use Rattle.silt_sorted_store.proofs.rebuild.take_keys.Goals as goal
 
+pub loop-i-init : goal.loop-i-init
+loop-i-init c =
+    let start : c.args.first ≡ c.args.first + 0 = omega arith in
+    record {
+      counted = c.requires.counted ∙ start;
+      taken = λ rows room holds so_far. subst (λ (n : ℕ). IsIndexing rows n c.args.builder.now) start so_far;
+    }
+
+pub returns-clause-taken : goal.returns-clause-taken
+returns-clause-taken c = λ rows room holds so_far.
+    let all : c.args.first + c.loop-i.i ≡ c.args.first + c.args.count = omega (arith, c.loop-i-test.false, c.loop-i.auto.i-end) in
+    subst (λ (n : ℕ). IsIndexing rows n c.loop-i.builder) all (c.loop-i.invariant.taken rows room holds so_far)
+
 pub returns-then-not-branch-clause-taken : goal.returns-then-not-branch-clause-taken
 returns-then-not-branch-clause-taken c = λ rows room holds so_far.
     let i = c.loop-i.i in
