@@ -1,5 +1,5 @@
 -- A merge in memory.
-use Rattle.std.specs.Prelude.{◌≡◌, ℕ, ◌+◌, ◌*◌, ◌-◌, ◌==◌, ◌≤◌, ◌<◌, ◌⊎◌, nat_le, Bool, true, false, not, ◌&&◌, if◌then◌else◌, List, [], ◌∷◌, ◌++◌, drop, length, Option, Some, None}
+use Rattle.std.specs.Prelude.{◌≡◌, ℕ, ◌+◌, ◌*◌, ◌-◌, ◌==◌, ◌≤◌, ◌<◌, ◌⊎◌, nat_le, Bool, true, false, not, ◌&&◌, if◌then◌else◌, List, [], ◌∷◌, ◌++◌, drop, length, slice_index, Option, Some, None}
 use Rattle.std.specs.List.{All}
 use Rattle.std.specs.Map.{lookup}
 use Rattle.std.specs.Ordering.{is_eq, nat_cmp}
@@ -103,10 +103,15 @@ pub record IsInside (merge : MergeState) (source : Source) : Type 0 where
   pub store : source.store < merge.stores
   pub slot : source.slot < 4 * merge.shape.buckets
 
+-- the bytes of a key
+abbrev pub HasKeyBytes : List ℕ → Type 0
+HasKeyBytes bytes = (length bytes ≡ 20) × ((i : ℕ) → slice_index bytes i < 256)
+
 -- the keys of so many entries, which rise strictly up to the last key that is decided
 pub record AreKeysUpTo (last : Option Key) (count : ℕ) (keys : List Key) : Type 0 where
   pub counted : length keys ≡ count
   pub codable : IsCodable (bytes_of keys) 0
+  pub bytes : All (λ (key : Key). HasKeyBytes key.0) keys
   pub decided : All (λ (key : Key). is_above last key.0 ≡ false) keys
 
 -- what holds of every merge, on any disk

@@ -1,5 +1,5 @@
 // A merge of hash stores and a sorted store, by steps.
-ghost use Rattle.std.specs.Prelude.{◌≡◌, ◌≢◌, ◌==◌, ◌+◌, ◌*◌, ◌<◌, ◌≤◌, ◌^◌, ◌↔◌, ℕ, List, [], Option, true, false, Some, None, cond, length, take, IsTrue, IfOk, IfErr, IfSome, OnOk, OnErr, MatchResult, is_some, nat_lt, vec_capacity, vec_len};
+ghost use Rattle.std.specs.Prelude.{◌≡◌, ◌≢◌, ◌==◌, ◌+◌, ◌*◌, ◌<◌, ◌≤◌, ◌^◌, ◌↔◌, ℕ, List, [], Option, true, false, Some, None, cond, length, take, IsTrue, IfOk, IfErr, IfSome, OnOk, OnErr, MatchResult, is_some, nat_lt, slice_index, vec_capacity, vec_len};
 ghost use Rattle.std.specs.List.{All};
 ghost use Rattle.std.specs.Str.{bytes_eq};
 ghost use Rattle.silt_device.specs.Disk.{Content, ChangesWithin, CountsFault, GaveAny, size};
@@ -56,7 +56,7 @@ pub struct Merge {
 }
 
 impl Model for Merge {
-    ghost use Rattle.std.specs.Prelude.{◌≡◌, ◌≤◌, length, vec_capacity, vec_len};
+    ghost use Rattle.std.specs.Prelude.{◌≡◌, ◌≤◌, vec_capacity, vec_len};
     ghost use Rattle.silt_device.specs.Layout.{entry_len};
     ghost use Rattle.silt_merge.specs.State.{MergeState, IsHeldMerge, next_bytes};
 
@@ -70,7 +70,7 @@ impl Model for Merge {
       slot = a.slot;
       waiting = a.waiting.entries;
       passed = a.passed;
-      written = length a.keys.items;
+      written = vec_len a.keys;
       keys = a.keys.items;
       decided = a.decided;
       last = a.last;
@@ -85,12 +85,12 @@ impl Model for Merge {
       slot = a.slot;
       waiting = a.waiting.entries;
       passed = a.passed;
-      written = length a.keys.items;
+      written = vec_len a.keys;
       keys = a.keys.items;
       decided = a.decided;
       last = a.last;
       next = next_bytes a.is_read a.next.items;
-    }) × (vec_len a.next ≡ entry_len a.target.geometry) × (vec_len a.entry ≡ entry_len a.target.geometry) × (vec_len a.made ≡ entry_len a.target.geometry) × (a.target.geometry.sorted_capacity ≤ vec_capacity a.keys) };
+    }) × (vec_len a.next ≡ entry_len a.target.geometry) × (vec_len a.entry ≡ entry_len a.target.geometry) × (vec_len a.made ≡ entry_len a.target.geometry) × (a.target.geometry.sorted_capacity ≤ vec_capacity a.keys) × (a.target.geometry.sorted_capacity ≤ 16777216) };
 }
 
 // The key of an entry's bytes.
@@ -183,14 +183,21 @@ fn passed_after(passes: bool, passed: u32) -> u32
     if passes { passed + 1 } else { passed }
 }
 
+// What the type of bytes says: each is below 256.
+fn known_bytes(bytes: &[u8])
+    ensures { (place : ℕ) → slice_index bytes.now place < 256 }
+{}
+
 // Keeps the key of an entry that is written. There is a place for it.
 fn keep_key(keys: &mut Vec<Key>, key: Key, is_written: bool)
     requires room { is_written ≡ true → vec_len keys.old < vec_capacity keys.old }
     ensures keys { keys.new.items ≡ keys_after is_written keys.old.items key }
+    ensures len { vec_len keys.new ≡ written_after is_written (vec_len keys.old) }
     ensures room { vec_capacity keys.new ≡ vec_capacity keys.old }
-    ensures rising { (last : Option Key) → AreKeysUpTo last (length keys.old.items) keys.old.items → is_above last key.0 ≡ true → length keys.old.items + 2 < 2 ^ 32
-        → AreKeysUpTo (Some key) (length keys.new.items) keys.new.items }
+    ensures rising { (last : Option Key) → AreKeysUpTo last (vec_len keys.old) keys.old.items → is_above last key.0 ≡ true → (is_written ≡ true → vec_len keys.old + 2 < 2 ^ 32)
+        → AreKeysUpTo (Some key) (vec_len keys.new) keys.new.items }
 {
+    known_bytes(&key.0);
     if is_written {
         keys.push_reserved(key);
     }
