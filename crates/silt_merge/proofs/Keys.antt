@@ -1,5 +1,5 @@
 -- The keys of the entries that a merge wrote.
-use Rattle.std.proofs.Common.{◌≡◌, ℕ, ◌+◌, ◌<◌, ◌≤◌, ◌^◌, ◌⊎◌, nat_lt, Bool, true, false, List, [], ◌∷◌, ◌++◌, filter, length, take, get_or, Option, Some, None, inl, inr, refl, sym, subst, ap, ◌∙◌, arith}
+use Rattle.std.proofs.Common.{◌≡◌, ℕ, ◌+◌, ◌<◌, ◌≤◌, ◌^◌, nat_lt, Bool, true, false, List, [], ◌∷◌, ◌++◌, filter, length, take, get_or, Option, Some, None, inl, inr, refl, sym, subst, ap, ◌∙◌, arith}
 use Rattle.std.specs.List.{All}
 use Rattle.std.specs.Ordering.{is_lt, nat_cmp}
 use Rattle.std.specs.Cmp.Lexicographic.{slice_cmp}
@@ -141,17 +141,17 @@ pub written_keys : (most written count : ℕ) (old due new : List StoredRow) (ro
 written_keys most written count old due new row keys key old_count new_count room same_key due_is made same =
     elim (cases_lt most (length (old ++ due))) [
       | inl over ↦ elim (cases_Bool (is_put_row row)) [
-          | inl puts ↦
-              let one : length due ≡ 1 = ap length (due_is ∙ cond-true _ _ _ puts) in
-              stays (made ∙ take_at old due most (omega (arith, over, room, old_count, one, length-append old due)))
-          | inr deletes ↦
-              let none : length due ≡ 0 = ap length (due_is ∙ cond-false _ _ _ deletes) in
-              absurd (omega (arith, over, room, old_count, none, length-append old due))
-        ]
+        | inl puts ↦
+            let one : length due ≡ 1 = ap length (due_is ∙ cond-true _ _ _ puts) in
+            stays (made ∙ take_at old due most (omega (arith, over, room, old_count, one, length-append old due)))
+        | inr deletes ↦
+            let none : length due ≡ 0 = ap length (due_is ∙ cond-false _ _ _ deletes) in
+            absurd (omega (arith, over, room, old_count, none, length-append old due))
+      ]
       | inr within ↦ elim (cases_Bool (is_put_row row)) [
-          | inl puts ↦ grows (made ∙ take_all most (old ++ due) within ∙ ap (λ l. old ++ l) (due_is ∙ cond-true _ _ _ puts))
-          | inr deletes ↦ stays (made ∙ take_all most (old ++ due) within ∙ ap (λ l. old ++ l) (due_is ∙ cond-false _ _ _ deletes) ∙ append-nil old)
-        ]
+        | inl puts ↦ grows (made ∙ take_all most (old ++ due) within ∙ ap (λ l. old ++ l) (due_is ∙ cond-true _ _ _ puts))
+        | inr deletes ↦ stays (made ∙ take_all most (old ++ due) within ∙ ap (λ l. old ++ l) (due_is ∙ cond-false _ _ _ deletes) ∙ append-nil old)
+      ]
     ]
   where
     stays : new ≡ old → (count ≡ written_after (nat_lt written count) written) × (keys_of new ≡ bytes_of (keys_after (nat_lt written count) keys key))
@@ -166,6 +166,7 @@ written_keys most written count old due new row keys key old_count new_count roo
         let long : length new ≡ length old + 1 = ap length is ∙ length-append old (row ∷ []) in
         let some : nat_lt written count ≡ true = lt-ltb written count (omega (arith, long, old_count, new_count)) in
         let one_more : count ≡ written + 1 = omega (arith, long, old_count, new_count) in
-        let its_keys : keys_of (old ++ row ∷ []) ≡ bytes_of keys ++ key.0 ∷ [] = map-append (λ (r : StoredRow). r.key) old (row ∷ []) ∙ ap (λ l. l ++ row.key ∷ []) same ∙ ap (λ k. bytes_of keys ++ k ∷ []) same_key in
-        (one_more ∙ sym (ap (λ b. written_after b written) some),
-        ap keys_of is ∙ its_keys ∙ sym (map-append (λ (k : Key). k.0) keys (key ∷ [])) ∙ sym (ap (λ b. bytes_of (keys_after b keys key)) some))
+        let its_keys : keys_of (old ++ row ∷ []) ≡ bytes_of keys ++ key.0 ∷ [] = map-append (λ (r : StoredRow). r.key) old (row ∷ []) ∙ ap (λ l. l ++ row.key ∷ []) same ∙ ap (λ k. bytes_of keys ++ k ∷ []) same_key in (
+          one_more ∙ sym (ap (λ b. written_after b written) some),
+          ap keys_of is ∙ its_keys ∙ sym (map-append (λ (k : Key). k.0) keys (key ∷ [])) ∙ sym (ap (λ b. bytes_of (keys_after b keys key)) some),
+        )

@@ -46,13 +46,7 @@ fn merged_value(number: u16) -> Option<u8> {
         (1, _) => Some(1),
         (2, _) => None,
         (_, 1) => Some(2),
-        _ => {
-            if number % 5 == 0 {
-                Some(3)
-            } else {
-                None
-            }
-        }
+        _ => { if number % 5 == 0 { Some(3) } else { None } }
     }
 }
 

@@ -1,6 +1,4 @@
-use Rattle.std.proofs.Common.{◌≡◌, List, true, false, length, refl, sym, subst, vec_len, ◌∙◌, arith}
-use Rattle.silt_frame.specs.declared.key.Key.{Key}
-use Rattle.silt_merge.specs.State.{AreKeysUpTo}
+use Rattle.std.proofs.Common.{true, false, vec_len, arith}
 use Rattle.silt_merge.proofs.Keys.{keys_more}
 use Rattle.silt_merge.proofs.merge.keep_key.Goals as goal
 

@@ -1,6 +1,5 @@
-use Rattle.std.proofs.Common.{◌≡◌, ◌≤◌, ℕ, List, subst, sym, arith}
+use Rattle.std.proofs.Common.{arith}
 use Rattle.std.specs.Vec.{vec_len}
-use Rattle.silt_frame.specs.declared.key.Key.{Key}
 use Rattle.silt_merge.specs.State.{MergeState}
 use Rattle.silt_merge.proofs.Ending.{decided_held, decided_keys}
 use Rattle.silt_merge.proofs.Viewing.{state_of}
@@ -18,9 +17,14 @@ invariant_of-self c =
     let offered = rw (← c.self.view_is) at c.requires.offered in
     let room = rw (← c.self.view_is) at c.requires.room in
     let kept = decided_keys merge c.args.choice.now c.args.is_written (vec_len c.keep_key.new.keys) c.keep_key.new.keys.items c.self.invariant.0 offered room c.self.invariant.5 c.keep_key.ensures.len c.keep_key.ensures.rising in
-    rw c.passed_after-self-inside.ensures
-    (decided_held merge c.args.choice.now c.remove_waiting.new.waiting.entries (vec_len c.keep_key.new.keys) c.keep_key.new.keys.items _ c.self.invariant.0 all offered kept.0 kept.1 c.remove_waiting.ensures.gone c.remove_waiting.ensures.len c.remove_waiting.ensures.less,
-    c.self.invariant.1, c.self.invariant.2, c.self.invariant.3, omega (arith, c.keep_key.ensures.room, c.self.invariant.4), c.self.invariant.5)
+    rw c.passed_after-self-inside.ensures (
+      decided_held merge c.args.choice.now c.remove_waiting.new.waiting.entries (vec_len c.keep_key.new.keys) c.keep_key.new.keys.items _ c.self.invariant.0 all offered kept.0 kept.1 c.remove_waiting.ensures.gone c.remove_waiting.ensures.len c.remove_waiting.ensures.less,
+      c.self.invariant.1,
+      c.self.invariant.2,
+      c.self.invariant.3,
+      omega (arith, c.keep_key.ensures.room, c.self.invariant.4),
+      c.self.invariant.5,
+    )
 
 pub returns-clause-held : goal.returns-clause-held
 returns-clause-held c =
