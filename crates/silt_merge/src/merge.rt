@@ -16,7 +16,7 @@ ghost use Rattle.silt_sorted_store.specs.State.{IsHeldSorted, SortedState, entri
 use crate::choice::{Choice, choose, is_behind};
 use crate::source::{Source, first, keep, remove_waiting};
 use silt_device::Disk;
-use silt_frame::{KEY_LEN, Key};
+use silt_frame::{KEY_LEN, Key, entry_of};
 use silt_hash_store::HashStore;
 use silt_sorted_store::{SortedEntries, SortedRegion, SortedStore};
 use std::alloc::{AllocError, Global};
@@ -93,16 +93,6 @@ impl Model for Merge {
     }) × (vec_len a.next ≡ entry_len a.target.geometry) × (vec_len a.entry ≡ entry_len a.target.geometry) × (vec_len a.made ≡ entry_len a.target.geometry) × (a.target.geometry.sorted_capacity ≤ vec_capacity a.keys) × (a.target.geometry.sorted_capacity ≤ 16777216) };
 }
 
-// The key of an entry's bytes.
-fn key_of(entry: &[u8]) -> Key
-    requires { 20 ≤ length entry.now }
-    ensures { result.0 ≡ take 20 entry.now }
-{
-    let mut key = [0; KEY_LEN];
-    key.copy_from_slice(&entry[..KEY_LEN]);
-    Key(key)
-}
-
 // Puts the bytes of the next entry of the sorted store into a buffer, where not all are passed over: those that are kept, or it reads
 // them. Its key.
 fn read_next<D: Disk>(
@@ -129,7 +119,8 @@ fn read_next<D: Disk>(
     }
     if is_read {
         out.copy_from_slice(kept);
-        return Ok(Some(key_of(kept)));
+        let (key, _value) = entry_of(kept);
+        return Ok(Some(key));
     }
     let key = sorted.entry(disk, passed, out)?;
     Ok(Some(key))
