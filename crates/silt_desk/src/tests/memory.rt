@@ -41,7 +41,7 @@ fn put_again<D: Disk, N: Naming>(
     if matches!(answer, Some(Err(Refusal::NoMemory))) {
         let mut out = [7; 2];
         let found = look(desk, &key(number), &mut out);
-        assert_eq!(rt; found, Some((number as u64 - 1, false)));
+        assert_eq!(rt; found, Some(((number as u64).saturating_sub(1), false)));
         answer = put(desk, alloc, seat, &key(number), &[0, number]);
     }
     let count = answer.ok_or("two bytes")?.ok();

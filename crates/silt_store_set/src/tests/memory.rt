@@ -181,7 +181,10 @@ fn a_run_lacks_memory(rt: HostRuntime) -> Result<(), Fail> {
 fn told_last<F: Drop>(life: &LifeReply<F>) -> Told {
     match life {
         LifeReply::NotOpened(refusal) => Told::NotOpened(refusal.label().0),
-        LifeReply::Opened(replies) => replies.last().map_or(Told::Opened, tell_reply),
+        LifeReply::Opened(replies) => match replies.last() {
+            Some(reply) => tell_reply(reply),
+            None => Told::Opened,
+        },
     }
 }
 

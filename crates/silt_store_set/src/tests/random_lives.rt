@@ -60,9 +60,9 @@ fn now(kept: &[Values]) -> Values {
 }
 
 // A command was accepted that gives a key this value, 0 for none.
-fn accept(kept: &mut Kept, place: usize, value: u16) -> Result<(), AllocError> {
+fn accept(kept: &mut Kept, place: u8, value: u16) -> Result<(), AllocError> {
     let mut values = now(kept);
-    if let Some(old) = values.get_mut(place) {
+    if let Some(old) = values.get_mut(place as usize) {
         *old = value;
     }
     kept.push(values)?;
@@ -75,10 +75,11 @@ fn put<D: Disk>(
     alloc: Global,
     core: &mut Core<D>,
     kept: &mut Kept,
-    (place, value): (usize, u16),
+    (place, value): (u8, u16),
 ) -> Result<bool, Fail> {
     assert_eq!(rt; core.geometry().value_len(), 2);
-    match core.put(alloc, &key_of(place as u8), &value.to_be_bytes()) {
+    let bytes: [u8; 2] = value.to_be_bytes();
+    match core.put(alloc, &key_of(place), &bytes) {
         Ok(_) => {
             accept(kept, place, value)?;
             Ok(true)
@@ -94,9 +95,9 @@ fn delete<D: Disk>(
     alloc: Global,
     core: &mut Core<D>,
     kept: &mut Kept,
-    place: usize,
+    place: u8,
 ) -> Result<bool, Fail> {
-    match core.delete(alloc, &key_of(place as u8)) {
+    match core.delete(alloc, &key_of(place)) {
         Ok(_) => {
             accept(kept, place, 0)?;
             Ok(true)
@@ -107,19 +108,11 @@ fn delete<D: Disk>(
     }
 }
 
-fn get<D: Disk>(
-    rt: &impl Abort,
-    core: &Core<D>,
-    kept: &[Values],
-    place: usize,
-) -> Result<bool, Fail> {
+fn get<D: Disk>(rt: &impl Abort, core: &Core<D>, kept: &[Values], place: u8) -> Result<bool, Fail> {
     assert_eq!(rt; core.geometry().value_len(), 2);
-    let expected = now(kept).get(place).copied().unwrap_or(0);
+    let expected = now(kept).get(place as usize).copied().unwrap_or(0);
     let mut out = [0; 2];
-    let found = core
-        .get(&key_of(place as u8), &mut out)
-        .ok()
-        .ok_or("a get")?;
+    let found = core.get(&key_of(place), &mut out).ok().ok_or("a get")?;
     assert_eq!(rt; (found, u16::from_be_bytes(out)), (expected != 0, expected));
     Ok(true)
 }
@@ -157,7 +150,7 @@ fn step<D: Disk>(
     number: u32,
 ) -> Result<bool, Fail> {
     let [kind, of_key, first, last] = number.to_be_bytes();
-    let place = of_key as usize % KEYS;
+    let place = (of_key as usize % KEYS) as u8;
     let value = u16::from_be_bytes([first, last]) | 1;
     match kind / 16 {
         0..=4 => put(rt, alloc, core, kept, (place, value)),
