@@ -419,7 +419,7 @@ module _ (content : Content) (s : StoresState) (stands : Stands content s) (hone
       ∙ located_value (Hashed number) found row kind (hash_there store.shape store.region content.shown key found.place row there).1
 
   -- no hash store has one
-  past_hashed : (key : List ℕ) → HasNoRow (all_rows content s.active.log) key → FindsFrozen content s key None → FindsHashed content s key None
+  pub past_hashed : (key : List ℕ) → HasNoRow (all_rows content s.active.log) key → FindsFrozen content s key None → FindsHashed content s key None
       → get (current_map content s) key ≡ option_and_then value_given (newest_row (entries_of content s.sorted) key)
   past_hashed key none frozen hashed =
       past_frozen key none frozen
