@@ -57,6 +57,13 @@ impl BitWriter {
         BitReader::new(&self.bytes, start, count)
     }
 
+    /// Gives back the memory that the bits don't need.
+    pub fn shrink_to_fit(&mut self)
+        ensures { self.new ≡ self.old }
+    {
+        self.bytes.shrink_to_fit();
+    }
+
     /// Appends the gamma code of `n`. Bits that a `usize` can't count are want of memory too.
     pub fn write_gamma(&mut self, n: u32) -> Result<(), AllocError>
         requires { 1 ≤ n }

@@ -5,3 +5,6 @@ pub mod Codes
 pub mod Pending
 pub mod Gathered
 pub mod MarkedKeys
+pub mod Groups
+pub mod Built
+pub mod Above

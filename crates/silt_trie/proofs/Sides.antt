@@ -23,11 +23,11 @@ mounting : (d : ℕ) (keys : List (List ℕ)) → IsCodable keys d → Mounting 
 mounting d keys codable i h = let next = codable.rising i h in below_at d _ _ next.below next.alike
 
 -- a key with this bit stays
-kept : (bit d : ℕ) (key : List ℕ) (keys : List (List ℕ)) → bit_of d key ≡ bit → with_bit bit d (key ∷ keys) ≡ key ∷ with_bit bit d keys
+pub kept : (bit d : ℕ) (key : List ℕ) (keys : List (List ℕ)) → bit_of d key ≡ bit → with_bit bit d (key ∷ keys) ≡ key ∷ with_bit bit d keys
 kept bit d key keys e = ap (λ (b : Bool). cond b (key ∷ with_bit bit d keys) (with_bit bit d keys)) (eq-eqb (bit_of d key) bit e)
 
 -- a key with another bit does not
-left_out : (bit d : ℕ) (key : List ℕ) (keys : List (List ℕ)) → (bit_of d key ≡ bit → ⊥) → with_bit bit d (key ∷ keys) ≡ with_bit bit d keys
+pub left_out : (bit d : ℕ) (key : List ℕ) (keys : List (List ℕ)) → (bit_of d key ≡ bit → ⊥) → with_bit bit d (key ∷ keys) ≡ with_bit bit d keys
 left_out bit d key keys e = ap (λ (b : Bool). cond b (key ∷ with_bit bit d keys) (with_bit bit d keys)) (ne_eqb (bit_of d key) bit e)
 
 -- one more key in front, with bit 0

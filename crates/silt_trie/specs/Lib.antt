@@ -1,3 +1,4 @@
+pub mod Building
 pub mod Code
 pub mod Coded
 pub mod Marks

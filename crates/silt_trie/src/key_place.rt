@@ -51,9 +51,12 @@ fn locate_from(bits: &mut BitReader<'_>, count: u32, depth: usize, key: &Key) ->
 fn skip_code(bits: &mut BitReader<'_>, count: u32, depth: usize)
     ensures { ArePast bits.old count depth bits.new }
 {
+    if count < 2 {
+        return;
+    }
     let mut pending = [0; MOST_PENDING];
     pending[0] = count;
-    let mut top = usize::from(count >= 2);
+    let mut top = 1;
     while top > 0 && top <= KEY_BITS {
         top -= 1;
         let count = pending[top];

@@ -11,7 +11,8 @@
 //! A look walks half of a code, so a [`MarkedTrie`] keeps marks: for each prefix of some bits where
 //! the code of the keys with that prefix begins, and how many keys stand before them. A look then
 //! walks the code of these keys alone. Its keys are in groups, whose codes stand one behind the
-//! other; marks of the groups' own bits are a table of the groups.
+//! other; marks of the groups' own bits are a table of the groups. A [`MarkedTrieBuilder`] makes one
+//! of keys that come one by one, and holds the keys of one group at a time.
 #![tactic(auto)]
 
 mod code_of_keys;
@@ -23,6 +24,7 @@ mod marked_code;
 mod marked_trie;
 mod marks;
 mod trie;
+mod trie_builder;
 
 pub use code_of_keys::write_code;
 pub use coded_keys::{follows, is_codable};
@@ -32,6 +34,7 @@ pub use marked_code::{push_mark, write_marked};
 pub use marked_trie::{MarkedTrie, levels_for, locate_between};
 pub use marks::{MOST_LEVELS, Mark, groups_law, mark_law};
 pub use trie::Trie;
+pub use trie_builder::MarkedTrieBuilder;
 
 #[cfg(test)]
 mod tests;

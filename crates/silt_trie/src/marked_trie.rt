@@ -1,5 +1,5 @@
 //! Code with marks of its own.
-ghost use Rattle.std.specs.Prelude.{◌≡◌, ℕ, ◌+◌, ◌-◌, ◌*◌, ◌/◌, ◌^◌, ◌<◌, ◌≤◌, length, IfOk, IfSome};
+ghost use Rattle.std.specs.Prelude.{◌≡◌, ℕ, ◌+◌, ◌-◌, ◌*◌, ◌/◌, ◌^◌, ◌<◌, ◌≤◌, [], ◌∷◌, ◌++◌, length, min, IfOk, IfSome};
 ghost use Rattle.silt_trie.specs.Code.{IsCodable};
 ghost use Rattle.silt_trie.specs.Coded.{bytes_of};
 ghost use Rattle.silt_trie.specs.Marks.{IsMadeOf, IsMarkedPlace, IsPlaceBetween, MarkedCode};
@@ -11,9 +11,10 @@ use silt_frame::Key;
 use silt_gamma::BitWriter;
 use std::alloc::{AllocError, Global};
 use std::marker::Model;
+use std::mem::size_of;
 
 /// How many keys a mark is for, at most, where keys are spread evenly.
-const KEYS_A_MARK: usize = 64;
+const KEYS_A_MARK: usize = 160;
 
 /// The codes of groups of keys, with marks of all prefixes of some bits, so that a look walks no
 /// more than the code of the keys with one prefix.
@@ -64,11 +65,39 @@ impl MarkedTrie {
         let mut bits = BitWriter::new(alloc);
         let mut marks = Vec::new(alloc);
         write_marked(&mut bits, &mut marks, keys, 0, depth, groups, levels)?;
-        push_mark(&mut marks, bits.len(), keys.len() as u32)?;
+        MarkedTrie::complete(bits, marks, keys.len(), depth, groups, levels)
+    }
+
+    /// Code and marks of all keys as a trie: puts the mark behind all keys, and gives back the memory
+    /// that they don't need.
+    pub(crate) fn complete(
+        mut bits: BitWriter,
+        mut marks: Vec<Mark>,
+        count: usize,
+        depth: usize,
+        groups: usize,
+        levels: usize,
+    ) -> Result<MarkedTrie, AllocError>
+        requires within { depth + levels ≤ 160 }
+        requires few { levels ≤ 24 }
+        requires grouped { groups ≤ levels }
+        requires counted { count < 2 ^ 32 }
+        ensures { IfOk result (λ made. made ≡ record {
+          code = bits;
+          marks = marks.items ++ record { start = length bits; place = count } ∷ [];
+          count = count;
+          depth = depth;
+          groups = groups;
+          levels = levels;
+        }) }
+    {
+        push_mark(&mut marks, bits.len(), count as u32)?;
+        marks.shrink_to_fit();
+        bits.shrink_to_fit();
         Ok(MarkedTrie {
             bits,
             marks,
-            count: keys.len(),
+            count,
             depth,
             groups,
             levels,
@@ -87,6 +116,14 @@ impl MarkedTrie {
         ensures { result ≡ length self.now.code }
     {
         self.bits.len()
+    }
+
+    /// How many bytes of memory code and marks take, or the most that a `usize` can count.
+    pub fn memory(&self) -> usize
+        ensures { result ≡ min ((length self.now.code + 7) / 8 + 8 * length self.now.marks) (2 ^ 64 - 1) }
+    {
+        let code = self.bits.len().div_ceil(8);
+        code.saturating_add(self.marks.len().saturating_mul(size_of::<Mark>()))
     }
 
     /// The only place at which the key can stand; None where it is none of the keys for sure. This
@@ -131,12 +168,12 @@ pub fn locate_between(
 }
 
 /// By how many bits to mark so many keys in groups: by 8, which are the groups, and by as many
-/// more as leave at most 64 keys a mark, where they are spread evenly, up to 16.
+/// more as leave at most 160 keys a mark, where they are spread evenly, up to 16.
 pub fn levels_for(count: usize) -> usize
     ensures groups { 8 ≤ result }
     ensures most { result ≤ 24 }
-    ensures enough { result < 24 → count ≤ 64 * 2 ^ result }
-    ensures least { 8 < result → 64 * 2 ^ (result - 1) < count }
+    ensures enough { result < 24 → count ≤ 160 * 2 ^ result }
+    ensures least { 8 < result → 160 * 2 ^ (result - 1) < count }
 {
     for levels in 8..MOST_LEVELS {
         if count <= KEYS_A_MARK << levels {

@@ -1,5 +1,5 @@
 //! Worked examples of codes and places.
-use crate::{MarkedTrie, Trie, is_codable, levels_for, locate_in, write_code};
+use crate::{MarkedTrie, MarkedTrieBuilder, Trie, is_codable, levels_for, locate_in, write_code};
 use sha1::Sha1;
 use silt_frame::Key;
 use silt_gamma::BitWriter;
@@ -206,8 +206,114 @@ fn marks_few_keys(rt: HostRuntime) -> Result<(), Fail> {
 #[test]
 fn chooses_levels(rt: HostRuntime) {
     assert_eq!(rt; levels_for(0), 8);
-    assert_eq!(rt; levels_for(16_384), 8);
-    assert_eq!(rt; levels_for(16_385), 9);
-    assert_eq!(rt; levels_for(1_000_000), 14);
+    assert_eq!(rt; levels_for(40_960), 8);
+    assert_eq!(rt; levels_for(40_961), 9);
+    assert_eq!(rt; levels_for(1_000_000), 13);
     assert_eq!(rt; levels_for(usize::MAX), 24);
+}
+
+/// The trie that a builder makes of keys.
+fn build(rt: &impl Abort, alloc: Global, keys: &[Key]) -> Result<MarkedTrie, AllocError> {
+    let mut builder = MarkedTrieBuilder::new(alloc, keys.len());
+    for key in keys {
+        assert!(rt; builder.len() < 10_000);
+        assert!(rt; builder.push(*key)?);
+    }
+    builder.finish()
+}
+
+/// What a builder makes of keys is what `encode` makes of them.
+fn check_built(rt: &impl Abort, alloc: Global, keys: &[Key]) -> Result<(), AllocError> {
+    assert!(rt; is_codable(keys, 0));
+    let built = build(rt, alloc, keys)?;
+    let encoded = MarkedTrie::encode(alloc, keys, 0, 8, levels_for(keys.len()))?;
+    assert!(rt; built.len() == keys.len());
+    assert!(rt; built.code_len() == encoded.code_len());
+    assert!(rt; built.memory() == encoded.memory());
+    for (at, key) in keys.iter().enumerate() {
+        assert!(rt; built.locate_marked(key) == Some(at));
+    }
+    Ok(())
+}
+
+#[test]
+fn builds_few_keys(rt: HostRuntime) -> Result<(), Fail> {
+    let alloc = rt.alloc();
+    check_built(&rt, alloc, &[])?;
+    check_built(&rt, alloc, &[key(0x35, 0x17)])?;
+    check_built(&rt, alloc, &[key(0, 0), key(0, 0x40), key(0, 0x80)])?;
+    check_built(&rt, alloc, &[key(9, 3), key(9, 4), key(9, 0xf0)])?;
+    check_built(
+        &rt,
+        alloc,
+        &[key(0, 1), key(0, 2), key(255, 1), key(255, 2)],
+    )?;
+    Ok(())
+}
+
+#[test]
+fn builds_a_key_for_each_group(rt: HostRuntime) -> Result<(), Fail> {
+    let alloc = rt.alloc();
+    let mut keys = Vec::new(alloc);
+    for first in 0..=255u8 {
+        keys.push(key(first, 7))?;
+    }
+    check_built(&rt, alloc, &keys)?;
+    assert_eq!(rt; build(&rt, alloc, &keys)?.code_len(), 0);
+    Ok(())
+}
+
+#[test]
+fn builds_random_keys(rt: HostRuntime) -> Result<(), Fail> {
+    let alloc = rt.alloc();
+    check_built(&rt, alloc, &random_keys(alloc, 3_000)?)?;
+    Ok(())
+}
+
+#[test]
+fn builds_more_marks(rt: HostRuntime) -> Result<(), Fail> {
+    let alloc = rt.alloc();
+    let keys = random_keys(alloc, 500)?;
+    let mut builder = MarkedTrieBuilder::new(alloc, 100_000);
+    for key in &keys {
+        assert!(rt; builder.len() < 10_000);
+        assert!(rt; builder.push(*key)?);
+    }
+    let built = builder.finish()?;
+    for (at, key) in keys.iter().enumerate() {
+        assert_eq!(rt; built.locate_marked(key), Some(at));
+    }
+    Ok(())
+}
+
+#[test]
+fn refuses_keys_that_do_not_rise(rt: HostRuntime) -> Result<(), Fail> {
+    let alloc = rt.alloc();
+    let keys = [key(3, 1), key(3, 2), key(5, 0)];
+    let refused = [key(3, 1), key(2, 9), key(5, 0)];
+    let mut builder = MarkedTrieBuilder::new(alloc, 3);
+    for (key, other) in keys.iter().zip(&refused) {
+        assert!(rt; builder.len() < 10);
+        assert!(rt; builder.push(*key)?);
+        assert!(rt; builder.len() < 10);
+        assert!(rt; !builder.push(*other)?);
+    }
+    let built = builder.finish()?;
+    assert_eq!(rt; built.len(), 3);
+    for (at, key) in keys.iter().enumerate() {
+        assert_eq!(rt; built.locate_marked(key), Some(at));
+    }
+    Ok(())
+}
+
+#[test]
+fn takes_little_memory(rt: HostRuntime) -> Result<(), Fail> {
+    let alloc = rt.alloc();
+    let none = MarkedTrie::encode(alloc, &[], 0, 8, 8)?;
+    assert_eq!(rt; none.memory(), 257 * 8);
+    let keys = [key(0, 0), key(0, 0x40), key(0, 0x80)];
+    assert!(rt; is_codable(&keys, 0));
+    let few = MarkedTrie::encode(alloc, &keys, 0, 8, 8)?;
+    assert_eq!(rt; few.memory(), 257 * 8 + 1);
+    Ok(())
 }

@@ -1,18 +1,20 @@
-use Rattle.std.proofs.Common.{◌≡◌, ℕ, suc, ◌+◌, ◌-◌, List, get_or, replicate, refl, sym, ◌∙◌, subst, arith}
+use Rattle.std.proofs.Common.{◌≡◌, ℕ, suc, ◌+◌, ◌-◌, List, get_or, inl, replicate, refl, sym, ◌∙◌, subst, arith}
 use Rattle.std.proofs.Math.ListN.{set}
 use Rattle.std.proofs.lemmas.List.{length-set}
 use Rattle.silt_gamma.specs.Gamma.{BeginsWithCode}
 use Rattle.silt_gamma.proofs.Reading.{fewer_left}
-use Rattle.silt_trie.proofs.Pending.{Pending, push_one, turn, counted, next_begins, few_pending}
+use Rattle.silt_trie.proofs.Codes.{after_none}
+use Rattle.silt_trie.proofs.Pending.{Pending, push_one, turn, next_begins, few_pending}
 use Rattle.silt_trie.proofs.key_place.skip_code.Goals as goal
+
+pub returns-then-count-lt2 : goal.returns-then-count-lt2
+returns-then-count-lt2 c = λ keys rest codable count is. after_none keys c.args.depth c.args.bits.now rest codable (inl (omega arith)) is
 
 pub loop-top-init : goal.loop-top-init
 loop-top-init c = (
   refl,
   λ keys rest codable count is.
-      let long = (counted c.args.count c.from-top.result c.from-top.ensures).0 in
-      let short = (counted c.args.count c.from-top.result c.from-top.ensures).1 in
-      push_one c.args.depth 0 c.args.depth c.args.count c.from-top.result (replicate 161 0) c.args.bits.now rest rest keys codable (sym count) (omega arith) (omega arith) is long short refl,
+      push_one c.args.depth 0 c.args.depth c.args.count 1 (replicate 161 0) c.args.bits.now rest rest keys codable (sym count) (omega arith) (omega arith) is (λ many. refl) (λ few. absurd (omega arith)) refl,
 )
 
 pub returns-in_default : goal.returns-in_default
@@ -33,7 +35,7 @@ loop-top-preserved c =
     let left = c.min-left.result in
     let right = get_or c.loop-top.pending t 0 - left in
     let first = length-set c.loop-top.pending t right in
-    let second = length-set (set c.loop-top.pending t right) (t + c.from-top-in-loop-top.result) left in
+    let second = length-set (set c.loop-top.pending t right) (t + c.from-top.result) left in
     let size = c.loop-top.invariant.0 in (
       second ∙ first ∙ size,
       λ keys rest codable count is.
@@ -42,8 +44,8 @@ loop-top-preserved c =
           let pending : family (suc t) = subst family (sym one) (c.loop-top.invariant.1 keys rest codable count is) in
           let reads : (m : ℕ) (tail : List ℕ) → BeginsWithCode c.loop-top.bits m tail → (c.in-Some.next ≡ m) × (c.read_gamma.new.self ≡ tail) =
           λ m tail begins. let read = c.read_gamma.ensures.read m tail begins in let same = sym c.in-Some.is ∙ read.0 in (cc, read.1) in
-          turn c.args.depth t c.in-Some.next left right c.from-top-in-loop-top.result c.from-top-in-loop-top-2.result c.loop-top.pending c.loop-top.bits c.read_gamma.new.self rest pending size (omega arith) reads
-          c.min-left.ensures refl c.from-top-in-loop-top.ensures c.from-top-in-loop-top-2.ensures,
+          turn c.args.depth t c.in-Some.next left right c.from-top.result c.from-top-in-loop-top.result c.loop-top.pending c.loop-top.bits c.read_gamma.new.self rest pending size (omega arith) reads
+          c.min-left.ensures refl c.from-top.ensures c.from-top-in-loop-top.ensures,
     )
 
 pub returns-else-top-le-KEY_BITS : goal.returns-else-top-le-KEY_BITS

@@ -1,0 +1,132 @@
+-- Lemmas on keys that are given one above the other.
+use Rattle.std.proofs.Common.{◌≡◌, ℕ, ◌+◌, ◌-◌, ◌^◌, ◌<◌, ◌≤◌, true, List, [], ◌∷◌, ◌++◌, length, take, get_or, inl, inr, ◌*◌, Option, Some, None, refl, sym, ap, ◌∙◌, subst, arith}
+use Rattle.std.proofs.lemmas.List.{append_assoc, get_or_push, length_push, map-append}
+use Rattle.std.proofs.lemmas.List.Elements.{All-push}
+use Rattle.std.specs.Ordering.{nat_cmp, is_lt}
+use Rattle.std.specs.Cmp.Lexicographic.{slice_cmp}
+use Rattle.std.specs.declared.cmp.Ordering.{Ordering}
+use Rattle.std.specs.declared.cmp.Ordering.TheVariants.{Less, Equal, Greater}
+use Rattle.silt_frame.specs.declared.key.Key.{Key}
+use Rattle.silt_trie.specs.Building.{Building, EndWith, HasGroups, IsBuildingOf, IsHeldBuilding, MayFollow, group_of, group_under_way}
+use Rattle.silt_trie.specs.Code.{Follows, IsCodable}
+use Rattle.silt_trie.specs.Coded.{bytes_of}
+use Rattle.silt_trie.specs.Marks.{marks_of}
+use Rattle.std.proofs.lemmas.Bool.{cases_lt}
+use Rattle.silt_trie.proofs.Codes.{bytes_at, length-bytes_of}
+use Rattle.silt_trie.proofs.Gathered.{codable_push}
+use Rattle.silt_trie.proofs.Order.{below_at, group_law, order_law}
+
+-- a key's group is its first byte
+group_is : (key : List ℕ) → get_or key 0 0 < 256 → group_of key ≡ get_or key 0 0
+group_is [] small = omega arith
+group_is (byte ∷ rest) small = omega arith
+
+-- what is lower is so
+less_from : (o : Ordering) → is_lt o ≡ true → o ≡ Less
+less_from Less is = refl
+less_from Equal is = absurd (cc)
+less_from Greater is = absurd (cc)
+
+-- a key that is above another by its bytes
+pub may_follow : (a b : List ℕ) → length a ≡ 20 → length b ≡ 20 → ((i : ℕ) → get_or a i 0 < 256) → ((i : ℕ) → get_or b i 0 < 256) → is_lt (slice_cmp nat_cmp a b) ≡ true → MayFollow a b
+may_follow a b size_a size_b small_a small_b is =
+    let less = less_from (slice_cmp nat_cmp a b) is in
+    let below = order_law a b small_a small_b ∙ less in
+    let first = below_at 0 a b less (λ k h. absurd (omega arith)) in
+    let in_a = group_is a (small_a 0) in
+    let in_b = group_is b (small_b 0) in
+    record {
+      above = record { sized = (size_a, size_b); below = below; alike = λ k h. absurd (omega arith) };
+      later = omega arith;
+      grouped = λ same. record { sized = (size_a, size_b); below = below; alike = group_law a b (sym in_a ∙ same ∙ in_b) };
+    }
+
+-- the bytes of keys with one more
+bytes_push : (keys : List Key) (key : Key) → bytes_of (keys ++ key ∷ []) ≡ bytes_of keys ++ key.0 ∷ []
+bytes_push keys key = map-append (λ (key : Key). key.0) keys (key ∷ [])
+
+-- the key that keys end with
+last_key : (keys : List (List ℕ)) (last : Key) → EndWith keys (Some last) → get_or keys (length keys - 1) [] ≡ last.0
+last_key keys last end =
+    let front = end.0 in
+    let size = ap length end.1 ∙ length_push front last.0 in
+    ap (λ (ks : List (List ℕ)). get_or ks (length keys - 1) []) end.1 ∙ get_or_push front last.0 [] (length keys - 1) (omega arith)
+
+-- keys with one more can be coded
+pub codable_next : (keys : List (List ℕ)) (o : Option Key) (key : List ℕ) → IsCodable keys 0 → length keys + 2 < 2 ^ 32 → EndWith keys o → ((before : Key) → o ≡ Some before → MayFollow before.0 key) → IsCodable (keys ++ key ∷ []) 0
+codable_next keys None key codable few end next = let none = ap length end in codable_push 0 keys key codable few (λ some. absurd (omega arith))
+codable_next keys (Some last) key codable few end next = codable_push 0 keys key codable few (λ some. subst (λ (before : List ℕ). Follows 0 before key) (sym (last_key keys last end)) (next last refl).above)
+
+-- the group of a key that may come next is no earlier one
+pub group_later : (o : Option Key) (key : List ℕ) → ((before : Key) → o ≡ Some before → MayFollow before.0 key) → group_under_way o ≤ group_of key
+group_later None key next = omega arith
+group_later (Some last) key next = (next last refl).later
+
+-- the group under way with one more key
+pub group_push : (n : ℕ) (keys : List (List ℕ)) (key : Key) (old new : Building) → HasGroups n keys old → group_of key.0 ≡ n → new.code ≡ old.code → new.marks ≡ old.marks → new.levels ≡ old.levels → new.group ≡ old.group ++ key ∷ [] → new.count ≡ old.count + 1 → HasGroups n (keys ++ key.0 ∷ []) new
+group_push n keys key old new has here code marks levels group count =
+    let more : bytes_of new.group ≡ bytes_of old.group ++ key.0 ∷ [] = ap bytes_of group ∙ bytes_push old.group key in
+    let counted = has.count_is in
+    let size = length_push keys key.0 in
+    record {
+      done = has.done;
+      keys_are = ap (λ (ks : List (List ℕ)). ks ++ key.0 ∷ []) has.keys_are ∙ append_assoc has.done (bytes_of old.group) (key.0 ∷ []) ∙ ap (λ (ks : List (List ℕ)). has.done ++ ks) (sym more);
+      count_is = omega arith;
+      lower = has.lower;
+      alike = rw more (All-push (λ key. group_of key ≡ n) (bytes_of old.group) key.0 has.alike here);
+      code_is = code ∙ has.code_is;
+      marks_are = marks ∙ has.marks_are ∙ ap (λ (m : ℕ). take (n * 2 ^ (m - 8)) (marks_of m 8 has.done 0 0 0)) (sym levels);
+    }
+
+-- the keys of the group under way with one more can be coded
+pub waiting_push : (old now : Building) (key : Key) (new : List Key) → IsHeldBuilding now → now.count + 2 < 2 ^ 32 → (group_under_way old.last < group_of key.0 → now.group ≡ []) → (group_of key.0 ≤ group_under_way old.last → now ≡ old) → now.last ≡ old.last
+    → ((before : Key) → old.last ≡ Some before → MayFollow before.0 key.0) → new ≡ now.group ++ key ∷ [] → IsCodable (bytes_of new) 8
+waiting_push old now key new held few empty same last next new_is =
+    let size = length-bytes_of now.group in
+    let within = held.few.0 in
+    let before = get_or now.group (length now.group - 1) key in
+    let first : 0 < length (bytes_of now.group) → Follows 8 (get_or (bytes_of now.group) (length (bytes_of now.group) - 1) []) key.0 = λ some.
+    let is : old.last ≡ Some before = sym last ∙ held.last_is key (omega arith) in
+    let above = next before is in
+    let later = above.later in
+    let way : group_under_way old.last ≡ group_of before.0 = ap group_under_way is in
+    let here : group_of before.0 ≡ group_of key.0 = elim (cases_lt (group_of before.0) (group_of key.0)) [
+      | inl earlier ↦ let none = ap length (empty (omega arith)) in absurd (omega arith)
+      | inr upto ↦ omega arith
+    ] in
+    let place : length (bytes_of now.group) - 1 ≡ length now.group - 1 = omega arith in
+    let bytes : get_or (bytes_of now.group) (length (bytes_of now.group) - 1) [] ≡ before.0 = ap (λ (i : ℕ). get_or (bytes_of now.group) i []) place ∙ bytes_at now.group (length now.group - 1) key (omega arith) in
+    subst (λ (ks : List ℕ). Follows 8 ks key.0) (sym bytes) (above.grouped here) in
+    let codable = codable_push 8 (bytes_of now.group) key.0 held.codable (omega arith) first in
+    subst (λ (ks : List (List ℕ)). IsCodable ks 8) (sym (ap bytes_of new_is ∙ bytes_push now.group key)) codable
+
+-- what is held stays so with one more key
+pub held_push : (old seen now new : Building) (key : Key) (n : ℕ) → now ≡ seen → IsHeldBuilding now → old.count + 2 < 2 ^ 32 → n ≡ group_of key.0 → (group_under_way old.last < n → seen.group ≡ []) → (n ≤ group_under_way old.last → seen ≡ old) → (seen.count ≡ old.count) × (seen.last ≡ old.last)
+    → ((before : Key) → old.last ≡ Some before → MayFollow before.0 key.0) → new.group ≡ now.group ++ key ∷ [] → new.count ≡ now.count + 1 → new.last ≡ Some key → new.levels ≡ now.levels → IsHeldBuilding new
+held_push old seen now new key n view held few group empty same stays next group_is count last levels =
+    let most = held.levels in
+    let counted = held.few in
+    let stay = ap (λ (b : Building). b.count) view ∙ stays.0 in
+    let none : group_under_way old.last < group_of key.0 → now.group ≡ [] = λ h. ap (λ (b : Building). b.group) view ∙ empty (omega arith) in
+    let unchanged : group_of key.0 ≤ group_under_way old.last → now ≡ old = λ h. view ∙ same (omega arith) in
+    let size = ap length group_is ∙ length_push now.group key in
+    record {
+      levels = (omega arith, omega arith);
+      few = (omega arith, omega arith);
+      codable = waiting_push old now key new.group held (omega arith) none unchanged (ap (λ (b : Building). b.last) view ∙ stays.1) next group_is;
+      last_is = λ other some. last ∙ ap (λ (k : Key). Some k) (sym (ap (λ (ks : List Key). get_or ks (length new.group - 1) other) group_is ∙ get_or_push now.group key other (length new.group - 1) (omega arith)));
+    }
+
+-- and what is built is built with it
+pub built_push : (old seen now new : Building) (key : Key) (n : ℕ) (keys : List (List ℕ)) → now ≡ seen → IsBuildingOf keys old → old.count + 2 < 2 ^ 32 → n ≡ group_of key.0 → ((keys : List (List ℕ)) → HasGroups (group_under_way old.last) keys old → group_under_way old.last ≤ n → HasGroups n keys seen) → (seen.count ≡ old.count) × (seen.last ≡ old.last)
+    → ((before : Key) → old.last ≡ Some before → MayFollow before.0 key.0) → new.group ≡ now.group ++ key ∷ [] → new.count ≡ now.count + 1 → new.last ≡ Some key → new.levels ≡ now.levels → new.code ≡ now.code → new.marks ≡ now.marks → IsBuildingOf (keys ++ key.0 ∷ []) new
+built_push old seen now new key n keys view building few group coded stays next group_is count last levels code marks =
+    let later = group_later old.last key.0 next in
+    let counted = building.groups.count_is in
+    let has = subst (λ (b : Building). HasGroups n keys b) (sym view) (coded keys building.groups (omega arith)) in
+    let way : n ≡ group_under_way new.last = group ∙ sym (ap group_under_way last) in
+    record {
+      codable = codable_next keys old.last key.0 building.codable (omega arith) building.last_is next;
+      last_is = rw last (keys, refl);
+      groups = subst (λ (m : ℕ). HasGroups m (keys ++ key.0 ∷ []) new) way (group_push n keys key now new has (sym group) code marks levels group_is count);
+    }

@@ -1,0 +1,67 @@
+-- A marked trie that is built from keys given one after the other, in 256 groups by first byte.
+use Rattle.std.specs.Prelude.{◌≡◌, ℕ, ◌+◌, ◌-◌, ◌*◌, ◌^◌, ◌<◌, ◌≤◌, Bool, true, All, List, [], ◌∷◌, ◌++◌, length, take, slice_index_or, Option, Some, None}
+use Rattle.std.specs.Ordering.{nat_cmp, is_lt}
+use Rattle.std.specs.Cmp.Lexicographic.{slice_cmp}
+use Rattle.silt_frame.specs.declared.key.Key.{Key}
+use Rattle.silt_trie.specs.Code.{Follows, IsCodable}
+use Rattle.silt_trie.specs.Coded.{bytes_of}
+use Rattle.silt_trie.specs.Marks.{grouped_code, marks_of, number_of_bits, prefix_of}
+use Rattle.silt_trie.specs.declared.marks.Mark.{Mark}
+
+-- A trie under way: the code and the marks of the groups that are done, the keys of the group under way, how many keys there are,
+-- the last of them, and by how many bits they are marked
+pub record Building : Type 0 where
+  pub code : List ℕ
+  pub marks : List Mark
+  pub group : List Key
+  pub count : ℕ
+  pub last : Option Key
+  pub levels : ℕ
+
+-- a key is above the last one
+abbrev pub is_above : Option Key → List ℕ → Bool
+is_above None key = true
+is_above (Some last) key = is_lt (slice_cmp nat_cmp last.0 key)
+
+-- the group of a key: the number that its first 8 bits write
+abbrev pub group_of : List ℕ → ℕ
+group_of key = number_of_bits (prefix_of 8 0 key)
+
+-- the group under way is that of the last key
+abbrev pub group_under_way : Option Key → ℕ
+group_under_way None = 0
+group_under_way (Some last) = group_of last.0
+
+-- a key lies above another, in its group or in a later one
+pub record MayFollow (a b : List ℕ) : Type 0 where
+  pub above : Follows 0 a b
+  pub later : group_of a ≤ group_of b
+  pub grouped : group_of a ≡ group_of b → Follows 8 a b
+
+-- The first n groups of keys are done: the code and the marks are theirs, and the keys of group n wait
+pub record HasGroups (n : ℕ) (keys : List (List ℕ)) (b : Building) : Type 0 where
+  pub done : List (List ℕ)
+  pub keys_are : keys ≡ done ++ bytes_of b.group
+  pub count_is : b.count ≡ length keys
+  pub lower : All (λ key. group_of key < n) done
+  pub alike : All (λ key. group_of key ≡ n) (bytes_of b.group)
+  pub code_is : b.code ≡ grouped_code 8 done 0
+  pub marks_are : b.marks ≡ take (n * 2 ^ (b.levels - 8)) (marks_of b.levels 8 done 0 0 0)
+
+-- keys end with this one, or there is none
+abbrev pub EndWith : List (List ℕ) → Option Key → Type 0
+EndWith keys None = keys ≡ []
+EndWith keys (Some last) = (front : List (List ℕ)) × (keys ≡ front ++ last.0 ∷ [])
+
+-- this is built of the keys
+pub record IsBuildingOf (keys : List (List ℕ)) (b : Building) : Type 0 where
+  pub codable : IsCodable keys 0
+  pub last_is : EndWith keys b.last
+  pub groups : HasGroups (group_under_way b.last) keys b
+
+-- the group under way can be coded, its last key is the last one, and there are marks of 8 to 24 bits
+pub record IsHeldBuilding (b : Building) : Type 0 where
+  pub levels : (8 ≤ b.levels) × (b.levels ≤ 24)
+  pub few : (length b.group ≤ b.count) × (b.count + 1 < 2 ^ 32)
+  pub codable : IsCodable (bytes_of b.group) 8
+  pub last_is : (key : Key) → 0 < length b.group → b.last ≡ Some (slice_index_or b.group (length b.group - 1) key)
