@@ -1,60 +1,83 @@
--- A look at each key: what is found in the entries so far.
-use Rattle.std.proofs.Common.{◌≡◌, ℕ, ◌+◌, ◌-◌, ◌<◌, ◌≤◌, Bool, true, false, not, List, [], length, slice_get, Some, inl, inr, refl, ap, ◌∙◌, arith}
+-- A walk over the keys of entries: what is found in the entries so far, and which keys the index has.
+use Rattle.std.proofs.Common.{◌≡◌, ℕ, ◌+◌, ◌-◌, ◌<◌, Bool, true, false, not, List, [], ◌∷◌, ◌++◌, length, take, slice_get, Option, Some, None, inl, inr, refl, sym, subst, ap, ◌∙◌, arith}
 use Rattle.std.proofs.lemmas.Bool.{cases_lt}
-use Rattle.silt_frame.specs.Rows.{StoredRow}
+use Rattle.std.proofs.lemmas.List.{length-map, take_all, take_more}
+use Rattle.silt_frame.specs.Rows.{StoredRow, keys_of}
+use Rattle.silt_frame.specs.declared.key.Key.{Key}
 use Rattle.silt_image.specs.Meaning.{entry_findings, finding_if, is_key_below, sorted_findings}
 use Rattle.silt_image.specs.declared.damage.Finding.{Finding}
 use Rattle.silt_image.specs.declared.damage.Finding.TheVariants.{Damaged}
 use Rattle.silt_event.specs.declared.place.Place.TheVariants.{Sorted}
 use Rattle.silt_image.proofs.Sound.{nothing_where_passes}
 use Rattle.silt_sorted_store.specs.Rebuild.{IsFirstOutOfOrder}
+use Rattle.silt_sorted_store.specs.Indexing.{IsIndexing, IsKeyBefore}
 use Rattle.silt_sorted_store.proofs.Ranges.{none_of_all, first_of_range}
 use Rattle.silt_sorted_store.proofs.Rising.{key_at}
-
--- the key last read is that before a place, and nothing is found in the entries before the place
-pub record IsRisingBefore (rows : List StoredRow) (place : ℕ) (before : List ℕ) : Type 0 where
-  pub last : key_at rows (place - 1) ≡ before
-  pub fine : (earlier : ℕ) → 1 ≤ earlier → earlier < place → entry_findings rows earlier ≡ []
+use Rattle.silt_trie.specs.Building.{Building, IsBuildingOf, is_above}
 
 -- a test that fails gives its finding
 found_where_fails : (test : Bool) (f : Finding) → test ≡ false → slice_get (finding_if (not test) f) 0 ≡ Some f
 found_where_fails true f fails = absurd (cc)
 found_where_fails false f fails = refl
 
-module _ (rows : List StoredRow) where
-  -- no entries
-  pub none_in_none : length rows ≡ 0 → sorted_findings rows ≡ []
+module _ (rows : List StoredRow) (place : ℕ) where
+  -- the test of an entry's key against the one before it is that against the last key
+  last_decides : (last key : List ℕ) (test : Bool) → key_at rows (place - 1) ≡ last → key_at rows place ≡ key → is_key_below last key ≡ test → is_key_below (key_at rows (place - 1)) (key_at rows place) ≡ test
+  last_decides last key test before is decides = ap (λ k. is_key_below k (key_at rows place)) before ∙ ap (is_key_below last) is ∙ decides
+
+  -- nothing is found in an entry whose key is above the last one
+  fine_here : (last : Option Key) (key : List ℕ) → IsKeyBefore rows place last → 0 < place → key_at rows place ≡ key → is_above last key ≡ true → entry_findings rows place ≡ []
+  fine_here None key before least is above = absurd (omega (arith, before))
+  fine_here (Some last) key before least is above = nothing_where_passes _ (Damaged (Sorted place)) (last_decides last.0 key true before.1 is above)
+
+  -- the first entry whose key is not
+  damaged_here : (last : Option Key) (key : List ℕ) → place < length rows → ((earlier : ℕ) → 0 < earlier → earlier < place → entry_findings rows earlier ≡ []) → IsKeyBefore rows place last → key_at rows place ≡ key
+      → is_above last key ≡ false → IsFirstOutOfOrder rows place
   unfolding sorted_findings
-  none_in_none long = none_of_all (entry_findings rows) 1 (length rows - 1) (λ place low high. absurd (omega arith))
+  damaged_here None key inside fine before is fails = absurd (cc)
+  damaged_here (Some last) key inside fine before is fails =
+      first_of_range (entry_findings rows) 1 (length rows - 1) place (Damaged (Sorted place)) (omega (arith, before.0)) (omega (arith, inside)) fine
+      (found_where_fails (is_key_below (key_at rows (place - 1)) (key_at rows place)) (Damaged (Sorted place)) (last_decides last.0 key false before.1 is fails))
 
-  -- the first key
-  pub rising_first : (before : List ℕ) → key_at rows 0 ≡ before → IsRisingBefore rows 1 before
-  rising_first before is = record { last = is; fine = λ earlier least below. absurd (omega arith) }
+module _ (rows : List StoredRow) where
+  -- no key was taken up yet
+  pub indexing_none : (builder : Building) → IsBuildingOf [] builder → builder.last ≡ None → IsIndexing rows 0 builder
+  indexing_none builder empty none = record {
+    built = empty;
+    last = subst (IsKeyBefore rows 0) (sym none) refl;
+    fine = λ earlier least below. absurd (omega arith);
+  }
 
-  -- a key that is above the one before it
-  pub rising_more : (place : ℕ) (before key : List ℕ) → IsRisingBefore rows place before → key_at rows place ≡ key → is_key_below before key ≡ true → IsRisingBefore rows (place + 1) key
-  rising_more place before key rising is above =
+  -- a key more was taken up
+  pub indexing_more : (place : ℕ) (old new : Building) (key : Key) → place < length rows → IsIndexing rows place old → key_at rows place ≡ key.0 → is_above old.last key.0 ≡ true
+      → ((keys : List (List ℕ)) → IsBuildingOf keys old → IsBuildingOf (keys ++ key.0 ∷ []) new) → new.last ≡ Some key → IsIndexing rows (place + 1) new
+  indexing_more place old new key inside so_far is above builds last =
+      let long = length-map rows (λ (r : StoredRow). r.key) in
       let here : place + 1 - 1 ≡ place = omega arith in
+      let keys : take (place + 1) (keys_of rows) ≡ take place (keys_of rows) ++ key.0 ∷ [] =
+      take_more (keys_of rows) place [] (omega (arith, long, inside)) ∙ ap (λ k. take place (keys_of rows) ++ k ∷ []) is in
       record {
-        last = ap (key_at rows) here ∙ is;
+        built = subst (λ l. IsBuildingOf l new) (sym keys) (builds (take place (keys_of rows)) so_far.built);
+        last = subst (IsKeyBefore rows (place + 1)) (sym last) (omega arith, ap (key_at rows) here ∙ is);
         fine = λ earlier least below. elim (cases_lt earlier place) [
-          | inl lower ↦ rising.fine earlier least lower
+          | inl lower ↦ so_far.fine earlier least lower
           | inr upto ↦
               let same : earlier ≡ place = omega arith in
-              let test : is_key_below (key_at rows (place - 1)) (key_at rows place) ≡ true = ap (λ k. is_key_below k (key_at rows place)) rising.last ∙ ap (is_key_below before) is ∙ above in
-              ap (entry_findings rows) same ∙ nothing_where_passes _ (Damaged (Sorted place)) test
+              ap (entry_findings rows) same ∙ fine_here rows place old.last key.0 so_far.last (omega arith) is above
         ];
       }
 
-  -- one that is not
-  pub out_of_order_here : (place : ℕ) (before key : List ℕ) → 1 ≤ place → place < length rows → IsRisingBefore rows place before → key_at rows place ≡ key → is_key_below before key ≡ false → IsFirstOutOfOrder rows place
-  unfolding sorted_findings
-  out_of_order_here place before key least inside rising is fails =
-      let test : is_key_below (key_at rows (place - 1)) (key_at rows place) ≡ false = ap (λ k. is_key_below k (key_at rows place)) rising.last ∙ ap (is_key_below before) is ∙ fails in
-      first_of_range (entry_findings rows) 1 (length rows - 1) place (Damaged (Sorted place)) least (omega arith) rising.fine
-      (found_where_fails (is_key_below (key_at rows (place - 1)) (key_at rows place)) (Damaged (Sorted place)) test)
+  -- the next key is not above the last one
+  pub indexing_refused : (place : ℕ) (builder : Building) (key : List ℕ) → place < length rows → IsIndexing rows place builder → key_at rows place ≡ key → is_above builder.last key ≡ false → IsFirstOutOfOrder rows place
+  indexing_refused place builder key inside so_far is fails = damaged_here rows place builder.last key inside so_far.fine so_far.last is fails
 
-  -- all rise
-  pub rising_all : (count : ℕ) (before : List ℕ) → length rows ≡ count → IsRisingBefore rows count before → sorted_findings rows ≡ []
+  -- nothing is found in entries whose keys were all taken up
+  pub indexing_fine : (place : ℕ) (builder : Building) → length rows ≡ place → IsIndexing rows place builder → sorted_findings rows ≡ []
   unfolding sorted_findings
-  rising_all count before long rising = none_of_all (entry_findings rows) 1 (length rows - 1) (λ place low high. rising.fine place low (omega arith))
+  indexing_fine place builder long all = none_of_all (entry_findings rows) 1 (length rows - 1) (λ other low high. all.fine other low (omega (arith, low, high, long)))
+
+  -- and the builder has all keys
+  pub indexing_all : (place : ℕ) (builder : Building) → length rows ≡ place → IsIndexing rows place builder → IsBuildingOf (keys_of rows) builder
+  indexing_all place builder long all =
+      let keys_long = length-map rows (λ (r : StoredRow). r.key) in
+      subst (λ l. IsBuildingOf l builder) (take_all place (keys_of rows) (omega (arith, keys_long, long))) all.built

@@ -1,14 +1,15 @@
 -- What a change of the disk leaves of the entries of a sorted region.
-use Rattle.std.proofs.Common.{◌≡◌, ℕ, ◌+◌, ◌*◌, ◌<◌, ◌≤◌, IsTrue, List, [], ◌∷◌, ◌++◌, length, slice_range, inl, inr, sym, ap, ◌∙◌, arith}
+use Rattle.std.proofs.Common.{◌≡◌, ℕ, ◌+◌, ◌*◌, ◌<◌, ◌≤◌, IsTrue, List, [], ◌∷◌, ◌++◌, length, slice_range, inl, inr, sym, subst, ap, ◌∙◌, arith}
 use Rattle.std.proofs.lemmas.List.FromFn.{map-range_with_len_more}
-use Rattle.silt_device.specs.Disk.{LiesOutside, Torn, size}
+use Rattle.silt_device.specs.Disk.{LiesOutside, Torn}
 use Rattle.silt_device.specs.Layout.{Shape, device_size, entries_len, entry_len, sorted_at}
 use Rattle.silt_device.proofs.Images.{torn_slice_after, torn_slice_before}
 use Rattle.silt_device.proofs.Regions.{next_region, regions_apart}
 use Rattle.silt_image.specs.Stores.{sorted_rows}
 use Rattle.silt_frame.specs.Rows.{entry_row}
 use Rattle.silt_log.proofs.Bodies.{map_range_same}
-use Rattle.silt_sorted_store.specs.Laws.{EntriesElsewhereLaw}
+use Rattle.silt_sorted_store.specs.Laws.{EntriesElsewhereLaw, IndexedElsewhereLaw}
+use Rattle.silt_sorted_store.specs.Index.{IsIndexOf}
 use Rattle.silt_sorted_store.specs.State.{sorted_entry_at}
 use Rattle.silt_sorted_store.proofs.Entries.{part_inside}
 
@@ -55,3 +56,8 @@ entries_elsewhere store old new at count held fits outside changes honest =
     let was : IsTrue old.honest = sym changes.honest ∙ honest in
     let ends = entries_inside store.shape store.region held.region in
     entries_outside store.shape store.region store.count at count old.shown new.shown (omega (arith, ends)) held.room outside (changes.shown was)
+
+-- what is the index of entries is so after a change outside them
+pub indexed_elsewhere : IndexedElsewhereLaw
+indexed_elsewhere store index old new at count held fits outside changes indexed = λ honest.
+    subst (λ rows. IsIndexOf rows index) (sym (entries_elsewhere store old new at count held fits outside changes honest)) (indexed (sym changes.honest ∙ honest))

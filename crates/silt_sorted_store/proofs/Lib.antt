@@ -1,7 +1,8 @@
 pub mod Checking
+pub mod Chunks
 pub mod Elsewhere
 pub mod Entries
-pub mod Narrowing
+pub mod Locating
 pub mod Ranges
 pub mod Rising
 pub mod Writing

@@ -1,5 +1,5 @@
 -- The index of a sorted store: the coded tries of its keys, in memory.
-use Rattle.std.specs.Prelude.{IsTrue, List}
+use Rattle.std.specs.Prelude.{◌≡◌, ℕ, ◌<◌, IsTrue, List, [], length, get_or, Option, Some}
 use Rattle.silt_device.specs.Disk.{Content}
 use Rattle.silt_frame.specs.Rows.{StoredRow, keys_of}
 use Rattle.silt_sorted_store.specs.State.{SortedState, entries_of}
@@ -17,3 +17,7 @@ IsIndexOf rows index = IsMadeOf (keys_of rows) index
 -- on an honest disk the index is that of the entries
 abbrev pub IsIndexed : Content → SortedState → MarkedCode → Type 0
 IsIndexed content sorted index = IsTrue content.honest → IsIndexOf (entries_of content sorted) index
+
+-- where a row has the key, this is its place
+abbrev pub IsPlaceOfKey : List StoredRow → List ℕ → Option ℕ → Type 0
+IsPlaceOfKey rows key found = (place : ℕ) → place < length rows → get_or (keys_of rows) place [] ≡ key → found ≡ Some place

@@ -6,6 +6,8 @@ use Rattle.silt_frame.specs.Rows.{StoredRow, keys_of}
 use Rattle.silt_image.specs.Stores.{sorted_rows}
 use Rattle.silt_image.specs.Meaning.{is_key_below, sorted_findings}
 use Rattle.silt_sorted_store.specs.State.{IsHeldSorted, SortedState, entries_of}
+use Rattle.silt_sorted_store.specs.Index.{IsIndexed}
+use Rattle.silt_trie.specs.Marks.{MarkedCode}
 
 -- so many rows, each of them a put
 pub record ArePuts (rows : List StoredRow) (count : ℕ) : Type 0 where
@@ -30,3 +32,9 @@ abbrev pub EntriesElsewhereLaw : Type 0
 EntriesElsewhereLaw =
     (store : SortedState) (old new : Content) (at count : ℕ) → IsHeldSorted store → device_size store.shape ≤ size old → LiesOutside (sorted_at store.shape store.region) (entries_len store.shape) at count
     → ChangesWithin at count old new → IsTrue new.honest → entries_of new store ≡ entries_of old store
+
+-- what is the index of entries is so after a change outside them
+abbrev pub IndexedElsewhereLaw : Type 0
+IndexedElsewhereLaw =
+    (store : SortedState) (index : MarkedCode) (old new : Content) (at count : ℕ) → IsHeldSorted store → device_size store.shape ≤ size old → LiesOutside (sorted_at store.shape store.region) (entries_len store.shape) at count
+    → ChangesWithin at count old new → IsIndexed old store index → IsIndexed new store index

@@ -2,5 +2,6 @@ pub mod State
 pub mod Region
 pub mod OnlyRow
 pub mod Rebuild
-pub mod Laws
 pub mod Index
+pub mod Indexing
+pub mod Laws

@@ -17,6 +17,14 @@ abbrev pub FindsEntry : List StoredRow → List ℕ → Option ℕ → Type 0
 FindsEntry rows key None = HasNoEntry rows key
 FindsEntry rows key (Some place) = (row : StoredRow) × IsOnlyRow rows key place row
 
+-- one row has the key, and it has the value
+abbrev pub HasOnlyValue : List StoredRow → List ℕ → List ℕ → Type 0
+HasOnlyValue rows key value = (place : ℕ) × (row : StoredRow) × IsOnlyRow rows key place row × (row.value ≡ value)
+
+-- the row at this place has the key and the value
+abbrev pub HasKeyAndValue : List StoredRow → ℕ → List ℕ → List ℕ → Type 0
+HasKeyAndValue rows place key value = (row : StoredRow) × (slice_get rows place ≡ Some row) × (row.key ≡ key) × (row.value ≡ value)
+
 -- the row at this place has the value
 abbrev pub HasValue : List StoredRow → ℕ → List ℕ → Type 0
 HasValue rows place value = (row : StoredRow) × (slice_get rows place ≡ Some row) × (row.value ≡ value)

@@ -1,20 +1,15 @@
 -- What a rebuild finds in entries.
-use Rattle.std.specs.Prelude.{◌≡◌, ℕ, ⊤, List, [], slice_get, Option, Some, None}
+use Rattle.std.specs.Prelude.{◌≡◌, ℕ, ⊤, List, slice_get, Some}
 use Rattle.silt_frame.specs.Rows.{StoredRow}
 use Rattle.silt_image.specs.Meaning.{sorted_findings}
 use Rattle.silt_image.specs.declared.damage.Finding.TheVariants as finding
 use Rattle.silt_event.specs.declared.place.Place.TheVariants.{Sorted}
-use Rattle.silt_sorted_store.specs.declared.order.RebuildError.{RebuildError}
-use Rattle.silt_sorted_store.specs.declared.order.RebuildError.TheVariants.{Damaged, Device, NoMemory}
+use Rattle.silt_sorted_store.specs.declared.rebuild.RebuildError.{RebuildError}
+use Rattle.silt_sorted_store.specs.declared.rebuild.RebuildError.TheVariants.{Damaged, Device, NoMemory}
 
 -- the first finding in the entries is that this one is not above the one before it
 abbrev pub IsFirstOutOfOrder : List StoredRow → ℕ → Type 0
 IsFirstOutOfOrder rows place = slice_get (sorted_findings rows) 0 ≡ Some (finding.Damaged (Sorted place))
-
--- the place of the first entry that is not above the one before it, none where nothing is found
-abbrev pub FindsOutOfOrder : List StoredRow → Option ℕ → Type 0
-FindsOutOfOrder rows None = sorted_findings rows ≡ []
-FindsOutOfOrder rows (Some place) = IsFirstOutOfOrder rows place
 
 -- why a rebuild was refused: by the place of an entry, by the fault of a read, or for want of memory
 abbrev pub IsRefusedSorted : {F : Type 0} → (ℕ → Type 0) → (F → Type 0) → RebuildError F → Type 0

@@ -1,5 +1,5 @@
 // Laws of entries, for the layers above.
-ghost use Rattle.silt_sorted_store.specs.Laws.{EntriesElsewhereLaw, EntriesLaw, RisingLaw};
+ghost use Rattle.silt_sorted_store.specs.Laws.{EntriesElsewhereLaw, EntriesLaw, IndexedElsewhereLaw, RisingLaw};
 
 /// The entries of a sorted region are as many as are asked for, and each is a put.
 pub fn entries_law()
@@ -14,4 +14,9 @@ pub fn rising_law()
 /// Entries stay, after a change outside them.
 pub fn entries_elsewhere_law()
     ensures { EntriesElsewhereLaw }
+{}
+
+/// What is the index of entries is so after a change outside them.
+pub fn indexed_elsewhere_law()
+    ensures { IndexedElsewhereLaw }
 {}

@@ -1,19 +1,20 @@
-//! The sorted store of a device: entries of a key and a value in a sorted region, whose keys rise strictly.
+//! The sorted store of a device: entries of a key and a value in a sorted region, whose keys rise strictly, and their index.
 //!
-//! A `SortedStore` names a region and a number of entries, and holds nothing else in memory. `rebuild` reads each key once, and
-//! refuses entries that do not rise. There is no index: a look-up halves the entries that are left and reads one key of 20 bytes
-//! each time, so at most 25 keys.
+//! [`SortedEntries`] are the entries on the device: a region and how many there are. A [`SortedStore`] has them with an index in
+//! memory, the coded tries of their keys, which names the one place at which a key can stand: a look-up reads one key, and a get
+//! reads one entry. `rebuild` reads the entries once, in large reads, and refuses those that do not rise.
 #![tactic(auto)]
 
 mod laws;
-mod order;
+mod rebuild;
 mod region;
-mod search;
+mod sorted_entries;
 mod store;
 
-pub use laws::{entries_elsewhere_law, entries_law, rising_law};
-pub use order::RebuildError;
+pub use laws::{entries_elsewhere_law, entries_law, indexed_elsewhere_law, rising_law};
+pub use rebuild::RebuildError;
 pub use region::SortedRegion;
+pub use sorted_entries::SortedEntries;
 pub use store::SortedStore;
 
 #[cfg(test)]

@@ -1,107 +1,158 @@
-// The entries of a sorted region, and the calls that read them.
-ghost use Rattle.std.specs.Prelude.{◌≡◌, ◌==◌, ◌+◌, ◌<◌, ◌≤◌, ◌^◌, [], IsTrue, IfSome, IfOk, IfErr, OnOk, get_or, length, take};
+// The sorted store: entries on a device, and in memory the index that finds their places.
+ghost use Rattle.std.specs.Prelude.{◌≡◌, ◌==◌, ◌<◌, ◌≤◌, [], true, false, Ok, IsTrue, IfSome, IfOk, IfErr, OnOk, List, length};
 ghost use Rattle.silt_device.specs.Disk.{GaveAny, size};
-ghost use Rattle.silt_device.specs.Layout.{device_size, entry_len};
+ghost use Rattle.silt_device.specs.Layout.{device_size};
 ghost use Rattle.silt_image.specs.Meaning.{sorted_findings};
-ghost use Rattle.silt_frame.specs.Rows.{keys_of};
 ghost use Rattle.silt_image.specs.Stores.{sorted_rows};
+ghost use Rattle.silt_frame.specs.Rows.{StoredRow};
+ghost use Rattle.silt_trie.specs.Code.{IsCodable};
+ghost use Rattle.silt_trie.specs.Coded.{bytes_of};
+ghost use Rattle.silt_trie.specs.Marks.{IsMadeOf};
 
-use crate::order::{RebuildError, first_out_of_order};
-use crate::region::SortedRegion;
-use crate::search::find_place;
+use crate::rebuild::{RebuildError, index_entries};
+use crate::sorted_entries::SortedEntries;
 use silt_device::{Disk, Geometry};
-use silt_frame::{KEY_LEN, Key};
+use silt_frame::Key;
+use silt_trie::{MarkedTrie, levels_for};
+use std::alloc::{AllocError, Global};
 use std::marker::Model;
 
-/// The sorted store of a device: so many entries of a sorted region, strictly rising by key.
+/// By how many of a key's first bits an index is in groups.
+const GROUP_BITS: usize = 8;
+
+/// The sorted store of a device: so many entries of a sorted region, strictly rising by key, and the index of their keys.
 ///
-/// On a disk that is not honest, and where the entries do not rise, its calls are safe and end.
+/// On a disk that is not honest, where the entries do not rise, and where the index is not that of the entries, its calls are safe
+/// and end.
 #[derive(Drop)]
 pub struct SortedStore {
-    region: SortedRegion,
-    count: u32,
+    entries: SortedEntries,
+    index: MarkedTrie,
 }
 
 impl Model for SortedStore {
-    ghost use Rattle.silt_sorted_store.specs.State.{SortedState, IsHeldSorted};
+    ghost use Rattle.silt_sorted_store.specs.Index.{IndexedState};
 
-    ghost Value = { SortedState };
+    ghost Value = { IndexedState };
 
-    ghost view = { λ a. record { shape = a.region.geometry; region = a.region.number; count = a.count } };
-
-    ghost invariant = { λ a. IsHeldSorted (record { shape = a.region.geometry; region = a.region.number; count = a.count }) };
+    ghost view = { λ a. record { sorted = a.entries; index = a.index } };
 }
 
 impl SortedStore {
-    ghost use Rattle.silt_sorted_store.specs.State.{SortedState, IsHeldSorted, sorted_entry_at, entries_of};
-    ghost use Rattle.silt_sorted_store.specs.OnlyRow.{FindsEntry, HasEntry, HasValue};
+    ghost use Rattle.silt_sorted_store.specs.State.{IsHeldSorted, entries_of};
+    ghost use Rattle.silt_sorted_store.specs.Index.{IsIndexOf, IsIndexed, IsPlaceOfKey};
+    ghost use Rattle.silt_sorted_store.specs.OnlyRow.{FindsEntry, HasNoEntry, HasOnlyValue, HasValue};
     ghost use Rattle.silt_sorted_store.specs.Rebuild.{IsFirstOutOfOrder, IsRefusedSorted};
 
-    /// The first `count` entries of this region, with no look at the device.
-    pub fn new(geometry: Geometry, region: u32, count: u32) -> Self
-        requires region { region < 2 }
-        requires count { count ≤ geometry.sorted_capacity }
-        ensures { result ≡ record { shape = geometry; region = region; count = count } }
+    /// The store of these entries, whose keys these are, with no look at the device.
+    pub fn encode(alloc: Global, entries: SortedEntries, keys: &[Key]) -> Result<Self, AllocError>
+        requires codable { IsCodable (bytes_of keys.now) 0 }
+        ensures store { IfOk result (λ store. store.sorted ≡ entries) }
+        ensures index { IfOk result (λ store. IsMadeOf (bytes_of keys.now) store.index) }
     {
-        SortedStore {
-            region: SortedRegion {
-                geometry,
-                number: region,
-            },
-            count,
-        }
+        let index = MarkedTrie::encode(alloc, keys, 0, GROUP_BITS, levels_for(keys.len()))?;
+        Ok(SortedStore { entries, index })
+    }
+
+    /// The entries.
+    pub fn entries(&self) -> &SortedEntries
+        ensures { result.now ≡ self.now.sorted }
+    {
+        &self.entries
     }
 
     /// The geometry of the device.
     pub fn geometry(&self) -> Geometry
-        ensures { result ≡ self.now.shape }
+        ensures { result ≡ self.now.sorted.shape }
     {
-        self.region.geometry
+        self.entries.geometry()
     }
 
     /// The number of the region, 0 or 1.
     pub fn region(&self) -> u32
-        ensures value { result ≡ self.now.region }
-        ensures held { IsHeldSorted self.now }
+        ensures value { result ≡ self.now.sorted.region }
+        ensures held { IsHeldSorted self.now.sorted }
     {
-        self.region.number
+        self.entries.region()
     }
 
     /// How many entries there are.
     pub fn len(&self) -> u32
-        ensures value { result ≡ self.now.count }
-        ensures held { IsHeldSorted self.now }
+        ensures value { result ≡ self.now.sorted.count }
+        ensures held { IsHeldSorted self.now.sorted }
     {
-        self.count
+        self.entries.len()
     }
 
     /// Whether there is no entry.
     pub fn is_empty(&self) -> bool
-        ensures { result ≡ (self.now.count == 0) }
+        ensures { result ≡ (self.now.sorted.count == 0) }
     {
-        self.count == 0
+        self.entries.is_empty()
     }
 
-    // Where the entry at a place begins.
-    fn entry_at(&self, place: u32) -> u64
-        requires { place < self.now.count }
-        ensures value { result ≡ sorted_entry_at self.now.shape self.now.region place }
-        ensures fits { result + entry_len self.now.shape ≤ device_size self.now.shape }
-        ensures most { device_size self.now.shape ≤ 2 ^ 39 }
+    // The one place at which the index says that an entry can have this key.
+    fn locate(&self, key: &Key) -> Option<u32>
+        ensures below { IfSome result (λ place. place < self.now.sorted.count) }
+        ensures place { (rows : List StoredRow) → length rows ≡ self.now.sorted.count → IsIndexOf rows self.now.index → IsPlaceOfKey rows key.now.0 result }
+        ensures held { IsHeldSorted self.now.sorted }
     {
-        self.region.entry_at(place)
+        let count = self.entries.len();
+        let place = u32::try_from(self.index.locate_marked(key)?).ok()?;
+        if place < count {
+            Some(place)
+        } else {
+            None
+        }
     }
 
-    // Reads the key of the entry at a place.
-    pub(crate) fn read_key<D: Disk>(&self, disk: &D, place: u32) -> Result<Key, D::Fault>
-        requires place { place < self.now.count }
-        requires size { device_size self.now.shape ≤ size (D.content disk.now) }
-        ensures key { IsTrue (D.content disk.now).honest → IfOk result (λ key. get_or (keys_of (entries_of (D.content disk.now) self.now)) place [] ≡ key.0) }
+    /// The place of the entry with this key, none where no entry has it. It reads one key, or none where the index has no place.
+    ///
+    /// # Errors
+    ///
+    /// The fault of the read.
+    pub fn find<D: Disk>(&self, disk: &D, key: &Key) -> Result<Option<u32>, D::Fault>
+        requires size { device_size self.now.sorted.shape ≤ size (D.content disk.now) }
+        ensures entry { IsTrue (D.content disk.now).honest → sorted_findings (entries_of (D.content disk.now) self.now.sorted) ≡ []
+            → IsIndexOf (entries_of (D.content disk.now) self.now.sorted) self.now.index
+            → IfOk result (FindsEntry (entries_of (D.content disk.now) self.now.sorted) key.now.0) }
+        ensures place { IfOk result (λ found. IfSome found (λ place. place < self.now.sorted.count)) }
+        ensures held { IsHeldSorted self.now.sorted }
         ensures fault { IfErr result (GaveAny D.gave disk.now) }
     {
-        let mut key = [0; KEY_LEN];
-        disk.read(self.entry_at(place), &mut key)?;
-        Ok(Key(key))
+        let Some(place) = self.locate(key) else {
+            return Ok(None);
+        };
+        let standing = self.entries.read_key(disk, place)?;
+        if standing != *key {
+            return Ok(None);
+        }
+        Ok(Some(place))
+    }
+
+    /// Reads the value of the entry with this key into `out`, which stays where no entry has it. Whether one has. It makes one read
+    /// of an entry of at most 512 bytes, and else two; none where the index has no place.
+    ///
+    /// # Errors
+    ///
+    /// The fault of a read. The bytes of `out` are then open.
+    pub fn get<D: Disk>(&self, disk: &D, key: &Key, out: &mut [u8]) -> Result<bool, D::Fault>
+        requires out { length out.old ≡ self.now.sorted.shape.value_len }
+        requires size { device_size self.now.sorted.shape ≤ size (D.content disk.now) }
+        ensures found { IsTrue (D.content disk.now).honest → sorted_findings (entries_of (D.content disk.now) self.now.sorted) ≡ []
+            → IsIndexOf (entries_of (D.content disk.now) self.now.sorted) self.now.index
+            → result ≡ Ok true → HasOnlyValue (entries_of (D.content disk.now) self.now.sorted) key.now.0 out.new }
+        ensures none { IsTrue (D.content disk.now).honest → sorted_findings (entries_of (D.content disk.now) self.now.sorted) ≡ []
+            → IsIndexOf (entries_of (D.content disk.now) self.now.sorted) self.now.index
+            → result ≡ Ok false → HasNoEntry (entries_of (D.content disk.now) self.now.sorted) key.now.0 }
+        ensures absent { result ≡ Ok false → out.new ≡ out.old }
+        ensures held { IsHeldSorted self.now.sorted }
+        ensures fault { IfErr result (GaveAny D.gave disk.now) }
+    {
+        let Some(place) = self.locate(key) else {
+            return Ok(false);
+        };
+        self.entries.value_of(disk, place, key, out)
     }
 
     /// Reads the value of the entry at a place.
@@ -110,58 +161,24 @@ impl SortedStore {
     ///
     /// The fault of the read. The bytes of `out` are then open.
     pub fn read_value<D: Disk>(&self, disk: &D, place: u32, out: &mut [u8]) -> Result<(), D::Fault>
-        requires place { place < self.now.count }
-        requires out { length out.old ≡ self.now.shape.value_len }
-        requires size { device_size self.now.shape ≤ size (D.content disk.now) }
-        ensures value { IsTrue (D.content disk.now).honest → OnOk result (HasValue (entries_of (D.content disk.now) self.now) place out.new) }
+        requires place { place < self.now.sorted.count }
+        requires out { length out.old ≡ self.now.sorted.shape.value_len }
+        requires size { device_size self.now.sorted.shape ≤ size (D.content disk.now) }
+        ensures value { IsTrue (D.content disk.now).honest → OnOk result (HasValue (entries_of (D.content disk.now) self.now.sorted) place out.new) }
         ensures fault { IfErr result (GaveAny D.gave disk.now) }
     {
-        disk.read(self.entry_at(place) + KEY_LEN as u64, out)?;
-        Ok(())
+        self.entries.read_value(disk, place, out)
     }
 
-    /// Reads the entry at a place in one read: its key, and into `out` the bytes of the key and of the value.
+    /// The first `count` entries of this region with their index, where they rise strictly: the entries are read once, in reads of
+    /// at most 64 KiB, up to the one that is not above the one before it.
     ///
     /// # Errors
     ///
-    /// The fault of the read. The bytes of `out` are then open.
-    pub fn entry<D: Disk>(&self, disk: &D, place: u32, out: &mut [u8]) -> Result<Key, D::Fault>
-        requires place { place < self.now.count }
-        requires out { length out.old ≡ entry_len self.now.shape }
-        requires size { device_size self.now.shape ≤ size (D.content disk.now) }
-        ensures entry { IsTrue (D.content disk.now).honest → OnOk result (HasEntry (entries_of (D.content disk.now) self.now) place out.new) }
-        ensures key { IfOk result (λ key. key.0 ≡ take 20 out.new) }
-        ensures fault { IfErr result (GaveAny D.gave disk.now) }
-    {
-        disk.read(self.entry_at(place), out)?;
-        let mut key = [0; KEY_LEN];
-        key.copy_from_slice(&out[..KEY_LEN]);
-        Ok(Key(key))
-    }
-
-    /// The place of the entry with this key, none where no entry has it. It reads one key each time it halves what is left.
-    ///
-    /// # Errors
-    ///
-    /// The fault of a read.
-    pub fn find<D: Disk>(&self, disk: &D, key: &Key) -> Result<Option<u32>, D::Fault>
-        requires size { device_size self.now.shape ≤ size (D.content disk.now) }
-        ensures entry { IsTrue (D.content disk.now).honest → sorted_findings (entries_of (D.content disk.now) self.now) ≡ []
-            → IfOk result (FindsEntry (entries_of (D.content disk.now) self.now) key.now.0) }
-        ensures place { IfOk result (λ found. IfSome found (λ place. place < self.now.count)) }
-        ensures held { IsHeldSorted self.now }
-        ensures fault { IfErr result (GaveAny D.gave disk.now) }
-    {
-        find_place(self, disk, key)
-    }
-
-    /// The first `count` entries of this region, where they rise strictly: the key of each entry is read once, up to the first
-    /// that is not above the one before it.
-    ///
-    /// # Errors
-    ///
-    /// `Damaged` with the place of that entry, `Device` with the fault of a read, `NoMemory` where what it keeps finds no memory.
+    /// `Damaged` with the place of that entry, `Device` with the fault of a read, `NoMemory` where the index or what is read finds
+    /// no memory.
     pub fn rebuild<D: Disk>(
+        alloc: Global,
         disk: &D,
         geometry: Geometry,
         region: u32,
@@ -170,17 +187,15 @@ impl SortedStore {
         requires region { region < 2 }
         requires count { count ≤ geometry.sorted_capacity }
         requires size { device_size geometry ≤ size (D.content disk.now) }
-        ensures store { IfOk result (λ store. store ≡ record { shape = geometry; region = region; count = count }) }
+        ensures store { IfOk result (λ store. store.sorted ≡ record { shape = geometry; region = region; count = count }) }
+        ensures indexed { IfOk result (λ store. IsIndexed (D.content disk.now) store.sorted store.index) }
         ensures rising { IsTrue (D.content disk.now).honest → OnOk result (sorted_findings (sorted_rows geometry region count (D.content disk.now).shown) ≡ []) }
         ensures err { IfErr result (IsRefusedSorted
             (λ place. (place < count) × (IsTrue (D.content disk.now).honest → IsFirstOutOfOrder (sorted_rows geometry region count (D.content disk.now).shown) place))
             (GaveAny D.gave disk.now)) }
     {
-        let store = SortedStore::new(geometry, region, count);
-        match first_out_of_order(&store, disk) {
-            Ok(None) => Ok(store),
-            Ok(Some(place)) => Err(RebuildError::Damaged(place)),
-            Err(fault) => Err(RebuildError::Device(fault)),
-        }
+        let entries = SortedEntries::new(geometry, region, count);
+        let index = index_entries(alloc, disk, &entries)?;
+        Ok(SortedStore { entries, index })
     }
 }

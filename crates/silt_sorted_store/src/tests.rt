@@ -7,8 +7,12 @@ ghost use Rattle.silt_device.specs.Memory.{memory_content};
 use super::*;
 use silt_device::{BadGeometry, Call, Disk, FaultDisk, Geometry, MemDisk};
 use silt_frame::Key;
-use std::alloc::Global;
+use std::alloc::{AllocError, Global};
 use std::test::Fail;
+
+mod faults;
+mod many;
+mod values;
 
 // Values of two bytes and eight sorted entries: the sorted regions begin at 36,864 and 40,960, and an entry has 22 bytes.
 fn small() -> Result<Geometry, BadGeometry>
@@ -59,12 +63,12 @@ enum Outcome {
 }
 
 // What a rebuild of so many entries of a region comes to.
-fn rebuild<D: Disk>(disk: &D, geometry: Geometry, region: u32, count: u32) -> Outcome
+fn rebuild<D: Disk>(alloc: Global, disk: &D, geometry: Geometry, region: u32, count: u32) -> Outcome
     requires region { region < 2 }
     requires count { count ≤ geometry.sorted_capacity }
     requires size { device_size geometry ≤ size (D.content disk.now) }
 {
-    match SortedStore::rebuild(disk, geometry, region, count) {
+    match SortedStore::rebuild(alloc, disk, geometry, region, count) {
         Ok(store) => Outcome::Rebuilt(store.len()),
         Err(RebuildError::Damaged(place)) => Outcome::Damaged(place),
         Err(RebuildError::Device(_)) => Outcome::Failed,
@@ -72,31 +76,21 @@ fn rebuild<D: Disk>(disk: &D, geometry: Geometry, region: u32, count: u32) -> Ou
     }
 }
 
-// Where the first entries of region 1 have a key, none where a read fails.
-fn find<D: Disk>(disk: &D, geometry: Geometry, count: u32, key: &Key) -> Option<Option<u32>>
+// Where the first entries of region 1 have a key, by an index that was rebuilt. None where a read fails, or there is no memory.
+fn find<D: Disk>(
+    alloc: Global,
+    disk: &D,
+    geometry: Geometry,
+    count: u32,
+    key: &Key,
+) -> Option<Option<u32>>
     requires count { count ≤ geometry.sorted_capacity }
     requires size { device_size geometry ≤ size (D.content disk.now) }
 {
-    SortedStore::new(geometry, 1, count).find(disk, key).ok()
-}
-
-// The value and the whole bytes of the entry at a place of region 1.
-fn read_both<D: Disk>(
-    disk: &D,
-    geometry: Geometry,
-    place: u32,
-) -> Result<([u8; 2], [u8; 22]), D::Fault>
-    requires value_len { geometry.value_len ≡ 2 }
-    requires place { place < 8 }
-    requires count { 8 ≤ geometry.sorted_capacity }
-    requires size { device_size geometry ≤ size (D.content disk.now) }
-{
-    let store = SortedStore::new(geometry, 1, 8);
-    let mut value = [0; 2];
-    store.read_value(disk, place, &mut value)?;
-    let mut entry = [0; 22];
-    let _key = store.entry(disk, place, &mut entry)?;
-    Ok((value, entry))
+    let Ok(store) = SortedStore::rebuild(alloc, disk, geometry, 1, count) else {
+        return None;
+    };
+    store.find(disk, key).ok()
 }
 
 #[test]
@@ -104,20 +98,55 @@ fn finds_each_key_and_no_other(rt: HostRuntime) -> Result<(), Fail> {
     let geometry = small()?;
     let mut disk = MemDisk::new(rt.alloc(), geometry.size() as usize)?;
     fill(&mut disk, 8)?;
-    assert_eq!(rt; rebuild(&disk, geometry, 1, 8), Outcome::Rebuilt(8));
+    assert_eq!(rt;
+        rebuild(rt.alloc(), &disk, geometry, 1, 8),
+        Outcome::Rebuilt(8)
+    );
     for place in 0..8 {
         assert_eq!(rt;
-            find(&disk, geometry, 8, &key(10 + 10 * place, 0)),
+            find(rt.alloc(), &disk, geometry, 8, &key(10 + 10 * place, 0)),
             Some(Some(u32::from(place)))
         );
         assert_eq!(rt;
-            find(&disk, geometry, 8, &key(5 + 10 * place, 0)),
+            find(rt.alloc(), &disk, geometry, 8, &key(5 + 10 * place, 0)),
+            Some(None)
+        );
+        assert_eq!(rt;
+            find(rt.alloc(), &disk, geometry, 8, &key(10 + 10 * place, 1)),
             Some(None)
         );
     }
-    assert_eq!(rt; find(&disk, geometry, 8, &key(85, 0)), Some(None));
-    assert_eq!(rt; find(&disk, geometry, 7, &key(80, 0)), Some(None));
-    assert_eq!(rt; find(&disk, geometry, 0, &key(10, 0)), Some(None));
+    assert_eq!(rt;
+        find(rt.alloc(), &disk, geometry, 8, &key(85, 0)),
+        Some(None)
+    );
+    assert_eq!(rt;
+        find(rt.alloc(), &disk, geometry, 7, &key(80, 0)),
+        Some(None)
+    );
+    Ok(())
+}
+
+// The index of no entries, of one and of two names their keys and no other.
+#[test]
+fn finds_among_few(rt: HostRuntime) -> Result<(), Fail> {
+    let geometry = small()?;
+    let mut disk = MemDisk::new(rt.alloc(), geometry.size() as usize)?;
+    fill(&mut disk, 2)?;
+    for (count, first, want) in [
+        (0, 10, None),
+        (1, 10, Some(0)),
+        (1, 20, None),
+        (2, 10, Some(0)),
+        (2, 20, Some(1)),
+        (2, 15, None),
+    ] {
+        assert_eq!(rt;
+            find(rt.alloc(), &disk, geometry, count, &key(first, 0)),
+            Some(want),
+            "key {first} among {count}"
+        );
+    }
     Ok(())
 }
 
@@ -129,9 +158,18 @@ fn keys_rise_by_their_bytes(rt: HostRuntime) -> Result<(), Fail> {
     write_entry(&mut disk, 0, &key(0, 255), [0, 0])?;
     write_entry(&mut disk, 1, &key(1, 0), [0, 1])?;
     write_entry(&mut disk, 2, &key(1, 1), [0, 2])?;
-    assert_eq!(rt; rebuild(&disk, geometry, 1, 3), Outcome::Rebuilt(3));
-    assert_eq!(rt; find(&disk, geometry, 3, &key(1, 0)), Some(Some(1)));
-    assert_eq!(rt; find(&disk, geometry, 3, &key(0, 254)), Some(None));
+    assert_eq!(rt;
+        rebuild(rt.alloc(), &disk, geometry, 1, 3),
+        Outcome::Rebuilt(3)
+    );
+    assert_eq!(rt;
+        find(rt.alloc(), &disk, geometry, 3, &key(1, 0)),
+        Some(Some(1))
+    );
+    assert_eq!(rt;
+        find(rt.alloc(), &disk, geometry, 3, &key(0, 254)),
+        Some(None)
+    );
     Ok(())
 }
 
@@ -142,10 +180,19 @@ fn the_first_entry_that_does_not_rise_decides(rt: HostRuntime) -> Result<(), Fai
     let mut disk = MemDisk::new(rt.alloc(), geometry.size() as usize)?;
     fill(&mut disk, 6)?;
     write_entry(&mut disk, 4, &key(15, 0), [0, 0])?;
-    assert_eq!(rt; rebuild(&disk, geometry, 1, 6), Outcome::Damaged(4));
-    assert_eq!(rt; rebuild(&disk, geometry, 1, 4), Outcome::Rebuilt(4));
+    assert_eq!(rt;
+        rebuild(rt.alloc(), &disk, geometry, 1, 6),
+        Outcome::Damaged(4)
+    );
+    assert_eq!(rt;
+        rebuild(rt.alloc(), &disk, geometry, 1, 4),
+        Outcome::Rebuilt(4)
+    );
     write_entry(&mut disk, 2, &key(20, 0), [0, 0])?;
-    assert_eq!(rt; rebuild(&disk, geometry, 1, 6), Outcome::Damaged(2));
+    assert_eq!(rt;
+        rebuild(rt.alloc(), &disk, geometry, 1, 6),
+        Outcome::Damaged(2)
+    );
     Ok(())
 }
 
@@ -155,84 +202,19 @@ fn a_blank_region_has_at_most_one_entry(rt: HostRuntime) -> Result<(), Fail> {
     let geometry = small()?;
     let mut disk = MemDisk::new(rt.alloc(), geometry.size() as usize)?;
     fill(&mut disk, 8)?;
-    assert_eq!(rt; rebuild(&disk, geometry, 0, 2), Outcome::Damaged(1));
-    assert_eq!(rt; rebuild(&disk, geometry, 0, 1), Outcome::Rebuilt(1));
-    assert_eq!(rt; rebuild(&disk, geometry, 0, 0), Outcome::Rebuilt(0));
-    assert!(rt; SortedStore::new(geometry, 0, 0).is_empty());
-    assert!(rt; !SortedStore::new(geometry, 0, 1).is_empty());
-    Ok(())
-}
-
-#[test]
-fn reads_values_and_entries(rt: HostRuntime) -> Result<(), Fail> {
-    let geometry = small()?;
-    let mut disk = MemDisk::new(rt.alloc(), geometry.size() as usize)?;
-    fill(&mut disk, 8)?;
-    let (value, entry) = read_both(&disk, geometry, 3)?;
-    assert_eq!(rt; value, [7, 3]);
     assert_eq!(rt;
-        entry,
-        *b"\x28\x00\x00\x00\x00\x00\x00\x00\x00\x00\x00\x00\x00\x00\x00\x00\x00\x00\x00\x00\x07\x03"
+        rebuild(rt.alloc(), &disk, geometry, 0, 2),
+        Outcome::Damaged(1)
     );
-    Ok(())
-}
-
-// Whether a key is looked for with success on this disk, where the read of this number fails.
-fn finds_with_fault(disk: MemDisk, geometry: Geometry, number: u64, key: &Key) -> bool
-    requires count { 8 ≤ geometry.sorted_capacity }
-    requires size { device_size geometry ≤ size (memory_content disk) }
-{
-    let disk = FaultDisk::new(disk, Call::Read, number);
-    find(&disk, geometry, 8, key).is_some()
-}
-
-// What a rebuild of three entries comes to on this disk, where the read of this number fails.
-fn rebuilds_with_fault(disk: MemDisk, geometry: Geometry, number: u64) -> Outcome
-    requires count { 3 ≤ geometry.sorted_capacity }
-    requires size { device_size geometry ≤ size (memory_content disk) }
-{
-    let disk = FaultDisk::new(disk, Call::Read, number);
-    rebuild(&disk, geometry, 1, 3)
-}
-
-// Among eight entries a key below all is looked for by four reads, and the key in the middle by one.
-#[test]
-fn a_failed_read_of_a_look_up_is_told(rt: HostRuntime) -> Result<(), Fail> {
-    let geometry = small()?;
-    for (number, first, want) in [
-        (1, 5, false),
-        (4, 5, false),
-        (5, 5, true),
-        (1, 50, false),
-        (2, 50, true),
-    ] {
-        let mut disk = MemDisk::new(rt.alloc(), geometry.size() as usize)?;
-        fill(&mut disk, 8)?;
-        assert_eq!(rt;
-            finds_with_fault(disk, geometry, number, &key(first, 0)),
-            want,
-            "read {number}"
-        );
-    }
-    Ok(())
-}
-
-// A rebuild of three entries makes three reads.
-#[test]
-fn a_failed_read_of_a_rebuild_is_told(rt: HostRuntime) -> Result<(), Fail> {
-    let geometry = small()?;
-    for (number, want) in [
-        (1, Outcome::Failed),
-        (3, Outcome::Failed),
-        (4, Outcome::Rebuilt(3)),
-    ] {
-        let mut disk = MemDisk::new(rt.alloc(), geometry.size() as usize)?;
-        fill(&mut disk, 8)?;
-        assert_eq!(rt;
-            rebuilds_with_fault(disk, geometry, number),
-            want,
-            "read {number}"
-        );
-    }
+    assert_eq!(rt;
+        rebuild(rt.alloc(), &disk, geometry, 0, 1),
+        Outcome::Rebuilt(1)
+    );
+    assert_eq!(rt;
+        rebuild(rt.alloc(), &disk, geometry, 0, 0),
+        Outcome::Rebuilt(0)
+    );
+    assert!(rt; SortedEntries::new(geometry, 0, 0).is_empty());
+    assert!(rt; !SortedEntries::new(geometry, 0, 1).is_empty());
     Ok(())
 }

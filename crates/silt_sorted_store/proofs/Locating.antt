@@ -1,0 +1,86 @@
+-- The place that an index names for a key, and what a look at the row there tells.
+use Rattle.std.proofs.Common.{◌≡◌, ◌≢◌, ℕ, ◌<◌, ◌≤◌, Bool, true, false, not, inl, inr, List, [], length, take, drop, slice_get, Option, Some, None, sym, ap, ◌∙◌, arith}
+use Rattle.std.specs.Str.{bytes_eq}
+use Rattle.std.proofs.lemmas.Bool.{cases_Bool}
+use Rattle.std.proofs.lemmas.Slice.Eq.{bytes_eq-Decides}
+use Rattle.std.proofs.lemmas.List.{length-map}
+use Rattle.std.proofs.lemmas.Option.{slice_get_within}
+use Rattle.silt_frame.specs.Rows.{StoredRow, entry_row, keys_of}
+use Rattle.silt_image.specs.Meaning.{sorted_findings}
+use Rattle.silt_sorted_store.specs.Index.{IsIndexOf, IsPlaceOfKey}
+use Rattle.silt_sorted_store.specs.OnlyRow.{FindsEntry, HasEntry, HasKeyAndValue, HasNoEntry, HasOnlyValue, HasValue, IsOnlyRow}
+use Rattle.silt_sorted_store.proofs.Entries.{key_of_row, row_inside}
+use Rattle.silt_sorted_store.proofs.Rising.{key_at, one_place}
+use Rattle.silt_trie.specs.Marks.{IsMarkedPlace, MarkedCode}
+
+module _ (rows : List StoredRow) (key : List ℕ) where
+  -- the index of the rows names the key's place
+  pub named_place : (index : MarkedCode) (found : Option ℕ) → IsMarkedPlace index key found → IsIndexOf rows index → IsPlaceOfKey rows key found
+  named_place index found named is = λ place inside at.
+      let long = length-map rows (λ (r : StoredRow). r.key) in
+      named (keys_of rows) place is (omega (arith, long), at)
+
+  -- a place outside the rows is none
+  pub no_place_outside : (place : ℕ) → length rows ≤ place → IsPlaceOfKey rows key (Some place) → IsPlaceOfKey rows key None
+  no_place_outside place outside named = λ other inside at.
+      let is = named other inside at in
+      let same : place ≡ other = cc in
+      absurd (omega (arith, same, inside, outside))
+
+  -- where no place is named no row has the key
+  pub none_named : IsPlaceOfKey rows key None → HasNoEntry rows key
+  none_named named = λ place inside at. let is = named place inside at in absurd (cc)
+
+  -- nor where the row at the place that is named has another
+  pub other_named : (place : ℕ) → IsPlaceOfKey rows key (Some place) → key_at rows place ≢ key → HasNoEntry rows key
+  other_named place named other = λ standing inside at.
+      let is = named standing inside at in
+      let same : place ≡ standing = cc in
+      other (ap (key_at rows) same ∙ at)
+
+  -- a row that has the key is the only one
+  only_row : (place : ℕ) (row : StoredRow) → sorted_findings rows ≡ [] → slice_get rows place ≡ Some row → row.key ≡ key → IsOnlyRow rows key place row
+  only_row place row none there has = record {
+    there = there;
+    has_key = has;
+    only = λ other below same. one_place rows other place none below (slice_get_within rows place row there) (same ∙ sym (key_of_row rows place row there ∙ has));
+  }
+
+  -- the row at the place that has the key
+  pub found_here : (place : ℕ) → sorted_findings rows ≡ [] → place < length rows → key_at rows place ≡ key → FindsEntry rows key (Some place)
+  found_here place none inside at =
+      let it = row_inside rows place inside in
+      (it.0, only_row place it.0 none it.1 (sym (key_of_row rows place it.0 it.1) ∙ at))
+
+  -- and its value
+  pub value_here : (place : ℕ) (value : List ℕ) → sorted_findings rows ≡ [] → HasKeyAndValue rows place key value → HasOnlyValue rows key value
+  value_here place value none has = (place, has.0, only_row place has.0 none has.1 has.2, has.3)
+
+-- ---- what a test of two keys tells
+
+module _ (a b : List ℕ) (test : Bool) (tests : test ≡ not (bytes_eq a b)) where
+  -- they differ
+  pub keys_differ : test ≡ true → a ≢ b
+  keys_differ is same = let passes = (bytes_eq-Decides a b).1 same in absurd (cc)
+
+  -- they are the same
+  pub keys_agree : test ≡ false → a ≡ b
+  keys_agree is = elim (cases_Bool (bytes_eq a b)) [
+    | inl same ↦ (bytes_eq-Decides a b).0 same
+    | inr other ↦ absurd (cc)
+  ]
+
+-- ---- what reads of an entry tell
+
+module _ (rows : List StoredRow) (place : ℕ) where
+  -- the key of the entry that has these bytes
+  pub key_of_entry : (bytes : List ℕ) → HasEntry rows place bytes → key_at rows place ≡ take 20 bytes
+  key_of_entry bytes there = key_of_row rows place (entry_row bytes) there
+
+  -- an entry that was read whole
+  pub entry_has : (bytes key value : List ℕ) → HasEntry rows place bytes → take 20 bytes ≡ key → value ≡ drop 20 bytes → HasKeyAndValue rows place key value
+  entry_has bytes key value there has is = (entry_row bytes, there, has, sym is)
+
+  -- an entry that was read in two parts
+  pub parts_have : (key value : List ℕ) → key_at rows place ≡ key → HasValue rows place value → HasKeyAndValue rows place key value
+  parts_have key value at has = (has.0, has.1, sym (key_of_row rows place has.0 has.1) ∙ at, has.2)

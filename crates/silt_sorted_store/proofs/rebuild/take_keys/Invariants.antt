@@ -1,0 +1,11 @@
+use Rattle.std.proofs.Common.{◌≡◌, ◌+◌, ◌≤◌, List, length}
+use Rattle.silt_frame.specs.Rows.{StoredRow}
+use Rattle.silt_sorted_store.specs.Indexing.{HoldsKeys, IsIndexing}
+use Rattle.silt_sorted_store.proofs.rebuild.take_keys.Given as goal
+
+-- the keys so far were taken up
+abbrev pub invariant-loop-i : goal.invariant-loop-i
+invariant-loop-i l = record {
+  counted : l.builder.count ≡ l.first + l.i;
+  taken : (rows : List StoredRow) → l.first + l.count ≤ length rows → HoldsKeys rows l.first l.count l.len l.bytes → IsIndexing rows l.first l.initial.builder → IsIndexing rows (l.first + l.i) l.builder;
+}

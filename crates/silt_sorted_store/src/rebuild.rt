@@ -1,0 +1,122 @@
+// A rebuild of a sorted store's index: a walk over the entries in large reads, which takes up each key where it rises.
+ghost use Rattle.std.specs.Prelude.{◌≡◌, ◌+◌, ◌*◌, ◌<◌, ◌≤◌, ◌^◌, [], None, Ok, List, length, IsTrue, IfSome, IfOk, IfErr, OnOk};
+ghost use Rattle.silt_device.specs.Disk.{GaveAny, size};
+ghost use Rattle.silt_device.specs.Layout.{device_size, entry_len};
+ghost use Rattle.silt_frame.specs.Rows.{StoredRow};
+ghost use Rattle.silt_image.specs.Meaning.{sorted_findings};
+ghost use Rattle.silt_sorted_store.specs.State.{entries_of};
+ghost use Rattle.silt_sorted_store.specs.Index.{IsIndexOf};
+ghost use Rattle.silt_sorted_store.specs.Indexing.{HoldsKeys, IsIndexing, TakesKeys};
+ghost use Rattle.silt_sorted_store.specs.Rebuild.{IsFirstOutOfOrder, IsRefusedSorted};
+ghost use Rattle.silt_trie.specs.Building.{IsBuildingOf};
+
+use crate::sorted_entries::SortedEntries;
+use silt_device::Disk;
+use silt_frame::entry_of;
+use silt_trie::{MarkedTrie, MarkedTrieBuilder};
+use std::alloc::{AllocError, Global};
+
+/// How many bytes one read of a rebuild has at most.
+const READ_LEN: usize = 65_536;
+
+/// Why a sorted store was not rebuilt.
+#[derive(Debug, Drop)]
+pub enum RebuildError<F> {
+    /// The entry at this place is the first that is not above the one before it.
+    Damaged(u32),
+    /// A read failed with this fault.
+    Device(F),
+    /// What the store keeps in memory found none.
+    NoMemory,
+}
+
+// Gives a builder the keys of some entries that stand from a place on, each `len` bytes long. The place of the first that is not
+// above the one before it: those before it were taken up.
+fn take_keys(
+    builder: &mut MarkedTrieBuilder,
+    bytes: &[u8],
+    len: usize,
+    count: u32,
+    first: u32,
+) -> Result<Option<u32>, AllocError>
+    requires len { 20 ≤ len }
+    requires bytes { length bytes.now ≡ count * len }
+    requires counted { builder.old.count ≡ first }
+    requires few { first + count ≤ 2 ^ 24 }
+    ensures counted { result ≡ Ok None → builder.new.count ≡ first + count }
+    ensures place { IfOk result (λ found. IfSome found (λ place. place < first + count)) }
+    ensures taken { (rows : List StoredRow) → first + count ≤ length rows → HoldsKeys rows first count len bytes.now
+        → IsIndexing rows first builder.old → IfOk result (TakesKeys rows (first + count) builder.new) }
+{
+    for i in 0..count {
+        let at = i as usize * len;
+        let (key, _value) = entry_of(&bytes[at..at + len]);
+        if !builder.push(key)? {
+            return Ok(Some(first + i));
+        }
+    }
+    Ok(None)
+}
+
+// Gives a builder the keys of all entries, read into a buffer that has room for `most` entries.
+fn take_entries<D: Disk>(
+    builder: &mut MarkedTrieBuilder,
+    disk: &D,
+    entries: &SortedEntries,
+    buffer: &mut [u8],
+    most: u32,
+) -> Result<(), RebuildError<D::Fault>>
+    requires some { 0 < entries.now.count → 0 < most }
+    requires buffer { most * entry_len entries.now.shape ≤ length buffer.old }
+    requires empty { IsBuildingOf [] builder.old }
+    requires none { builder.old.last ≡ None }
+    requires counted { builder.old.count ≡ 0 }
+    requires size { device_size entries.now.shape ≤ size (D.content disk.now) }
+    ensures taken { IsTrue (D.content disk.now).honest → OnOk result (IsIndexing (entries_of (D.content disk.now) entries.now) entries.now.count builder.new) }
+    ensures err { IfErr result (IsRefusedSorted
+        (λ place. (place < entries.now.count) × (IsTrue (D.content disk.now).honest → IsFirstOutOfOrder (entries_of (D.content disk.now) entries.now) place))
+        (GaveAny D.gave disk.now)) }
+{
+    let len = entries.geometry().entry_len();
+    let count = entries.len();
+    let mut place = 0;
+    while place < count {
+        let next = most.min(count - place);
+        let chunk = &mut buffer[..next as usize * len];
+        if let Err(fault) = entries.read_entries(disk, place, next, chunk) {
+            return Err(RebuildError::Device(fault));
+        }
+        match take_keys(builder, chunk, len, next, place) {
+            Ok(None) => place += next,
+            Ok(Some(damaged)) => return Err(RebuildError::Damaged(damaged)),
+            Err(_) => return Err(RebuildError::NoMemory),
+        }
+    }
+    Ok(())
+}
+
+// The index of entries, where they rise strictly.
+pub fn index_entries<D: Disk>(
+    alloc: Global,
+    disk: &D,
+    entries: &SortedEntries,
+) -> Result<MarkedTrie, RebuildError<D::Fault>>
+    requires size { device_size entries.now.shape ≤ size (D.content disk.now) }
+    ensures index { IsTrue (D.content disk.now).honest → IfOk result (IsIndexOf (entries_of (D.content disk.now) entries.now)) }
+    ensures rising { IsTrue (D.content disk.now).honest → OnOk result (sorted_findings (entries_of (D.content disk.now) entries.now) ≡ []) }
+    ensures err { IfErr result (IsRefusedSorted
+        (λ place. (place < entries.now.count) × (IsTrue (D.content disk.now).honest → IsFirstOutOfOrder (entries_of (D.content disk.now) entries.now) place))
+        (GaveAny D.gave disk.now)) }
+{
+    let len = entries.geometry().entry_len();
+    let most = entries.len().min((READ_LEN / len) as u32);
+    let Ok(mut buffer) = vec![in alloc; 0u8; most as usize * len] else {
+        return Err(RebuildError::NoMemory);
+    };
+    let mut builder = MarkedTrieBuilder::new(alloc, entries.len() as usize);
+    take_entries(&mut builder, disk, entries, &mut buffer, most)?;
+    match builder.finish() {
+        Ok(index) => Ok(index),
+        Err(_) => Err(RebuildError::NoMemory),
+    }
+}
