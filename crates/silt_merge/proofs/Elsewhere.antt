@@ -25,6 +25,7 @@ use Rattle.silt_merge.specs.Rows.{entries_in, has_row_with, rows_of_hashes, key_
 use Rattle.silt_merge.specs.State.{IsHeldMerge, MergeState, oldest_stores, source_at}
 use Rattle.silt_merge.specs.declared.source.Source.{Source}
 use Rattle.silt_sorted_store.specs.State.{IsHeldSorted, SortedState}
+use Rattle.silt_trie.specs.Coded.{bytes_of}
 
 -- ---- all that is merged
 
@@ -93,8 +94,8 @@ module _ (old new : List ℕ) (stores : List HashState) (sorted : SortedState) (
   pub merged_same : (merge : MergeState) → ((key : List ℕ) (source : Source) → source_at merge.waiting key ≡ Some source → (source.store < length (regions_of stores)) × (source.slot < 4 * sorted.shape.buckets))
       → (merge.store < length (regions_of stores)) ⊎ (merge.slot ≡ 0) → merge.slot ≤ 4 * sorted.shape.buckets
       → IsGatheredIn old stores sorted merge → sorted_rows merge.shape merge.region merge.written new ≡ take merge.shape.sorted_capacity (filter is_put_row (decided_rows old stores sorted merge.decided))
-      → IsMergedIn new stores sorted merge
-  merged_same merge inside some most is writes =
+      → keys_of (sorted_rows merge.shape merge.region merge.written new) ≡ bytes_of merge.keys → IsMergedIn new stores sorted merge
+  merged_same merge inside some most is writes keys =
       let decided : decided_rows new stores sorted merge.decided ≡ decided_rows old stores sorted merge.decided = ap (λ l. take merge.decided (newest_rows l)) sources_same in
       record {
         gathered = record {
@@ -112,6 +113,7 @@ module _ (old new : List ℕ) (stores : List HashState) (sorted : SortedState) (
               ∙ is.passes place below;
         };
         writes = writes ∙ ap (λ l. take merge.shape.sorted_capacity (filter is_put_row l)) (sym decided);
+        keys = keys;
       }
     where
       row_of_source : (key : List ℕ) (o : Option Source) → source_at merge.waiting key ≡ o → option_map (source_row sorted.shape new (regions_of stores)) (source_at merge.waiting key) ≡ option_map (source_row sorted.shape old (regions_of stores)) (source_at merge.waiting key)
@@ -195,7 +197,7 @@ merged_elsewhere stores sorted merge old new at count held_sorted held fits own 
       let kept = entries_outside merge.shape merge.region merge.written at count old.shown new.shown (subst (λ (s : Shape). sorted_at s merge.region + s.sorted_capacity * entry_len s ≤ size old) is.shape (omega (arith, ends))) held.room
       (subst (λ (s : Shape). LiesOutside (sorted_at s merge.region) (entries_len s) at count) is.shape own) torn in
       merged_same old.shown new.shown stores sorted same merge (source_inside stores sorted merge held is.shape is.counted) (store_next stores merge held is.counted)
-      (subst (λ (s : Shape). merge.slot ≤ 4 * s.buckets) (sym is.shape) (omega (arith, held.slot))) so_far.gathered (kept ∙ so_far.writes);
+      (subst (λ (s : Shape). merge.slot ≤ 4 * s.buckets) (sym is.shape) (omega (arith, held.slot))) so_far.gathered (kept ∙ so_far.writes) (ap keys_of kept ∙ so_far.keys);
 }
 
 -- the oldest of stores in front of which others came

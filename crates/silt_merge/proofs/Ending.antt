@@ -1,5 +1,5 @@
 -- What the decision of a key leaves, and what a merge that is done has written.
-use Rattle.std.proofs.Common.{◌≡◌, ◌≢◌, ℕ, ◌+◌, ◌*◌, ◌<◌, ◌≤◌, ◌&&◌, ◌==◌, nat_lt, nat_le, Bool, true, false, not, ◌||◌, cond, IsTrue, List, [], ◌∷◌, ◌++◌, filter, length, take, get_or, slice_get, Option, Some, None, option_map, inl, inr, refl, sym, subst, ap, ◌∙◌, arith}
+use Rattle.std.proofs.Common.{◌≡◌, ◌≢◌, ℕ, ◌+◌, ◌*◌, ◌<◌, ◌≤◌, ◌^◌, ◌&&◌, ◌==◌, nat_lt, nat_le, Bool, true, false, not, ◌||◌, cond, IsTrue, List, [], ◌∷◌, ◌++◌, filter, length, take, get_or, slice_get, Option, Some, None, option_map, inl, inr, refl, sym, subst, ap, ◌∙◌, arith}
 use Rattle.std.specs.Option.{is_some}
 use Rattle.std.specs.Str.{bytes_eq}
 use Rattle.std.proofs.lemmas.Bool.{and_from, and_parts, cases_lt, cond-true, cond-false, eq-eqb, eqb-true, le-leb, leb-true, lt-ltb, ltb-true, ne_eqb}
@@ -23,22 +23,24 @@ use Rattle.std.specs.Cmp.Lexicographic.{slice_cmp}
 use Rattle.silt_image.specs.Laws.{newest_row}
 use Rattle.silt_image.specs.Meaning.{sorted_findings}
 use Rattle.silt_image.specs.Stores.{sorted_rows}
-use Rattle.silt_frame.specs.Rows.{StoredRow, entry_row, is_put_row}
+use Rattle.silt_frame.specs.Rows.{StoredRow, entry_row, is_put_row, keys_of}
 use Rattle.silt_merge.specs.Choice.{IsFirstWaiting, IsNextEntry, IsOffered, ReadsRow, choice_of, choice_puts}
 use Rattle.silt_sorted_store.specs.Region.{due_rows}
 use Rattle.silt_merge.specs.Merging.{AreSound, HasMerged, IsGatheredIn, IsMergeOf, source_row}
 use Rattle.silt_merge.specs.Rows.{entries_in, has_row_with, rows_of_hashes, key_count, merged_rows, newest_rows, regions_of, sources}
-use Rattle.silt_merge.specs.State.{IsHeldMerge, IsInside, MergeState, is_behind, is_done, next_after, next_bytes, passed_after, source_at, steps_for, steps_of}
+use Rattle.silt_merge.specs.State.{AreKeysUpTo, IsHeldMerge, IsInside, MergeState, is_above, is_behind, is_done, keys_after, next_after, next_bytes, passed_after, source_at, steps_for, steps_of, written_after}
 use Rattle.silt_merge.specs.declared.choice.Choice.{Choice}
 use Rattle.silt_merge.specs.declared.source.Source.{Source}
 use Rattle.silt_merge.proofs.Choosing.{IsChosen, chosen}
 use Rattle.silt_merge.proofs.Deciding.{IsDecided, all_decided, cond_some, decided_with, decided_without, due_more, has_more, lowest_next, next_above, next_enters, next_waits, none_waits}
 use Rattle.silt_merge.proofs.Elsewhere.{SameSources, merged_same, regions_count, same_beside, sound_before, source_inside, store_next}
 use Rattle.silt_merge.proofs.Gathering.{all_gathered}
+use Rattle.silt_merge.proofs.Keys.{written_keys}
 use Rattle.silt_merge.proofs.Newest.{Rises, key_itself, merged_law, rises_from, turned}
 use Rattle.silt_sorted_store.specs.State.{IsHeldSorted, SortedState, entries_of}
 use Rattle.silt_sorted_store.proofs.Entries.{entry_count, key_of_row}
 use Rattle.silt_sorted_store.proofs.Rising.{key_at, lower_below}
+use Rattle.silt_trie.specs.Coded.{bytes_of}
 
 -- entries in which nothing is found rise
 rises_of : (rows : List StoredRow) → sorted_findings rows ≡ [] → Rises rows
@@ -241,7 +243,7 @@ module _ (old new : Content) (stores : List HashState) (sorted : SortedState) (m
         let same = sources_stay is sound was in
         let so_far = is.merged was (sound_before old.shown new.shown stores sorted same sound) in
         merged_same old.shown new.shown stores sorted same merge (source_inside stores sorted merge held is.shape is.counted) (store_next stores merge held is.counted)
-        (subst (λ (s : Shape). merge.slot ≤ 4 * s.buckets) (sym is.shape) (omega (arith, held.slot))) so_far.gathered (kept was ∙ so_far.writes);
+        (subst (λ (s : Shape). merge.slot ≤ 4 * s.buckets) (sym is.shape) (omega (arith, held.slot))) so_far.gathered (kept was ∙ so_far.writes) (ap keys_of (kept was) ∙ so_far.keys);
   }
 
   -- a source that waits after a key is decided waited before
@@ -256,7 +258,7 @@ module _ (old new : Content) (stores : List HashState) (sorted : SortedState) (m
       → (IsTrue old.honest → sorted_rows merge.shape merge.region count new.shown ≡ take merge.shape.sorted_capacity (sorted_rows merge.shape merge.region merge.written old.shown ++ due_rows (choice_puts choice.source) row_bytes))
       → ((key : List ℕ) → source_at after key ≡ cond (bytes_eq choice.key.0 key) None (source_at merge.waiting key))
       → HasMerged old stores sorted merge
-      → HasMerged new stores sorted (record merge { waiting = after; passed = passed_after choice.passes merge.passed; written = count; decided = merge.decided + 1; last = Some choice.key; next = next_after choice.passes (Some bytes) })
+      → HasMerged new stores sorted (record merge { waiting = after; passed = passed_after choice.passes merge.passed; written = written_after (nat_lt merge.written count) merge.written; keys = keys_after (nat_lt merge.written count) merge.keys choice.key; decided = merge.decided + 1; last = Some choice.key; next = next_after choice.passes (Some bytes) })
   unfolding sources
   merged_step first next choice bytes row_bytes after count all its_first made some there read written gone is = record {
     shape = is.shape;
@@ -265,7 +267,7 @@ module _ (old new : Content) (stores : List HashState) (sorted : SortedState) (m
     merged = λ honest sound.
         let was : IsTrue old.honest = sym changes.honest ∙ honest in
         let image : List ℕ = old.shown in
-        let merge_after : MergeState = record merge { waiting = after; passed = passed_after choice.passes merge.passed; written = count; decided = merge.decided + 1; last = Some choice.key; next = next_after choice.passes (Some bytes) } in
+        let merge_after : MergeState = record merge { waiting = after; passed = passed_after choice.passes merge.passed; written = written_after (nat_lt merge.written count) merge.written; keys = keys_after (nat_lt merge.written count) merge.keys choice.key; decided = merge.decided + 1; last = Some choice.key; next = next_after choice.passes (Some bytes) } in
         let same = sources_stay is sound was in
         let sound_old = sound_before old.shown new.shown stores sorted same sound in
         let so_far = is.merged was sound_old in
@@ -282,10 +284,13 @@ module _ (old new : Content) (stores : List HashState) (sorted : SortedState) (m
         let after_it = decided_step image stores sorted merge choice bytes rises decided choices after gone in
         let writes = due_more (newest_rows (entries_in image sorted ++ rows_of_hashes sorted.shape image (regions_of stores))) merge.decided merge.shape.sorted_capacity next_row.0 (sorted_rows merge.shape merge.region merge.written image)
         (due_rows (choice_puts choice.source) row_bytes) (sorted_rows merge.shape merge.region count new.shown) next_row.1 so_far.writes due (written was) in
+        let kept = written_keys merge.shape.sorted_capacity merge.written count (sorted_rows merge.shape merge.region merge.written image) (due_rows (choice_puts choice.source) row_bytes) (sorted_rows merge.shape merge.region count new.shown)
+        next_row.0 merge.keys choice.key (entry_count merge.shape merge.region merge.written image) (entry_count merge.shape merge.region count new.shown) held.room next_row.2 due (written was) so_far.keys in
+        let entries_after : sorted_rows merge.shape merge.region merge_after.written new.shown ≡ sorted_rows merge.shape merge.region count new.shown = ap (λ n. sorted_rows merge.shape merge.region n new.shown) (sym kept.0) in
         merged_same old.shown new.shown stores sorted same merge_after (λ key source found. source_inside stores sorted merge held is.shape is.counted key source (still_inside choice after gone key source found)) (inr none)
         (omega (arith, none)) (gathered_of image stores sorted merge_after past none (omega (arith, below))
         (λ key is_key. last_decided (newest_rows (entries_in image sorted ++ rows_of_hashes sorted.shape image (regions_of stores))) merge.decided next_row.0 choice.key key next_row.1 next_row.2 is_key)
-        (λ b is_bytes within. next_kept (entries_in image sorted) sorted.count merge.passed next choice.passes bytes b some (there was so_far.gathered.next) is_bytes within) after_it) writes;
+        (λ b is_bytes within. next_kept (entries_in image sorted) sorted.count merge.passed next choice.passes bytes b some (there was so_far.gathered.next) is_bytes within) after_it) (entries_after ∙ writes) (ap keys_of entries_after ∙ kept.1);
   }
 
 -- ---- on any disk
@@ -303,6 +308,7 @@ held_next merge next held = record {
   inside = λ key source found. let inside = held.inside key source found in record { store = inside.store; slot = inside.slot };
   room = held.room;
   few = held.few;
+  keys = held.keys;
 }
 
 -- a merge with one entry more passed over
@@ -318,14 +324,29 @@ passed_held merge held all = record {
   inside = λ key source found. let inside = held.inside key source found in record { store = inside.store; slot = inside.slot };
   room = held.room;
   few = omega (arith, held.few);
+  keys = held.keys;
 }
 
+-- the keys of a merge with one key more, which find room
+pub decided_keys : (merge : MergeState) (choice : Choice) (is_written : Bool) (count : ℕ) (keys : List Key) → IsHeldMerge merge → IsOffered merge.waiting merge.last choice → (is_written ≡ true → merge.written < merge.shape.sorted_capacity)
+    → merge.shape.sorted_capacity ≤ 16777216 → count ≡ written_after is_written merge.written
+    → ((last : Option Key) → AreKeysUpTo last merge.written merge.keys → is_above last choice.key.0 ≡ true → (is_written ≡ true → merge.written + 2 < 2 ^ 32) → AreKeysUpTo (Some choice.key) count keys)
+    → (count ≤ merge.shape.sorted_capacity) × AreKeysUpTo (Some choice.key) count keys
+decided_keys merge choice is_written count keys held offers room most long rising = (
+  within is_written room long,
+  rising merge.last held.keys offers.above (λ is. let below = room is in omega (arith, below, most)),
+)
+  where
+    within : (b : Bool) → (b ≡ true → merge.written < merge.shape.sorted_capacity) → count ≡ written_after b merge.written → count ≤ merge.shape.sorted_capacity
+    within true below is = let under = below refl in omega (arith, is, under)
+    within false below is = omega (arith, is, held.room)
+
 -- a merge with one key more
-pub decided_held : (merge : MergeState) (choice : Choice) (after : List (Key × Source)) (count : ℕ) (next : Option (List ℕ)) → IsHeldMerge merge → merge.store ≡ merge.stores → IsOffered merge.waiting merge.last choice
-    → count ≤ merge.shape.sorted_capacity → ((key : List ℕ) → source_at after key ≡ cond (bytes_eq choice.key.0 key) None (source_at merge.waiting key))
+pub decided_held : (merge : MergeState) (choice : Choice) (after : List (Key × Source)) (count : ℕ) (keys : List Key) (next : Option (List ℕ)) → IsHeldMerge merge → merge.store ≡ merge.stores → IsOffered merge.waiting merge.last choice
+    → count ≤ merge.shape.sorted_capacity → AreKeysUpTo (Some choice.key) count keys → ((key : List ℕ) → source_at after key ≡ cond (bytes_eq choice.key.0 key) None (source_at merge.waiting key))
     → length after ≤ length merge.waiting → ((source : Source) → source_at merge.waiting choice.key.0 ≡ Some source → length after + 1 ≡ length merge.waiting)
-    → IsHeldMerge (record merge { waiting = after; passed = passed_after choice.passes merge.passed; written = count; decided = merge.decided + 1; last = Some choice.key; next = next })
-decided_held merge choice after count next held all offers room gone long less = record {
+    → IsHeldMerge (record merge { waiting = after; passed = passed_after choice.passes merge.passed; written = count; keys = keys; decided = merge.decided + 1; last = Some choice.key; next = next })
+decided_held merge choice after count keys next held all offers room rising gone long less = record {
   there = held.there;
   store = held.store;
   slot = held.slot;
@@ -340,6 +361,7 @@ decided_held merge choice after count next held all offers room gone long less =
       record { store = inside.store; slot = inside.slot };
   room = room;
   few = go choice.source refl;
+  keys = rising;
 }
   where
     higher : (key : List ℕ) → bytes_eq choice.key.0 key ≡ false → slice_cmp nat_cmp key choice.key.0 ≢ Less → is_lt (slice_cmp nat_cmp choice.key.0 key) ≡ true
@@ -366,6 +388,11 @@ pub offered_inside : (merge : MergeState) (choice : Choice) → IsHeldMerge merg
 offered_inside merge choice held offers source is = held.inside choice.key.0 source (offers.source source is)
 
 -- ---- done
+
+-- the entries of a store of what is written
+pub entries_written : (merge : MergeState) (content : Content) (store made : SortedState) (count : ℕ) → store ≡ made → made ≡ (let s : SortedState = record { shape = merge.shape; region = merge.region; count = count } in s)
+    → count ≡ merge.written → entries_of content store ≡ sorted_rows merge.shape merge.region merge.written content.shown
+entries_written merge content store made count same is all = ap (entries_of content) (same ∙ is) ∙ ap (λ n. sorted_rows merge.shape merge.region n content.shown) all
 
 module _ (merge : MergeState) (sorted : SortedState) where
   -- a merge in which a row waits is not done
@@ -481,3 +508,8 @@ module _ (merge : MergeState) (sorted : SortedState) where
   done_merge content stores held done is honest sound room =
       let all = done_entries content stores held done is honest sound ∙ take_all merge.shape.sorted_capacity (merged_rows (sources content.shown stores sorted)) room in
       subst (IsMergeOf (sources content.shown stores sorted)) (sym all) (merged_law (sources content.shown stores sorted))
+
+  -- whose keys are those that are kept
+  pub done_keys : (content : Content) (stores : List HashState) → HasMerged content stores sorted merge → IsTrue content.honest → AreSound content.shown stores sorted
+      → keys_of (sorted_rows merge.shape merge.region merge.written content.shown) ≡ bytes_of merge.keys
+  done_keys content stores is honest sound = let so_far = is.merged honest sound in so_far.keys

@@ -8,6 +8,7 @@ pub mod Newest
 pub mod Reading
 pub mod Sounding
 pub mod Kept
+pub mod Keys
 pub mod Stepping
 pub mod Viewing
 pub mod Replacing

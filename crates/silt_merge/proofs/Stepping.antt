@@ -13,7 +13,7 @@ use Rattle.silt_hash_store.specs.Slots.{slot_row}
 use Rattle.silt_hash_store.specs.State.{HashState}
 use Rattle.silt_image.specs.Laws.{newest_row}
 use Rattle.silt_image.specs.Stores.{sorted_rows}
-use Rattle.silt_frame.specs.Rows.{StoredRow}
+use Rattle.silt_frame.specs.Rows.{StoredRow, keys_of}
 use Rattle.silt_merge.specs.Choice.{Gathers, own_source}
 use Rattle.silt_merge.specs.Merging.{HasMerged, decided_rows, gathered_rows, source_row}
 use Rattle.silt_merge.specs.Rows.{has_row_with, regions_of}
@@ -23,6 +23,7 @@ use Rattle.silt_merge.proofs.Elsewhere.{regions_count}
 use Rattle.silt_merge.proofs.Gathering.{next_gathered, none_gathered, waits_kept}
 use Rattle.silt_merge.proofs.Reading.{store_at}
 use Rattle.silt_sorted_store.specs.State.{SortedState}
+use Rattle.silt_trie.specs.Coded.{bytes_of}
 
 -- ---- at the start
 
@@ -32,9 +33,9 @@ unfolding sorted_rows
 none_written s region image = refl
 
 -- nothing is gathered, and nothing is due
-pub started : (content : Content) (stores : List HashState) (sorted : SortedState) (shape : Shape) (region : ℕ) (waiting : List (Key × Source)) → shape ≡ sorted.shape → sorted.region ≢ region → waiting ≡ []
-    → HasMerged content stores sorted (record { shape = shape; region = region; stores = length stores; store = 0; slot = 0; waiting = waiting; passed = 0; written = 0; decided = 0; last = None; next = None })
-started content stores sorted shape region waiting same apart none = record {
+pub started : (content : Content) (stores : List HashState) (sorted : SortedState) (shape : Shape) (region : ℕ) (waiting : List (Key × Source)) (written : ℕ) (keys : List Key) → shape ≡ sorted.shape → sorted.region ≢ region → waiting ≡ [] → written ≡ 0 → keys ≡ []
+    → HasMerged content stores sorted (record { shape = shape; region = region; stores = length stores; store = 0; slot = 0; waiting = waiting; passed = 0; written = written; keys = keys; decided = 0; last = None; next = None })
+started content stores sorted shape region waiting written keys same apart none no_entries no_keys = record {
   shape = sym same;
   counted = refl;
   apart = apart;
@@ -48,9 +49,13 @@ started content stores sorted shape region waiting same apart none = record {
       next = λ bytes some. absurd (cc);
       passes = λ place below. sym (le-ltb place 0 (omega arith));
     };
-    writes = none_written shape region content.shown ∙ sym (take_all shape.sorted_capacity [] (omega arith));
+    writes = nothing ∙ sym (take_all shape.sorted_capacity [] (omega arith));
+    keys = ap keys_of nothing ∙ ap bytes_of (sym no_keys);
   };
 }
+  where
+    nothing : sorted_rows shape region written content.shown ≡ []
+    nothing = ap (λ n. sorted_rows shape region n content.shown) no_entries ∙ none_written shape region content.shown
 
 -- ---- a slot that is gathered
 
@@ -108,6 +113,7 @@ gathered_held merge row after next held below keeps long is =
       inside = λ key source found. let inside = kept_inside merge row after held below keeps key source found in record { store = inside.0; slot = inside.1 };
       room = held.room;
       few = omega (arith, held.few, count, long);
+      keys = held.keys;
     }
   where
     where_next : (slot_after merge.store merge.slot (4 * merge.shape.buckets) ≡ (merge.store + 1, 0)) ⊎ ((slot_after merge.store merge.slot (4 * merge.shape.buckets) ≡ (merge.store, merge.slot + 1)) × (merge.slot + 1 ≢ 4 * merge.shape.buckets))
@@ -159,5 +165,6 @@ gathered_step content stores sorted merge store row after next held below here s
           passes = was.gathered.passes;
         };
         writes = was.writes;
+        keys = was.keys;
       };
 }

@@ -1,5 +1,6 @@
 -- A merge as its record, and the buffers of a merge.
 use Rattle.std.proofs.Common.{◌≡◌, ℕ, Bool, true, false, ◌&&◌, not, List, refl}
+use Rattle.std.specs.Vec.{vec_len}
 use Rattle.silt_merge.specs.State.{MergeState, next_after, next_bytes}
 use Rattle.silt_merge.specs.declared.merge.Merge.TheInside.{Inside}
 
@@ -13,7 +14,8 @@ state_of a = record {
   slot = a.slot;
   waiting = a.waiting.entries;
   passed = a.passed;
-  written = a.written;
+  written = vec_len a.keys;
+  keys = a.keys.items;
   decided = a.decided;
   last = a.last;
   next = next_bytes a.is_read a.next.items;

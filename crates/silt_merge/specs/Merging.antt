@@ -17,6 +17,7 @@ use Rattle.silt_merge.specs.declared.merge.StepError.{StepError}
 use Rattle.silt_merge.specs.declared.merge.StepError.TheVariants.{Read, Write, NoMemory}
 use Rattle.silt_merge.specs.declared.source.Source.{Source}
 use Rattle.silt_sorted_store.specs.State.{SortedState}
+use Rattle.silt_trie.specs.Coded.{bytes_of}
 
 -- the stores that are merged lie in hash regions, and nothing is found in them
 pub record AreSound (image : List ℕ) (stores : List HashState) (sorted : SortedState) : Type 0 where
@@ -48,11 +49,12 @@ pub record IsGatheredIn (image : List ℕ) (stores : List HashState) (sorted : S
   pub passes : (place : ℕ) → place < sorted.count
       → has_row_with (get_or (keys_of (entries_in image sorted)) place []) (decided_rows image stores sorted merge.decided) ≡ nat_lt place merge.passed
 
--- and what is due for decided keys is written
+-- and what is due for decided keys is written, under the keys that are kept
 pub record IsMergedIn (image : List ℕ) (stores : List HashState) (sorted : SortedState) (merge : MergeState) : Type 0 where
   pub gathered : IsGatheredIn image stores sorted merge
   pub writes : sorted_rows merge.shape merge.region merge.written image
       ≡ take merge.shape.sorted_capacity (filter is_put_row (decided_rows image stores sorted merge.decided))
+  pub keys : keys_of (sorted_rows merge.shape merge.region merge.written image) ≡ bytes_of merge.keys
 
 -- So far all that is due is gathered and written: on an honest disk, where nothing is found in the stores that are merged.
 pub record HasMerged (content : Content) (stores : List HashState) (sorted : SortedState) (merge : MergeState) : Type 0 where

@@ -1,5 +1,6 @@
 -- A merge in memory.
-use Rattle.std.specs.Prelude.{◌≡◌, ℕ, ◌+◌, ◌*◌, ◌-◌, ◌==◌, ◌≤◌, ◌<◌, ◌⊎◌, nat_le, Bool, true, false, not, ◌&&◌, if◌then◌else◌, List, drop, length, Option, Some, None}
+use Rattle.std.specs.Prelude.{◌≡◌, ℕ, ◌+◌, ◌*◌, ◌-◌, ◌==◌, ◌≤◌, ◌<◌, ◌⊎◌, nat_le, Bool, true, false, not, ◌&&◌, if◌then◌else◌, List, [], ◌∷◌, ◌++◌, drop, length, slice_index, Option, Some, None}
+use Rattle.std.specs.List.{All}
 use Rattle.std.specs.Map.{lookup}
 use Rattle.std.specs.Ordering.{is_eq, nat_cmp}
 use Rattle.std.specs.Cmp.Lexicographic.{slice_cmp}
@@ -9,11 +10,13 @@ use Rattle.silt_hash_store.specs.State.{HashState}
 use Rattle.silt_image.specs.Meaning.{is_key_below}
 use Rattle.silt_merge.specs.declared.source.Source.{Source}
 use Rattle.silt_sorted_store.specs.State.{SortedState}
+use Rattle.silt_trie.specs.Code.{IsCodable}
+use Rattle.silt_trie.specs.Coded.{bytes_of}
 
 -- A merge: the sorted region that is written, how many hash stores there are, the store and the slot that are gathered next, the
 -- rows that wait for their keys to be decided, how many entries of the sorted store are passed over, how many entries are written,
--- how many keys are decided, the last of them, and the bytes of the next entry, where they are read. An entry that is passed over
--- since its key is not above the last one counts as a key that is decided.
+-- and their keys, how many keys are decided, the last of them, and the bytes of the next entry, where they are read. An entry that is
+-- passed over since its key is not above the last one counts as a key that is decided.
 pub record MergeState : Type 0 where
   pub shape : Shape
   pub region : ℕ
@@ -23,6 +26,7 @@ pub record MergeState : Type 0 where
   pub waiting : List (Key × Source)
   pub passed : ℕ
   pub written : ℕ
+  pub keys : List Key
   pub decided : ℕ
   pub last : Option Key
   pub next : Option (List ℕ)
@@ -68,6 +72,16 @@ abbrev pub next_after : Bool → Option (List ℕ) → Option (List ℕ)
 next_after true next = None
 next_after false next = next
 
+-- how many entries are written after a key, which has an entry that is written or not
+abbrev pub written_after : Bool → ℕ → ℕ
+written_after true written = written + 1
+written_after false written = written
+
+-- the keys of the entries that are written after this key
+abbrev pub keys_after : Bool → List Key → Key → List Key
+keys_after true keys key = keys ++ key ∷ []
+keys_after false keys key = keys
+
 -- how many slots are gathered
 abbrev pub gathered_count : MergeState → ℕ
 gathered_count merge = merge.store * (4 * merge.shape.buckets) + merge.slot
@@ -89,6 +103,17 @@ pub record IsInside (merge : MergeState) (source : Source) : Type 0 where
   pub store : source.store < merge.stores
   pub slot : source.slot < 4 * merge.shape.buckets
 
+-- the bytes of a key
+abbrev pub HasKeyBytes : List ℕ → Type 0
+HasKeyBytes bytes = (length bytes ≡ 20) × ((i : ℕ) → slice_index bytes i < 256)
+
+-- the keys of so many entries, which rise strictly up to the last key that is decided
+pub record AreKeysUpTo (last : Option Key) (count : ℕ) (keys : List Key) : Type 0 where
+  pub counted : length keys ≡ count
+  pub codable : IsCodable (bytes_of keys) 0
+  pub bytes : All (λ (key : Key). HasKeyBytes key.0) keys
+  pub decided : All (λ (key : Key). is_above last key.0 ≡ false) keys
+
 -- what holds of every merge, on any disk
 pub record IsHeldMerge (merge : MergeState) : Type 0 where
   pub there : merge.region < 2
@@ -101,3 +126,4 @@ pub record IsHeldMerge (merge : MergeState) : Type 0 where
   pub inside : (key : List ℕ) (source : Source) → source_at merge.waiting key ≡ Some source → IsInside merge source
   pub room : merge.written ≤ merge.shape.sorted_capacity
   pub few : merge.decided + length merge.waiting ≤ gathered_count merge + merge.passed
+  pub keys : AreKeysUpTo merge.last merge.written merge.keys

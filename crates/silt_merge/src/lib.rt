@@ -8,6 +8,9 @@
 //! The last key that is decided stays in memory, and an entry whose key is not above it is passed over. So what is written rises, on
 //! any disk.
 //!
+//! It keeps the keys that it writes, and in the end makes the index of them, so that the new store finds each of its entries by one
+//! read. Their places are reserved when it begins.
+//!
 //! It writes nothing but entries of its own region. On a disk that is not honest it is safe and ends.
 #![tactic(auto)]
 

@@ -1,13 +1,14 @@
 // A merge of hash stores and a sorted store, by steps.
-ghost use Rattle.std.specs.Prelude.{◌≡◌, ◌≢◌, ◌==◌, ◌+◌, ◌*◌, ◌<◌, ◌≤◌, ◌^◌, ◌↔◌, ℕ, List, [], true, false, Some, None, cond, length, take, IsTrue, IfOk, IfErr, IfSome, OnOk, OnErr, MatchResult, is_some, nat_lt};
+ghost use Rattle.std.specs.Prelude.{◌≡◌, ◌≢◌, ◌==◌, ◌+◌, ◌*◌, ◌<◌, ◌≤◌, ◌^◌, ◌↔◌, ℕ, List, [], Option, true, false, Some, None, cond, length, take, IsTrue, IfOk, IfErr, IfSome, OnOk, OnErr, MatchResult, is_some, nat_lt, slice_index, vec_capacity, vec_len};
 ghost use Rattle.std.specs.List.{All};
 ghost use Rattle.std.specs.Str.{bytes_eq};
 ghost use Rattle.silt_device.specs.Disk.{Content, ChangesWithin, CountsFault, GaveAny, size};
 ghost use Rattle.silt_device.specs.Layout.{Shape, device_size, entry_len, sorted_at, sorted_size};
+ghost use Rattle.silt_frame.specs.declared.key.Key.{Key};
 ghost use Rattle.silt_hash_store.specs.State.{HashState};
 ghost use Rattle.silt_merge.specs.Choice.{IsNextEntry, IsOffered, ReadsRow};
 ghost use Rattle.silt_merge.specs.Rows.{regions_of};
-ghost use Rattle.silt_merge.specs.State.{next_after, passed_after, slot_after};
+ghost use Rattle.silt_merge.specs.State.{AreKeysUpTo, is_above, keys_after, next_after, passed_after, slot_after, written_after};
 ghost use Rattle.silt_merge.specs.declared.source.Source.{Source};
 ghost use Rattle.silt_sorted_store.specs.OnlyRow.{HasEntry};
 ghost use Rattle.silt_sorted_store.specs.State.{IsHeldSorted, SortedState, entries_of};
@@ -15,9 +16,9 @@ ghost use Rattle.silt_sorted_store.specs.State.{IsHeldSorted, SortedState, entri
 use crate::choice::{Choice, choose, is_behind};
 use crate::source::{Source, first, keep, remove_waiting};
 use silt_device::Disk;
-use silt_frame::{KEY_LEN, Key};
+use silt_frame::{KEY_LEN, Key, entry_of};
 use silt_hash_store::HashStore;
-use silt_sorted_store::{SortedRegion, SortedStore};
+use silt_sorted_store::{SortedEntries, SortedRegion, SortedStore};
 use std::alloc::{AllocError, Global};
 use std::collections::BTreeMap;
 use std::marker::Model;
@@ -35,8 +36,8 @@ pub enum StepError<F> {
 
 /// Hash stores and a sorted store on their way to become a new sorted store.
 ///
-/// It keeps the key and the place of each row that waits to be decided, the last key that was decided, and the bytes of the next entry
-/// of the sorted store, so that it is read once. Two more buffers of an entry serve each step.
+/// It keeps the key and the place of each row that waits to be decided, the last key that was decided, the keys of all entries that it
+/// wrote, and the bytes of the next entry of the sorted store, so that it is read once. Two more buffers of an entry serve each step.
 #[derive(Drop)]
 pub struct Merge {
     target: SortedRegion,
@@ -45,7 +46,7 @@ pub struct Merge {
     slot: u32,
     waiting: BTreeMap<Key, Source>,
     passed: u32,
-    written: u32,
+    keys: Vec<Key>,
     decided: u64,
     last: Option<Key>,
     is_read: bool,
@@ -55,7 +56,7 @@ pub struct Merge {
 }
 
 impl Model for Merge {
-    ghost use Rattle.std.specs.Prelude.{◌≡◌, vec_len};
+    ghost use Rattle.std.specs.Prelude.{◌≡◌, ◌≤◌, vec_capacity, vec_len};
     ghost use Rattle.silt_device.specs.Layout.{entry_len};
     ghost use Rattle.silt_merge.specs.State.{MergeState, IsHeldMerge, next_bytes};
 
@@ -69,7 +70,8 @@ impl Model for Merge {
       slot = a.slot;
       waiting = a.waiting.entries;
       passed = a.passed;
-      written = a.written;
+      written = vec_len a.keys;
+      keys = a.keys.items;
       decided = a.decided;
       last = a.last;
       next = next_bytes a.is_read a.next.items;
@@ -83,27 +85,18 @@ impl Model for Merge {
       slot = a.slot;
       waiting = a.waiting.entries;
       passed = a.passed;
-      written = a.written;
+      written = vec_len a.keys;
+      keys = a.keys.items;
       decided = a.decided;
       last = a.last;
       next = next_bytes a.is_read a.next.items;
-    }) × (vec_len a.next ≡ entry_len a.target.geometry) × (vec_len a.entry ≡ entry_len a.target.geometry) × (vec_len a.made ≡ entry_len a.target.geometry) };
-}
-
-// The key of an entry's bytes.
-fn key_of(entry: &[u8]) -> Key
-    requires { 20 ≤ length entry.now }
-    ensures { result.0 ≡ take 20 entry.now }
-{
-    let mut key = [0; KEY_LEN];
-    key.copy_from_slice(&entry[..KEY_LEN]);
-    Key(key)
+    }) × (vec_len a.next ≡ entry_len a.target.geometry) × (vec_len a.entry ≡ entry_len a.target.geometry) × (vec_len a.made ≡ entry_len a.target.geometry) × (a.target.geometry.sorted_capacity ≤ vec_capacity a.keys) × (a.target.geometry.sorted_capacity ≤ 16777216) };
 }
 
 // Puts the bytes of the next entry of the sorted store into a buffer, where not all are passed over: those that are kept, or it reads
 // them. Its key.
 fn read_next<D: Disk>(
-    sorted: &SortedStore,
+    sorted: &SortedEntries,
     disk: &D,
     passed: u32,
     is_read: bool,
@@ -126,7 +119,8 @@ fn read_next<D: Disk>(
     }
     if is_read {
         out.copy_from_slice(kept);
-        return Ok(Some(key_of(kept)));
+        let (key, _value) = entry_of(kept);
+        return Ok(Some(key));
     }
     let key = sorted.entry(disk, passed, out)?;
     Ok(Some(key))
@@ -180,22 +174,43 @@ fn passed_after(passes: bool, passed: u32) -> u32
     if passes { passed + 1 } else { passed }
 }
 
+// What the type of bytes says: each is below 256.
+fn known_bytes(bytes: &[u8])
+    ensures { (place : ℕ) → slice_index bytes.now place < 256 }
+{}
+
+// Keeps the key of an entry that is written. There is a place for it.
+fn keep_key(keys: &mut Vec<Key>, key: Key, is_written: bool)
+    requires room { is_written ≡ true → vec_len keys.old < vec_capacity keys.old }
+    ensures keys { keys.new.items ≡ keys_after is_written keys.old.items key }
+    ensures len { vec_len keys.new ≡ written_after is_written (vec_len keys.old) }
+    ensures room { vec_capacity keys.new ≡ vec_capacity keys.old }
+    ensures rising { (last : Option Key) → AreKeysUpTo last (vec_len keys.old) keys.old.items → is_above last key.0 ≡ true → (is_written ≡ true → vec_len keys.old + 2 < 2 ^ 32)
+        → AreKeysUpTo (Some key) (vec_len keys.new) keys.new.items }
+{
+    known_bytes(&key.0);
+    if is_written {
+        keys.push_reserved(key);
+    }
+}
+
 impl Merge {
     ghost use Rattle.silt_merge.specs.Merging.{AreSound, FailsMerge, HasMerged, IsMergeOf, IsSameMerge, TakesMemory};
     ghost use Rattle.silt_merge.specs.Rows.{key_count, merged_rows, sources};
     ghost use Rattle.silt_merge.specs.State.{IsHeldMerge, MergeState, LastRises, is_done, oldest_stores, source_at, steps_for, steps_of};
+    ghost use Rattle.silt_sorted_store.specs.Index.{IsIndexOf};
     ghost use Rattle.silt_sorted_store.specs.State.{sorted_entry_at};
 
     /// A merge of these hash stores, the newest first, and the sorted store, into the sorted region of this number, with no slot
-    /// gathered.
+    /// gathered. It takes the places of all keys that it may keep, as many as the region holds, so that no step takes more.
     ///
     /// # Errors
     ///
-    /// Where the bytes of two entries find no memory.
+    /// Where these places or the bytes of three entries find no memory.
     pub fn start(
         alloc: Global,
         stores: &[HashStore],
-        sorted: &SortedStore,
+        sorted: &SortedEntries,
         region: u32,
     ) -> Result<Self, AllocError>
         requires region { region < 2 }
@@ -210,6 +225,7 @@ impl Merge {
           waiting = [];
           passed = 0;
           written = 0;
+          keys = [];
           decided = 0;
           last = None;
           next = None;
@@ -229,7 +245,7 @@ impl Merge {
             slot: 0,
             waiting: BTreeMap::new(alloc),
             passed: 0,
-            written: 0,
+            keys: Vec::with_capacity(alloc, geometry.sorted_capacity() as usize)?,
             decided: 0,
             last: None,
             is_read: false,
@@ -248,7 +264,7 @@ impl Merge {
     }
 
     /// Whether all slots are gathered and all keys are decided: after one step for each slot of each store and one for each key.
-    pub fn is_done(&self, sorted: &SortedStore) -> bool
+    pub fn is_done(&self, sorted: &SortedEntries) -> bool
         ensures value { result ≡ is_done self.now sorted.now }
         ensures held { IsHeldMerge self.now }
         ensures steps { (content : Content) (stores : List HashState) → HasMerged content stores sorted.now self.now → IsTrue content.honest → AreSound content.shown stores sorted.now
@@ -289,18 +305,20 @@ impl Merge {
         Ok(())
     }
 
-    // Marks a key as decided: no row waits for it any more, and the entry that has it is passed over.
-    fn mark_decided(&mut self, choice: &Choice, written: u32)
+    // Marks a key as decided: no row waits for it any more, and the entry that has it is passed over. The key is kept where an entry
+    // was written.
+    fn mark_decided(&mut self, choice: &Choice, is_written: bool)
         requires gathered { self.old.store ≡ self.old.stores }
         requires offered { IsOffered self.old.waiting self.old.last choice.now }
         requires passed { choice.now.passes ≡ true → self.old.passed + 1 < 2 ^ 32 }
-        requires room { written ≤ self.old.shape.sorted_capacity }
+        requires room { is_written ≡ true → self.old.written < self.old.shape.sorted_capacity }
         ensures held { IsHeldMerge self.new }
         ensures gone { (key : List ℕ) → source_at self.new.waiting key ≡ cond (bytes_eq choice.now.key.0 key) None (source_at self.old.waiting key) }
         ensures state { self.new ≡ record self.old {
           waiting = self.new.waiting;
           passed = passed_after choice.now.passes self.old.passed;
-          written = written;
+          written = written_after is_written self.old.written;
+          keys = keys_after is_written self.old.keys choice.now.key;
           decided = self.old.decided + 1;
           last = Some choice.now.key;
           next = next_after choice.now.passes self.old.next;
@@ -308,7 +326,7 @@ impl Merge {
     {
         remove_waiting(&mut self.waiting, &choice.key);
         self.passed = passed_after(choice.passes, self.passed);
-        self.written = written;
+        keep_key(&mut self.keys, choice.key, is_written);
         self.decided += 1;
         self.last = Some(choice.key);
         self.is_read = self.is_read && !choice.passes;
@@ -329,7 +347,7 @@ impl Merge {
     fn decide<D: Disk>(
         &mut self,
         stores: &[HashStore],
-        sorted: &SortedStore,
+        sorted: &SortedEntries,
         disk: &mut D,
     ) -> Result<(), StepError<D::Fault>>
         requires more { is_done self.old sorted.now ≡ false }
@@ -371,14 +389,15 @@ impl Merge {
         if let Err(fault) = read_row(stores, disk, &choice, &mut self.made) {
             return Err(StepError::Read(fault));
         }
+        let written = self.keys.len() as u32;
         match self
             .target
-            .write_due(disk, self.written, choice.is_put(), &self.made)
+            .write_due(disk, written, choice.is_put(), &self.made)
         {
-            Ok(written) => {
+            Ok(count) => {
                 std::mem::swap(&mut self.next, &mut self.entry);
                 self.is_read = true;
-                self.mark_decided(&choice, written);
+                self.mark_decided(&choice, count > written);
             }
             Err(fault) => return Err(StepError::Write(fault)),
         }
@@ -397,7 +416,7 @@ impl Merge {
     pub fn step<D: Disk>(
         &mut self,
         stores: &[HashStore],
-        sorted: &SortedStore,
+        sorted: &SortedEntries,
         disk: &mut D,
     ) -> Result<(), StepError<D::Fault>>
         requires more { is_done self.old sorted.now ≡ false }
@@ -425,19 +444,23 @@ impl Merge {
         self.decide(taken, sorted, disk)
     }
 
-    /// The sorted store of the entries that are written.
+    /// The sorted store of the entries that are written, with the index of their keys.
     ///
     /// # Errors
     ///
-    /// Where what the store keeps finds no memory.
-    pub fn finish(&self) -> Result<SortedStore, AllocError>
-        ensures store { IfOk result (λ store. store ≡ record { shape = self.now.shape; region = self.now.region; count = self.now.written }) }
+    /// Where the index finds no memory.
+    pub fn finish(&self, alloc: Global) -> Result<SortedStore, AllocError>
+        ensures store { IfOk result (λ store. store.sorted ≡ record { shape = self.now.shape; region = self.now.region; count = self.now.written }) }
         ensures entries { (content : Content) (stores : List HashState) (sorted : SortedState) → is_done self.now sorted ≡ true → HasMerged content stores sorted self.now → IsTrue content.honest
-            → AreSound content.shown stores sorted → IfOk result (λ store. entries_of content store ≡ take self.now.shape.sorted_capacity (merged_rows (sources content.shown stores sorted))) }
+            → AreSound content.shown stores sorted → IfOk result (λ store. entries_of content store.sorted ≡ take self.now.shape.sorted_capacity (merged_rows (sources content.shown stores sorted))) }
         ensures merge { (content : Content) (stores : List HashState) (sorted : SortedState) → is_done self.now sorted ≡ true → HasMerged content stores sorted self.now → IsTrue content.honest
             → AreSound content.shown stores sorted → length (merged_rows (sources content.shown stores sorted)) ≤ self.now.shape.sorted_capacity
-            → IfOk result (λ store. IsMergeOf (sources content.shown stores sorted) (entries_of content store)) }
+            → IfOk result (λ store. IsMergeOf (sources content.shown stores sorted) (entries_of content store.sorted)) }
+        ensures indexed { (content : Content) (stores : List HashState) (sorted : SortedState) → is_done self.now sorted ≡ true → HasMerged content stores sorted self.now → IsTrue content.honest
+            → AreSound content.shown stores sorted → IfOk result (λ store. IsIndexOf (entries_of content store.sorted) store.index) }
     {
-        Ok(SortedStore::new(self.target.geometry, self.target.number, self.written))
+        let written = self.keys.len() as u32;
+        let entries = SortedEntries::new(self.target.geometry, self.target.number, written);
+        SortedStore::encode(alloc, entries, &self.keys)
     }
 }

@@ -1,5 +1,5 @@
 // What no clause says: a worked merge, that the calls which take memory succeed, and how many reads and writes the steps make.
-ghost use Rattle.std.specs.Prelude.{◌≡◌, ◌≢◌, ◌+◌, ◌*◌, ◌≤◌, ◌<◌, length, IfOk};
+ghost use Rattle.std.specs.Prelude.{◌≡◌, ◌≢◌, ◌+◌, ◌*◌, ◌≤◌, ◌<◌, length, IfOk, IfSome};
 ghost use Rattle.std.specs.List.{All};
 ghost use Rattle.silt_device.specs.Disk.{size};
 ghost use Rattle.silt_device.specs.Layout.{device_size};
@@ -11,9 +11,11 @@ use super::*;
 use silt_device::{BadGeometry, Call, Disk, FaultDisk, Geometry, MemDisk};
 use silt_frame::Key;
 use silt_hash_store::HashStore;
-use silt_sorted_store::SortedStore;
+use silt_sorted_store::{SortedEntries, SortedStore};
 use std::alloc::Global;
 use std::test::Fail;
+
+mod many;
 
 // Values of two bytes, two buckets and eight rows a log, and at most eight entries. Hash region 0 begins at 28,672 and hash region 1 at 32,768, sorted region 0
 // at 36,864 and sorted region 1 at 40,960.
@@ -111,7 +113,7 @@ struct Outcome {
 fn run_step<D: Disk>(
     merge: &mut Merge,
     stores: &[HashStore],
-    sorted: &SortedStore,
+    sorted: &SortedEntries,
     disk: &mut D,
 ) -> Outcome
     requires count { merge.old.stores ≤ length stores.now }
@@ -139,12 +141,13 @@ fn run_step<D: Disk>(
     }
 }
 
-// Takes the steps of a merge, in 30 tries.
+// Takes the steps of a merge, in so many tries.
 fn run_steps<D: Disk>(
     merge: &mut Merge,
     stores: &[HashStore],
-    sorted: &SortedStore,
+    sorted: &SortedEntries,
     disk: &mut D,
+    tries: u32,
 ) -> Outcome
     requires count { merge.old.stores ≤ length stores.now }
     requires shapes { All (λ store. store.shape ≡ merge.old.shape) (oldest_stores merge.old.stores stores.now) }
@@ -158,7 +161,7 @@ fn run_steps<D: Disk>(
         reads: 0,
         writes: 0,
     };
-    for _step in 0..30u32 {
+    for _step in 0..tries {
         let one = run_step(merge, stores, sorted, disk);
         all.steps += one.steps;
         all.reads += one.reads;
@@ -167,24 +170,42 @@ fn run_steps<D: Disk>(
     all
 }
 
-// Merges hash region 0, the newest store, hash region 1, and four entries of sorted region 0 into sorted region 1: what the steps
-// came to, and the new store, none where they left the merge undone.
+// Merges hash region 0, the newest store, hash region 1, and so many entries of sorted region 0 into sorted region 1, in so many tries: what
+// the steps came to, and the new store, none where they left the merge undone.
+fn merge_stores<D: Disk>(
+    alloc: Global,
+    disk: &mut D,
+    geometry: Geometry,
+    entries: u32,
+    tries: u32,
+) -> Option<(Outcome, SortedStore)>
+    requires hashes { geometry.hashes ≡ 2 }
+    requires capacity { entries ≤ geometry.sorted_capacity }
+    requires size { device_size geometry ≤ size (D.content disk.old) }
+    ensures size { size (D.content disk.new) ≡ size (D.content disk.old) }
+    ensures shape { IfSome result (λ merged. merged.1.sorted.shape ≡ geometry) }
+{
+    let newest = HashStore::rebuild(alloc, disk, geometry, 0).ok()?;
+    let older = HashStore::rebuild(alloc, disk, geometry, 1).ok()?;
+    let stores = [newest.store, older.store];
+    let sorted = SortedEntries::new(geometry, 0, entries);
+    let mut merge = Merge::start(alloc, &stores, &sorted, 1).ok()?;
+    let outcome = run_steps(&mut merge, &stores, &sorted, disk, tries);
+    if !merge.is_done(&sorted) {
+        return None;
+    }
+    let store = merge.finish(alloc).ok()?;
+    Some((outcome, store))
+}
+
+// The same of four entries, in 30 tries: what the steps came to, and how many entries the new store has.
 fn merge_all<D: Disk>(alloc: Global, disk: &mut D, geometry: Geometry) -> Option<(Outcome, u32)>
     requires hashes { geometry.hashes ≡ 2 }
     requires capacity { 4 ≤ geometry.sorted_capacity }
     requires size { device_size geometry ≤ size (D.content disk.old) }
     ensures { size (D.content disk.new) ≡ size (D.content disk.old) }
 {
-    let newest = HashStore::rebuild(alloc, disk, geometry, 0).ok()?;
-    let older = HashStore::rebuild(alloc, disk, geometry, 1).ok()?;
-    let stores = [newest.store, older.store];
-    let sorted = SortedStore::new(geometry, 0, 4);
-    let mut merge = Merge::start(alloc, &stores, &sorted, 1).ok()?;
-    let outcome = run_steps(&mut merge, &stores, &sorted, disk);
-    if !merge.is_done(&sorted) {
-        return None;
-    }
-    let store = merge.finish().ok()?;
+    let (outcome, store) = merge_stores(alloc, disk, geometry, 4, 30)?;
     Some((outcome, store.len()))
 }
 
@@ -196,7 +217,7 @@ fn entry<D: Disk>(disk: &D, geometry: Geometry, place: u32) -> Option<(u8, u8, u
     requires size { device_size geometry ≤ size (D.content disk.now) }
 {
     let mut entry = [0; 22];
-    SortedStore::new(geometry, 1, 8)
+    SortedEntries::new(geometry, 1, 8)
         .entry(disk, place, &mut entry)
         .ok()?;
     Some((entry[0], entry[19], entry[21]))

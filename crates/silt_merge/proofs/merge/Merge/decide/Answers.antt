@@ -1,4 +1,4 @@
-use Rattle.std.proofs.Common.{◌≡◌, ◌++◌, ◌+◌, ◌*◌, ◌<◌, ℕ, IsTrue, List, Some, drop, length, take, inr, refl, ap, sym, subst, ◌∙◌, arith}
+use Rattle.std.proofs.Common.{◌≡◌, ◌++◌, ◌+◌, ◌*◌, ◌<◌, ℕ, nat_lt, IsTrue, List, Some, drop, length, take, inr, refl, ap, sym, subst, ◌∙◌, arith}
 use Rattle.std.specs.List.{All}
 use Rattle.std.specs.Vec.{vec_len}
 use Rattle.std.proofs.lemmas.List.{take_at}
@@ -10,7 +10,7 @@ use Rattle.silt_sorted_store.specs.Region.{due_rows}
 use Rattle.silt_sorted_store.specs.State.{entries_of}
 use Rattle.silt_merge.specs.Merging.{HasMerged}
 use Rattle.silt_merge.specs.Rows.{regions_of}
-use Rattle.silt_merge.specs.State.{MergeState, next_after, passed_after}
+use Rattle.silt_merge.specs.State.{MergeState, keys_after, next_after, passed_after, written_after}
 use Rattle.silt_merge.specs.declared.source.Source.{Source}
 use Rattle.silt_merge.proofs.Choosing.{offered}
 use Rattle.silt_merge.proofs.Ending.{HasNext, has_kept, held_next, merged_behind, merged_stays, merged_step, offered_inside}
@@ -40,7 +40,8 @@ pub returns-in-Err-write_due-clause-merged : goal.returns-in-Err-write_due-claus
 returns-in-Err-write_due-clause-merged g c =
     let merge : MergeState = state_of c.self.inside in
     let fits = rw (← c.self.view_is) at c.requires.size in
-    rw (← c.self.view_is) (merged_stays (g.D.Disk.content c.args.disk.now) (g.D.Disk.content c.write_due.new.disk) c.args.stores.now c.args.sorted.now merge c.self.invariant.0 c.read_next.ensures.held fits c.write_due.ensures.region c.write_due.ensures.kept)
+    rw (← c.self.view_is) (merged_stays (g.D.Disk.content c.args.disk.now) (g.D.Disk.content c.write_due.new.disk) c.args.stores.now c.args.sorted.now merge c.self.invariant.0 c.read_next.ensures.held fits c.write_due.ensures.region
+    (subst (λ n. IsTrue (g.D.Disk.content c.args.disk.now).honest → sorted_rows merge.shape merge.region n (g.D.Disk.content c.write_due.new.disk).shown ≡ sorted_rows merge.shape merge.region n (g.D.Disk.content c.args.disk.now).shown) c.len-written.ensures c.write_due.ensures.kept))
 
 pub read_row-requires-clause-shapes : goal.read_row-requires-clause-shapes
 read_row-requires-clause-shapes g c κs within =
@@ -65,6 +66,8 @@ invariant_of-self-in-Ok-write_due g c =
       ap (λ v. vec_len v) c.swap.ensures.x_after ∙ c.self.invariant.2,
       ap (λ v. vec_len v) c.swap.ensures.y_after ∙ c.self.invariant.1,
       c.copy_from_slice.ensures.len ∙ c.self.invariant.3,
+      c.self.invariant.4,
+      c.self.invariant.5,
     )
 
 pub mark_decided-requires-clause-offered : goal.mark_decided-requires-clause-offered
@@ -96,13 +99,15 @@ returns-clause-merged g c =
     c.in-Ok.ensures.next honest (has_kept (entries_of (g.D.Disk.content c.args.disk.now) c.args.sorted.now) c.args.sorted.now.count merge c.self.inside.is_read c.self.inside.next.items c.deref.result.now refl c.deref.ensures.value has) in
     let read : IsTrue old.honest → ReadsRow merge.shape old.shown (regions_of c.args.stores.now) c.in-Some.choice.key.0 c.in-Some.choice.source c.read_next.new.out c.read_row.new.out = λ honest.
     subst (λ b. ReadsRow merge.shape old.shown (regions_of c.args.stores.now) c.in-Some.choice.key.0 c.in-Some.choice.source b c.read_row.new.out) bytes (c.in_default-read_row.ensures.row merge.shape shapes honest) in
-    let written : IsTrue old.honest → sorted_rows merge.shape merge.region c.in-Ok-write_due.written new.shown
+    let written : IsTrue old.honest → sorted_rows merge.shape merge.region c.in-Ok-write_due.count new.shown
     ≡ take merge.shape.sorted_capacity (sorted_rows merge.shape merge.region merge.written old.shown ++ due_rows (choice_puts c.in-Some.choice.source) c.read_row.new.out) = λ honest.
     c.in-Ok-write_due.ensures.written honest
-    ∙ ap (λ b. take merge.shape.sorted_capacity (sorted_rows merge.shape merge.region merge.written old.shown ++ due_rows c.is_put.result b)) row_bytes
-    ∙ ap (λ b. take merge.shape.sorted_capacity (sorted_rows merge.shape merge.region merge.written old.shown ++ due_rows b c.read_row.new.out)) c.is_put.ensures in
+    ∙ ap (λ b. take merge.shape.sorted_capacity (sorted_rows merge.shape merge.region c.len-written.result old.shown ++ due_rows c.is_put.result b)) row_bytes
+    ∙ ap (λ b. take merge.shape.sorted_capacity (sorted_rows merge.shape merge.region c.len-written.result old.shown ++ due_rows b c.read_row.new.out)) c.is_put.ensures
+    ∙ ap (λ n. take merge.shape.sorted_capacity (sorted_rows merge.shape merge.region n old.shown ++ due_rows (choice_puts c.in-Some.choice.source) c.read_row.new.out)) c.len-written.ensures in
     subst (λ (m : MergeState). HasMerged old c.args.stores.now c.args.sorted.now c.args.self.now → HasMerged new c.args.stores.now c.args.sorted.now m) (sym c.mark_decided.ensures.state)
     (rw (← c.self.view_is)
-    (subst (λ (b : List ℕ). HasMerged old c.args.stores.now c.args.sorted.now merge → HasMerged new c.args.stores.now c.args.sorted.now (let m : MergeState = record merge { waiting = c.mark_decided.new.self.waiting; passed = passed_after c.in-Some.choice.passes merge.passed; written = c.in-Ok-write_due.written; decided = merge.decided + 1; last = Some c.in-Some.choice.key; next = next_after c.in-Some.choice.passes (Some b) } in m)) (sym next)
+    (subst (λ (b : List ℕ). HasMerged old c.args.stores.now c.args.sorted.now merge → HasMerged new c.args.stores.now c.args.sorted.now (let m : MergeState = record merge { waiting = c.mark_decided.new.self.waiting; passed = passed_after c.in-Some.choice.passes merge.passed; written = written_after (nat_lt c.len-written.result c.in-Ok-write_due.count) merge.written; keys = keys_after (nat_lt c.len-written.result c.in-Ok-write_due.count) merge.keys c.in-Some.choice.key; decided = merge.decided + 1; last = Some c.in-Some.choice.key; next = next_after c.in-Some.choice.passes (Some b) } in m)) (sym next)
+    (subst (λ (n : ℕ). HasMerged old c.args.stores.now c.args.sorted.now merge → HasMerged new c.args.stores.now c.args.sorted.now (let m : MergeState = record merge { waiting = c.mark_decided.new.self.waiting; passed = passed_after c.in-Some.choice.passes merge.passed; written = written_after (nat_lt n c.in-Ok-write_due.count) merge.written; keys = keys_after (nat_lt n c.in-Ok-write_due.count) merge.keys c.in-Some.choice.key; decided = merge.decided + 1; last = Some c.in-Some.choice.key; next = next_after c.in-Some.choice.passes (Some c.read_next.new.out) } in m)) (sym c.len-written.ensures)
     (merged_step old new c.args.stores.now c.args.sorted.now merge c.self.invariant.0 c.read_next.ensures.held fits c.write_due.ensures.region c.first.result c.in-Ok.next c.in-Some.choice c.read_next.new.out c.read_row.new.out
-    c.mark_decided.new.self.waiting c.in-Ok-write_due.written all c.first.ensures (sym c.choose.ensures ∙ c.in-Some.is) c.in-Ok.ensures.is_some there read written c.mark_decided.ensures.gone)))
+    c.mark_decided.new.self.waiting c.in-Ok-write_due.count all c.first.ensures (sym c.choose.ensures ∙ c.in-Some.is) c.in-Ok.ensures.is_some there read written c.mark_decided.ensures.gone))))

@@ -10,7 +10,7 @@ invariant_of-self-2 g c =
     let merge : MergeState = state_of c.self.inside in
     let below = rw (← c.self.view_is) at c.requires.more in
     let next : c.slot_after.result ≡ slot_after merge.store merge.slot (4 * merge.shape.buckets) = c.slot_after.ensures ∙ ap (slot_after merge.store merge.slot) (ap (λ n. 4 * n) c.buckets-slots.ensures.value) in
-    (gathered_held merge c.in-Ok.row c.keep.new.waiting.entries c.slot_after.result c.self.invariant.0 below c.in-Ok-keep.ensures.ok c.in-Ok-keep.ensures.len next, c.self.invariant.1, c.self.invariant.2, c.self.invariant.3)
+    (gathered_held merge c.in-Ok.row c.keep.new.waiting.entries c.slot_after.result c.self.invariant.0 below c.in-Ok-keep.ensures.ok c.in-Ok-keep.ensures.len next, c.self.invariant.1, c.self.invariant.2, c.self.invariant.3, c.self.invariant.4, c.self.invariant.5)
 
 pub returns-clause-held : goal.returns-clause-held
 returns-clause-held g c =
