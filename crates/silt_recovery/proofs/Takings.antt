@@ -6,8 +6,8 @@ use Rattle.std.proofs.lemmas.List.{append-nil}
 use Rattle.std.proofs.lemmas.List.Elements.{All-cons, All-nil}
 use Rattle.std.proofs.lemmas.List.FromFn.{length-map-range_with_len}
 use Rattle.std.proofs.Math.Nat.{one-le-mul}
-use Rattle.silt_device.specs.Disk.{Content, Left, LeavesOnly, Settles, Stays, ChangesWithin, Torn, size}
-use Rattle.silt_device.specs.Layout.{Shape, InLimits, device_size, gates_at, hash_at, log_size, row_len, slot_at}
+use Rattle.silt_device.specs.Disk.{Content, Left, LeavesOnly, Settles, Stays, ChangesWithin, LiesOutside, Torn, size}
+use Rattle.silt_device.specs.Layout.{Shape, InLimits, device_size, entries_len, gates_at, hash_at, log_size, row_len, slot_at, sorted_at}
 use Rattle.silt_device.proofs.Images.{left_at_rest, left_after_failed_sync, shown_left, within_wider}
 use Rattle.silt_device.proofs.Regions.{next_region, up_least}
 use Rattle.silt_cuckoo.specs.Index.{index_of_keys}
@@ -30,7 +30,10 @@ use Rattle.silt_log_store.specs.Calls.{SealsStore}
 use Rattle.silt_log_store.specs.State.{LogStoreState}
 use Rattle.silt_manifest.proofs.Laws.{rules_elsewhere}
 use Rattle.silt_merge.specs.State.{MergeState}
-use Rattle.silt_stores.specs.Standing.{HasGathered, IsFrozen, Stands, base_map, shown_stores}
+use Rattle.silt_stores.specs.Standing.{HasGathered, IsFrozen, IsLocated, Stands, base_map, shown_stores}
+use Rattle.silt_sorted_store.specs.State.{SortedState}
+use Rattle.silt_sorted_store.proofs.Elsewhere.{indexed_elsewhere}
+use Rattle.silt_stores.proofs.Elsewhere.{entries_behind_log}
 use Rattle.silt_stores.specs.State.{AreWhole, IsHashOf, IsMerging, IsUnderWay, StoresState, oldest_log, region_of}
 use Rattle.silt_recovery.specs.Logs.{IsReadLog}
 use Rattle.silt_recovery.specs.Opening.{Holds, IsUnwritten, IsUnwrittenUnlessFailed, LeavesNoOther, TakesUp}
@@ -132,6 +135,15 @@ hash_stands between new shape log store exists fits changes is stands =
     let before : gates_at shape log + log_size shape ≤ hash_at shape store.region = omega (arith, behind) in
     hash_elsewhere store between new (gates_at shape log) (log_size shape) is.held (subst (λ (x : Shape). device_size x ≤ size between) (sym is.has_shape) fits)
     (inl (subst (λ (x : Shape). gates_at shape log + log_size shape ≤ hash_at x store.region) (sym is.has_shape) before)) changes stands
+
+-- the index of entries is theirs while a log region alone is changed
+index_stands : (between new : Content) (s : StoresState) (log : ℕ) → log < s.manifest.shape.logs → device_size s.manifest.shape ≤ size between → ChangesWithin (gates_at s.manifest.shape log) (log_size s.manifest.shape) between new
+    → AreWhole s → IsLocated between s → IsLocated new s
+index_stands between new s log exists fits changes whole located =
+    let is_shape : s.manifest.shape ≡ s.sorted.shape = ap (λ (t : SortedState). t.shape) (sym whole.sorted) in
+    indexed_elsewhere s.sorted s.index between new (gates_at s.manifest.shape log) (log_size s.manifest.shape) whole.held (subst (λ (x : Shape). device_size x ≤ size between) is_shape fits)
+    (subst (λ (x : Shape). LiesOutside (sorted_at x s.sorted.region) (entries_len x) (gates_at s.manifest.shape log) (log_size s.manifest.shape)) is_shape
+    (entries_behind_log s.manifest.shape log s.sorted.region exists)) changes located
 
 -- where no conversion is under way, nothing is asked of one
 none_converts : (s : StoresState) → s.converting ≡ None → IfSome s.converting (IsUnderWay s)
@@ -284,6 +296,7 @@ module _ (old between new : Content) (s : StoresState) (settles : Settles old be
           indexed = sealed.index;
           frozen = λ k d inside. frozen_stands between new s.manifest.shape (slice_index_or s.frozen k d) changes.honest (holds.frozen k d inside) (λ h. frozen_rows h k d inside);
           hashed = λ k d inside. hash_stands between new s.manifest.shape s.manifest.ruling.active (slice_index_or s.hashes k d) exists (omega (arith, holds.has_size)) changed (holds.whole.hashed k d inside) (holds.hashed k d inside);
+          located = index_stands between new s s.manifest.ruling.active exists (omega (arith, holds.has_size)) changed holds.whole holds.located;
           written = none_written new (record s { active = after }) holds.none_converted;
           merged = none_gathered new (record s { active = after }) holds.none_merged;
           named = record { each = λ honest image left. same_stores.each honest image left ∙ ap Ok (sym (shown_same (was honest))) };

@@ -9,7 +9,7 @@ use Rattle.silt_image.specs.Stores.{Stores, image_stores}
 use Rattle.silt_event.specs.declared.report.Report.{Report}
 use Rattle.silt_manifest.specs.Standing.{Rules}
 use Rattle.silt_stores.specs.Calls.{IsQuiet, SameDisk}
-use Rattle.silt_stores.specs.Standing.{Stands, base_map, shown_stores}
+use Rattle.silt_stores.specs.Standing.{IsLocated, Stands, base_map, shown_stores}
 use Rattle.silt_stores.specs.State.{StoresState, AreWhole}
 use Rattle.silt_recovery.specs.Logs.{IsReadLog}
 use Rattle.silt_recovery.specs.declared.examination.Holding.{Holding}
@@ -23,7 +23,8 @@ held_stores held = record {
   active = held.active;
   frozen = held.frozen.items;
   hashes = held.hashes.items;
-  sorted = held.sorted;
+  sorted = held.sorted.sorted;
+  index = held.sorted.index;
   converting = None;
   merging = None;
   charge = held.charge;
@@ -41,6 +42,7 @@ pub record Holds (content : Content) (s : StoresState) : Type 0 where
   pub active : IsReadLog content s.manifest.shape s.active
   pub frozen : All (IsReadLog content s.manifest.shape) s.frozen
   pub hashed : All (IsHashStore content) s.hashes
+  pub located : IsLocated content s
   pub named : IsTrue content.honest → image_stores content.shown ≡ Ok (shown_stores content s)
   pub sound : IsTrue content.honest → IsSound (shown_stores content s)
   pub counted : IsTrue content.honest → s.charge ≡ charge_of (shown_stores content s)

@@ -4,19 +4,22 @@ ghost use Rattle.silt_device.specs.Disk.{GaveAny, size};
 ghost use Rattle.silt_device.specs.Layout.{device_size};
 ghost use Rattle.silt_recovery.specs.Entries.{AreSoundEntries, HasFirstEntry};
 ghost use Rattle.silt_recovery.specs.Refusals.{IsRefusedLook};
+ghost use Rattle.silt_sorted_store.specs.Index.{IsIndexed};
 
 use crate::fault::OpenError;
 use silt_device::{Disk, Geometry};
 use silt_event::Place;
 use silt_sorted_store::{RebuildError, SortedStore};
+use std::alloc::Global;
 
-/// Reads the key of each of the first `count` entries of a sorted region.
+/// Reads the first `count` entries of a sorted region once, and makes the index of their keys.
 ///
 /// # Errors
 ///
 /// `Damaged` with the number of the first entry that is not above the one before it; `Device` with the fault of a read, and
-/// `NoMemory`.
+/// `NoMemory`, where what is read or the index finds none.
 pub fn read_entries<D: Disk>(
+    alloc: Global,
     disk: &D,
     geometry: Geometry,
     region: u32,
@@ -25,13 +28,14 @@ pub fn read_entries<D: Disk>(
     requires region { region < 2 }
     requires count { count ≤ geometry.sorted_capacity }
     requires size { size (D.content disk.now) ≡ device_size geometry }
-    ensures store { IfOk result (λ store. store ≡ record { shape = geometry; region = region; count = count }) }
+    ensures store { IfOk result (λ store. store.sorted ≡ record { shape = geometry; region = region; count = count }) }
+    ensures indexed { IfOk result (λ store. IsIndexed (D.content disk.now) store.sorted store.index) }
     ensures sound { IsTrue (D.content disk.now).honest → OnOk result (AreSoundEntries geometry (D.content disk.now).shown region count) }
     ensures cause { IfErr result (IsRefusedLook
         (λ finding. IsTrue (D.content disk.now).honest → HasFirstEntry geometry (D.content disk.now).shown region count finding)
         (GaveAny D.gave disk.now)) }
 {
-    match SortedStore::rebuild(disk, geometry, region, count) {
+    match SortedStore::rebuild(alloc, disk, geometry, region, count) {
         Ok(store) => Ok(store),
         Err(RebuildError::Damaged(place)) => Err(OpenError::Damaged(Place::Sorted(place))),
         Err(RebuildError::Device(fault)) => Err(OpenError::Device(fault)),

@@ -76,7 +76,7 @@ fn read_stores<D: Disk>(
     let active = read_log(alloc, disk, geometry, body.active)?;
     let frozen = read_frozen(alloc, disk, geometry, body.frozen.as_slice())?;
     let hashes = read_hashes(alloc, disk, geometry, body.hashed.as_slice())?;
-    let sorted = read_entries(disk, geometry, body.sorted, body.sorted_count)?;
+    let sorted = read_entries(alloc, disk, geometry, body.sorted, body.sorted_count)?;
     let newest = u64::from(active.puts());
     let entries = u64::from(sorted.len());
     let charge = newest + frozen.puts + hashes.puts + entries;

@@ -35,7 +35,7 @@ use Rattle.silt_stores.proofs.Chains.{advances_remap}
 use Rattle.silt_stores.proofs.Standing.{Fits}
 use Rattle.silt_stores.proofs.Wholes.{merging_in, oldest_behind, under_way_in, written_in}
 use Rattle.silt_stores.proofs.NextBodies.{now_named, succeeds}
-use Rattle.silt_stores.proofs.Remains.{frozen_stays, hashed_stays, merged_stays, written_stays}
+use Rattle.silt_stores.proofs.Remains.{frozen_stays, hashed_stays, located_stays, merged_stays, written_stays}
 use Rattle.silt_stores.proofs.Holdings.{may_follow}
 use Rattle.silt_stores.proofs.Flushes.{quiet}
 use Rattle.silt_stores.proofs.Freezes.{below_two, store_elsewhere}
@@ -181,6 +181,7 @@ module _ (old : Content) (s : StoresState) (next : NextLog) (stands : Stands old
       active = next_active;
       frozen = All-cons (IsFrozen new) s.active s.frozen (settled_frozen new s.active old_active is_quiet.settled) (frozen_stays old new s stands sizes now.changes);
       hashed = hashed_stays old new s stands sizes now.changes;
+      located = located_stays old new s stands sizes now.changes;
       written = written_after;
       merged = merged_stays old new s stands sizes now.changes;
       same_shape = frozen_may_rule.has_shape ∙ sym now.has_shape;
@@ -211,6 +212,7 @@ module _ (old : Content) (s : StoresState) (next : NextLog) (stands : Stands old
       frozen = omega arith;
       hashes = refl;
       sorted = refl;
+      index = refl;
       converting = refl;
       merging = refl;
       charge = refl;

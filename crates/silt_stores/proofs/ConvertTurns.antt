@@ -38,7 +38,7 @@ use Rattle.silt_stores.proofs.Elsewhere.{frozen_named, indexed_same, named_below
 use Rattle.silt_stores.proofs.Standing.{Fits}
 use Rattle.silt_stores.proofs.Wholes.{merging_in}
 use Rattle.silt_stores.proofs.ConvertCounting.{may_end}
-use Rattle.silt_stores.proofs.Remains.{active_stays, frozen_stays, hashed_stays, merged_stays, slot_below, waiting_stays, written_stays}
+use Rattle.silt_stores.proofs.Remains.{active_stays, frozen_stays, hashed_stays, located_stays, merged_stays, slot_below, waiting_stays, written_stays}
 use Rattle.silt_stores.proofs.NextBodies.{now_named, succeeds}
 use Rattle.silt_stores.proofs.ConvertStores.{converted_named, converted_ruling, converted_shape}
 use Rattle.silt_stores.proofs.ConvertDone.{ending_counted, ending_full_sound, ending_map, ending_slots, ending_sound, ending_stores, oldest_frozen, oldest_shape, oldest_stands, way}
@@ -197,6 +197,7 @@ module _ (old : Content) (s : StoresState) (body : Body) (stands : Stands old s)
       active = record { log = keeps.stands; index = indexed_same old new s.active back (λ h. keeps.all (back h)) stands.indexed };
       frozen = All-take (IsFrozen new) (length s.frozen - 1) s.frozen (frozen_stays old new s stands sizes now.changes);
       hashed = All-cons (IsHashStore new) (store_of ends.conversion) s.hashes store_is (hashed_stays old new s stands sizes now.changes);
+      located = located_stays old new s stands sizes now.changes;
       written = tt;
       merged = gathered_stays;
       same_shape = converted_may_rule.has_shape ∙ sym now.has_shape;

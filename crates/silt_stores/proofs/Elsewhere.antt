@@ -1,4 +1,4 @@
--- What a change in one place of the disk leaves of the logs, the hash stores, the conversion and the merge in other places.
+-- What a change in one place of the disk leaves of the logs, the hash stores, the entries, the conversion and the merge in other places.
 use Rattle.std.proofs.Common.{◌≡◌, ◌≢◌, ◌≤◌, ◌<◌, ℕ, ◌+◌, ◌*◌, ◌-◌, ◌%◌, ◌==◌, true, false, IsTrue, List, suc, length, map, get_or, Option, Some, None, inl, inr, ap, sym, ◌∙◌, subst, arith}
 use Rattle.std.specs.Prelude.{All, Contains, IfSome}
 use Rattle.std.specs.List.{list_any, list_all}
@@ -29,8 +29,9 @@ use Rattle.silt_manifest.specs.declared.body.Body.{Body}
 use Rattle.silt_merge.specs.State.{MergeState, oldest_stores}
 use Rattle.silt_merge.proofs.Elsewhere.{merged_elsewhere}
 use Rattle.silt_sorted_store.specs.State.{SortedState}
+use Rattle.silt_sorted_store.proofs.Elsewhere.{indexed_elsewhere}
 use Rattle.silt_stores.specs.State.{IsHashOf, IsMerging, IsUnderWay, StoresState, hash_region_of, oldest_log, region_of}
-use Rattle.silt_stores.specs.Standing.{HasGathered, IsFrozen, Stands, shown_stores}
+use Rattle.silt_stores.specs.Standing.{HasGathered, IsFrozen, IsLocated, Stands, shown_stores}
 use Rattle.silt_stores.proofs.Facts.{shown_named}
 use Rattle.silt_stores.proofs.Named.{named_body, named_shape}
 
@@ -240,6 +241,20 @@ written_all_elsewhere old new s at count (Some conversion) stands changes outsid
       subst (λ (sh : Shape). LiesOutside (hash_at sh conversion.region) (slots_len sh) at count) (sym way.has_shape) (apart h),
     ))
     is
+
+-- ---- the entries
+
+-- a change outside the entries of the sorted store leaves their index
+pub located_elsewhere : (old new : Content) (s : StoresState) (at count : ℕ) → Stands old s → ChangesWithin at count old new
+    → (IsTrue old.honest → LiesOutside (sorted_at s.manifest.shape s.manifest.ruling.sorted) (entries_len s.manifest.shape) at count) → IsLocated new s
+located_elsewhere old new s at count stands changes behind honest =
+    let is_shape : s.sorted.shape ≡ s.manifest.shape = ap (λ (t : SortedState). t.shape) stands.whole.sorted in
+    let is_region : s.sorted.region ≡ s.manifest.ruling.sorted = ap (λ (t : SortedState). t.region) stands.whole.sorted in
+    indexed_elsewhere s.sorted s.index old new at count stands.whole.held
+    (subst (λ (sh : Shape). device_size sh ≤ size old) (sym is_shape) (omega (arith, stands.has_size)))
+    (subst (λ (n : ℕ). LiesOutside (sorted_at s.sorted.shape n) (entries_len s.sorted.shape) at count) (sym is_region)
+    (subst (λ (sh : Shape). LiesOutside (sorted_at sh s.manifest.ruling.sorted) (entries_len sh) at count) (sym is_shape) (behind (subst IsTrue changes.honest honest))))
+    changes stands.located honest
 
 -- ---- the merge
 

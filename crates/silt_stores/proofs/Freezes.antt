@@ -32,7 +32,7 @@ use Rattle.silt_stores.specs.Calls.{Advances, Breaks, IsQuiet, Remaps, SameDisk}
 use Rattle.silt_stores.specs.NextLog.{names_region}
 use Rattle.silt_stores.proofs.Named.{named_body, named_shape, region_torn}
 use Rattle.silt_stores.proofs.Facts.{active_size, base_is, shown_named}
-use Rattle.silt_stores.proofs.Elsewhere.{all_frozen_elsewhere, all_hashed_elsewhere, entries_behind_log, entries_behind_manifest, indexed_same, merged_all_elsewhere, not_among, outside_other, outside_slot, slots_behind_log, slots_behind_manifest, written_all_elsewhere}
+use Rattle.silt_stores.proofs.Elsewhere.{all_frozen_elsewhere, all_hashed_elsewhere, entries_behind_log, entries_behind_manifest, indexed_same, located_elsewhere, merged_all_elsewhere, not_among, outside_other, outside_slot, slots_behind_log, slots_behind_manifest, written_all_elsewhere}
 use Rattle.silt_stores.proofs.Chains.{advances_break, advances_remap}
 use Rattle.silt_stores.proofs.Standing.{Fits, fits_stand, shown_are}
 use Rattle.silt_stores.proofs.Wholes.{whole_with}
@@ -97,6 +97,7 @@ module _ (old new : Content) (s : StoresState) (at count : ℕ) (stands : Stands
       active = record { log = kept.stands; index = indexed_same old new s.active back (λ h. kept.all (back h)) stands.indexed };
       frozen = all_frozen_elsewhere old new s at count stands changes (λ h. (apart h).frozen);
       hashed = all_hashed_elsewhere old new s at count stands changes (λ h. (apart h).hashed);
+      located = located_elsewhere old new s at count stands changes (λ h. (apart h).sorted);
       written = written;
       merged = merged;
       same_shape = t_shape;

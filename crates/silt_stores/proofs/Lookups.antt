@@ -34,7 +34,7 @@ use Rattle.silt_image.specs.Meaning.{hash_findings, holds_key, known_rows, map_o
 use Rattle.silt_image.specs.Laws.{newest_row, value_given}
 use Rattle.silt_image.proofs.Rows.{map_law, newest_law}
 use Rattle.silt_image.proofs.Sound.{finds_nothing}
-use Rattle.silt_sorted_store.specs.OnlyRow.{FindsEntry, HasNoEntry, IsOnlyRow}
+use Rattle.silt_sorted_store.specs.OnlyRow.{FindsEntry, HasNoEntry, HasOnlyValue, IsOnlyRow}
 use Rattle.silt_sorted_store.specs.State.{SortedState, entries_of}
 use Rattle.silt_sorted_store.proofs.Entries.{entries_law}
 use Rattle.silt_stores.specs.declared.location.Holder.{Holder}
@@ -42,7 +42,7 @@ use Rattle.silt_stores.specs.declared.location.Holder.TheVariants.{Active, Froze
 use Rattle.silt_stores.specs.State.{StoresState, hash_region_of, region_of}
 use Rattle.silt_stores.specs.Standing.{Stands, current_map, shown_stores, waiting_commands}
 use Rattle.silt_stores.specs.Entries.{hashed_rows}
-use Rattle.silt_stores.specs.Lookup.{FindsFrozen, FindsHashed, entry_in, frozen_at, hash_store_at, hash_rows_of, located, row_in, value_at}
+use Rattle.silt_stores.specs.Lookup.{FindsFrozen, FindsHashed, FindsNewest, entry_in, frozen_at, hash_store_at, hash_rows_of, located, row_in, value_at}
 use Rattle.silt_stores.proofs.Facts.{active_rows, base_is, rows_split, shown_sound}
 use Rattle.silt_stores.proofs.Elsewhere.{scanned_all}
 
@@ -419,7 +419,7 @@ module _ (content : Content) (s : StoresState) (stands : Stands content s) (hone
       ∙ located_value (Hashed number) found row kind (hash_there store.shape store.region content.shown key found.place row there).1
 
   -- no hash store has one
-  past_hashed : (key : List ℕ) → HasNoRow (all_rows content s.active.log) key → FindsFrozen content s key None → FindsHashed content s key None
+  pub past_hashed : (key : List ℕ) → HasNoRow (all_rows content s.active.log) key → FindsFrozen content s key None → FindsHashed content s key None
       → get (current_map content s) key ≡ option_and_then value_given (newest_row (entries_of content s.sorted) key)
   past_hashed key none frozen hashed =
       past_frozen key none frozen
@@ -428,16 +428,20 @@ module _ (content : Content) (s : StoresState) (stands : Stands content s) (hone
       (λ index inside. let here : index < length s.hashes = omega (arith, inside, length-map s.hashes (known_in content)) in hash_lacks key index here (hashed index here)))
 
   -- the row is an entry
-  pub found_sorted : (key : List ℕ) (place : ℕ) → HasNoRow (all_rows content s.active.log) key → FindsFrozen content s key None → FindsHashed content s key None
-      → FindsEntry (entries_of content s.sorted) key (Some place) → get (current_map content s) key ≡ option_map (value_at content s) (Some (record { holder = Sorted; place = place }))
-  found_sorted key place none frozen hashed (row, is) =
+  pub found_sorted : (key : List ℕ) (place : ℕ) → FindsNewest content s key None → FindsEntry (entries_of content s.sorted) key (Some place)
+      → get (current_map content s) key ≡ option_map (value_at content s) (Some (record { holder = Sorted; place = place }))
+  found_sorted key place newest (row, is) =
       let one : row.kind ≡ 1 = (entries_law s.sorted.shape s.sorted.region s.sorted.count content.shown).puts place row is.there in
-      past_hashed key none frozen hashed
+      newest
       ∙ ap (option_and_then value_given) (newest_only (entries_of content s.sorted) key place row is)
       ∙ ap (λ (n : ℕ). if n == 1 then Some row.value else None) one
       ∙ ap Some (sym (entry_value content s.sorted place row is.there))
 
+  -- and this is its value
+  pub found_value : (key value : List ℕ) → FindsNewest content s key None → HasOnlyValue (entries_of content s.sorted) key value → get (current_map content s) key ≡ Some value
+  found_value key value newest (place, row, is, has) =
+      found_sorted key place newest (row, is) ∙ ap Some (entry_value content s.sorted place row is.there ∙ has)
+
   -- no store has one
-  pub found_nowhere : (key : List ℕ) → HasNoRow (all_rows content s.active.log) key → FindsFrozen content s key None → FindsHashed content s key None
-      → HasNoEntry (entries_of content s.sorted) key → get (current_map content s) key ≡ None
-  found_nowhere key none frozen hashed lacks = past_hashed key none frozen hashed ∙ ap (option_and_then value_given) (newest_none (entries_of content s.sorted) key lacks)
+  pub found_nowhere : (key : List ℕ) → FindsNewest content s key None → HasNoEntry (entries_of content s.sorted) key → get (current_map content s) key ≡ None
+  found_nowhere key newest lacks = newest ∙ ap (option_and_then value_given) (newest_none (entries_of content s.sorted) key lacks)

@@ -8,7 +8,7 @@ use Rattle.silt_manifest.specs.Body.{has_sound_hashes, has_sound_logs, is_well_f
 use Rattle.silt_manifest.specs.Standing.{IsNext, ruling_slot, spare_slot}
 use Rattle.silt_manifest.specs.declared.body.Body.{Body}
 use Rattle.silt_merge.specs.State.{MergeState}
-use Rattle.silt_sorted_store.specs.State.{SortedState}
+use Rattle.silt_sorted_store.specs.Index.{IndexedState}
 use Rattle.silt_stores.specs.Merge.{EndsMerge, merged_body}
 use Rattle.silt_stores.specs.State.{AreWhole, IsMerging, StoresState}
 use Rattle.silt_stores.proofs.ConvertCounting.{below_first, distinct_first, hash_count, sound_hashes}
@@ -31,8 +31,8 @@ merged_sound_body s slot count region written b sound there room unspent =
     and_from _ _ (and_from _ _ (and_from _ _ (and_from _ _ (and_from _ _ generation remainder) logs) hashes) (lt-ltb region 2 there)) (le-leb written s.sorted_capacity room)
 
 -- the body that ends a merge may follow the one that rules
-pub may_end_merge : (s : StoresState) (body : Body) (sorted : SortedState) → is_well_formed s.manifest.shape (ruling_slot s.manifest) s.manifest.ruling ≡ true → AreWhole s → EndsMerge s body sorted → IsNext s.manifest body
-may_end_merge s body sorted sound whole ends =
+pub may_end_merge : (s : StoresState) (body : Body) (store : IndexedState) → is_well_formed s.manifest.shape (ruling_slot s.manifest) s.manifest.ruling ≡ true → AreWhole s → EndsMerge s body store → IsNext s.manifest body
+may_end_merge s body store sound whole ends =
     let way : IsMerging s ends.merge = subst (λ (o : Option MergeState). IfSome o (IsMerging s)) ends.was whole.merging in
     record {
       generation = ap (λ (b : Body). b.generation) ends.is;

@@ -1,5 +1,5 @@
 -- What a merge takes of the stores, and when it is done.
-use Rattle.std.proofs.Common.{◌≡◌, ◌≤◌, ℕ, ◌+◌, ◌-◌, ◌++◌, IsTrue, List, [], true, length, map, take, drop, refl, ap, sym, ◌∙◌, subst, Option, Some, None, arith}
+use Rattle.std.proofs.Common.{◌≡◌, ◌≤◌, ◌<◌, ℕ, ◌+◌, ◌-◌, ◌^◌, ◌++◌, IsTrue, List, [], true, length, map, take, drop, refl, ap, sym, ◌∙◌, subst, Option, Some, None, arith}
 use Rattle.std.specs.Prelude.{IfSome}
 use Rattle.std.proofs.lemmas.List.{take-append-drop, take_all}
 use Rattle.std.proofs.lemmas.List.Elements.{All-drop}
@@ -14,16 +14,17 @@ use Rattle.silt_image.proofs.Sound.{charge_law, parts_law}
 use Rattle.silt_log.specs.State.{all_rows, waiting_rows}
 use Rattle.silt_manifest.specs.declared.body.Body.{Body}
 use Rattle.silt_merge.specs.Laws.{ReplacesStores, with_merged}
-use Rattle.silt_merge.specs.Merging.{AreSound, IsMergeOf}
+use Rattle.silt_merge.specs.Merging.{AreSound, HasMerged, IsMergeOf}
 use Rattle.silt_merge.specs.Rows.{entries_in, key_count, merged_rows, sources}
 use Rattle.silt_merge.specs.State.{MergeState, is_done, oldest_stores, steps_for, steps_of}
 use Rattle.silt_merge.proofs.Ending.{done_entries, done_steps}
 use Rattle.silt_merge.proofs.Newest.{key_count_law, merged_law}
 use Rattle.silt_merge.proofs.Replacing.{merges, rows_old}
 use Rattle.silt_merge.proofs.Sounding.{sound_stores}
-use Rattle.silt_sorted_store.specs.State.{SortedState}
+use Rattle.silt_sorted_store.specs.Index.{IndexedState, IsIndexOf}
+use Rattle.silt_sorted_store.specs.State.{SortedState, entries_of}
 use Rattle.silt_sorted_store.proofs.Entries.{entry_count}
-use Rattle.silt_stores.specs.Merge.{IsDoneBySteps, charge_without, merge_sources, puts_in}
+use Rattle.silt_stores.specs.Merge.{EndsMerge, IsDoneBySteps, charge_without, merge_sources, merged_body, puts_in}
 use Rattle.silt_stores.specs.Merge as spec
 use Rattle.silt_stores.specs.State.{IsMerging, StoresState}
 use Rattle.silt_stores.specs.Standing.{HasGathered, Stands, base_map, full_image, shown_stores}
@@ -169,3 +170,21 @@ module _ (content : Content) (s : StoresState) (merge : MergeState) (stands : St
       let before = count_law (rows_of t) waiting in
       let counted = stands.counted h in
       omega (arith, is, taken, written, fewer, moved, behind, before, counted, taken_puts)
+
+-- ---- its end
+
+-- a merge that is done may end with a sorted store of its entries and their index
+pub may_end : (s : StoresState) (body : Body) (merge : MergeState) (store : IndexedState) → s.merging ≡ Some merge → is_done merge s.sorted ≡ true → s.manifest.ruling.generation < 2 ^ 63 - 1
+    → store.sorted ≡ record { shape = merge.shape; region = merge.region; count = merge.written } → body ≡ merged_body s.manifest.ruling merge.stores merge.region merge.written
+    → ((content : Content) (stores : List HashState) (sorted : SortedState) → is_done merge sorted ≡ true → HasMerged content stores sorted merge → IsTrue content.honest → AreSound content.shown stores sorted
+    → IsIndexOf (entries_of content store.sorted) store.index) → EndsMerge s body store
+may_end s body merge store was done unspent entries is indexed = record {
+  merge = merge;
+  was = was;
+  done = done;
+  unspent = unspent;
+  entries = entries;
+  located = λ content stands honest.
+      indexed content (oldest_stores merge.stores s.hashes) s.sorted done (gathered content s merge stands was done) honest (taken_sound content s stands honest merge.stores);
+  is = is;
+}

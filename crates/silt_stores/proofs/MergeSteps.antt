@@ -78,6 +78,14 @@ taken_shapes s merge whole way =
 pub sorted_shape : (s : StoresState) (merge : MergeState) → AreWhole s → IsMerging s merge → s.sorted.shape ≡ merge.shape
 sorted_shape s merge whole way = ap (λ (t : SortedState). t.shape) whole.sorted ∙ sym way.has_shape
 
+-- what a step keeps, in the words of the stores
+pub kept_by_step : (old new : Content) (s : StoresState) (stores : List HashState) (sorted : SortedState) (before after : MergeState) → stores ≡ s.hashes → sorted ≡ s.sorted
+    → (HasMerged old (oldest_stores before.stores stores) sorted before → HasMerged new (oldest_stores before.stores stores) sorted after)
+    → HasMerged old (oldest_stores before.stores s.hashes) s.sorted before → HasMerged new (oldest_stores before.stores s.hashes) s.sorted after
+kept_by_step old new s stores sorted before after stores_are sorted_is keeps =
+    subst (λ (t : SortedState). HasMerged old (oldest_stores before.stores s.hashes) t before → HasMerged new (oldest_stores before.stores s.hashes) t after) sorted_is
+    (subst (λ (l : List HashState). HasMerged old (oldest_stores before.stores l) sorted before → HasMerged new (oldest_stores before.stores l) sorted after) stores_are keeps)
+
 -- ---- a step
 
 module _ (old new : Content) (s : StoresState) (before after : MergeState) (stands : Stands old s) (way : IsMerging s before) (sizes : size new ≡ size old)
@@ -124,13 +132,13 @@ pub some_stores : (stores : List HashState) (len : ℕ) (empty : Bool) → empty
 some_stores stores len empty is none same = let differ = eqb-false len 0 (sym is ∙ none) in omega (arith, differ, same)
 
 module _ (s : StoresState) (region : ℕ) (read : List HashState) (none : s.merging ≡ None) (some : 0 < length s.hashes) (whole : AreWhole s) (other : region ≡ 1 - s.sorted.region) (read_is : read ≡ s.hashes)
-    (started : MergeState) (is : started ≡ record { shape = s.sorted.shape; region = region; stores = length read; store = 0; slot = 0; waiting = []; passed = 0; written = 0; decided = 0; last = None; next = None }) (held : IsHeldMerge started) where
+    (sorted : SortedState) (sorted_is : sorted ≡ s.sorted) (started : MergeState) (is : started ≡ record { shape = sorted.shape; region = region; stores = length read; store = 0; slot = 0; waiting = []; passed = 0; written = 0; decided = 0; last = None; next = None; keys = [] }) (held : IsHeldMerge started) where
   started_stores : started.stores ≡ length s.hashes
   started_stores = ap (λ (v : MergeState). v.stores) is ∙ ap length read_is
 
   pub started_way : IsMerging s started
   started_way = record {
-    has_shape = ap (λ (v : MergeState). v.shape) is ∙ ap (λ (t : SortedState). t.shape) whole.sorted;
+    has_shape = ap (λ (v : MergeState). v.shape) is ∙ ap (λ (t : SortedState). t.shape) (sorted_is ∙ whole.sorted);
     apart = λ e. let below = whole.held.region in let here : started.region ≡ region = ap (λ (v : MergeState). v.region) is in absurd (omega (arith, e, below, here, other));
     some = omega (arith, some, started_stores);
     most = omega (arith, started_stores);
@@ -144,11 +152,11 @@ module _ (s : StoresState) (region : ℕ) (read : List HashState) (none : s.merg
       ap (λ (b : Bool). (b && (length started.waiting == 0)) && nat_le s.sorted.count started.passed) (ne_eqb started.store started.stores differ)
 
   -- its hash stores are all
-  pub begun : (content : Content) → HasMerged content read s.sorted started → HasGathered content s started
+  pub begun : (content : Content) → HasMerged content read sorted started → HasGathered content s started
   begun content has =
       let nothing : length s.hashes - started.stores ≡ 0 = omega (arith, started_stores) in
       let all_taken : oldest_stores started.stores s.hashes ≡ s.hashes = ap (λ (n : ℕ). drop n s.hashes) nothing in
-      subst (λ (l : List HashState). HasMerged content l s.sorted started) (read_is ∙ sym all_taken) has
+      subst (λ (l : List HashState). HasMerged content l s.sorted started) (read_is ∙ sym all_taken) (subst (λ (t : SortedState). HasMerged content read t started) sorted_is has)
 
   pub begin_merges : (after : MergeState) → IsSameMerge started after → steps_of after ≡ steps_of started + 1 → Merges Moved s (record s { merging = Some after })
   begin_merges after same step =

@@ -5,12 +5,12 @@ use Rattle.std.specs.List.{list_any}
 use Rattle.std.proofs.lemmas.List.{take-map}
 use Rattle.std.proofs.lemmas.List.Elements.{All-take}
 use Rattle.silt_device.specs.Disk.{Content, LeavesOnly, Rests, size}
-use Rattle.silt_device.specs.Layout.{Shape, device_size}
+use Rattle.silt_device.specs.Layout.{Shape, device_size, slot_at}
 use Rattle.silt_device.proofs.Images.{left_at_rest}
 use Rattle.silt_frame.specs.Rows.{StoredRow, put_count}
 use Rattle.silt_log.specs.State.{all_rows}
 use Rattle.silt_log.specs.Calls.{KeepsRows}
-use Rattle.silt_manifest.specs.Standing.{ManifestState}
+use Rattle.silt_manifest.specs.Standing.{ManifestState, spare_slot}
 use Rattle.silt_manifest.specs.declared.body.Body.{Body}
 use Rattle.silt_image.specs.Stores.{Stores, stores_named}
 use Rattle.silt_image.specs.Meaning.{IsSound, command_of, rows_of, with_log_rows}
@@ -18,18 +18,20 @@ use Rattle.silt_hash_store.specs.Conversion.{ConversionState}
 use Rattle.silt_hash_store.specs.State.{IsHashStore}
 use Rattle.silt_merge.specs.Rows.{merged_rows}
 use Rattle.silt_merge.specs.State.{MergeState}
+use Rattle.silt_sorted_store.specs.Index.{IndexedState}
 use Rattle.silt_sorted_store.specs.State.{IsHeldSorted, SortedState}
+use Rattle.silt_sorted_store.proofs.Elsewhere.{indexed_elsewhere}
 use Rattle.silt_stores.specs.State.{AreWhole, IsHashOf, IsMerging, IsSettled, IsUnderWay, StoresState, hash_region_of, sorted_named}
-use Rattle.silt_stores.specs.Standing.{Stands, shown_stores}
+use Rattle.silt_stores.specs.Standing.{IsLocated, Stands, shown_stores}
 use Rattle.silt_stores.specs.Calls.{Advances}
 use Rattle.silt_stores.specs.Succession.{MayRule, NowRules}
 use Rattle.silt_stores.specs.Merge.{EndsMerge, EndsMerged, HasMergedEntries, MayStandFor, charge_without, merge_sources, merged_body, sorted_replaced}
 use Rattle.silt_stores.specs.Merge as spec
 use Rattle.silt_stores.proofs.Named.{named_shape}
-use Rattle.silt_stores.proofs.Elsewhere.{indexed_same}
+use Rattle.silt_stores.proofs.Elsewhere.{entries_behind_manifest, indexed_same}
 use Rattle.silt_stores.proofs.Standing.{Fits, shown_are}
 use Rattle.silt_stores.proofs.ConvertCounting.{hash_count, none_of_first}
-use Rattle.silt_stores.proofs.Remains.{active_stays, frozen_stays, hashed_stays, waiting_stays, written_stays}
+use Rattle.silt_stores.proofs.Remains.{active_stays, frozen_stays, hashed_stays, slot_below, waiting_stays, written_stays}
 use Rattle.silt_stores.proofs.NextBodies.{now_named, succeeds}
 use Rattle.silt_stores.proofs.MergeCounting.{may_end_merge}
 use Rattle.silt_stores.proofs.MergeStores.{merged_entries, merged_named, merged_ruling, merged_shape, sources_with, with_entries}
@@ -48,7 +50,7 @@ under_way_fewer s t count (Some conversion) same_shape fewer same_frozen is = re
 
 -- ---- the body that names the new sorted store
 
-module _ (old : Content) (s : StoresState) (body : Body) (sorted : SortedState) (stands : Stands old s) (rests : Rests old) (ends : EndsMerge s body sorted) where
+module _ (old : Content) (s : StoresState) (body : Body) (store : IndexedState) (stands : Stands old s) (rests : Rests old) (ends : EndsMerge s body store) where
   under_way : IsMerging s ends.merge
   under_way = way old s ends.merge stands ends.was ends.done
 
@@ -68,7 +70,7 @@ module _ (old : Content) (s : StoresState) (body : Body) (sorted : SortedState) 
 
   pub merged_may_rule : MayRule old s body
   merged_may_rule = record {
-    follows = λ sound. may_end_merge s body sorted sound stands.whole ends;
+    follows = λ sound. may_end_merge s body store sound stands.whole ends;
     stores = now_stores;
     has_shape = merged_shape _ _ _ _ ∙ named_shape s.manifest.shape s.manifest.ruling old.shown;
     has_body = merged_ruling _ _ _ _;
@@ -86,13 +88,13 @@ module _ (old : Content) (s : StoresState) (body : Body) (sorted : SortedState) 
 
     -- the stores in memory afterwards
     abbrev after : StoresState
-    after = sorted_replaced s m ends.merge.stores sorted
+    after = sorted_replaced s m ends.merge.stores store
 
     ruling_is : m.ruling ≡ merged_body s.manifest.ruling ends.merge.stores ends.merge.region ends.merge.written
     ruling_is = now.has_body ∙ ends.is
 
     -- they are those that the body names
-    pub merged_whole : AreWhole (sorted_replaced s m ends.merge.stores sorted)
+    pub merged_whole : AreWhole (sorted_replaced s m ends.merge.stores store)
     merged_whole = record {
       has_shape = stands.whole.has_shape ∙ sym now.has_shape;
       active_region = stands.whole.active_region ∙ ap (λ (b : Body). b.active) (sym ruling_is);
@@ -106,21 +108,31 @@ module _ (old : Content) (s : StoresState) (body : Body) (sorted : SortedState) 
       hashed = subst (λ (sh : Shape). All (IsHashOf sh) (take (length s.hashes - ends.merge.stores) s.hashes)) (sym now.has_shape)
           (All-take (IsHashOf s.manifest.shape) (length s.hashes - ends.merge.stores) s.hashes stands.whole.hashed);
       sorted =
-          ends.store
+          ends.entries
           ∙ ap (λ (sh : Shape). let t : SortedState = record { shape = sh; region = ends.merge.region; count = ends.merge.written } in t) (under_way.has_shape ∙ sym now.has_shape)
           ∙ ap (λ (b : Body). sorted_named m.shape b) (sym ruling_is);
-      held = subst IsHeldSorted (sym ends.store) (record { region = under_way.held.there; room = under_way.held.room });
+      held = subst IsHeldSorted (sym ends.entries) (record { region = under_way.held.there; room = under_way.held.room });
       under_way = under_way_fewer s after (length s.manifest.ruling.hashed - ends.merge.stores) s.converting now.has_shape (ap (λ (b : Body). b.hashed) ruling_is) refl stands.whole.under_way;
       merging = tt;
-      most = subst (λ (sh : Shape). s.charge - ((s.charge - charge_without s ends.merge.stores) - sorted.count) ≤ sh.sorted_capacity) (sym now.has_shape) (let most = stands.whole.most in omega (arith, most));
+      most = subst (λ (sh : Shape). s.charge - ((s.charge - charge_without s ends.merge.stores) - store.sorted.count) ≤ sh.sorted_capacity) (sym now.has_shape) (let most = stands.whole.most in omega (arith, most));
     }
 
-    pub may_stand_for : MayStandFor s m sorted
+    pub may_stand_for : MayStandFor s m store
     may_stand_for = record { merge = ends.merge; was = ends.was; most = under_way.most; whole = merged_whole }
 
     -- the active log is as it was
     keeps : KeepsRows old new s.active.log s.active.log
     keeps = active_stays old new s stands sizes now.changes
+
+    -- the index of the new entries is theirs still
+    store_shape : store.sorted.shape ≡ s.manifest.shape
+    store_shape = ap (λ (t : SortedState). t.shape) ends.entries ∙ under_way.has_shape
+
+    located : IsLocated new after
+    located = indexed_elsewhere store.sorted store.index old new (slot_at (spare_slot s.manifest)) 4096 merged_whole.held
+        (subst (λ (sh : Shape). device_size sh ≤ size old) (sym store_shape) (omega (arith, stands.has_size)))
+        (entries_behind_manifest store.sorted.shape store.sorted.region (spare_slot s.manifest) (slot_below old new s stands sizes now.changes))
+        now.changes (ends.located old stands)
 
     fits : Fits new after now_stores
     unfolding merged_may_rule
@@ -132,6 +144,7 @@ module _ (old : Content) (s : StoresState) (body : Body) (sorted : SortedState) 
       active = record { log = keeps.stands; index = indexed_same old new s.active back (λ h. keeps.all (back h)) stands.indexed };
       frozen = frozen_stays old new s stands sizes now.changes;
       hashed = All-take (IsHashStore new) (length s.hashes - ends.merge.stores) s.hashes (hashed_stays old new s stands sizes now.changes);
+      located = located;
       written = written_stays old new s stands sizes now.changes;
       merged = tt;
       same_shape = merged_may_rule.has_shape ∙ sym now.has_shape;
@@ -142,21 +155,21 @@ module _ (old : Content) (s : StoresState) (body : Body) (sorted : SortedState) 
           (subst (λ (rows : List StoredRow). IsSound (with_log_rows s.manifest.ruling.active rows now_stores)) (sym (keeps.all (back h)))
           (merged_full_sound old s ends.merge stands ends.was ends.done body (back h)));
       counted = λ h.
-          merged_counted old s ends.merge stands ends.was ends.done body (back h) (s.charge - ((s.charge - charge_without s ends.merge.stores) - sorted.count))
-          (ap (λ (t : SortedState). s.charge - ((s.charge - charge_without s ends.merge.stores) - t.count)) ends.store)
+          merged_counted old s ends.merge stands ends.was ends.done body (back h) (s.charge - ((s.charge - charge_without s ends.merge.stores) - store.sorted.count))
+          (ap (λ (t : SortedState). s.charge - ((s.charge - charge_without s ends.merge.stores) - t.count)) ends.entries)
           ∙ ap (λ (rows : List StoredRow). put_count (rows_of now_stores ++ rows)) (sym (waiting_stays old new s stands sizes now.changes (back h)));
     }
 
     -- and stand on
-    goes : Advances [] old new s (sorted_replaced s m ends.merge.stores sorted)
+    goes : Advances [] old new s (sorted_replaced s m ends.merge.stores store)
     unfolding merged_may_rule
     goes = succeeds old new s body stands merged_may_rule sizes m now after fits now.has_shape (λ h. ap (map command_of) (waiting_stays old new s stands sizes now.changes h))
 
-    pub merged_advances : (finished : StoresState) → finished ≡ sorted_replaced s m ends.merge.stores sorted → Advances [] old new s finished
+    pub merged_advances : (finished : StoresState) → finished ≡ sorted_replaced s m ends.merge.stores store → Advances [] old new s finished
     merged_advances finished is = subst (λ (t : StoresState). Advances [] old new s t) (sym is) goes
 
     -- the merge is ended
-    pub ends_merged : (finished : StoresState) → finished ≡ sorted_replaced s m ends.merge.stores sorted → EndsMerged s finished
+    pub ends_merged : (finished : StoresState) → finished ≡ sorted_replaced s m ends.merge.stores store → EndsMerged s finished
     ends_merged finished is = subst (λ (t : StoresState). EndsMerged s t) (sym is) (record {
       merge = ends.merge;
       was = ends.was;
@@ -179,7 +192,7 @@ module _ (old : Content) (s : StoresState) (body : Body) (sorted : SortedState) 
         ∙ merged_entries _ _ _ _
         ∙ entries_are old s ends.merge stands ends.was ends.done h
 
-    pub has_merged_entries : (first : Content) (finished : StoresState) → finished ≡ sorted_replaced s m ends.merge.stores sorted → Stands first s → IsTrue first.honest → IsTrue old.honest → shown_stores old s ≡ shown_stores first s → HasMergedEntries first new s finished
+    pub has_merged_entries : (first : Content) (finished : StoresState) → finished ≡ sorted_replaced s m ends.merge.stores store → Stands first s → IsTrue first.honest → IsTrue old.honest → shown_stores old s ≡ shown_stores first s → HasMergedEntries first new s finished
     has_merged_entries first finished is stood was_honest h same =
         subst (λ (o : Option MergeState). IfSome o (λ merge. (spec.full_stores new finished).entries ≡ merged_rows (merge_sources merge.stores (spec.full_stores first s)))) (sym ends.was) (
         ap (λ (t : StoresState). (spec.full_stores new t).entries) is

@@ -17,10 +17,10 @@ use Rattle.silt_manifest.specs.Standing.{Rules}
 use Rattle.silt_manifest.proofs.Laws.{rules_elsewhere}
 use Rattle.silt_stores.specs.State.{AreWhole, StoresState, oldest_log}
 use Rattle.silt_merge.specs.State.{MergeState}
-use Rattle.silt_stores.specs.Standing.{HasGathered, IsFrozen, Stands, shown_stores}
+use Rattle.silt_stores.specs.Standing.{HasGathered, IsFrozen, IsLocated, Stands, shown_stores}
 use Rattle.silt_stores.proofs.Named.{named_here}
 use Rattle.silt_stores.proofs.Facts.{active_below, full_torn, torn_active}
-use Rattle.silt_stores.proofs.Elsewhere.{all_frozen_elsewhere, all_hashed_elsewhere, entries_behind_log, merged_all_elsewhere, not_active, outside_other, slots_behind_log, written_all_elsewhere}
+use Rattle.silt_stores.proofs.Elsewhere.{all_frozen_elsewhere, all_hashed_elsewhere, entries_behind_log, located_elsewhere, merged_all_elsewhere, not_active, outside_other, slots_behind_log, written_all_elsewhere}
 
 -- the stores that are shown are those that all images have
 pub shown_are : (content : Content) (s : StoresState) (t : Stores) → t.shape ≡ s.manifest.shape → t.body ≡ s.manifest.ruling → LeavesOnly content (λ image. image_stores image ≡ Ok t) → IsTrue content.honest → shown_stores content s ≡ t
@@ -35,6 +35,7 @@ pub record Fits (content : Content) (s : StoresState) (t : Stores) : Type 0 wher
   pub active : IsLogStore content s.active
   pub frozen : All (IsFrozen content) s.frozen
   pub hashed : All (IsHashStore content) s.hashes
+  pub located : IsLocated content s
   pub written : IfSome s.converting (HasWritten content (oldest_log s))
   pub merged : IfSome s.merging (HasGathered content s)
   pub same_shape : t.shape ≡ s.manifest.shape
@@ -55,6 +56,7 @@ fits_stand content s t fits =
       indexed = fits.active.index;
       frozen = fits.frozen;
       hashed = fits.hashed;
+      located = fits.located;
       written = fits.written;
       merged = fits.merged;
       named = record { each = λ h image left. fits.named.each h image left ∙ ap Ok (sym (is h)) };
@@ -93,6 +95,11 @@ module _ (old new : Content) (s : StoresState) (stands : Stands old s) (sizes : 
   pub hashed_stay : All (IsHashStore new) s.hashes
   hashed_stay = all_hashed_elsewhere old new s (gates_at s.manifest.shape s.manifest.ruling.active) (log_size s.manifest.shape) stands changes_active
       (λ h region there. slots_behind_log s.manifest.shape s.manifest.ruling.active region (active_below old s stands))
+
+  -- and the index of the entries is theirs as before
+  pub located_stays : IsLocated new s
+  located_stays = located_elsewhere old new s (gates_at s.manifest.shape s.manifest.ruling.active) (log_size s.manifest.shape) stands changes_active
+      (λ h. entries_behind_log s.manifest.shape s.manifest.ruling.active s.manifest.ruling.sorted (active_below old s stands))
 
   -- and a conversion has written what it had
   pub written_stays : IfSome s.converting (HasWritten new (oldest_log s))

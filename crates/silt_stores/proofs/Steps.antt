@@ -28,6 +28,7 @@ frozen_from next content first before after behind charge has = record {
   frozen = has.frozen ∙ ap (λ (l : List LogStoreState). length l + 1) behind.frozen;
   hashes = has.hashes ∙ behind.hashes;
   sorted = has.sorted ∙ behind.sorted;
+  index = has.index ∙ behind.index;
   converting = has.converting ∙ behind.converting;
   merging = has.merging ∙ behind.merging;
   charge = has.charge ∙ charge;

@@ -1,6 +1,7 @@
 -- A lookup, at its exits.
 use Rattle.std.proofs.Common.{◌≡◌, ◌<◌, ◌+◌, ◌*◌, ℕ, false, IsTrue, List, [], length, get_or, Option, Some, None, inl, inr, refl, ap, sym, ◌∙◌, subst, arith}
 use Rattle.std.specs.Prelude.{IfSome}
+use Rattle.std.specs.FinMap.{get}
 use Rattle.std.specs.Option.{option_map}
 use Rattle.std.proofs.lemmas.Bool.{cases_lt}
 use Rattle.std.proofs.lemmas.List.{get_or_default}
@@ -12,14 +13,17 @@ use Rattle.silt_log.specs.State.{all_rows}
 use Rattle.silt_log_store.specs.State.{IsIndexed, LogStoreState}
 use Rattle.silt_log_store.specs.LastRow.{FindsLast, HasNoRow}
 use Rattle.silt_log_store.specs.declared.store.Found.{Found}
-use Rattle.silt_sorted_store.specs.OnlyRow.{FindsEntry}
+use Rattle.silt_frame.specs.Rows.{StoredRow}
+use Rattle.silt_sorted_store.specs.Index.{IsIndexOf}
+use Rattle.silt_sorted_store.specs.OnlyRow.{FindsEntry, HasNoEntry, HasOnlyValue}
 use Rattle.silt_sorted_store.specs.State.{entries_of}
+use Rattle.silt_stores.specs.declared.location.Holder.{Holder}
 use Rattle.silt_stores.specs.declared.location.Holder.TheVariants.{Active, Frozen, Hashed, Sorted}
 use Rattle.silt_stores.specs.declared.location.Location.{Location}
 use Rattle.silt_stores.specs.State.{StoresState}
-use Rattle.silt_stores.specs.Standing.{Stands}
-use Rattle.silt_stores.specs.Lookup.{FindsFrozen, FindsHashed, Locates, frozen_at, hash_store_at, hash_rows_of, located, value_at}
-use Rattle.silt_stores.proofs.Lookups.{entries_sound, found_active, found_frozen, found_hashed, found_nowhere, found_sorted}
+use Rattle.silt_stores.specs.Standing.{Stands, current_map}
+use Rattle.silt_stores.specs.Lookup.{FindsFrozen, FindsHashed, FindsNewest, frozen_at, hash_store_at, hash_rows_of, located, value_at}
+use Rattle.silt_stores.proofs.Lookups.{entries_sound, found_active, found_frozen, found_hashed, found_nowhere, found_sorted, found_value, past_hashed}
 
 -- what a frozen log finds, by its number
 log_finds : (content : Content) (s : StoresState) (items : List LogStoreState) (number : ℕ) (store : LogStoreState) (key : List ℕ) (o : Option Found)
@@ -87,58 +91,79 @@ hash_passed content s items number store key o are inside is stands honest finds
     (subst (FindsRow (hash_rows_of content (hash_store_at s number)) key) (none_of o not_some) (hash_finds content s items number store key o are inside is stands honest finds))
 
 -- the active log has a row of the key
-pub locates_active : (content : Content) (s : StoresState) (key : List ℕ) (o : Option Found) (found : Found) (location : Option Location) → Stands content s
-    → (IsTrue content.honest → IsIndexed content s.active → FindsLast (all_rows content s.active.log) key o) → o ≡ Some found → location ≡ located Active found → Locates content s key location
-locates_active content s key o found location stands finds some is honest =
-    found_active content s stands honest key found (subst (FindsLast (all_rows content s.active.log) key) some (finds honest stands.indexed)) ∙ ap (option_map (value_at content s)) (sym is)
+pub newest_active : (content : Content) (s : StoresState) (key : List ℕ) (o : Option Found) (found : Found) → Stands content s → IsTrue content.honest
+    → (IsTrue content.honest → IsIndexed content s.active → FindsLast (all_rows content s.active.log) key o) → o ≡ Some found → FindsNewest content s key (Some (Active, found))
+newest_active content s key o found stands honest finds some =
+    found_active content s stands honest key found (subst (FindsLast (all_rows content s.active.log) key) some (finds honest stands.indexed))
 
 -- ---- where it has none, with the stores seen through their fields
 
 module _ (content : Content) (view s : StoresState) (is : view ≡ s) (key : List ℕ) (o : Option Found)
     (finds : IsTrue content.honest → IsIndexed content view.active → FindsLast (all_rows content view.active.log) key o) (none : o ≡ None)
-    (walked : Option (ℕ × Found)) (walks : Stands content s → IsTrue content.honest → FindsFrozen content s key walked) (stands : Stands content s) where
+    (walked : Option (ℕ × Found)) (walks : Stands content s → IsTrue content.honest → FindsFrozen content s key walked) (stands : Stands content s) (honest : IsTrue content.honest) where
   -- the active log has no row of the key
-  active_lacks : IsTrue content.honest → HasNoRow (all_rows content s.active.log) key
-  active_lacks honest =
+  active_lacks : HasNoRow (all_rows content s.active.log) key
+  active_lacks =
       let found : FindsLast (all_rows content s.active.log) key o = subst (λ (v : StoresState). IsTrue content.honest → IsIndexed content v.active → FindsLast (all_rows content v.active.log) key o) is finds honest stands.indexed in
       subst (FindsLast (all_rows content s.active.log) key) none found
 
   -- and a frozen log has one
-  pub locates_frozen : (number : ℕ) (found : Found) (location : Option Location) → IfSome walked (λ row. (row.0 < length s.frozen) × (row.1.place < (frozen_at s row.0).log.used)) → walked ≡ Some (number, found)
-      → location ≡ located (Frozen number) found → Locates content s key location
-  locates_frozen number found location inside some location_is honest =
+  pub newest_frozen : (number : ℕ) (found : Found) → IfSome walked (λ row. (row.0 < length s.frozen) × (row.1.place < (frozen_at s row.0).log.used)) → walked ≡ Some (number, found)
+      → FindsNewest content s key (Some (Frozen number, found))
+  newest_frozen number found inside some =
       let there : (number < length s.frozen) × (found.place < (frozen_at s number).log.used) = subst (λ (w : Option (ℕ × Found)). IfSome w (λ row. (row.0 < length s.frozen) × (row.1.place < (frozen_at s row.0).log.used))) some inside in
-      found_frozen content s stands honest key number found there.0 (active_lacks honest) (subst (FindsFrozen content s key) some (walks stands honest)) ∙ ap (option_map (value_at content s)) (sym location_is)
+      found_frozen content s stands honest key number found there.0 active_lacks (subst (FindsFrozen content s key) some (walks stands honest))
 
   -- no log has one, and this is what the hash stores have
   module _ (nowhere : walked ≡ None) (hash_walked : Option (ℕ × Found)) (hash_walks : Stands content s → IsTrue content.honest → FindsHashed content s key hash_walked) where
-    frozen_lack : IsTrue content.honest → FindsFrozen content s key None
-    frozen_lack honest = subst (FindsFrozen content s key) nowhere (walks stands honest)
+    frozen_lack : FindsFrozen content s key None
+    frozen_lack = subst (FindsFrozen content s key) nowhere (walks stands honest)
 
     -- a hash store has one
-    pub locates_hashed : (number : ℕ) (found : Found) (location : Option Location) → IfSome hash_walked (λ row. (row.0 < length s.hashes) × (row.1.place < 4 * s.manifest.shape.buckets)) → hash_walked ≡ Some (number, found)
-        → location ≡ located (Hashed number) found → Locates content s key location
-    locates_hashed number found location inside some location_is honest =
+    pub newest_hashed : (number : ℕ) (found : Found) → IfSome hash_walked (λ row. (row.0 < length s.hashes) × (row.1.place < 4 * s.manifest.shape.buckets)) → hash_walked ≡ Some (number, found)
+        → FindsNewest content s key (Some (Hashed number, found))
+    newest_hashed number found inside some =
         let there : (number < length s.hashes) × (found.place < 4 * s.manifest.shape.buckets) = subst (λ (w : Option (ℕ × Found)). IfSome w (λ row. (row.0 < length s.hashes) × (row.1.place < 4 * s.manifest.shape.buckets))) some inside in
-        found_hashed content s stands honest key number found there.0 (active_lacks honest) (frozen_lack honest) (subst (FindsHashed content s key) some (hash_walks stands honest)) ∙ ap (option_map (value_at content s)) (sym location_is)
+        found_hashed content s stands honest key number found there.0 active_lacks frozen_lack (subst (FindsHashed content s key) some (hash_walks stands honest))
 
-    -- no hash store has one, and this is what the sorted store has
-    module _ (gone : hash_walked ≡ None) (entry : Option ℕ)
-        (looks : IsTrue content.honest → sorted_findings (entries_of content view.sorted) ≡ [] → FindsEntry (entries_of content view.sorted) key entry) where
-      hashes_lack : IsTrue content.honest → FindsHashed content s key None
-      hashes_lack honest = subst (FindsHashed content s key) gone (hash_walks stands honest)
+    -- none has one
+    pub newest_nowhere : hash_walked ≡ None → FindsNewest content s key None
+    newest_nowhere gone = past_hashed content s stands honest key active_lacks frozen_lack (subst (FindsHashed content s key) gone (hash_walks stands honest))
 
-      entry_found : IsTrue content.honest → FindsEntry (entries_of content s.sorted) key entry
-      entry_found honest =
-          subst (λ (v : StoresState). IsTrue content.honest → sorted_findings (entries_of content v.sorted) ≡ [] → FindsEntry (entries_of content v.sorted) key entry) is looks honest
-          (entries_sound content s stands honest)
+-- ---- the answer of a lookup
 
-      -- it has one
-      pub locates_sorted : (place : ℕ) → entry ≡ Some place → Locates content s key (Some (record { holder = Sorted; place = place }))
-      locates_sorted place some honest =
-          found_sorted content s stands honest key place (active_lacks honest) (frozen_lack honest) (hashes_lack honest) (subst (FindsEntry (entries_of content s.sorted) key) some (entry_found honest))
+-- the row that was found gives the key this value or none
+pub newest_gives : (content : Content) (s : StoresState) (key : List ℕ) (walked : Option (Holder × Found)) (holder : Holder) (found : Found) (location : Option Location) → FindsNewest content s key walked → walked ≡ Some (holder, found)
+    → location ≡ located holder found → get (current_map content s) key ≡ option_map (value_at content s) location
+newest_gives content s key walked holder found location finds some is = subst (FindsNewest content s key) some finds ∙ ap (option_map (value_at content s)) (sym is)
 
-      -- no store has one
-      pub locates_none : entry ≡ None → Locates content s key None
-      locates_none nothing honest =
-          found_nowhere content s stands honest key (active_lacks honest) (frozen_lack honest) (hashes_lack honest) (subst (FindsEntry (entries_of content s.sorted) key) nothing (entry_found honest))
+-- no log and no hash store has a row of the key; the entries are seen through the stores' fields
+module _ (content : Content) (view s : StoresState) (is : view ≡ s) (key : List ℕ) (walked : Option (Holder × Found)) (walks : Stands content s → IsTrue content.honest → FindsNewest content s key walked) (none : walked ≡ None)
+    (stands : Stands content s) (honest : IsTrue content.honest) where
+  newest : FindsNewest content s key None
+  newest = subst (FindsNewest content s key) none (walks stands honest)
+
+  -- what is told of entries in which nothing is found, where the index is theirs
+  told : (P : List StoredRow → Type 0) → (sorted_findings (entries_of content view.sorted) ≡ [] → IsIndexOf (entries_of content view.sorted) view.index → P (entries_of content view.sorted)) → P (entries_of content s.sorted)
+  told P tells =
+      subst (λ (v : StoresState). sorted_findings (entries_of content v.sorted) ≡ [] → IsIndexOf (entries_of content v.sorted) v.index → P (entries_of content v.sorted)) is tells
+      (entries_sound content s stands honest) (stands.located honest)
+
+  module _ (entry : Option ℕ) (looks : IsTrue content.honest → sorted_findings (entries_of content view.sorted) ≡ [] → IsIndexOf (entries_of content view.sorted) view.index → FindsEntry (entries_of content view.sorted) key entry) where
+    -- the entry is found
+    pub locates_sorted : (place : ℕ) → entry ≡ Some place → get (current_map content s) key ≡ option_map (value_at content s) (Some (record { holder = Sorted; place = place }))
+    locates_sorted place some = found_sorted content s stands honest key place newest (subst (FindsEntry (entries_of content s.sorted) key) some (told (λ rows. FindsEntry rows key entry) (looks honest)))
+
+    -- there is none
+    pub locates_none : entry ≡ None → get (current_map content s) key ≡ None
+    locates_none nothing = found_nowhere content s stands honest key newest (subst (FindsEntry (entries_of content s.sorted) key) nothing (told (λ rows. FindsEntry rows key entry) (looks honest)))
+
+  -- its value was read
+  pub gets_value : (value : List ℕ) → (IsTrue content.honest → sorted_findings (entries_of content view.sorted) ≡ [] → IsIndexOf (entries_of content view.sorted) view.index → HasOnlyValue (entries_of content view.sorted) key value)
+      → get (current_map content s) key ≡ Some value
+  gets_value value reads = found_value content s stands honest key value newest (told (λ rows. HasOnlyValue rows key value) (reads honest))
+
+  -- there is none to read
+  pub gets_none : (IsTrue content.honest → sorted_findings (entries_of content view.sorted) ≡ [] → IsIndexOf (entries_of content view.sorted) view.index → HasNoEntry (entries_of content view.sorted) key)
+      → get (current_map content s) key ≡ None
+  gets_none lacks = found_nowhere content s stands honest key newest (told (λ rows. HasNoEntry rows key) (lacks honest))

@@ -21,6 +21,7 @@ pub record StaysBehind (before after : StoresState) : Type 0 where
   pub frozen : after.frozen ≡ before.frozen
   pub hashes : after.hashes ≡ before.hashes
   pub sorted : after.sorted ≡ before.sorted
+  pub index : after.index ≡ before.index
   pub converting : after.converting ≡ before.converting
   pub merging : after.merging ≡ before.merging
 

@@ -70,6 +70,7 @@ pub record Finishes (before after : StoresState) : Type 0 where
   pub active : after.active ≡ before.active
   pub frozen : after.frozen ≡ take (length before.frozen - 1) before.frozen
   pub sorted : after.sorted ≡ before.sorted
+  pub index : after.index ≡ before.index
   pub merging : after.merging ≡ before.merging
 
 -- what a step changes in memory
@@ -120,6 +121,7 @@ oldest_replaced s manifest conversion = record {
   frozen = take (length s.frozen - 1) s.frozen;
   hashes = store_of conversion ∷ s.hashes;
   sorted = s.sorted;
+  index = s.index;
   converting = None;
   merging = s.merging;
   charge = s.charge - ((oldest_log s).puts - conversion.puts);

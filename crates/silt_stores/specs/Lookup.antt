@@ -1,6 +1,6 @@
 -- Where the rows of the stores stand, and what lookups answer.
 use Rattle.std.specs.Prelude.{◌≡◌, ◌<◌, ◌*◌, ℕ, false, if◌then◌else◌, IsTrue, List, [], length, get_or, Option, Some, None}
-use Rattle.std.specs.Option.{option_map}
+use Rattle.std.specs.Option.{option_and_then, option_map}
 use Rattle.std.specs.BTreeMap.{BTreeMap}
 use Rattle.std.specs.BTreeMap as tree
 use Rattle.std.specs.FinMap.{get}
@@ -11,6 +11,7 @@ use Rattle.silt_hash_store.specs.Slots.{slot_row}
 use Rattle.silt_hash_store.specs.State.{HashState}
 use Rattle.silt_event.specs.Commands.{Map}
 use Rattle.silt_frame.specs.Frame.{is_put}
+use Rattle.silt_image.specs.Laws.{newest_row, value_given}
 use Rattle.silt_image.specs.Meaning.{holds_key}
 use Rattle.silt_image.specs.Stores.{hash_rows}
 use Rattle.silt_log.specs.Rows.{row_at}
@@ -83,6 +84,11 @@ FindsHashed content s key None = (index : ℕ) → index < length s.hashes → h
 FindsHashed content s key (Some (number, found)) =
     ((index : ℕ) → index < number → holds_key key (hash_rows_of content (hash_store_at s index)) ≡ false)
     × FindsRow (hash_rows_of content (hash_store_at s number)) key (Some found)
+
+-- of the logs and the hash stores this is the row that gives the key its value or none; where none of them has a row, the entries do
+abbrev pub FindsNewest : Content → StoresState → List ℕ → Option (Holder × Found) → Type 0
+FindsNewest content s key None = get (current_map content s) key ≡ option_and_then value_given (newest_row (entries_of content s.sorted) key)
+FindsNewest content s key (Some (holder, found)) = get (current_map content s) key ≡ option_map (value_at content s) (located holder found)
 
 -- the row at the location has the value that the map has for the key, and there is none where the map has none
 abbrev pub Locates : Content → StoresState → List ℕ → Option Location → Type 0

@@ -19,8 +19,8 @@ use Rattle.silt_stores.specs.declared.merge.MergeError.{MergeError}
 use Rattle.silt_stores.specs.declared.merge.MergeError.TheVariants.{Spent, NoMemory, Read, Write}
 use Rattle.silt_stores.specs.Calls.{Breaks, IsLastGeneration, Remaps}
 use Rattle.silt_stores.specs.Conversion.{is_work}
-use Rattle.silt_stores.specs.Standing.{full_image}
-use Rattle.silt_sorted_store.specs.State.{SortedState}
+use Rattle.silt_stores.specs.Standing.{Stands, full_image}
+use Rattle.silt_sorted_store.specs.Index.{IndexedState, IsIndexed}
 use Rattle.silt_stores.specs.State.{AreWhole, StoresState}
 
 -- the next progress, with so many hash stores, where a merge under way has decided all keys or not: none where no merge is under way
@@ -112,13 +112,15 @@ module _ {D F : Type 0} (content : D → Content) (gave : D → F → Type 0) (c
 
 -- ---- between the steps
 
--- the entries of this sorted store are those of a merge that has decided all keys, and this body ends it
-pub record EndsMerge (s : StoresState) (body : Body) (sorted : SortedState) : Type 0 where
+-- the entries of this sorted store are those of a merge that has decided all keys, its index is theirs wherever the stores stand, and
+-- this body ends the merge
+pub record EndsMerge (s : StoresState) (body : Body) (store : IndexedState) : Type 0 where
   pub merge : MergeState
   pub was : s.merging ≡ Some merge
   pub done : is_done merge s.sorted ≡ true
   pub unspent : s.manifest.ruling.generation < 2 ^ 63 - 1
-  pub store : sorted ≡ record { shape = merge.shape; region = merge.region; count = merge.written }
+  pub entries : store.sorted ≡ record { shape = merge.shape; region = merge.region; count = merge.written }
+  pub located : (content : Content) → Stands content s → IsIndexed content store.sorted store.index
   pub is : body ≡ merged_body s.manifest.ruling merge.stores merge.region merge.written
 
 -- how many of the rows of hash stores are puts
@@ -131,21 +133,22 @@ charge_without s count = s.charge - puts_in (oldest_stores count s.hashes) - s.s
 
 -- in memory: under this manifest, this sorted store stands for the one that was and for so many of the oldest hash stores, with its
 -- entries in place of their puts
-abbrev pub sorted_replaced : StoresState → ManifestState → ℕ → SortedState → StoresState
-sorted_replaced s manifest count sorted = record {
+abbrev pub sorted_replaced : StoresState → ManifestState → ℕ → IndexedState → StoresState
+sorted_replaced s manifest count store = record {
   manifest = manifest;
   active = s.active;
   frozen = s.frozen;
   hashes = take (length s.hashes - count) s.hashes;
-  sorted = sorted;
+  sorted = store.sorted;
+  index = store.index;
   converting = s.converting;
   merging = None;
-  charge = s.charge - ((s.charge - charge_without s count) - sorted.count);
+  charge = s.charge - ((s.charge - charge_without s count) - store.sorted.count);
 }
 
 -- the sorted store of a merge may stand for what was merged, under this manifest
-pub record MayStandFor (s : StoresState) (manifest : ManifestState) (sorted : SortedState) : Type 0 where
+pub record MayStandFor (s : StoresState) (manifest : ManifestState) (store : IndexedState) : Type 0 where
   pub merge : MergeState
   pub was : s.merging ≡ Some merge
   pub most : merge.stores ≤ length s.hashes
-  pub whole : AreWhole (sorted_replaced s manifest merge.stores sorted)
+  pub whole : AreWhole (sorted_replaced s manifest merge.stores store)

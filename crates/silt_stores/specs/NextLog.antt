@@ -63,6 +63,7 @@ pub record HasFrozen (next : NextLog) (content : Content) (before after : Stores
   pub frozen : length after.frozen ≡ length before.frozen + 1
   pub hashes : after.hashes ≡ before.hashes
   pub sorted : after.sorted ≡ before.sorted
+  pub index : after.index ≡ before.index
   pub converting : after.converting ≡ before.converting
   pub merging : after.merging ≡ before.merging
   pub charge : after.charge ≡ before.charge
@@ -77,6 +78,7 @@ active_replaced s manifest log = record {
   frozen = s.active ∷ s.frozen;
   hashes = s.hashes;
   sorted = s.sorted;
+  index = s.index;
   converting = s.converting;
   merging = s.merging;
   charge = s.charge;

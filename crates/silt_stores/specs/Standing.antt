@@ -15,6 +15,7 @@ use Rattle.silt_log_store.specs.State.{LogStoreState, IsIndexed}
 use Rattle.silt_manifest.specs.Standing.{Rules}
 use Rattle.silt_merge.specs.Merging.{HasMerged}
 use Rattle.silt_merge.specs.State.{MergeState, oldest_stores}
+use Rattle.silt_sorted_store.specs.Index as tries
 use Rattle.silt_stores.specs.State.{StoresState, AreWhole, oldest_log}
 
 -- ---- what they mean
@@ -46,12 +47,17 @@ pub record IsFrozen (content : Content) (store : LogStoreState) : Type 0 where
   pub rows : IsTrue content.honest → store.log.used ≡ open_count store.log.shape store.log.region content.shown
   pub indexed : IsIndexed content store
 
+-- the index is that of the sorted store's entries
+abbrev pub IsLocated : Content → StoresState → Type 0
+IsLocated content s = tries.IsIndexed content s.sorted s.index
+
 -- a merge has gathered and written what is due so far, of the oldest hash stores and the sorted store
 abbrev pub HasGathered : Content → StoresState → MergeState → Type 0
 HasGathered content s merge = HasMerged content (oldest_stores merge.stores s.hashes) s.sorted merge
 
 -- The stores fit their disk: whatever a stop leaves has the stores that are shown, and nothing is found in these, also once the
--- waiting rows are settled. A conversion and a merge have written what is due so far.
+-- waiting rows are settled. The tables, the tags and the index in memory are those of what is shown. A conversion and a merge have
+-- written what is due so far.
 pub record Stands (content : Content) (s : StoresState) : Type 0 where
   pub has_size : size content ≡ device_size s.manifest.shape
   pub whole : AreWhole s
@@ -61,6 +67,7 @@ pub record Stands (content : Content) (s : StoresState) : Type 0 where
   pub indexed : IsIndexed content s.active
   pub frozen : All (IsFrozen content) s.frozen
   pub hashed : All (IsHashStore content) s.hashes
+  pub located : IsLocated content s
   pub written : IfSome s.converting (HasWritten content (oldest_log s))
   pub merged : IfSome s.merging (HasGathered content s)
   pub named : LeavesOnly content (λ image. image_stores image ≡ Ok (shown_stores content s))

@@ -9,16 +9,18 @@ use Rattle.silt_manifest.specs.Standing.{ManifestState}
 use Rattle.silt_manifest.specs.declared.body.Body.{Body}
 use Rattle.silt_merge.specs.State.{MergeState, IsHeldMerge}
 use Rattle.silt_sorted_store.specs.State.{SortedState, IsHeldSorted}
+use Rattle.silt_trie.specs.Marks.{MarkedCode}
 
 -- The manifest; the log that takes writes; the full logs behind it, the newest first; the hash stores behind these, the newest
--- first; the sorted store behind them all; the oldest log's conversion and the merge of hash stores and the sorted store, where they
--- are under way; and how many put rows there are, those that wait included.
+-- first; the entries of the sorted store behind them all, and their index; the oldest log's conversion and the merge of hash stores
+-- and the sorted store, where they are under way; and how many put rows there are, those that wait included.
 pub record StoresState : Type 0 where
   pub manifest : ManifestState
   pub active : LogStoreState
   pub frozen : List LogStoreState
   pub hashes : List HashState
   pub sorted : SortedState
+  pub index : MarkedCode
   pub converting : Option ConversionState
   pub merging : Option MergeState
   pub charge : ℕ

@@ -16,7 +16,7 @@ use silt_device::Disk;
 use silt_frame::{HEAD_LEN, KEY_LEN, Key, Kind, Value};
 use silt_hash_store::HashStore;
 use silt_log_store::LogStore;
-use silt_sorted_store::SortedStore;
+use silt_sorted_store::SortedEntries;
 use std::alloc::{AllocError, Global};
 use std::collections::BTreeMap;
 
@@ -178,7 +178,7 @@ pub fn do_hash_store<D: Disk>(
 fn do_entries<D: Disk>(
     alloc: Global,
     disk: &D,
-    store: &SortedStore,
+    store: &SortedEntries,
     bytes: &mut [u8],
     entries: &mut BTreeMap<Key, Value>,
 ) -> Result<(), EntriesError<D::Fault>>
@@ -203,7 +203,7 @@ fn do_entries<D: Disk>(
 pub fn do_sorted_store<D: Disk>(
     alloc: Global,
     disk: &D,
-    store: &SortedStore,
+    store: &SortedEntries,
     entries: &mut BTreeMap<Key, Value>,
 ) -> Result<(), EntriesError<D::Fault>>
     requires { device_size store.now.shape ≤ size (D.content disk.now) }
@@ -253,7 +253,7 @@ impl Stores {
         ensures cause { IfErr result (EntriesErrorCause (GaveAny D.gave disk.now)) }
     {
         let mut entries = BTreeMap::new(alloc);
-        do_sorted_store(alloc, disk, &self.sorted, &mut entries)?;
+        do_sorted_store(alloc, disk, self.sorted.entries(), &mut entries)?;
         self.do_hash_stores(alloc, disk, &mut entries)?;
         for index in (0..self.frozen.len()).rev() {
             do_log(alloc, disk, &self.frozen[index], &mut entries)?;

@@ -1,5 +1,5 @@
 //! The stores of a device as they are held in memory: the manifest, the active log, the frozen logs behind it, the hash stores
-//! behind these, the sorted store, a conversion and a merge under way, and the charge.
+//! behind these, the sorted store with the index of its entries, a conversion and a merge under way, and the charge.
 //!
 //! A put or a delete is a row behind the rows of the **active log**. It waits there, behind a closed gate, until a flush settles it.
 //! A log that cannot take a further row is **frozen**: what waits in it is settled, a log with no rows in a region that was free
@@ -10,12 +10,12 @@
 //! no longer.
 //!
 //! All hash stores and the sorted store are **merged** into the sorted region that the manifest does not name, one slot or one key a
-//! step. The last step syncs the entries, and then writes the manifest's next body, which names the new sorted store and the merged
-//! hash stores no longer; one that a conversion finished meanwhile stays in front. Work under way is lost by a stop and begun anew, and
-//! no answer depends on it.
+//! step. The last step makes the index of the new entries in memory, syncs the entries, and then writes the manifest's next body, which
+//! names the new sorted store and the merged hash stores no longer; one that a conversion finished meanwhile stays in front. Work under
+//! way is lost by a stop and begun anew, and no answer depends on it.
 //!
-//! A lookup goes through the active log, the frozen ones and the hash stores, each the newest first, and then the sorted store. The
-//! first row of the key that it finds decides: a delete ends it as well as a put.
+//! A lookup goes through the active log, the frozen ones and the hash stores, each the newest first, and then the sorted store, whose
+//! index names the one entry that is read. The first row of the key that it finds decides: a delete ends it as well as a put.
 //!
 //! Each call that writes says what a stop may leave of the device at each of its exits: an image that stands for the map of the
 //! settled rows, after a beginning of those that waited.

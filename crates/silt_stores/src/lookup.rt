@@ -4,7 +4,7 @@ ghost use Rattle.silt_device.specs.Disk.{GaveAny, size};
 ghost use Rattle.silt_device.specs.Layout.{device_size};
 ghost use Rattle.silt_log.specs.Rows.{row_at};
 ghost use Rattle.silt_stores.specs.Calls.{Finds, FindsNone};
-ghost use Rattle.silt_stores.specs.Lookup.{FindsFrozen, FindsHashed, IsLocation, Locates, frozen_at, value_at};
+ghost use Rattle.silt_stores.specs.Lookup.{FindsFrozen, FindsHashed, FindsNewest, IsLocation, IsPlace, Locates, frozen_at, value_at};
 ghost use Rattle.silt_stores.specs.Standing.{Stands};
 
 use crate::location::{Holder, Location, located};
@@ -61,6 +61,26 @@ impl Stores {
         Ok(None)
     }
 
+    // The newest row of a key in the logs and the hash stores, with its store: the active log, then the frozen ones and then the hash
+    // stores are gone through, each the newest first.
+    fn find_newest<D: Disk>(&self, disk: &D, key: &Key) -> Result<Option<(Holder, Found)>, D::Fault>
+        requires size { device_size self.now.manifest.shape ≤ size (D.content disk.now) }
+        ensures found { Stands (D.content disk.now) self.now → IsTrue (D.content disk.now).honest → IfOk result (FindsNewest (D.content disk.now) self.now key.now.0) }
+        ensures there { IfOk result (λ found. IfSome found (λ row. IsPlace self.now row.0 row.1.place)) }
+        ensures fault { IfErr result (GaveAny D.gave disk.now) }
+    {
+        if let Some(found) = self.active.find(disk, key)? {
+            return Ok(Some((Holder::Active, found)));
+        }
+        if let Some((index, found)) = self.find_frozen(disk, key)? {
+            return Ok(Some((Holder::Frozen(index), found)));
+        }
+        match self.find_hashed(disk, key)? {
+            Some((index, found)) => Ok(Some((Holder::Hashed(index), found))),
+            None => Ok(None),
+        }
+    }
+
     /// Where the row stands that has a key's value: the active log, then the frozen ones and then the hash stores are gone
     /// through, each the newest first, and the sorted store last. The first row of the key that is found decides. A delete ends the
     /// lookup with none.
@@ -74,14 +94,8 @@ impl Stores {
         ensures there { IfOk result (λ location. IfSome location (IsLocation self.now)) }
         ensures fault { IfErr result (GaveAny D.gave disk.now) }
     {
-        if let Some(found) = self.active.find(disk, key)? {
-            return Ok(located(Holder::Active, found));
-        }
-        if let Some((index, found)) = self.find_frozen(disk, key)? {
-            return Ok(located(Holder::Frozen(index), found));
-        }
-        if let Some((index, found)) = self.find_hashed(disk, key)? {
-            return Ok(located(Holder::Hashed(index), found));
+        if let Some((holder, found)) = self.find_newest(disk, key)? {
+            return Ok(located(holder, found));
         }
         match self.sorted.find(disk, key)? {
             Some(place) => Ok(Some(Location {
@@ -117,8 +131,8 @@ impl Stores {
         }
     }
 
-    /// Writes a key's value over `out`, and answers whether there is one. Where there is none `out` stays as it was. It takes no
-    /// memory.
+    /// Writes a key's value over `out`, and answers whether there is one. Where there is none `out` stays as it was. An
+    /// entry of the sorted store is read whole, so that its key and its value take one read. It takes no memory.
     ///
     /// # Errors
     ///
@@ -131,12 +145,15 @@ impl Stores {
         ensures absent { result ≡ Ok false → out.new ≡ out.old }
         ensures fault { IfErr result (GaveAny D.gave disk.now) }
     {
-        match self.find(disk, key)? {
-            Some(location) => {
-                self.read_value(disk, location, out)?;
-                Ok(true)
-            }
-            None => Ok(false),
+        match self.find_newest(disk, key)? {
+            Some((holder, found)) => match located(holder, found) {
+                Some(location) => {
+                    self.read_value(disk, location, out)?;
+                    Ok(true)
+                }
+                None => Ok(false),
+            },
+            None => self.sorted.get(disk, key, out),
         }
     }
 }

@@ -76,7 +76,7 @@ impl Stores {
         ensures { result ≡ merge_turn self.now }
     {
         match &self.merging {
-            Some(merge) if merge.is_done(&self.sorted) => Progress::Finished,
+            Some(merge) if merge.is_done(self.sorted.entries()) => Progress::Finished,
             Some(_) => Progress::Moved,
             None if self.hashes.is_empty() => Progress::Idle,
             None => Progress::Moved,
@@ -107,10 +107,11 @@ impl Stores {
         let _sound = self.manifest.ruling(); // so there are no more hash stores than regions
         let _limits = self.manifest.geometry().hashes();
         let region = 1 - self.sorted.region();
-        let Ok(mut merge) = Merge::start(alloc, &self.hashes, &self.sorted, region) else {
+        let sorted = self.sorted.entries();
+        let Ok(mut merge) = Merge::start(alloc, &self.hashes, sorted, region) else {
             return Err(MergeError::NoMemory);
         };
-        merge.step(&self.hashes, &self.sorted, disk)?;
+        merge.step(&self.hashes, sorted, disk)?;
         self.merging = Some(merge);
         Ok(Progress::Moved)
     }
@@ -132,7 +133,7 @@ impl Stores {
         let Some(merge) = &mut self.merging else {
             unreachable!()
         };
-        merge.step(&self.hashes, &self.sorted, disk)?;
+        merge.step(&self.hashes, self.sorted.entries(), disk)?;
         Ok(Progress::Moved)
     }
 
@@ -181,8 +182,13 @@ impl Stores {
         Ok(())
     }
 
-    // Finishes the merge, all of whose keys are decided, where the manifest has a generation left.
-    fn finish_merge<D: Disk>(&mut self, disk: &mut D) -> Result<Progress, MergeError<D::Fault>>
+    // Finishes the merge, all of whose keys are decided, where the manifest has a generation left: the index of the new entries is made
+    // first, so that want of memory leaves the merge as it was.
+    fn finish_merge<D: Disk>(
+        &mut self,
+        alloc: Global,
+        disk: &mut D,
+    ) -> Result<Progress, MergeError<D::Fault>>
         requires stands { Stands (D.content disk.old) self.old }
         requires turn { merge_turn self.old ≡ Finished }
         ensures same { SameDisk (D.content disk.old) (D.content disk.new) }
@@ -202,7 +208,7 @@ impl Stores {
         let Some(merge) = &self.merging else {
             unreachable!()
         };
-        let Ok(sorted) = merge.finish() else {
+        let Ok(sorted) = merge.finish(alloc) else {
             return Err(MergeError::NoMemory);
         };
         let count = merge.stores() as usize;
@@ -241,8 +247,8 @@ impl Stores {
         let Some(merge) = &self.merging else {
             return self.begin_merge(alloc, disk);
         };
-        if merge.is_done(&self.sorted) {
-            return self.finish_merge(disk);
+        if merge.is_done(self.sorted.entries()) {
+            return self.finish_merge(alloc, disk);
         }
         self.step_merge(disk)
     }

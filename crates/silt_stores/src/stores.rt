@@ -48,9 +48,9 @@ impl Model for Stores {
 
     ghost Value = { StoresState };
 
-    ghost view = { λ a. record { manifest = a.manifest; active = a.active; frozen = a.frozen.items; hashes = a.hashes.items; sorted = a.sorted; converting = a.converting; merging = a.merging; charge = a.charge } };
+    ghost view = { λ a. record { manifest = a.manifest; active = a.active; frozen = a.frozen.items; hashes = a.hashes.items; sorted = a.sorted.sorted; index = a.sorted.index; converting = a.converting; merging = a.merging; charge = a.charge } };
 
-    ghost invariant = { λ a. AreHeld (record { manifest = a.manifest; active = a.active; frozen = a.frozen.items; hashes = a.hashes.items; sorted = a.sorted; converting = a.converting; merging = a.merging; charge = a.charge }) (vec_capacity a.frozen) (vec_capacity a.hashes) };
+    ghost invariant = { λ a. AreHeld (record { manifest = a.manifest; active = a.active; frozen = a.frozen.items; hashes = a.hashes.items; sorted = a.sorted.sorted; index = a.sorted.index; converting = a.converting; merging = a.merging; charge = a.charge }) (vec_capacity a.frozen) (vec_capacity a.hashes) };
 }
 
 impl Stores {
@@ -72,10 +72,10 @@ impl Stores {
         sorted: SortedStore,
         charge: u32,
     ) -> Self
-        requires whole { AreWhole (record { manifest = manifest; active = active; frozen = frozen.items; hashes = hashes.items; sorted = sorted; converting = None; merging = None; charge = charge }) }
+        requires whole { AreWhole (record { manifest = manifest; active = active; frozen = frozen.items; hashes = hashes.items; sorted = sorted.sorted; index = sorted.index; converting = None; merging = None; charge = charge }) }
         requires room { 7 ≤ vec_capacity frozen }
         requires hash_room { 16 ≤ vec_capacity hashes }
-        ensures { result ≡ record { manifest = manifest; active = active; frozen = frozen.items; hashes = hashes.items; sorted = sorted; converting = None; merging = None; charge = charge } }
+        ensures { result ≡ record { manifest = manifest; active = active; frozen = frozen.items; hashes = hashes.items; sorted = sorted.sorted; index = sorted.index; converting = None; merging = None; charge = charge } }
     {
         Stores {
             manifest,

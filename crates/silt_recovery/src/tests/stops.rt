@@ -4,6 +4,7 @@ use crate::tests::{EMPTY, checked, formatted, small};
 use crate::{FormatError, FormatFault, OpenError, OpenFault, check, format, open};
 use silt_device::{Call, FaultDisk, Fill, MemDisk, Stop, Stoppable};
 use silt_event::Report;
+use silt_frame::Key;
 use silt_image::Finding;
 use std::alloc::Global;
 use std::process::Abort;
@@ -151,7 +152,7 @@ fn hands_on_each_fault_of_a_hash_slot(rt: HostRuntime) -> Result<(), Fail> {
     Ok(())
 }
 
-// The keys of three sorted entries are read in three reads more.
+// Three sorted entries are read in one read more.
 #[test]
 fn hands_on_each_fault_of_an_entry(rt: HostRuntime) -> Result<(), Fail> {
     let alloc = rt.alloc();
@@ -160,13 +161,46 @@ fn hands_on_each_fault_of_an_entry(rt: HostRuntime) -> Result<(), Fail> {
     bytes[4216] = 3;
     bytes[36_886] = 1;
     bytes[36_908] = 2;
-    for number in 1..9u64 {
+    for number in 1..7u64 {
         let disk = FaultDisk::new(MemDisk::with_bytes(alloc, &bytes)?, Call::Read, number);
         let answer = check(alloc, &disk);
         let is_fault = matches!(&answer, Err(OpenError::Device(_)));
-        assert_eq!(rt; is_fault, number < 8, "{number}");
-        assert_eq!(rt; answer.is_ok(), number == 8, "{number}");
+        assert_eq!(rt; is_fault, number < 6, "{number}");
+        assert_eq!(rt; answer.is_ok(), number == 6, "{number}");
     }
+    Ok(())
+}
+
+// What a get answers from these bytes, where the read of this number fails: whether there is a value, none after a fault, and the
+// bytes of the value.
+fn got(
+    alloc: Global,
+    bytes: &[u8],
+    number: u64,
+    key: Key,
+) -> Result<(Option<bool>, [u8; 2]), Fail> {
+    let disk = FaultDisk::new(MemDisk::with_bytes(alloc, bytes)?, Call::Read, number);
+    let opened = open(alloc, disk).ok().ok_or("opens")?;
+    let mut value = [0; 2];
+    let answer = opened.stores.get(&opened.disk, &key, &mut value);
+    Ok((answer.ok(), value))
+}
+
+// An opening reads a store of three sorted entries in five reads. A get of one of them then makes one.
+#[test]
+fn gets_an_entry_in_one_read(rt: HostRuntime) -> Result<(), Fail> {
+    let alloc = rt.alloc();
+    let mut bytes = formatted(alloc, small()?)?.shown().to_vec(alloc)?;
+    assert!(rt; bytes.len() == 45_056);
+    bytes[4216] = 3;
+    bytes[36_886] = 1;
+    bytes[36_906] = 7;
+    bytes[36_908] = 2;
+    let mut key = Key([0; 20]);
+    key.0[0] = 1;
+    let (failed, _) = got(alloc, &bytes, 6, key)?;
+    assert_eq!(rt; failed, None);
+    assert_eq!(rt; got(alloc, &bytes, 7, key)?, (Some(true), [7, 0]));
     Ok(())
 }
 

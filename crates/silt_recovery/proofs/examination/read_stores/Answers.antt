@@ -96,11 +96,11 @@ returns-then-charge-most-clause-cause g c =
     let shape = c.geometry-geometry.result in
     let body = c.ruling-body.result in
     let named = named_so content c.args.manifest shape body c.geometry-geometry.ensures.value c.ruling-body.ensures.value c.requires.named in
-    let many : shape.sorted_capacity < c.from-newest.result + c.in_ok-frozen.frozen.puts + c.in_ok-hashes.hashes.puts + c.in_ok-sorted.sorted.count =
+    let many : shape.sorted_capacity < c.from-newest.result + c.in_ok-frozen.frozen.puts + c.in_ok-hashes.hashes.puts + c.in_ok-sorted.sorted.sorted.count =
     omega (arith, c.if-charge-most.true, c.from-most.ensures, c.sorted_capacity.ensures.value, c.from-entries.ensures, c.len.ensures.value) in
     charge_refused content shape body named c.in_ok-active.ensures.sound c.as_slice.result.now c.as_slice.ensures.value c.in_ok-frozen.frozen.stores.items c.in_ok-frozen.frozen.puts c.in_ok-frozen.ensures.read
     c.as_slice-2.result.now c.as_slice-2.ensures.value c.in_ok-hashes.hashes.stores.items c.in_ok-hashes.hashes.puts c.in_ok-hashes.hashes.rows c.in_ok-hashes.ensures.read
-    c.in_ok-sorted.sorted c.in_ok-sorted.ensures.store c.len.ensures.held c.in_ok-sorted.ensures.sound
+    c.in_ok-sorted.sorted.sorted c.in_ok-sorted.ensures.store c.len.ensures.held c.in_ok-sorted.ensures.sound
     c.from-newest.result (λ h. c.from-newest.ensures ∙ c.puts.ensures.value ∙ c.in_ok-active.ensures.counted h) many
 
 pub returns-clause-holds : goal.returns-clause-holds
@@ -110,13 +110,14 @@ returns-clause-holds g c =
     let body = c.ruling-body.result in
     let named = named_so content c.args.manifest shape body c.geometry-geometry.ensures.value c.ruling-body.ensures.value c.requires.named in
     let charge : ℕ = c.from-newest.result + c.in_ok-frozen.frozen.puts + c.in_ok-hashes.hashes.puts + c.from-entries.result in
-    let total : charge ≡ c.from-newest.result + c.in_ok-frozen.frozen.puts + c.in_ok-hashes.hashes.puts + c.in_ok-sorted.sorted.count = omega (arith, c.from-entries.ensures, c.len.ensures.value) in
+    let total : charge ≡ c.from-newest.result + c.in_ok-frozen.frozen.puts + c.in_ok-hashes.hashes.puts + c.in_ok-sorted.sorted.sorted.count = omega (arith, c.from-entries.ensures, c.len.ensures.value) in
     let most : charge ≤ shape.sorted_capacity = omega (arith, c.if-charge-most.false, c.from-most.ensures, c.sorted_capacity.ensures.value) in
     held content shape body named c.in_ok-active.ensures.sound c.as_slice.result.now c.as_slice.ensures.value c.in_ok-frozen.frozen.stores.items c.in_ok-frozen.frozen.puts c.in_ok-frozen.ensures.read
     c.as_slice-2.result.now c.as_slice-2.ensures.value c.in_ok-hashes.hashes.stores.items c.in_ok-hashes.hashes.puts c.in_ok-hashes.hashes.rows c.in_ok-hashes.ensures.read
-    c.in_ok-sorted.sorted c.in_ok-sorted.ensures.store c.len.ensures.held c.in_ok-sorted.ensures.sound
+    c.in_ok-sorted.sorted.sorted c.in_ok-sorted.ensures.store c.len.ensures.held c.in_ok-sorted.ensures.sound
     c.from-newest.result (λ h. c.from-newest.ensures ∙ c.puts.ensures.value ∙ c.in_ok-active.ensures.counted h) c.args.manifest c.geometry-geometry.ensures.value c.ruling-body.ensures.value
-    c.in_ok-active.active charge c.sorted_capacity.ensures.limits c.requires.size c.requires.idle c.requires.rules c.in_ok-active.ensures.read c.in_ok-active.ensures.region total most
+    c.in_ok-active.active c.in_ok-sorted.sorted.index charge c.sorted_capacity.ensures.limits c.requires.size c.requires.idle c.requires.rules c.in_ok-active.ensures.read c.in_ok-active.ensures.region c.in_ok-sorted.ensures.indexed
+    total most
 
 pub returns-clause-hash_rows : goal.returns-clause-hash_rows
 returns-clause-hash_rows g c =

@@ -2,11 +2,10 @@ use Rattle.std.proofs.Common.{◌≡◌, ◌<◌, ◌-◌, ℕ, List, length, No
 use Rattle.std.specs.Prelude.{All}
 use Rattle.silt_device.specs.Disk.{CountsFault, GaveAny}
 use Rattle.silt_hash_store.specs.State.{HashState}
-use Rattle.silt_merge.specs.Merging.{HasMerged}
 use Rattle.silt_merge.specs.State.{oldest_stores}
 use Rattle.silt_stores.specs.State.{StoresState}
 use Rattle.silt_stores.specs.Standing.{Stands}
-use Rattle.silt_stores.proofs.MergeSteps.{begun, err_of, failed_breaks, failed_map, first_lacks, first_turn, some_stores, started_way, step_advances, step_cause, step_map, taken_shapes}
+use Rattle.silt_stores.proofs.MergeSteps.{begun, err_of, failed_breaks, failed_map, first_lacks, first_turn, kept_by_step, some_stores, started_way, step_advances, step_cause, step_map, taken_shapes}
 use Rattle.silt_stores.proofs.Viewing.{state_of}
 use Rattle.silt_stores.proofs.stores.Stores.begin_merge.Goals as goal
 
@@ -16,7 +15,7 @@ step-requires-clause-shapes g c κs within =
     let none : stores.merging ≡ None = subst (λ (v : StoresState). v.merging ≡ None) (sym c.self.view_is) c.requires.none in
     let some : 0 < length stores.hashes = some_stores stores.hashes _ c.is_empty.result c.is_empty.ensures c.if-is_empty.false c.self.inside.hashes.ok.0 in
     let other : 1 - c.region-region.result ≡ 1 - stores.sorted.region = ap (λ (n : ℕ). 1 - n) c.region-region.ensures.value in
-    let way = started_way stores (1 - c.region-region.result) c.deref.result.now none some c.self.invariant.whole other c.deref.ensures.value c.in-Ok.merge c.in-Ok.ensures.start c.in-Ok.ensures.held in
+    let way = started_way stores (1 - c.region-region.result) c.deref.result.now none some c.self.invariant.whole other c.deref.ensures.value c.entries-sorted.result.now c.entries-sorted.ensures c.in-Ok.merge c.in-Ok.ensures.start c.in-Ok.ensures.held in
     subst (λ (l : List HashState). All (λ (store : HashState). store.shape ≡ c.in-Ok.merge.shape) (oldest_stores c.in-Ok.merge.stores l)) (sym c.deref-2.ensures.value) (taken_shapes stores c.in-Ok.merge c.self.invariant.whole way)
 
 pub returns-in_err-step-clause-err : goal.returns-in_err-step-clause-err
@@ -25,7 +24,7 @@ returns-in_err-step-clause-err g c =
     let none : stores.merging ≡ None = subst (λ (v : StoresState). v.merging ≡ None) (sym c.self.view_is) c.requires.none in
     let some : 0 < length stores.hashes = some_stores stores.hashes _ c.is_empty.result c.is_empty.ensures c.if-is_empty.false c.self.inside.hashes.ok.0 in
     let other : 1 - c.region-region.result ≡ 1 - stores.sorted.region = ap (λ (n : ℕ). 1 - n) c.region-region.ensures.value in
-    let way = started_way stores (1 - c.region-region.result) c.deref.result.now none some c.self.invariant.whole other c.deref.ensures.value c.in-Ok.merge c.in-Ok.ensures.start c.in-Ok.ensures.held in
+    let way = started_way stores (1 - c.region-region.result) c.deref.result.now none some c.self.invariant.whole other c.deref.ensures.value c.entries-sorted.result.now c.entries-sorted.ensures c.in-Ok.merge c.in-Ok.ensures.start c.in-Ok.ensures.held in
     let stands = subst (λ (v : StoresState). Stands (g.D.Disk.content c.args.disk.now) v) (sym c.self.view_is) c.requires.stands in
     let breaks = failed_breaks _ _ stores c.in-Ok.merge c.step.new.self stands way c.step.ensures.size c.step.ensures.region in
     let remaps = failed_map _ _ stores c.in-Ok.merge c.step.new.self stands way c.step.ensures.size c.step.ensures.region stores.merging in
@@ -39,11 +38,10 @@ invariant_of-self g c =
     let none : stores.merging ≡ None = subst (λ (v : StoresState). v.merging ≡ None) (sym c.self.view_is) c.requires.none in
     let some : 0 < length stores.hashes = some_stores stores.hashes _ c.is_empty.result c.is_empty.ensures c.if-is_empty.false c.self.inside.hashes.ok.0 in
     let other : 1 - c.region-region.result ≡ 1 - stores.sorted.region = ap (λ (n : ℕ). 1 - n) c.region-region.ensures.value in
-    let way = started_way stores (1 - c.region-region.result) c.deref.result.now none some c.self.invariant.whole other c.deref.ensures.value c.in-Ok.merge c.in-Ok.ensures.start c.in-Ok.ensures.held in
-    let gathered = begun stores (1 - c.region-region.result) c.deref.result.now none some c.self.invariant.whole other c.deref.ensures.value c.in-Ok.merge c.in-Ok.ensures.start c.in-Ok.ensures.held (g.D.Disk.content c.args.disk.now) (c.in-Ok.ensures.merged (g.D.Disk.content c.args.disk.now)) in
+    let way = started_way stores (1 - c.region-region.result) c.deref.result.now none some c.self.invariant.whole other c.deref.ensures.value c.entries-sorted.result.now c.entries-sorted.ensures c.in-Ok.merge c.in-Ok.ensures.start c.in-Ok.ensures.held in
+    let gathered = begun stores (1 - c.region-region.result) c.deref.result.now none some c.self.invariant.whole other c.deref.ensures.value c.entries-sorted.result.now c.entries-sorted.ensures c.in-Ok.merge c.in-Ok.ensures.start c.in-Ok.ensures.held (g.D.Disk.content c.args.disk.now) (c.in-Ok.ensures.merged (g.D.Disk.content c.args.disk.now)) in
     let stands = subst (λ (v : StoresState). Stands (g.D.Disk.content c.args.disk.now) v) (sym c.self.view_is) c.requires.stands in
-    let merged = subst (λ (l : List HashState). HasMerged (g.D.Disk.content c.args.disk.now) (oldest_stores c.in-Ok.merge.stores l) stores.sorted c.in-Ok.merge → HasMerged (g.D.Disk.content c.step.new.disk) (oldest_stores c.in-Ok.merge.stores l) stores.sorted c.step.new.self)
-    c.deref-2.ensures.value c.step.ensures.merged in
+    let merged = kept_by_step (g.D.Disk.content c.args.disk.now) (g.D.Disk.content c.step.new.disk) stores c.deref-2.result.now c.entries-sorted.result.now c.in-Ok.merge c.step.new.self c.deref-2.ensures.value c.entries-sorted.ensures c.step.ensures.merged in
     let goes = step_advances _ _ stores c.in-Ok.merge c.step.new.self stands way c.step.ensures.size c.step.ensures.region c.step.ensures.same c.step.ensures.held gathered merged in
     record { whole = goes.stands.whole; enough = c.self.invariant.enough; enough_hashes = c.self.invariant.enough_hashes }
 
@@ -53,11 +51,10 @@ returns-clause-ok g c =
     let none : stores.merging ≡ None = subst (λ (v : StoresState). v.merging ≡ None) (sym c.self.view_is) c.requires.none in
     let some : 0 < length stores.hashes = some_stores stores.hashes _ c.is_empty.result c.is_empty.ensures c.if-is_empty.false c.self.inside.hashes.ok.0 in
     let other : 1 - c.region-region.result ≡ 1 - stores.sorted.region = ap (λ (n : ℕ). 1 - n) c.region-region.ensures.value in
-    let way = started_way stores (1 - c.region-region.result) c.deref.result.now none some c.self.invariant.whole other c.deref.ensures.value c.in-Ok.merge c.in-Ok.ensures.start c.in-Ok.ensures.held in
-    let gathered = begun stores (1 - c.region-region.result) c.deref.result.now none some c.self.invariant.whole other c.deref.ensures.value c.in-Ok.merge c.in-Ok.ensures.start c.in-Ok.ensures.held (g.D.Disk.content c.args.disk.now) (c.in-Ok.ensures.merged (g.D.Disk.content c.args.disk.now)) in
+    let way = started_way stores (1 - c.region-region.result) c.deref.result.now none some c.self.invariant.whole other c.deref.ensures.value c.entries-sorted.result.now c.entries-sorted.ensures c.in-Ok.merge c.in-Ok.ensures.start c.in-Ok.ensures.held in
+    let gathered = begun stores (1 - c.region-region.result) c.deref.result.now none some c.self.invariant.whole other c.deref.ensures.value c.entries-sorted.result.now c.entries-sorted.ensures c.in-Ok.merge c.in-Ok.ensures.start c.in-Ok.ensures.held (g.D.Disk.content c.args.disk.now) (c.in-Ok.ensures.merged (g.D.Disk.content c.args.disk.now)) in
     let stands = subst (λ (v : StoresState). Stands (g.D.Disk.content c.args.disk.now) v) (sym c.self.view_is) c.requires.stands in
-    let merged = subst (λ (l : List HashState). HasMerged (g.D.Disk.content c.args.disk.now) (oldest_stores c.in-Ok.merge.stores l) stores.sorted c.in-Ok.merge → HasMerged (g.D.Disk.content c.step.new.disk) (oldest_stores c.in-Ok.merge.stores l) stores.sorted c.step.new.self)
-    c.deref-2.ensures.value c.step.ensures.merged in
+    let merged = kept_by_step (g.D.Disk.content c.args.disk.now) (g.D.Disk.content c.step.new.disk) stores c.deref-2.result.now c.entries-sorted.result.now c.in-Ok.merge c.step.new.self c.deref-2.ensures.value c.entries-sorted.ensures c.step.ensures.merged in
     rw (← c.self.view_is) (step_advances _ _ stores c.in-Ok.merge c.step.new.self stands way c.step.ensures.size c.step.ensures.region c.step.ensures.same c.step.ensures.held gathered merged)
 
 pub returns-clause-map : goal.returns-clause-map
@@ -66,9 +63,8 @@ returns-clause-map g c =
     let none : stores.merging ≡ None = subst (λ (v : StoresState). v.merging ≡ None) (sym c.self.view_is) c.requires.none in
     let some : 0 < length stores.hashes = some_stores stores.hashes _ c.is_empty.result c.is_empty.ensures c.if-is_empty.false c.self.inside.hashes.ok.0 in
     let other : 1 - c.region-region.result ≡ 1 - stores.sorted.region = ap (λ (n : ℕ). 1 - n) c.region-region.ensures.value in
-    let way = started_way stores (1 - c.region-region.result) c.deref.result.now none some c.self.invariant.whole other c.deref.ensures.value c.in-Ok.merge c.in-Ok.ensures.start c.in-Ok.ensures.held in
-    let gathered = begun stores (1 - c.region-region.result) c.deref.result.now none some c.self.invariant.whole other c.deref.ensures.value c.in-Ok.merge c.in-Ok.ensures.start c.in-Ok.ensures.held (g.D.Disk.content c.args.disk.now) (c.in-Ok.ensures.merged (g.D.Disk.content c.args.disk.now)) in
+    let way = started_way stores (1 - c.region-region.result) c.deref.result.now none some c.self.invariant.whole other c.deref.ensures.value c.entries-sorted.result.now c.entries-sorted.ensures c.in-Ok.merge c.in-Ok.ensures.start c.in-Ok.ensures.held in
+    let gathered = begun stores (1 - c.region-region.result) c.deref.result.now none some c.self.invariant.whole other c.deref.ensures.value c.entries-sorted.result.now c.entries-sorted.ensures c.in-Ok.merge c.in-Ok.ensures.start c.in-Ok.ensures.held (g.D.Disk.content c.args.disk.now) (c.in-Ok.ensures.merged (g.D.Disk.content c.args.disk.now)) in
     let stands = subst (λ (v : StoresState). Stands (g.D.Disk.content c.args.disk.now) v) (sym c.self.view_is) c.requires.stands in
-    let merged = subst (λ (l : List HashState). HasMerged (g.D.Disk.content c.args.disk.now) (oldest_stores c.in-Ok.merge.stores l) stores.sorted c.in-Ok.merge → HasMerged (g.D.Disk.content c.step.new.disk) (oldest_stores c.in-Ok.merge.stores l) stores.sorted c.step.new.self)
-    c.deref-2.ensures.value c.step.ensures.merged in
+    let merged = kept_by_step (g.D.Disk.content c.args.disk.now) (g.D.Disk.content c.step.new.disk) stores c.deref-2.result.now c.entries-sorted.result.now c.in-Ok.merge c.step.new.self c.deref-2.ensures.value c.entries-sorted.ensures c.step.ensures.merged in
     rw (← c.self.view_is) (step_map _ _ stores c.in-Ok.merge c.step.new.self stands way c.step.ensures.size c.step.ensures.region c.step.ensures.same c.step.ensures.held gathered merged)

@@ -3,7 +3,7 @@ use Rattle.silt_event.specs.Commands.{Map}
 use Rattle.silt_image.specs.Meaning.{oldest_first}
 use Rattle.silt_frame.specs.Rows.{StoredRow}
 use Rattle.silt_log.specs.State.{all_rows}
-use Rattle.silt_sorted_store.specs.State.{entries_of}
+use Rattle.silt_sorted_store.specs.State.{SortedState, entries_of}
 use Rattle.silt_stores.specs.Entries.{DoesRows, hashed_rows}
 use Rattle.silt_stores.specs.Lookup.{AreEntriesOf}
 use Rattle.silt_stores.specs.State.{StoresState}
@@ -22,12 +22,14 @@ pub returns-clause-entries : goal.returns-clause-entries
 returns-clause-entries g c = rw (← c.self.view_is) (λ stands honest.
     let content = g.D.Disk.content c.args.disk.now in
     let none : c.loop-index.index ≡ 0 = omega (arith, c.loop-index-test.false) in
-    let entries : List StoredRow = entries_of content c.self.inside.sorted in
+    let entries : List StoredRow = entries_of content c.self.inside.sorted.sorted in
     let hashed : List StoredRow = hashed_rows content (state_of c.self.inside) in
     let logs : List StoredRow = oldest_first (map (rows_in content) c.self.inside.frozen.items) in
     let hashes : DoesRows hashed c.do_sorted_store.new.entries c.do_hash_stores.new.entries =
     subst (λ (v : StoresState). DoesRows (hashed_rows content v) c.do_sorted_store.new.entries c.do_hash_stores.new.entries) (sym c.self.view_is) (c.in_ok-do_hash_stores.ensures.ok honest) in
-    let behind = does_more entries hashed c.new-entries.result c.do_sorted_store.new.entries c.do_hash_stores.new.entries (c.in_ok-do_sorted_store.ensures.ok honest) hashes in
+    let does_entries : DoesRows entries c.new-entries.result c.do_sorted_store.new.entries =
+    subst (λ (t : SortedState). DoesRows (entries_of content t) c.new-entries.result c.do_sorted_store.new.entries) c.entries.ensures (c.in_ok-do_sorted_store.ensures.ok honest) in
+    let behind = does_more entries hashed c.new-entries.result c.do_sorted_store.new.entries c.do_hash_stores.new.entries does_entries hashes in
     let older : DoesRows logs c.do_hash_stores.new.entries c.loop-index.entries =
     subst (λ (n : ℕ). DoesRows (oldest_first (map (rows_in content) (drop n c.self.inside.frozen.items))) c.do_hash_stores.new.entries c.loop-index.entries) none (c.loop-index.invariant honest) in
     let both = does_more (entries ++ hashed) logs c.new-entries.result c.do_hash_stores.new.entries c.loop-index.entries behind older in

@@ -2,13 +2,13 @@ use Rattle.std.proofs.Common.{◌≡◌, List, Option, Some, ap, sym, ◌∙◌,
 use Rattle.std.specs.Prelude.{All, IfSome}
 use Rattle.silt_device.specs.Disk.{CountsFault, GaveAny}
 use Rattle.silt_hash_store.specs.State.{HashState}
-use Rattle.silt_merge.specs.Merging.{HasMerged, TakesMemory}
+use Rattle.silt_merge.specs.Merging.{TakesMemory}
 use Rattle.silt_merge.specs.State.{MergeState, oldest_stores}
 use Rattle.silt_stores.specs.State.{StoresState}
 use Rattle.silt_stores.specs.Standing.{Stands}
 use Rattle.silt_stores.specs.Merge.{merge_turn}
 use Rattle.silt_event.specs.declared.progress.Progress.TheVariants.{Moved}
-use Rattle.silt_stores.proofs.MergeSteps.{err_of, failed_breaks, failed_map, gathered_of, merging_of, step_advances, step_cause, step_map, taken_shapes}
+use Rattle.silt_stores.proofs.MergeSteps.{err_of, failed_breaks, failed_map, gathered_of, kept_by_step, merging_of, step_advances, step_cause, step_map, taken_shapes}
 use Rattle.silt_stores.proofs.Viewing.{state_of}
 use Rattle.silt_stores.proofs.stores.Stores.step_merge.Goals as goal
 
@@ -39,8 +39,7 @@ invariant_of-self-2 g c =
     let way = merging_of stores c.in-Some.merge c.self.invariant.whole c.in-Some.is in
     let stands = subst (λ (v : StoresState). Stands (g.D.Disk.content c.args.disk.now) v) (sym c.self.view_is) c.requires.stands in
     let gathered = gathered_of (g.D.Disk.content c.args.disk.now) stores c.in-Some.merge stands c.in-Some.is in
-    let merged = subst (λ (l : List HashState). HasMerged (g.D.Disk.content c.args.disk.now) (oldest_stores c.in-Some.merge.stores l) stores.sorted c.in-Some.merge → HasMerged (g.D.Disk.content c.step.new.disk) (oldest_stores c.in-Some.merge.stores l) stores.sorted c.step.new.self)
-    c.deref.ensures.value c.step.ensures.merged in
+    let merged = kept_by_step (g.D.Disk.content c.args.disk.now) (g.D.Disk.content c.step.new.disk) stores c.deref.result.now c.entries.result.now c.in-Some.merge c.step.new.self c.deref.ensures.value c.entries.ensures c.step.ensures.merged in
     let goes = step_advances _ _ stores c.in-Some.merge c.step.new.self stands way c.step.ensures.size c.step.ensures.region c.step.ensures.same c.step.ensures.held gathered merged in
     record { whole = goes.stands.whole; enough = c.self.invariant.enough; enough_hashes = c.self.invariant.enough_hashes }
 
@@ -50,8 +49,7 @@ returns-clause-ok g c =
     let way = merging_of stores c.in-Some.merge c.self.invariant.whole c.in-Some.is in
     let stands = subst (λ (v : StoresState). Stands (g.D.Disk.content c.args.disk.now) v) (sym c.self.view_is) c.requires.stands in
     let gathered = gathered_of (g.D.Disk.content c.args.disk.now) stores c.in-Some.merge stands c.in-Some.is in
-    let merged = subst (λ (l : List HashState). HasMerged (g.D.Disk.content c.args.disk.now) (oldest_stores c.in-Some.merge.stores l) stores.sorted c.in-Some.merge → HasMerged (g.D.Disk.content c.step.new.disk) (oldest_stores c.in-Some.merge.stores l) stores.sorted c.step.new.self)
-    c.deref.ensures.value c.step.ensures.merged in
+    let merged = kept_by_step (g.D.Disk.content c.args.disk.now) (g.D.Disk.content c.step.new.disk) stores c.deref.result.now c.entries.result.now c.in-Some.merge c.step.new.self c.deref.ensures.value c.entries.ensures c.step.ensures.merged in
     rw (← c.self.view_is) (step_advances _ _ stores c.in-Some.merge c.step.new.self stands way c.step.ensures.size c.step.ensures.region c.step.ensures.same c.step.ensures.held gathered merged)
 
 pub returns-clause-map : goal.returns-clause-map
@@ -60,6 +58,5 @@ returns-clause-map g c =
     let way = merging_of stores c.in-Some.merge c.self.invariant.whole c.in-Some.is in
     let stands = subst (λ (v : StoresState). Stands (g.D.Disk.content c.args.disk.now) v) (sym c.self.view_is) c.requires.stands in
     let gathered = gathered_of (g.D.Disk.content c.args.disk.now) stores c.in-Some.merge stands c.in-Some.is in
-    let merged = subst (λ (l : List HashState). HasMerged (g.D.Disk.content c.args.disk.now) (oldest_stores c.in-Some.merge.stores l) stores.sorted c.in-Some.merge → HasMerged (g.D.Disk.content c.step.new.disk) (oldest_stores c.in-Some.merge.stores l) stores.sorted c.step.new.self)
-    c.deref.ensures.value c.step.ensures.merged in
+    let merged = kept_by_step (g.D.Disk.content c.args.disk.now) (g.D.Disk.content c.step.new.disk) stores c.deref.result.now c.entries.result.now c.in-Some.merge c.step.new.self c.deref.ensures.value c.entries.ensures c.step.ensures.merged in
     rw (← c.self.view_is) (step_map _ _ stores c.in-Some.merge c.step.new.self stands way c.step.ensures.size c.step.ensures.region c.step.ensures.same c.step.ensures.held gathered merged)
