@@ -99,11 +99,7 @@ impl SortedStore {
     {
         let count = self.entries.len();
         let place = u32::try_from(self.index.locate_marked(key)?).ok()?;
-        if place < count {
-            Some(place)
-        } else {
-            None
-        }
+        if place < count { Some(place) } else { None }
     }
 
     /// The place of the entry with this key, none where no entry has it. It reads one key, or none where the index has no place.
