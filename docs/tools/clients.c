@@ -3,8 +3,8 @@
 //     cc -O2 -pthread -o clients docs/tools/clients.c
 //     ./clients PORT WRITERS READERS SECONDS V
 //
-// WRITERS connections put values of V bytes under keys of their own, READERS get these keys. It prints how many puts and gets were answered
-// a second. For people, not for the gate.
+// WRITERS connections, one at least, put values of V bytes under keys of their own, READERS get these keys. It prints how many puts were accepted, how many
+// gets were answered and how many puts were refused in this time. For people, not for the gate: measure_server.sh calls it.
 #include <arpa/inet.h>
 #include <netinet/tcp.h>
 #include <pthread.h>
@@ -18,7 +18,7 @@
 
 enum { KEYS = 256 };
 
-static int port, value_len;
+static int port, value_len, writers;
 static atomic_int done;
 static atomic_long accepted, found, refused;
 
@@ -65,7 +65,7 @@ static void *run(void *of) {
             if (!ask(at, line, "accepted ", &is_due)) break;
             atomic_fetch_add(is_due ? &accepted : &refused, 1);
         } else {
-            sprintf(line, "get =%lu.%lu\n", turn % 4, turn * 7 % KEYS);
+            sprintf(line, "get =%lu.%lu\n", turn % writers, turn * 7 % KEYS);
             if (!ask(at, line, "", &is_due)) break;
             atomic_fetch_add(&found, 1);
         }
@@ -80,7 +80,8 @@ int main(int count, char **words) {
         return 2;
     }
     port = atoi(words[1]);
-    int writers = atoi(words[2]), readers = atoi(words[3]), seconds = atoi(words[4]);
+    int readers = atoi(words[3]), seconds = atoi(words[4]);
+    writers = atoi(words[2]);
     value_len = atoi(words[5]);
     struct client *all = calloc(writers + readers, sizeof *all);
     for (int i = 0; i < writers + readers; i++) {
@@ -90,6 +91,6 @@ int main(int count, char **words) {
     sleep(seconds);
     atomic_store(&done, 1);
     for (int i = 0; i < writers + readers; i++) pthread_join(all[i].thread, NULL);
-    printf("puts %ld a second, gets %ld a second, refused %ld\n", accepted / seconds, found / seconds, (long)refused);
+    printf("puts %ld gets %ld refused %ld\n", (long)accepted, (long)found, (long)refused);
     return 0;
 }

@@ -1,8 +1,8 @@
 -- Replies to gets, and the text of a want of memory.
-use Rattle.std.proofs.Common.{◌≡◌, ℕ, ◌%◌, ◌^◌, Option, Some, None, List, [], ◌∷◌, ◌++◌, ap, arith, codes, inr, subst, sym}
+use Rattle.std.proofs.Common.{◌≡◌, ◌⊎◌, ℕ, ◌%◌, ◌^◌, Option, Some, None, List, [], ◌∷◌, ◌++◌, ap, arith, codes, inl, inr, subst, sym}
 use Rattle.std.specs.Prelude.{IfOk, IfSome, OnOk, Result, Ok, Err}
 use Rattle.silt_wire.proofs.Streams.{Appends-append}
-use Rattle.silt_server.specs.Serving.{TellsCalls, TellsServed, head_text}
+use Rattle.silt_server.specs.Serving.{BreaksServing, IsStatus, TellsCalls, TellsServed, head_text, network_text, no_memory_text}
 use Rattle.std.proofs.lemmas.Fmt.{decimal_digit}
 use Rattle.std.specs.Io.KnownBytes.{Appends}
 use Rattle.silt_device.specs.Disk.{Content}
@@ -21,13 +21,13 @@ module _ {D F : Type 0} (content : D → Content) (failures : D → ℕ) (gave :
   found_answers core key None found = found
   found_answers core key (Some reply) found = inr (core, found)
 
-no_memory_text : (F : Type 0) → codes "refused 6 NoMemory\n" ≡ refused_text {F = F} NoMemory
-no_memory_text F = ap (λ (digits : List ℕ). (codes "refused " ++ (digits ++ codes " NoMemory")) ++ 10 ∷ []) (sym (decimal_digit 6 (search (arith))))
+no_memory_is : (F : Type 0) → codes "refused 6 NoMemory\n" ≡ refused_text {F = F} NoMemory
+no_memory_is F = ap (λ (digits : List ℕ). (codes "refused " ++ (digits ++ codes " NoMemory")) ++ 10 ∷ []) (sym (decimal_digit 6 (search (arith))))
 
 -- by this line a want of memory is told
 pub tells_no_memory : {F : Type 0} (refusal : Refusal F) (before after : Option (List ℕ)) → refusal ≡ NoMemory → Appends before after (codes "refused 6 NoMemory\n") → Appends before after (refused_text refusal)
 tells_no_memory {F} refusal before after is told =
-    subst (λ (r : Refusal F). Appends before after (refused_text r)) (sym is) (subst (λ (text : List ℕ). Appends before after text) (no_memory_text F) told)
+    subst (λ (r : Refusal F). Appends before after (refused_text r)) (sym is) (subst (λ (text : List ℕ). Appends before after text) (no_memory_is F) told)
 
 -- the head is written by two lines
 pub head_written : {X E : Type 0} (result : Result X E) (before mid after : Option (List ℕ)) (port : ℕ) → Appends before mid (codes "opened\n")
@@ -37,19 +37,45 @@ head_written (Err e) before mid after port first second = second
 
 -- that the store is taken up is written, and that the network failed
 pub no_network_written : {E : Type 0} (result : Result ℕ E) (before mid after : Option (List ℕ)) → Appends before mid (codes "opened\n")
-    → IfOk result (λ status. (status ≡ 1) × Appends mid after (codes "network fault\n"))
-    → IfOk result (λ status. (status ≡ 1) × Appends before after (codes "opened\n" ++ codes "network fault\n"))
-no_network_written (Ok status) before mid after first second = (second.0, Appends-append before mid after (codes "opened\n") (codes "network fault\n") first second.1)
+    → IfOk result (λ status. (status ≡ 1) × Appends mid after network_text)
+    → IfOk result (λ status. (status ≡ 1) × Appends before after (codes "opened\n" ++ network_text))
+no_network_written (Ok status) before mid after first second = (second.0, Appends-append before mid after (codes "opened\n") network_text first second.1)
 no_network_written (Err e) before mid after first second = second
 
 -- the head is written, and then what is due at the end
-pub served_written : {T X E : Type 0} (counts : T → ℕ → ℕ → Type 0) (old new : T) (port : ℕ) (before mid after : Option (List ℕ)) (head : Result X E) (x : X) → head ≡ Ok x
-    → OnOk head (Appends before mid (head_text port)) → new ≡ old → TellsCalls counts old mid after → TellsServed counts new before after
-served_written {T} {X} {E} counts old new port before mid after head x is written same told =
+pub served_written : {T X E : Type 0} (has_port : ℕ → Type 0) (counts : T → ℕ → ℕ → Type 0) (old new : T) (port : ℕ) (before mid after : Option (List ℕ)) (head : Result X E) (x : X) → has_port port → head ≡ Ok x
+    → OnOk head (Appends before mid (head_text port)) → new ≡ old → TellsCalls counts old mid after → TellsServed has_port counts new before after
+served_written {T} {X} {E} has_port counts old new port before mid after head x has is written same told =
     let first = subst (λ (r : Result X E). OnOk r (Appends before mid (head_text port))) is written in (
       port,
+      has,
       told.0,
       told.1,
       subst (λ (t : T). counts t told.0 told.1) (sym same) told.2,
       Appends-append before mid after (head_text port) (calls_text (told.0 % 2 ^ 64)) first told.3,
     )
+
+-- ---- a server that did not serve to its end
+
+-- what is told with status 1 may be told in other words
+pub status_weaker : {E P Q : Type 0} (result : Result ℕ E) → (P → Q) → IfOk result (IsStatus P) → IfOk result (IsStatus Q)
+status_weaker (Err e) weaker told = told
+status_weaker (Ok status) weaker (inl done) = inl done
+status_weaker (Ok status) weaker (inr broken) = inr (broken.0, weaker broken.1)
+
+-- status 1 alone
+pub status_broken : {E P Q : Type 0} (result : Result ℕ E) → (P → Q) → IfOk result (λ status. (status ≡ 1) × P) → IfOk result (IsStatus Q)
+status_broken (Err e) weaker told = told
+status_broken (Ok status) weaker told = inr (told.0, weaker told.1)
+
+-- behind the head
+behind_head : {X E : Type 0} (port : ℕ) (before mid after : Option (List ℕ)) (head : Result X E) (x : X) (text : List ℕ) → head ≡ Ok x → OnOk head (Appends before mid (head_text port))
+    → Appends mid after text → Appends before after (head_text port ++ text)
+behind_head {X} {E} port before mid after head x text is written told =
+    Appends-append before mid after (head_text port) text (subst (λ (r : Result X E). OnOk r (Appends before mid (head_text port))) is written) told
+
+-- the head is written, and behind it why the server ends
+pub breaks_behind : {X E : Type 0} (has_port : ℕ → Type 0) (port : ℕ) (before mid after : Option (List ℕ)) (head : Result X E) (x : X) → has_port port → head ≡ Ok x
+    → OnOk head (Appends before mid (head_text port)) → Appends mid after no_memory_text ⊎ Appends mid after network_text → BreaksServing has_port before after
+breaks_behind has_port port before mid after head x has is written (inl told) = inr (inr (port, has, inl (behind_head port before mid after head x no_memory_text is written told)))
+breaks_behind has_port port before mid after head x has is written (inr told) = inr (inr (port, has, inr (behind_head port before mid after head x network_text is written told)))

@@ -14,7 +14,7 @@ use Rattle.silt_desk.specs.History.{is_recorded}
 use Rattle.silt_desk.specs.Seats.{SeatState}
 use Rattle.silt_desk.specs.declared.call.RecordedCall.{RecordedCall}
 use Rattle.silt_server.specs.Requests.{Answer}
-use Rattle.silt_server.specs.Batches.{Flushes, Performs, PerformsAll, PerformsJob, RepliesTo, RepliesToAll}
+use Rattle.silt_server.specs.Batches.{Flushes, Performs, PerformsAll, PerformsJob, RepliesTo, RepliesToAll, ServesBatch, ServesBatches}
 use Rattle.silt_server.specs.declared.job.Job.{Job}
 use Rattle.silt_server.specs.declared.job.Request.{Request}
 use Rattle.silt_server.specs.declared.job.Request.TheVariants.{Put, Delete, Flush}
@@ -122,3 +122,16 @@ module _ {D F T : Type 0} (content : D → Content) (failures : D → ℕ) (gave
 
   pub flush_number : (old new : DeskState D T) (seat after : SeatState) (answer : Answer) → Flushes content failures gave extends is_full takes_memory old new seat after answer → after.number ≡ seat.number
   flush_number old new seat after answer does = serves_number old new seat after event.Flush (flush_reply does.0) does.2
+
+-- ---- batch after batch
+
+module _ {D F T : Type 0} (content : D → Content) (failures : D → ℕ) (gave : D → F → Type 0) (extends : T → RecordedCall → T → Type 0) (is_full takes_memory : T → Type 0) where
+  -- a batch more is done behind the others
+  pub batches_more : (seat mid after : SeatState) (taken then end : ℕ) (batches : List (List Job)) (jobs done : List Job)
+      → ServesBatches content failures gave extends is_full takes_memory seat taken batches mid then
+      → ServesBatch content failures gave extends is_full takes_memory mid jobs done after → end ≡ then + length jobs
+      → ServesBatches content failures gave extends is_full takes_memory seat taken (batches ++ jobs ∷ []) after end
+  batches_more seat mid after taken then end [] jobs done all one is =
+      (done, after, subst (λ (s : SeatState). ServesBatch content failures gave extends is_full takes_memory s jobs done after) all.0 one, (refl, is ∙ ap (λ (n : ℕ). n + length jobs) all.1))
+  batches_more seat mid after taken then end (x ∷ batches) jobs done all one is =
+      (all.0, all.1, all.2, batches_more all.1 mid after (taken + length x) then end batches jobs done all.3 one is)

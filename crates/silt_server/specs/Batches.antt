@@ -1,9 +1,8 @@
 -- What is done for a batch of jobs.
-use Rattle.std.specs.Prelude.{◌≡◌, ◌≢◌, ℕ, List, [], ◌∷◌, length, Option, Some, None, Result, Ok, Err}
+use Rattle.std.specs.Prelude.{◌≡◌, ◌≢◌, ℕ, ◌+◌, List, [], ◌∷◌, length, Option, Some, None, Result}
 use Rattle.silt_device.specs.Disk.{Content}
 use Rattle.silt_event.specs.declared.event.Event.TheVariants as event
 use Rattle.silt_event.specs.declared.refusal.Refusal.{Refusal}
-use Rattle.silt_event.specs.declared.reply.Reply.{Reply}
 use Rattle.silt_store_set.specs.Replies.{change_reply, flush_reply}
 use Rattle.silt_desk.specs.DeskState.{DeskState, Serves}
 use Rattle.silt_desk.specs.Notes.{plain_answer}
@@ -64,3 +63,9 @@ module _ {D F T : Type 0} (content : D → Content) (failures : D → ℕ) (gave
       × PerformsAll content failures gave extends is_full takes_memory seat old done mid
       × Flushes content failures gave extends is_full takes_memory before then mid after flushed
       × RepliesToAll flushed done new
+
+  -- batch after batch was done, from call to call of the seat; then so many jobs were taken in all
+  abbrev pub ServesBatches : SeatState → ℕ → List (List Job) → SeatState → ℕ → Type 0
+  ServesBatches seat taken [] after then = (after ≡ seat) × (then ≡ taken)
+  ServesBatches seat taken (jobs ∷ batches) after then =
+      (done : List Job) × (mid : SeatState) × ServesBatch seat jobs done mid × ServesBatches mid (taken + length jobs) batches after then

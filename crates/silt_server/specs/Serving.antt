@@ -1,26 +1,90 @@
 -- What a server writes and leaves.
-use Rattle.std.specs.Prelude.{ℕ, List, ◌++◌, ◌%◌, ◌^◌, Option, codes}
+use Rattle.std.specs.Prelude.{◌≡◌, ◌⊎◌, ℕ, List, length, ◌++◌, ◌%◌, ◌^◌, Option, codes}
 use Rattle.std.specs.Io.KnownBytes.{Appends}
 use Rattle.silt_device.specs.Disk.{Content}
 use Rattle.silt_device.specs.Layout.{Shape}
+use Rattle.silt_event.specs.declared.refusal.Refusal.{Refusal}
+use Rattle.silt_event.specs.declared.refusal.Refusal.TheVariants.{NoMemory}
+use Rattle.silt_recovery.specs.Opening.{LeavesNoOther}
 use Rattle.silt_store_set.specs.CoreInvariant.{LeavesBegun}
-use Rattle.silt_server.specs.Texts.{calls_text, listening_text}
+use Rattle.silt_store_set.specs.CoreState.{CoreState, EntriesCause}
+use Rattle.silt_store_set.specs.Opening.{OpeningCause}
+use Rattle.silt_desk.specs.History.{count_accepted}
+use Rattle.silt_desk.specs.Seeing.{seen}
+use Rattle.silt_desk.specs.Traces.{IsHistory, Keeping}
+use Rattle.silt_server.specs.Texts.{calls_text, listening_text, refused_text}
 
 -- what is written before the first connection is accepted
 abbrev pub head_text : ℕ → List ℕ
 head_text port = codes "opened\n" ++ listening_text port
 
+-- that the network failed
+abbrev pub network_text : List ℕ
+network_text = codes "network fault\n"
+
+-- that memory was wanted
+abbrev pub no_memory_text : List ℕ
+no_memory_text = refused_text {F = Unit {0}} NoMemory
+
+-- ---- a server that served to its end
+
 -- the number of calls that the trace counts was written, as it is modulo 2^64
 abbrev pub TellsCalls : {T : Type 0} → (T → ℕ → ℕ → Type 0) → T → Option (List ℕ) → Option (List ℕ) → Type 0
 TellsCalls counts trace before after = (calls : ℕ) × (accepted : ℕ) × counts trace calls accepted × Appends before after (calls_text (calls % 2 ^ 64))
 
--- the head was written, and behind it the number of calls that the trace counts
-abbrev pub TellsServed : {T : Type 0} → (T → ℕ → ℕ → Type 0) → T → Option (List ℕ) → Option (List ℕ) → Type 0
-TellsServed counts trace before after =
-    (port : ℕ) × (calls : ℕ) × (accepted : ℕ) × counts trace calls accepted × Appends before after (head_text port ++ calls_text (calls % 2 ^ 64))
+-- the head was written with the listener's port, and behind it the number of calls that the trace counts
+abbrev pub TellsServed : {T : Type 0} → (ℕ → Type 0) → (T → ℕ → ℕ → Type 0) → T → Option (List ℕ) → Option (List ℕ) → Type 0
+TellsServed has_port counts trace before after =
+    (port : ℕ) × has_port port × (calls : ℕ) × (accepted : ℕ) × counts trace calls accepted × Appends before after (head_text port ++ calls_text (calls % 2 ^ 64))
 
--- the head and a number of calls were written, and each image that a stop may leave of the disk stands for one map after a beginning of one
--- list of commands
+-- the head with the listener's port and a number of calls were written, and each image that a stop may leave of the disk stands for one map
+-- after a beginning of one list of commands
+abbrev pub ServesAt : (ℕ → Type 0) → Content → Option (List ℕ) → Option (List ℕ) → Type 0
+ServesAt has_port content before after =
+    (port : ℕ) × has_port port × (calls : ℕ) × Appends before after (head_text port ++ calls_text calls) × ((shape : Shape) × LeavesBegun content shape)
+
+-- the same at some port
 abbrev pub IsServed : Content → Option (List ℕ) → Option (List ℕ) → Type 0
-IsServed content before after =
-    (port : ℕ) × (calls : ℕ) × Appends before after (head_text port ++ calls_text calls) × ((shape : Shape) × LeavesBegun content shape)
+IsServed content before after = ServesAt (λ port. Unit {0}) content before after
+
+-- so many calls are kept, and so many of them are accepted commands
+abbrev pub counts_kept : Keeping → ℕ → ℕ → Type 0
+counts_kept kept calls accepted = (length kept.calls ≡ calls) × (count_accepted kept.calls ≡ accepted)
+
+-- calls were kept that are a history of the store on the disk, and their number was written behind the head
+abbrev pub ServesKept : {D : Type 0} → (D → Content) → (ℕ → Type 0) → D → Option (List ℕ) → Option (List ℕ) → Type 0
+ServesKept {D} content has_port disk before after =
+    (core : CoreState D) × (kept : Keeping) × (core.disk ≡ disk) × IsHistory kept (seen content core) × TellsServed has_port counts_kept kept before after
+
+-- ---- a server that did not serve to its end
+
+-- memory was wanted, or the network failed, before the head was written or behind it
+abbrev pub BreaksServing : (ℕ → Type 0) → Option (List ℕ) → Option (List ℕ) → Type 0
+BreaksServing has_port before after =
+    Appends before after no_memory_text
+    ⊎ (Appends before after (codes "opened\n" ++ network_text)
+    ⊎ ((port : ℕ) × has_port port × (Appends before after (head_text port ++ no_memory_text) ⊎ Appends before after (head_text port ++ network_text))))
+
+module _ {D F : Type 0} (content : D → Content) (gave : D → F → Type 0) where
+  -- it was written that the store was not taken up from the disk, for its cause
+  abbrev pub TellsOpening : D → D → Option (List ℕ) → Option (List ℕ) → Type 0
+  TellsOpening old new before after = (refusal : Refusal F) × OpeningCause content gave (content old) new refusal × Appends before after (refused_text refusal)
+
+  -- it was written that the entries of the store on the disk could not be kept, for their cause
+  abbrev pub TellsEntries : D → Option (List ℕ) → Option (List ℕ) → Type 0
+  TellsEntries disk before after =
+      (core : CoreState D) × (core.disk ≡ disk) × ((refusal : Refusal F) × EntriesCause gave core refusal × Appends before after (refused_text refusal))
+
+  -- it was written why the store is not served to the end
+  abbrev pub TellsNotServed : (ℕ → Type 0) → D → D → Option (List ℕ) → Option (List ℕ) → Type 0
+  TellsNotServed has_port old new before after =
+      TellsOpening old new before after ⊎ (TellsEntries new before after ⊎ BreaksServing has_port before after)
+
+  -- what a server gives back, however it ends: each image that a stop may leave might have been left before or stands for what was shown, or all
+  -- stand for one map after a beginning of one list of commands
+  abbrev pub LeavesServed : D → D → Type 0
+  LeavesServed old new = LeavesNoOther (content old) (content new) ⊎ ((shape : Shape) × LeavesBegun (content new) shape)
+
+-- the status is 0, or 1 and this is so
+abbrev pub IsStatus : Type 0 → ℕ → Type 0
+IsStatus Told status = (status ≡ 0) ⊎ ((status ≡ 1) × Told)

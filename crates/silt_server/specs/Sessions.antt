@@ -4,7 +4,7 @@ use Rattle.silt_device.specs.Disk.{Content}
 use Rattle.silt_frame.specs.declared.key.Key.{Key}
 use Rattle.silt_event.specs.Events.{PlainReply, plain}
 use Rattle.silt_event.specs.declared.event.Event.{Event}
-use Rattle.silt_event.specs.declared.event.Event.TheVariants.{Put, Delete, Flush, Get, Convert, Merge}
+use Rattle.silt_event.specs.declared.event.Event.TheVariants.{Get, Convert, Merge}
 use Rattle.silt_event.specs.declared.refusal.Refusal.TheVariants.{NoMemory}
 use Rattle.silt_event.specs.declared.reply.Reply.{Reply}
 use Rattle.silt_event.specs.declared.reply.Reply.TheVariants.{Refused, NotServed}

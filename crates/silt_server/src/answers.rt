@@ -1,5 +1,5 @@
 // The reply to one event of a session.
-ghost use Rattle.std.specs.Prelude.{◌≡◌, ◌≢◌, true, IfSome, IfNone, vec_len};
+ghost use Rattle.std.specs.Prelude.{◌≡◌, ◌≢◌, ◌+◌, true, IfSome, IfNone, MatchResult, vec_len};
 ghost use Rattle.silt_device.specs.Disk.{GaveAny};
 ghost use Rattle.silt_event.specs.declared.event.Event.TheVariants as event_case;
 ghost use Rattle.silt_inbox.specs.Answers.{is_allowed, kind_of};
@@ -8,11 +8,12 @@ ghost use Rattle.silt_server.specs.Sessions.{Finds, IsAnswer};
 
 use crate::job::{Job, Request};
 use crate::places::Place;
+use crossbeam_channel::Receiver;
 use silt_desk::{Desk, Naming, Shared, Trace};
 use silt_device::Disk;
 use silt_event::{Event, Refusal, Reply};
 use silt_frame::{Key, Value};
-use silt_inbox::{Answered, EventKind, Inbox, NotPutReason, Post};
+use silt_inbox::{Answered, EventKind, Feeder, Inbox, NotPutReason, Post};
 use std::alloc::Global;
 use std::sync::{Mutex, Wait};
 
@@ -47,6 +48,25 @@ fn forwarded(answered: Answered, kind: EventKind) -> Option<Reply<()>>
     Some(answered.into_reply())
 }
 
+// Puts a request into the inbox, with a way for its reply, and tells where that comes. Where memory is wanted nothing is put.
+fn put_request<P: Post, R: Wait>(
+    rt: &R,
+    alloc: Global,
+    inbox: &Inbox<Job, P>,
+    feeder: &mut Feeder<P>,
+    request: Request,
+) -> Result<Receiver<Answered>, NotPutReason>
+    ensures { MatchResult result (λ _. feeder.new ≡ feeder.old + 1) (λ _. feeder.new ≡ feeder.old) }
+{
+    let Ok((to, from)) = crossbeam_channel::bounded(alloc, 1) else {
+        return Err(NotPutReason::NoMemory);
+    };
+    match inbox.put(rt, feeder, Job::new(request, to)) {
+        Ok(()) => Ok(from),
+        Err(refused) => Err(refused.reason),
+    }
+}
+
 // Puts a request into the inbox and waits for its reply. None where none comes back, or one to an event of another kind. Where memory is
 // wanted nothing is done.
 fn ask<P: Post, R: Wait>(
@@ -59,16 +79,11 @@ fn ask<P: Post, R: Wait>(
     ensures { IfSome result (λ reply. is_allowed (kind_of (event_of request)) reply ≡ true) }
 {
     let kind = request.kind();
-    let Ok((to, from)) = crossbeam_channel::bounded(alloc, 1) else {
-        return Some(Reply::Refused(Refusal::NoMemory));
-    };
-    let put = inbox.put(rt, place.lock(rt).feeder(), Job::new(request, to));
+    let put = put_request(rt, alloc, inbox, place.lock(rt).feeder(), request);
     match put {
-        Ok(()) => forwarded(from.recv(rt).ok()?, kind),
-        Err(refused) => match refused.reason {
-            NotPutReason::NoMemory => Some(Reply::Refused(Refusal::NoMemory)),
-            NotPutReason::Closed => None,
-        },
+        Ok(replies) => forwarded(replies.recv(rt).ok()?, kind),
+        Err(NotPutReason::NoMemory) => Some(Reply::Refused(Refusal::NoMemory)),
+        Err(NotPutReason::Closed) => None,
     }
 }
 

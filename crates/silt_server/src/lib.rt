@@ -9,11 +9,12 @@
 //! socket carries it, that threads run, and that messages come is not.
 #![tactic(auto)]
 
-mod accepting;
+mod admission;
 mod answers;
 mod batch;
 mod client;
 mod crew;
+mod entrance;
 mod job;
 mod outlet;
 mod places;
@@ -25,6 +26,7 @@ mod work;
 mod written;
 
 pub use batch::serve_batch;
+pub use entrance::Listens;
 pub use job::{Job, Request};
 pub use serve::{refuse_network, serve_on};
-pub use work::{Wakes, writer};
+pub use work::{Jobs, Wakes, writer};

@@ -1,11 +1,18 @@
 // A server on one listener.
-ghost use Rattle.std.specs.Prelude.{◌≡◌, ◌++◌, Ok, IfOk, OnOk, codes};
+ghost use Rattle.std.specs.Prelude.{◌≡◌, ◌⊎◌, ◌++◌, Ok, IfOk, IfSome, OnOk, codes};
 ghost use Rattle.std.specs.Io.KnownBytes.{Appends};
+ghost use Rattle.silt_device.specs.Disk.{GaveAny};
+ghost use Rattle.silt_device.specs.Layout.{Shape};
+ghost use Rattle.silt_recovery.specs.Opening.{LeavesNoOther};
+ghost use Rattle.silt_store_set.specs.CoreInvariant.{LeavesBegun};
+ghost use Rattle.silt_store_set.specs.CoreState.{CoreState};
 ghost use Rattle.silt_desk.specs.Seeing.{seen};
-ghost use Rattle.silt_server.specs.Serving.{IsServed, TellsCalls, TellsServed, head_text};
+ghost use Rattle.silt_server.specs.Serving.{BreaksServing, IsStatus, LeavesServed, ServesAt, ServesKept, TellsCalls, TellsEntries, TellsNotServed, TellsOpening, TellsServed, head_text, network_text, no_memory_text};
+ghost use Rattle.silt_server.specs.Texts.{refused_text};
 
-use crate::accepting::accept_clients;
+use crate::admission::accept_clients;
 use crate::crew::Crew;
+use crate::entrance::Listens;
 use crate::job::Job;
 use crate::places::{Place, places_of};
 use crate::threads::{beside, write_beside};
@@ -15,11 +22,10 @@ use silt_desk::{Count, Desk, Gate, Kept, Naming, Seat, Shared, Trace, converter,
 use silt_device::Disk;
 use silt_event::Refusal;
 use silt_inbox::{Inbox, Post, Taker};
-use silt_store_set::Core;
+use silt_store_set::{Core, OpenFault};
 use std::alloc::Global;
 use std::io::{self, Write};
 use std::marker::Brand;
-use std::net::TcpListener;
 use std::sync::ledger::Blank;
 use std::sync::{Mutex, RwLock, Wait};
 use std::thread::Threads;
@@ -40,27 +46,28 @@ const WORKERS: u64 = 3;
 /// # Errors
 ///
 /// The writer's, and want of memory for the text of a line.
-pub fn serve_on<D: Disk, G: Gate + Sync, R: Threads + Wait + Sync, W: Write>(
+pub fn serve_on<L: Listens, D: Disk, G: Gate + Sync, R: Threads + Wait + Sync, W: Write>(
     rt: &R,
     alloc: Global,
-    listener: &TcpListener,
+    listener: &L,
     disk: D,
     audit: Option<u64>,
     sessions: u32,
     gate: &G,
     out: &mut W,
 ) -> (D, io::Result<u8>)
-    ensures served { result.1 ≡ Ok 0 → IsServed (D.content result.0) (W.contents out.old) (W.contents out.new) }
+    ensures served { result.1 ≡ Ok 0 → ServesAt (L.has_port listener.now) (D.content result.0) (W.contents out.old) (W.contents out.new) }
+    ensures kept { result.1 ≡ Ok 0 → IfSome audit (λ _. ServesKept D.content (L.has_port listener.now) result.0 (W.contents out.old) (W.contents out.new)) }
+    ensures told { IfOk result.1 (IsStatus (TellsNotServed D.content (GaveAny D.gave) (L.has_port listener.now) disk result.0 (W.contents out.old) (W.contents out.new))) }
+    ensures left { LeavesServed D.content (GaveAny D.gave) disk result.0 }
 {
-    match Core::open(alloc, disk) {
-        Ok(core) => match audit {
-            Some(most) => serve_kept(rt, alloc, listener, core, most, sessions, gate, out),
-            None => serve_counted(rt, alloc, listener, core, sessions, gate, out),
-        },
-        Err(fault) => {
-            let status = refuse(alloc, &fault.refusal, out);
-            (fault.disk, status)
-        }
+    let core = match Core::open(alloc, disk) {
+        Ok(core) => core,
+        Err(fault) => return refuse_opening(alloc, fault, out),
+    };
+    match audit {
+        Some(most) => serve_kept(rt, alloc, listener, core, most, sessions, gate, out),
+        None => serve_counted(rt, alloc, listener, core, sessions, gate, out),
     }
 }
 
@@ -71,61 +78,77 @@ pub fn serve_on<D: Disk, G: Gate + Sync, R: Threads + Wait + Sync, W: Write>(
 ///
 /// The writer's, and want of memory for the text of a line.
 pub fn refuse_network<D: Disk, W: Write>(alloc: Global, disk: D, out: &mut W) -> (D, io::Result<u8>)
-    ensures { IfOk result.1 (λ status. status ≡ 1) }
+    ensures told { IfOk result.1 (λ status. (status ≡ 1) × (TellsOpening D.content (GaveAny D.gave) disk result.0 (W.contents out.old) (W.contents out.new) ⊎ Appends (W.contents out.old) (W.contents out.new) (codes "opened\n" ++ network_text))) }
+    ensures left { LeavesNoOther (D.content disk) (D.content result.0) }
 {
     match Core::open(alloc, disk) {
         Ok(core) => (core.close(), write_no_network(out)),
-        Err(fault) => {
-            let status = refuse(alloc, &fault.refusal, out);
-            (fault.disk, status)
-        }
+        Err(fault) => refuse_opening(alloc, fault, out),
     }
+}
+
+// Tells why the store was not taken up. Gives the disk back, and the status.
+fn refuse_opening<D: Disk, W: Write>(
+    alloc: Global,
+    fault: OpenFault<D>,
+    out: &mut W,
+) -> (D, io::Result<u8>)
+    ensures disk { result.0 ≡ fault.disk }
+    ensures told { IfOk result.1 (λ status. (status ≡ 1) × Appends (W.contents out.old) (W.contents out.new) (refused_text fault.refusal)) }
+{
+    let status = refuse(alloc, &fault.refusal, out);
+    (fault.disk, status)
 }
 
 // Writes that the store is taken up and that the network failed, and answers the status.
 fn write_no_network<W: Write>(out: &mut W) -> io::Result<u8>
-    ensures { IfOk result (λ status. (status ≡ 1) × Appends (W.contents out.old) (W.contents out.new) (codes "opened\n" ++ codes "network fault\n")) }
+    ensures { IfOk result (λ status. (status ≡ 1) × Appends (W.contents out.old) (W.contents out.new) (codes "opened\n" ++ network_text)) }
 {
     write_opened(out)?;
     write_network_fault(out)
 }
 
 // Serves a store whose calls are counted.
-fn serve_counted<D: Disk, G: Gate + Sync, R: Threads + Wait + Sync, W: Write>(
+fn serve_counted<L: Listens, D: Disk, G: Gate + Sync, R: Threads + Wait + Sync, W: Write>(
     rt: &R,
     alloc: Global,
-    listener: &TcpListener,
+    listener: &L,
     core: Core<D>,
     sessions: u32,
     gate: &G,
     out: &mut W,
 ) -> (D, io::Result<u8>)
-    ensures served { result.1 ≡ Ok 0 → IsServed (D.content result.0) (W.contents out.old) (W.contents out.new) }
+    ensures served { result.1 ≡ Ok 0 → ServesAt (L.has_port listener.now) (D.content result.0) (W.contents out.old) (W.contents out.new) }
+    ensures told { IfOk result.1 (IsStatus (BreaksServing (L.has_port listener.now) (W.contents out.old) (W.contents out.new))) }
+    ensures left { (shape : Shape) × LeavesBegun (D.content result.0) shape }
 {
     let trace = Count::new();
     let blanks = Blanks::new();
-    serve_traced::<D, Count, Brand, Brand, G, R, W>(
+    serve_traced::<L, D, Count, Brand, Brand, G, R, W>(
         rt, alloc, listener, core, trace, blanks, sessions, gate, out,
     )
 }
 
 // Serves a store of which at most so many calls are recorded.
-fn serve_kept<D: Disk, G: Gate + Sync, R: Threads + Wait + Sync, W: Write>(
+fn serve_kept<L: Listens, D: Disk, G: Gate + Sync, R: Threads + Wait + Sync, W: Write>(
     rt: &R,
     alloc: Global,
-    listener: &TcpListener,
+    listener: &L,
     core: Core<D>,
     most: u64,
     sessions: u32,
     gate: &G,
     out: &mut W,
 ) -> (D, io::Result<u8>)
-    ensures served { result.1 ≡ Ok 0 → IsServed (D.content result.0) (W.contents out.old) (W.contents out.new) }
+    ensures served { result.1 ≡ Ok 0 → ServesAt (L.has_port listener.now) (D.content result.0) (W.contents out.old) (W.contents out.new) }
+    ensures kept { result.1 ≡ Ok 0 → ServesKept D.content (L.has_port listener.now) result.0 (W.contents out.old) (W.contents out.new) }
+    ensures told { IfOk result.1 (IsStatus (TellsEntries D.content (GaveAny D.gave) result.0 (W.contents out.old) (W.contents out.new) ⊎ BreaksServing (L.has_port listener.now) (W.contents out.old) (W.contents out.new))) }
+    ensures left { (shape : Shape) × LeavesBegun (D.content result.0) shape }
 {
     match Kept::new(alloc, &core, most) {
         Ok(trace) => {
             let blanks = Blanks::new();
-            serve_traced::<D, Kept, Brand, Brand, G, R, W>(
+            serve_traced::<L, D, Kept, Brand, Brand, G, R, W>(
                 rt, alloc, listener, core, trace, blanks, sessions, gate, out,
             )
         }
@@ -161,6 +184,7 @@ impl Blanks {
 
 // Serves a store with a trace of its calls.
 fn serve_traced<
+    L: Listens,
     D: Disk,
     T: Trace + Send + Sync,
     N: Naming + Send + Sync,
@@ -171,7 +195,7 @@ fn serve_traced<
 >(
     rt: &R,
     alloc: Global,
-    listener: &TcpListener,
+    listener: &L,
     core: Core<D>,
     trace: T,
     blanks: Blanks,
@@ -184,7 +208,9 @@ fn serve_traced<
     requires put { (blanks.put.name ≡ P.put_name) × (blanks.put.parts ≡ P.feeders) × (P.feeders ≡ 64) }
     requires taken { (blanks.taken.name ≡ P.taken_name) × (blanks.taken.parts ≡ 1) }
     requires trace { T.agrees trace (seen D.content core) × T.counts trace 0 0 }
-    ensures served { result.1 ≡ Ok 0 → IsServed (D.content result.0) (W.contents out.old) (W.contents out.new) }
+    ensures served { result.1 ≡ Ok 0 → (core : CoreState D) × (trace : T) × (core.disk ≡ result.0) × T.agrees trace (seen D.content core) × TellsServed (L.has_port listener.now) T.counts trace (W.contents out.old) (W.contents out.new) }
+    ensures told { IfOk result.1 (IsStatus (BreaksServing (L.has_port listener.now) (W.contents out.old) (W.contents out.new))) }
+    ensures left { (shape : Shape) × LeavesBegun (D.content result.0) shape }
 {
     let Blanks {
         calls,
@@ -199,6 +225,7 @@ fn serve_traced<
                 return (desk.close(), status);
             };
             let (desk, status) = serve_desk(rt, alloc, listener, desk, hall, sessions, gate, out);
+            let _ = desk.trace(); // it agrees with the store
             (desk.close(), status)
         }
         Err(lack) => {
@@ -237,6 +264,7 @@ impl<N: Naming, P: Post> Hall<N, P> {
 
 // Serves the store of a desk, and gives it back with the status.
 pub(crate) fn serve_desk<
+    L: Listens,
     D: Disk,
     T: Trace + Send + Sync,
     N: Naming + Send + Sync,
@@ -247,20 +275,21 @@ pub(crate) fn serve_desk<
 >(
     rt: &R,
     alloc: Global,
-    listener: &TcpListener,
+    listener: &L,
     desk: Desk<D, T, N>,
     hall: Hall<N, P>,
     sessions: u32,
     gate: &G,
     out: &mut W,
 ) -> (Desk<D, T, N>, io::Result<u8>)
-    ensures served { result.1 ≡ Ok 0 → TellsServed T.counts result.0.trace (W.contents out.old) (W.contents out.new) }
+    ensures served { result.1 ≡ Ok 0 → TellsServed (L.has_port listener.now) T.counts result.0.trace (W.contents out.old) (W.contents out.new) }
+    ensures told { IfOk result.1 (IsStatus (BreaksServing (L.has_port listener.now) (W.contents out.old) (W.contents out.new))) }
 {
-    let Ok(address) = listener.local_addr() else {
-        let status = write_network_fault(out);
+    let Ok(port) = listener.port() else {
+        let status = write_no_network(out);
         return (desk, status);
     };
-    if let Err(error) = write_head(alloc, address.port(), out) {
+    if let Err(error) = write_head(alloc, port, out) {
         return (desk, Err(error));
     }
     let value_len = desk.geometry().value_len() as usize;
@@ -297,6 +326,7 @@ fn end<D: Disk, T: Trace, N: Naming, W: Write>(
 ) -> io::Result<u8>
     ensures same { desk.new ≡ desk.old }
     ensures calls { result ≡ Ok 0 → TellsCalls T.counts desk.old.trace (W.contents out.old) (W.contents out.new) }
+    ensures told { IfOk result (IsStatus (Appends (W.contents out.old) (W.contents out.new) no_memory_text ⊎ Appends (W.contents out.old) (W.contents out.new) network_text)) }
 {
     let Some(Served { seats, accepted }) = served else {
         return refuse(alloc, &Refusal::<()>::NoMemory, out);
@@ -316,6 +346,7 @@ fn write_settled<D: Disk, T: Trace, N: Naming, W: Write>(
 ) -> io::Result<u8>
     ensures same { desk.new ≡ desk.old }
     ensures calls { result ≡ Ok 0 → TellsCalls T.counts desk.old.trace (W.contents out.old) (W.contents out.new) }
+    ensures told { IfOk result (IsStatus (Appends (W.contents out.old) (W.contents out.new) no_memory_text)) }
 {
     let (first, second, third) = seats;
     let mut all = Vec::new(alloc);
@@ -330,6 +361,7 @@ fn write_settled<D: Disk, T: Trace, N: Naming, W: Write>(
 
 // The workers beside the sessions, until these have ended and all that they asked is done. None where the writer has no thread.
 fn run_threads<
+    L: Listens,
     D: Disk,
     T: Trace + Send + Sync,
     N: Naming + Send + Sync,
@@ -339,7 +371,7 @@ fn run_threads<
 >(
     rt: &R,
     alloc: Global,
-    listener: &TcpListener,
+    listener: &L,
     shared: &Shared<D, T, N>,
     hall: Hall<N, P>,
     value_len: usize,
@@ -405,6 +437,6 @@ fn run_threads<
     let ((writer, _taker), accepted) = written?;
     Some(Served {
         seats: (writer, converted, merged),
-        accepted,
+        accepted: accepted.map(|_| ()),
     })
 }

@@ -3,16 +3,18 @@
 mod broken;
 mod crowd;
 mod held;
+mod kept;
 mod lines;
 mod looks;
+mod network;
 mod record;
 
-use crate::serve_on;
+use crate::{Listens, serve_on};
 use silt_desk::{Gate, Spot};
 use silt_device::{Disk, Geometry, MemDisk};
 use silt_recovery::format;
 use std::alloc::Global;
-use std::io::{self, Read, Write};
+use std::io::{self, ErrorKind, Read, Write};
 use std::net::{Net, Shutdown, SocketAddr, TcpListener, TcpStream};
 use std::sync::Wait;
 use std::sync::atomic::{AtomicU64, Ordering};
@@ -40,6 +42,34 @@ pub(crate) fn small(alloc: Global) -> Result<MemDisk, Fail> {
     formatted(alloc, geometry)
 }
 
+/// A listener that waits for a connection for at most a million turns.
+#[derive(Drop)]
+pub(crate) struct Patient<'a, R: Clock> {
+    pub rt: &'a R,
+    pub listener: TcpListener,
+}
+
+impl<R: Clock> Listens for Patient<'_, R> {
+    ghost has_port = { λ listener port. Unit {0} };
+
+    fn port(&self) -> io::Result<u16> {
+        Ok(self.listener.local_addr()?.port())
+    }
+
+    fn wait(&self) -> io::Result<TcpStream> {
+        self.listener.set_nonblocking(true)?;
+        for _ in 0..1_000_000u32 {
+            match self.listener.accept() {
+                Ok((stream, _)) => return Ok(stream),
+                Err(error) if error.kind() == ErrorKind::WouldBlock => {}
+                Err(error) => return Err(error),
+            }
+            thread::sleep(self.rt, Duration::from_micros(10));
+        }
+        Err(io::Error::from(ErrorKind::TimedOut))
+    }
+}
+
 /// What a server and its clients gave.
 #[derive(Drop)]
 pub(crate) struct Ended<D: Disk, X: Drop> {
@@ -55,7 +85,7 @@ pub(crate) fn serve_beside<
     G: Gate + Sync,
     X: Drop,
     C: FnOnce(SocketAddr) -> X,
-    R: Net<Listener = TcpListener, Stream = TcpStream> + Threads + Wait + Sync,
+    R: Net<Listener = TcpListener, Stream = TcpStream> + Clock + Threads + Wait + Sync,
 >(
     rt: &R,
     alloc: Global,
@@ -69,6 +99,7 @@ pub(crate) fn serve_beside<
 {
     let listener = TcpListener::bind(rt, ("127.0.0.1", 0u16))?;
     let addr = listener.local_addr()?;
+    let listener = Patient { rt, listener };
     let mut written = Vec::new(alloc);
     let (served, got) = thread::join(
         rt,
@@ -95,6 +126,17 @@ pub(crate) fn serve_beside<
     })
 }
 
+// A connection that waits for an answer, or until it has written, for at most half a minute.
+pub(crate) fn connected<R: Net<Stream = TcpStream>>(
+    rt: &R,
+    addr: SocketAddr,
+) -> io::Result<TcpStream> {
+    let stream = TcpStream::connect(rt, addr)?;
+    stream.set_read_timeout(Some(Duration::from_secs(30)))?;
+    stream.set_write_timeout(Some(Duration::from_secs(30)))?;
+    Ok(stream)
+}
+
 // All that one connection is answered to these lines, until the server closes it.
 pub(crate) fn ask<R: Net<Stream = TcpStream>>(
     rt: &R,
@@ -102,7 +144,7 @@ pub(crate) fn ask<R: Net<Stream = TcpStream>>(
     addr: SocketAddr,
     lines: &[u8],
 ) -> io::Result<Vec<u8>> {
-    let mut stream = TcpStream::connect(rt, addr)?;
+    let mut stream = connected(rt, addr)?;
     stream.write_all(lines)?;
     stream.shutdown(Shutdown::Write)?;
     let mut got = Vec::new(alloc);

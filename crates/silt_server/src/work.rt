@@ -1,5 +1,8 @@
 // The writer, a worker that does what the sessions ask.
-ghost use Rattle.std.specs.Prelude.{◌≡◌};
+ghost use Rattle.std.specs.Prelude.{◌≡◌, ◌+◌, List, MatchOption, vec_len};
+ghost use Rattle.silt_device.specs.Disk.{GaveAny};
+ghost use Rattle.silt_server.specs.Batches.{ServesBatches};
+ghost use Rattle.silt_server.specs.declared.job.Job.{Job as JobOf};
 
 use crate::batch::serve_batch;
 use crate::job::Job;
@@ -32,23 +35,43 @@ fn wake<R: Wait>(rt: &R, worker: &Sender<Wake>) {
     }
 }
 
-/// Takes all jobs that wait, does each under a guard of its own, flushes once and then replies, until the inbox is closed and empty.
+/// Where the writer takes its jobs.
+pub trait Jobs<P: Post> {
+    /// There are no more jobs.
+    ghost has_ended: { Self → Type 0 };
+
+    /// Waits for jobs and takes all of them, in order. None where there are no more.
+    fn take_all<R: Wait>(&self, rt: &R, taker: &mut Taker<P>) -> Option<Vec<Job>>
+        ensures { MatchOption result (has_ended self.now × (taker.new ≡ taker.old)) (λ jobs. taker.new ≡ taker.old + vec_len jobs) };
+}
+
+impl<P: Post> Jobs<P> for Inbox<Job, P> {
+    ghost has_ended = { λ inbox. Unit {0} };
+
+    fn take_all<R: Wait>(&self, rt: &R, taker: &mut Taker<P>) -> Option<Vec<Job>> {
+        self.take_all(rt, taker)
+    }
+}
+
+/// Takes all jobs that wait, does each under a guard of its own, flushes once and then replies, until there are no more.
 /// After each batch the converter and the merger are told that there may be work. Gives its places back.
-pub fn writer<D: Disk, T: Trace, N: Naming, P: Post, G: Gate, R: Wait>(
+pub fn writer<D: Disk, T: Trace, N: Naming, P: Post, I: Jobs<P>, G: Gate, R: Wait>(
     rt: &R,
     alloc: Global,
     shared: &Shared<D, T, N>,
     mut seat: Seat<N>,
     gate: &G,
-    inbox: &Inbox<Job, P>,
+    inbox: &I,
     mut taker: Taker<P>,
     wakes: Wakes,
 ) -> (Seat<N>, Taker<P>)
-    ensures { result.0.number ≡ seat.number }
+    ensures number { result.0.number ≡ seat.number }
+    ensures ended { I.has_ended inbox.now }
+    ensures batches { (batches : List (List JobOf)) × ServesBatches D.content D.failures (GaveAny D.gave) T.extends T.is_full T.takes_memory seat taker batches result.0 result.1 }
 {
     for _ in rt.forever() {
         let Some(mut jobs) = inbox.take_all(rt, &mut taker) else {
-            break;
+            return (seat, taker);
         };
         serve_batch(rt, alloc, shared, &mut seat, gate, &mut jobs);
         for job in jobs {
@@ -56,5 +79,5 @@ pub fn writer<D: Disk, T: Trace, N: Naming, P: Post, G: Gate, R: Wait>(
         }
         wakes.go(rt);
     }
-    (seat, taker)
+    unreachable!()
 }

@@ -1,6 +1,7 @@
 // What a server writes.
 ghost use Rattle.std.specs.Prelude.{◌≡◌, OnOk, IfOk, codes};
 ghost use Rattle.std.specs.Io.KnownBytes.{Appends};
+ghost use Rattle.silt_server.specs.Serving.{network_text};
 ghost use Rattle.silt_server.specs.Texts.{calls_text, listening_text, refused_text};
 
 use silt_event::Refusal;
@@ -37,7 +38,7 @@ pub fn write_calls<W: Write>(alloc: Global, calls: u64, out: &mut W) -> io::Resu
 
 /// Writes that the network failed, and answers the status.
 pub fn write_network_fault<W: Write>(out: &mut W) -> io::Result<u8>
-    ensures { IfOk result (λ status. (status ≡ 1) × Appends (W.contents out.old) (W.contents out.new) (codes "network fault\n")) }
+    ensures { IfOk result (λ status. (status ≡ 1) × Appends (W.contents out.old) (W.contents out.new) network_text) }
 {
     out.write_all(b"network fault\n")?;
     out.flush()?;

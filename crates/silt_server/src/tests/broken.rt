@@ -1,6 +1,6 @@
-// Clients that send what is no line, or do not end what they begin: the next one is served.
+// Clients that send what is no line, do not end what they begin, or reset their connection: the next one is served.
 
-use crate::tests::{Open, ask, ask_line, serve_beside, small};
+use crate::tests::{Open, ask, ask_line, connected, serve_beside, small};
 use std::alloc::Global;
 use std::io::{self, Write};
 use std::net::{Net, SocketAddr, TcpStream};
@@ -55,12 +55,12 @@ fn three_clients<R: Net<Stream = TcpStream>>(
     alloc: Global,
     addr: SocketAddr,
 ) -> io::Result<Vec<u8>> {
-    let mut first = TcpStream::connect(rt, addr)?;
+    let mut first = connected(rt, addr)?;
     let mut got = ask_line(alloc, &mut first, b"put =a 0001\n")?;
     first.write_all(b"put =b 00")?;
     drop(first);
-    let silent = TcpStream::connect(rt, addr)?;
-    let mut third = TcpStream::connect(rt, addr)?;
+    let silent = connected(rt, addr)?;
+    let mut third = connected(rt, addr)?;
     got.extend_from_slice(ask_line(alloc, &mut third, b"get =a\n")?.as_slice())?;
     got.extend_from_slice(ask_line(alloc, &mut third, b"get =b\n")?.as_slice())?;
     drop(silent);
@@ -94,11 +94,11 @@ fn never_reads<R: Net<Stream = TcpStream>>(
     alloc: Global,
     addr: SocketAddr,
 ) -> io::Result<Vec<u8>> {
-    let mut mute = TcpStream::connect(rt, addr)?;
+    let mut mute = connected(rt, addr)?;
     for _ in 0..2_000u32 {
         mute.write_all(b"get =a\nget =a\nget =a\nget =a\nget =a\nget =a\nget =a\nget =a\n")?;
     }
-    let mut other = TcpStream::connect(rt, addr)?;
+    let mut other = connected(rt, addr)?;
     let mut got = ask_line(alloc, &mut other, b"put =a 0001\n")?;
     got.extend_from_slice(ask_line(alloc, &mut other, b"get =a\n")?.as_slice())?;
     drop(mute);
@@ -123,5 +123,40 @@ fn serves_beside_one_who_never_reads(rt: HostRuntime) -> Result<(), Fail> {
         got.as_slice(),
         b"accepted 1\nvalue 0001\nacknowledged 1\n".as_slice()
     );
+    Ok(())
+}
+
+// One client asks twice, waits until an answer has come, and closes without reading it, which resets the connection. The next one is answered.
+fn resets<R: Net<Stream = TcpStream>>(
+    rt: &R,
+    alloc: Global,
+    addr: SocketAddr,
+) -> io::Result<(usize, Vec<u8>)> {
+    let mut first = connected(rt, addr)?;
+    first.write_all(b"put =a 0001\nget =a\n")?;
+    let mut seen = [0u8; 1];
+    let came = first.peek(&mut seen)?;
+    drop(first);
+    let mut second = connected(rt, addr)?;
+    let got = ask_line(alloc, &mut second, b"get =a\n")?;
+    Ok((came, got))
+}
+
+#[test]
+fn serves_after_a_reset(rt: HostRuntime) -> Result<(), Fail> {
+    let alloc = rt.alloc();
+    let ended = serve_beside(
+        &rt,
+        alloc,
+        small(alloc)?,
+        None,
+        2,
+        &Open,
+        |addr: SocketAddr| { resets(&rt, alloc, addr) },
+    )?;
+    let (came, got) = ended.got?;
+    assert_eq!(rt; came, 1);
+    assert_eq!(rt; got.as_slice(), b"value 0001\n".as_slice());
+    assert_eq!(rt; ended.status, 0);
     Ok(())
 }

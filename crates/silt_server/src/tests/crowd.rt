@@ -1,6 +1,6 @@
-// As many sessions as there may be, and one more.
+// As many sessions as there may be, and one more; and as many that say nothing.
 
-use crate::tests::{Open, ask_line, serve_beside, small};
+use crate::tests::{Open, ask_line, connected, serve_beside, small};
 use std::alloc::Global;
 use std::net::{Net, SocketAddr, TcpStream};
 use std::test::Fail;
@@ -15,7 +15,7 @@ fn sixty_four<R: Net<Stream = TcpStream>>(
 ) -> io::Result<Vec<TcpStream>> {
     let mut streams = Vec::new(alloc);
     for _ in 0..64u32 {
-        let mut stream = TcpStream::connect(rt, addr)?;
+        let mut stream = connected(rt, addr)?;
         let _ = ask_line(alloc, &mut stream, b"get =a\n")?;
         streams.push(stream)?;
     }
@@ -24,7 +24,7 @@ fn sixty_four<R: Net<Stream = TcpStream>>(
 
 // Whether a connection is closed and not answered.
 fn is_closed<R: Net<Stream = TcpStream>>(rt: &R, alloc: Global, addr: SocketAddr) -> bool {
-    let Ok(mut stream) = TcpStream::connect(rt, addr) else {
+    let Ok(mut stream) = connected(rt, addr) else {
         return true;
     };
     match ask_line(alloc, &mut stream, b"flush\n") {
@@ -67,5 +67,36 @@ fn closes_the_sixty_fifth(rt: HostRuntime) -> Result<(), Fail> {
     assert!(rt; closed);
     assert!(rt; served);
     assert_eq!(rt; ended.status, 0);
+    Ok(())
+}
+
+// Sixty-four connections that say nothing and are then closed.
+fn say_nothing<R: Net<Stream = TcpStream>>(
+    rt: &R,
+    alloc: Global,
+    addr: SocketAddr,
+) -> io::Result<usize> {
+    let mut streams = Vec::new(alloc);
+    for _ in 0..64u32 {
+        streams.push(connected(rt, addr)?)?;
+    }
+    Ok(streams.len())
+}
+
+#[test]
+fn ends_sessions_that_say_nothing(rt: HostRuntime) -> Result<(), Fail> {
+    let alloc = rt.alloc();
+    let ended = serve_beside(
+        &rt,
+        alloc,
+        small(alloc)?,
+        None,
+        64,
+        &Open,
+        |addr: SocketAddr| { say_nothing(&rt, alloc, addr) },
+    )?;
+    assert_eq!(rt; ended.got?, 64);
+    assert_eq!(rt; ended.status, 0);
+    assert!(rt; ended.written.as_slice().ends_with(b"\ncalls 0\n"));
     Ok(())
 }

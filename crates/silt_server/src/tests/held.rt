@@ -1,6 +1,6 @@
 // Clients are answered between two steps of the converter.
 
-use crate::tests::{ask_line, reaches, serve_beside, small};
+use crate::tests::{ask_line, connected, reaches, serve_beside, small};
 use silt_desk::{Gate, Spot};
 use silt_device::Disk;
 use std::alloc::Global;
@@ -107,7 +107,7 @@ fn ask_while_held<R: Net<Stream = TcpStream> + Clock>(
     addr: SocketAddr,
     marks: &Marks,
 ) -> io::Result<(bool, Vec<u8>)> {
-    let mut stream = TcpStream::connect(rt, addr)?;
+    let mut stream = connected(rt, addr)?;
     let mut got = Vec::new(alloc);
     for line in FIVE_PUTS.iter() {
         got.extend_from_slice(ask_line(alloc, &mut stream, line)?.as_slice())?;

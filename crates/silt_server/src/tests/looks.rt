@@ -1,6 +1,6 @@
 // Gets of two sessions are looked up side by side.
 
-use crate::tests::{ask_line, reaches, read_line, serve_beside, small};
+use crate::tests::{ask_line, connected, reaches, read_line, serve_beside, small};
 use silt_desk::{Gate, Spot};
 use silt_device::Disk;
 use std::alloc::Global;
@@ -81,8 +81,8 @@ fn ask_both<R: Net<Stream = TcpStream>>(
     addr: SocketAddr,
     reads: &Reads,
 ) -> io::Result<Vec<u8>> {
-    let mut first = TcpStream::connect(rt, addr)?;
-    let mut second = TcpStream::connect(rt, addr)?;
+    let mut first = connected(rt, addr)?;
+    let mut second = connected(rt, addr)?;
     let mut got = ask_line(alloc, &mut first, b"put =a 0102\n")?;
     reads.armed.store(1, Ordering::SeqCst);
     first.write_all(b"get =a\n")?;

@@ -1,7 +1,7 @@
 // Sixty-four sessions at once: each is answered as by a plain map of its own, all calls are recorded, and what was acknowledged is
 // found again.
 
-use crate::tests::{Open, formatted, read_line, serve_beside};
+use crate::tests::{Open, connected, formatted, read_line, serve_beside};
 use silt_device::{Disk, Geometry};
 use silt_store_set::Core;
 use std::alloc::Global;
@@ -13,7 +13,7 @@ use std::test::Fail;
 const SESSIONS: u32 = 64;
 
 // How many commands each session asks.
-const COMMANDS: u32 = 40;
+const COMMANDS: u32 = 200;
 
 /// A connection, and the value that its key should have.
 #[derive(Drop)]
@@ -73,11 +73,11 @@ fn is_full(line: &[u8]) -> bool {
 
 /// What the sessions found.
 #[derive(Clone, Copy, Debug)]
-struct Found {
+pub(crate) struct Found {
     // How many commands were not answered as they should.
-    wrong: u32,
+    pub wrong: u32,
     // How many keys have a value at the end.
-    keys: u32,
+    pub keys: u32,
 }
 
 // How many of the sessions' keys have a value.
@@ -92,7 +92,7 @@ fn count_keys(sessions: &[Session]) -> u32 {
 }
 
 // All sessions ask at once, round by round.
-fn ask_all<R: Net<Stream = TcpStream>>(
+pub(crate) fn ask_all<R: Net<Stream = TcpStream>>(
     rt: &R,
     alloc: Global,
     addr: SocketAddr,
@@ -100,7 +100,7 @@ fn ask_all<R: Net<Stream = TcpStream>>(
     let mut sessions = Vec::new(alloc);
     for number in 0..SESSIONS {
         sessions.push(Session {
-            stream: TcpStream::connect(rt, addr)?,
+            stream: connected(rt, addr)?,
             number,
             value: None,
         })?;

@@ -1,4 +1,4 @@
-use Rattle.std.proofs.Common.{◌≡◌, ◌<◌, refl, sym, ◌∙◌, arith, length}
+use Rattle.std.proofs.Common.{refl, sym, ◌∙◌}
 use Rattle.std.proofs.lemmas.List.{length-set}
 use Rattle.silt_device.specs.Disk.{GaveAny}
 use Rattle.silt_server.proofs.Batches.{performs_end, performs_next, rest_next}

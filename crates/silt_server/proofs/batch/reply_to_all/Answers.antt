@@ -1,4 +1,4 @@
-use Rattle.std.proofs.Common.{◌≡◌, ◌<◌, refl, sym, ◌∙◌, arith, length}
+use Rattle.std.proofs.Common.{refl, sym, ◌∙◌}
 use Rattle.std.proofs.lemmas.List.{length-set}
 use Rattle.silt_server.proofs.Batches.{replies_end, replies_next, rest_next}
 use Rattle.silt_server.proofs.batch.reply_to_all.Goals as goal

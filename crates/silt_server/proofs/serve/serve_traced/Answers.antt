@@ -1,7 +1,10 @@
+use Rattle.std.proofs.Common.{sym}
 use Rattle.silt_server.proofs.serve.serve_traced.Goals as goal
 
 pub returns-in-Some : goal.returns-in-Some
 returns-in-Some g c =
     record {
-      served = λ is. let told = c.serve_desk-desk.ensures.served is in (told.0, _, told.4, (_, c.close-in-Ok.ensures.left));
+      served = λ is. (c.serve_desk-desk.result.0.core, c.serve_desk-desk.result.0.trace, sym c.close-in-Ok.ensures.disk, c.trace.ensures.agrees, c.serve_desk-desk.ensures.served is);
+      told = c.serve_desk-desk.ensures.told;
+      left = (_, c.close-in-Ok.ensures.left);
     }

@@ -1,7 +1,9 @@
 // Connections, each served in a thread of its own.
+ghost use Rattle.std.specs.Prelude.{◌≤◌, IfOk};
 
 use crate::answers::answer;
 use crate::client::{AskBy, Asking, Client};
+use crate::entrance::{Entrance, Listens};
 use crate::job::Job;
 use crate::outlet::Outlet;
 use crate::places::{Place, free_place};
@@ -12,7 +14,7 @@ use silt_inbox::{Inbox, Post};
 use silt_wire::{SessionEnd, session};
 use std::alloc::Global;
 use std::io::{self, ErrorKind};
-use std::net::{TcpListener, TcpStream};
+use std::net::TcpStream;
 use std::sync::atomic::AtomicU64;
 use std::sync::{Mutex, Wait};
 use std::thread;
@@ -29,29 +31,34 @@ fn is_passing(kind: ErrorKind) -> bool {
 // Serves so many sessions, or without end at 0, each in a thread and a place of its own, and returns when all have ended. A connection
 // for which there is no place, or no thread, is closed and not counted. `serve` serves the connection of the place with a number.
 fn accept_sessions<
+    'a,
+    L: Listens,
     S: Sync,
     P: Post + Send + Sync,
     C: Fn(&S, usize) + Sync,
     R: Threads + Wait + Sync,
 >(
     rt: &R,
-    listener: &TcpListener,
+    listener: &'a L,
     places: &[Mutex<Place<P>>],
     shared: &S,
     serve: &C,
     sessions: u32,
-) -> io::Result<()>
+) -> io::Result<Entrance<'a, L>>
     requires { C.IsAlwaysCallable serve.now }
+    ensures { IfOk result (λ entrance. sessions ≤ entrance.accepted) }
 {
     thread::scope(
         thread::scope_env(),
         rt,
-        |scope| -> io::Result<()>
+        |scope| -> io::Result<Entrance<'_, L>>
             requires { C.IsAlwaysCallable serve.now }
+            ensures { IfOk result (λ entrance. sessions ≤ entrance.accepted) }
         {
+            let mut entrance = Entrance::new(listener);
             let mut count = 0u32;
-            for stream in listener.incoming() {
-                let stream = match stream {
+            for _ in rt.forever() {
+                let stream = match entrance.accept() {
                     Ok(stream) => stream,
                     Err(error) if is_passing(error.kind()) => continue,
                     Err(error) => return Err(error),
@@ -71,20 +78,22 @@ fn accept_sessions<
                 }
                 count = count.saturating_add(1);
                 if count == sessions {
-                    return Ok(());
+                    return Ok(entrance);
                 }
             }
-            Ok(())
+            unreachable!()
         },
     )
 }
 
-/// Serves the connections of a listener.
+/// Serves the connections of a listener. At least as many were accepted as sessions were asked for.
 ///
 /// # Errors
 ///
 /// The listener's.
 pub fn accept_clients<
+    'a,
+    L: Listens,
     D: Disk,
     T: Trace + Send + Sync,
     N: Naming + Send + Sync,
@@ -93,13 +102,15 @@ pub fn accept_clients<
 >(
     rt: &R,
     alloc: Global,
-    listener: &TcpListener,
+    listener: &'a L,
     shared: &Shared<D, T, N>,
     inbox: &Inbox<Job, P>,
     places: &[Mutex<Place<P>>],
     value_len: usize,
     sessions: u32,
-) -> io::Result<()> {
+) -> io::Result<Entrance<'a, L>>
+    ensures { IfOk result (λ entrance. sessions ≤ entrance.accepted) }
+{
     let serve = |desk: &Shared<D, T, N>, number: usize| {
         if let Some(place) = places.get(number) {
             serve_session(rt, alloc, desk, inbox, value_len, place);

@@ -1,0 +1,16 @@
+use Rattle.std.proofs.Common.{◌∙◌, ◌++◌, ◌∷◌, [], arith}
+use Rattle.silt_device.specs.Disk.{GaveAny}
+use Rattle.silt_server.proofs.Batches.{batches_more}
+use Rattle.silt_server.proofs.work.writer.Goals as goal
+
+pub loop-preserved : goal.loop-preserved
+loop-preserved g c =
+    let before = c.loop.invariant in
+    let jobs = c.in-Some-take_all.jobs in
+    record {
+      number = c.serve_batch.ensures.number ∙ before.number;
+      batches = (
+        before.batches.0 ++ jobs.items ∷ [],
+        batches_more g.D.Disk.content g.D.Disk.failures (GaveAny g.D.Disk.gave) g.T.Trace.extends g.T.Trace.is_full g.T.Trace.takes_memory _ _ _ _ _ _ before.batches.0 _ _ before.batches.1 c.serve_batch.ensures.batch (omega (arith, c.in-Some-take_all.ensures, jobs.ok.0)),
+      );
+    }

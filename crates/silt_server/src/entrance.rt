@@ -1,0 +1,60 @@
+// Where connections come from.
+ghost use Rattle.std.specs.Prelude.{◌≡◌, ℕ, ◌+◌, ◌<◌, ◌≤◌, ◌^◌, IfOk, MatchResult};
+
+use std::io;
+use std::net::{TcpListener, TcpStream};
+
+/// What gives connections at a port.
+pub trait Listens {
+    /// This is its port.
+    ghost has_port: { Self → ℕ → Type 0 };
+
+    /// The port at which connections are waited for.
+    fn port(&self) -> io::Result<u16>
+        ensures { IfOk result (has_port self.now) };
+
+    /// Waits for a connection.
+    fn wait(&self) -> io::Result<TcpStream>;
+}
+
+impl Listens for TcpListener {
+    ghost has_port = { λ listener port. Unit {0} };
+
+    fn port(&self) -> io::Result<u16> {
+        Ok(self.local_addr()?.port())
+    }
+
+    fn wait(&self) -> io::Result<TcpStream> {
+        let (stream, _) = self.accept()?;
+        Ok(stream)
+    }
+}
+
+/// A listener, and how many connections came from it.
+#[derive(Drop)]
+pub struct Entrance<'a, L: Listens> {
+    listener: &'a L,
+    accepted: u64,
+}
+
+impl<'a, L: Listens> Entrance<'a, L> {
+    /// Nobody has come yet.
+    pub fn new(listener: &'a L) -> Entrance<'a, L>
+        ensures { result.accepted ≡ 0 }
+    {
+        Entrance {
+            listener,
+            accepted: 0,
+        }
+    }
+
+    /// Waits for a connection, and counts it.
+    pub fn accept(&mut self) -> io::Result<TcpStream>
+        ensures more { MatchResult result (λ _. self.old.accepted < 2 ^ 32 → self.new.accepted ≡ self.old.accepted + 1) (λ _. self.new.accepted ≡ self.old.accepted) }
+        ensures least { self.old.accepted ≤ self.new.accepted }
+    {
+        let stream = self.listener.wait()?;
+        self.accepted = self.accepted.saturating_add(1);
+        Ok(stream)
+    }
+}
