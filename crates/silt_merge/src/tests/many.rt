@@ -1,8 +1,7 @@
 // A merge of some hundred keys, whose finished store finds each of them by one read.
-ghost use Rattle.std.specs.Prelude.{◌≡◌, ◌+◌, ◌≤◌, ◌<◌, IfOk, IfSome};
+ghost use Rattle.std.specs.Prelude.{◌≡◌, ◌+◌, ◌≤◌, ◌<◌, IfOk};
 ghost use Rattle.silt_device.specs.Disk.{size};
 ghost use Rattle.silt_device.specs.Layout.{device_size};
-ghost use Rattle.silt_device.specs.Memory.{memory_content};
 
 use super::*;
 
@@ -98,18 +97,18 @@ fn merge_many<D: Disk>(alloc: Global, disk: &mut D, geometry: Geometry) -> Optio
     requires hashes { geometry.hashes ≡ 2 }
     requires capacity { 60 ≤ geometry.sorted_capacity }
     requires size { device_size geometry ≤ size (D.content disk.old) }
-    ensures size { size (D.content disk.new) ≡ size (D.content disk.old) }
-    ensures shape { IfSome result (λ store. store.sorted.shape ≡ geometry) }
+    ensures { size (D.content disk.new) ≡ size (D.content disk.old) }
 {
     let (_outcome, store) = merge_stores(alloc, disk, geometry, 60, 1500)?;
     Some(store)
 }
 
-// The last byte of the value that a store finds for a key, none where it finds none.
-fn found_value<D: Disk>(store: &SortedStore, disk: &D, key: &Key) -> Option<Option<u8>>
-    requires value_len { store.now.sorted.shape.value_len ≡ 2 }
-    requires size { device_size store.now.sorted.shape ≤ size (D.content disk.now) }
-{
+// The last byte of the value of two that a store on this disk finds for a key, none where it finds none.
+fn found_value<D: Disk>(store: &SortedStore, disk: &D, key: &Key) -> Option<Option<u8>> {
+    let geometry = store.geometry();
+    if geometry.value_len() != 2 || geometry.size() > disk.len() {
+        return None;
+    }
     let Some(place) = store.find(disk, key).ok()? else {
         return Some(None);
     };
@@ -119,10 +118,7 @@ fn found_value<D: Disk>(store: &SortedStore, disk: &D, key: &Key) -> Option<Opti
 }
 
 // The first key of whose number the store finds another value than the merge is to give it, or whose neighbour, which no store has, it finds.
-fn first_wrong<D: Disk>(store: &SortedStore, disk: &D) -> Option<u16>
-    requires value_len { store.now.sorted.shape.value_len ≡ 2 }
-    requires size { device_size store.now.sorted.shape ≤ size (D.content disk.now) }
-{
+fn first_wrong<D: Disk>(store: &SortedStore, disk: &D) -> Option<u16> {
     for number in 0..KEYS {
         if found_value(store, disk, &numbered(number, 0)) != Some(merged_value(number)) {
             return Some(number);
@@ -135,10 +131,11 @@ fn first_wrong<D: Disk>(store: &SortedStore, disk: &D) -> Option<u16>
 }
 
 // The number of the first key that the store has and does not find, where the read of this number fails.
-fn first_missed(store: &SortedStore, disk: MemDisk, read: u64) -> Option<u16>
-    requires size { device_size store.now.sorted.shape ≤ size (memory_content disk) }
-{
+fn first_missed(store: &SortedStore, disk: MemDisk, read: u64) -> Option<u16> {
     let disk = FaultDisk::new(disk, Call::Read, read);
+    if store.geometry().size() > disk.len() {
+        return Some(KEYS);
+    }
     for number in 0..KEYS {
         if merged_value(number).is_none() {
             continue;

@@ -1,5 +1,5 @@
 // How many reads a rebuild and a look-up make: the failed read of each number, and whether it is told.
-ghost use Rattle.std.specs.Prelude.{◌≡◌, ◌≤◌};
+ghost use Rattle.std.specs.Prelude.{◌≡◌, ◌<◌, ◌≤◌, IfOk};
 ghost use Rattle.silt_device.specs.Disk.{size};
 ghost use Rattle.silt_device.specs.Layout.{device_size};
 ghost use Rattle.silt_device.specs.Memory.{memory_content};

@@ -1,5 +1,5 @@
 // Look-ups among many entries, beside a plain search in memory.
-ghost use Rattle.std.specs.Prelude.{◌≡◌, ◌+◌, ◌*◌, ◌≤◌, IfOk, length};
+ghost use Rattle.std.specs.Prelude.{◌≡◌, ◌<◌, ◌≤◌, IfOk, length};
 ghost use Rattle.silt_device.specs.Disk.{size};
 ghost use Rattle.silt_device.specs.Layout.{device_size};
 ghost use Rattle.silt_device.specs.Memory.{memory_content};
@@ -53,8 +53,25 @@ fn spread(alloc: Global) -> Result<Vec<Key>, AllocError>
     Ok(keys)
 }
 
-// The first of all keys whose look-up does not answer its place, where the read of this number fails.
-fn first_missed(
+// The first of all keys whose look-up does not answer its place.
+fn first_missed<D: Disk>(alloc: Global, disk: &D, geometry: Geometry, keys: &[Key]) -> Option<usize>
+    requires count { length keys.now ≤ geometry.sorted_capacity }
+    requires size { device_size geometry ≤ size (D.content disk.now) }
+{
+    let Ok(store) = SortedStore::rebuild(alloc, disk, geometry, 1, keys.len() as u32) else {
+        return None;
+    };
+    for (place, key) in keys.iter().enumerate() {
+        match store.find(disk, key) {
+            Ok(Some(found)) if found as usize == place => {}
+            _ => return Some(place),
+        }
+    }
+    None
+}
+
+// As `first_missed`, on this disk, where the read of this number fails.
+fn missed_with_fault(
     alloc: Global,
     disk: MemDisk,
     geometry: Geometry,
@@ -65,16 +82,7 @@ fn first_missed(
     requires size { device_size geometry ≤ size (memory_content disk) }
 {
     let disk = FaultDisk::new(disk, Call::Read, number);
-    let Ok(store) = SortedStore::rebuild(alloc, &disk, geometry, 1, keys.len() as u32) else {
-        return None;
-    };
-    for (place, key) in keys.iter().enumerate() {
-        match store.find(&disk, key) {
-            Ok(Some(found)) if found as usize == place => {}
-            _ => return Some(place),
-        }
-    }
-    None
+    first_missed(alloc, &disk, geometry, keys)
 }
 
 // With one key in each group the rebuild makes one read, and then each look-up one.
@@ -92,7 +100,7 @@ fn each_look_up_makes_one_read(rt: HostRuntime) -> Result<(), Fail> {
         let mut disk = MemDisk::new(rt.alloc(), geometry.size() as usize)?;
         write_keys(&mut disk, &keys)?;
         assert_eq!(rt;
-            first_missed(rt.alloc(), disk, geometry, &keys, number),
+            missed_with_fault(rt.alloc(), disk, geometry, &keys, number),
             want,
             "read {number}"
         );

@@ -133,15 +133,31 @@ fn gets_single<D: Disk>(
     Some(found && *out == *value)
 }
 
-// As `gets_single`, on a disk of its own, where the read of this number fails.
-fn gets_with_fault(alloc: Global, value_len: u32, number: u64) -> Result<Option<bool>, Fail> {
+// As `gets_single`, on this disk, where the read of this number fails.
+fn gets_with_fault(
+    alloc: Global,
+    disk: MemDisk,
+    geometry: Geometry,
+    number: u64,
+    value: &[u8],
+    out: &mut [u8],
+) -> Option<bool>
+    requires count { 1 ≤ geometry.sorted_capacity }
+    requires out { length out.old ≡ geometry.value_len }
+    requires size { device_size geometry ≤ size (memory_content disk) }
+{
+    let disk = FaultDisk::new(disk, Call::Read, number);
+    gets_single(alloc, &disk, geometry, value, out)
+}
+
+// As `gets_with_fault`, on a disk of its own.
+fn gets_long(alloc: Global, value_len: u32, number: u64) -> Result<Option<bool>, Fail> {
     let geometry = single(value_len)?;
     let value = vec![in alloc; 6u8; value_len as usize]?;
     let mut out = vec![in alloc; 0u8; value_len as usize]?;
     let mut disk = MemDisk::new(alloc, geometry.size() as usize)?;
     write_single(&mut disk, geometry, &value)?;
-    let disk = FaultDisk::new(disk, Call::Read, number);
-    Ok(gets_single(alloc, &disk, geometry, &value, &mut out))
+    Ok(gets_with_fault(alloc, disk, geometry, number, &value, &mut out))
 }
 
 // Behind the one read of the rebuild an entry of 512 bytes is one read, and one of 513 bytes is two.
@@ -157,7 +173,7 @@ fn a_failed_read_of_a_get_is_told(rt: HostRuntime) -> Result<(), Fail> {
         (4096, 4, Some(true)),
     ] {
         assert_eq!(rt;
-            gets_with_fault(rt.alloc(), value_len, number)?,
+            gets_long(rt.alloc(), value_len, number)?,
             want,
             "read {number} of a value of {value_len} bytes"
         );

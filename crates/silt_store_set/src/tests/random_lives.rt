@@ -15,7 +15,7 @@ use std::test::Fail;
 const KEYS: usize = 10;
 
 // How many lives there are, and how many events a life has at most.
-const LIVES: u32 = 300;
+const LIVES: u32 = 100;
 
 const EVENTS: u32 = 120;
 
@@ -234,7 +234,7 @@ fn all_lives(rt: &impl Abort, alloc: Global, geometry: Geometry, seed: u32) -> R
         number = last;
     }
     let report = check(alloc, &disk).ok().ok_or("is whole")?;
-    assert!(rt; 300 < report.generation, "{}", report.generation);
+    assert!(rt; 50 < report.generation, "{}", report.generation);
     Ok(())
 }
 
