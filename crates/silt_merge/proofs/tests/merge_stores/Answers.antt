@@ -21,5 +21,5 @@ run_steps-outcome-requires-clause-shapes g c κs within =
     let stores : c.in_ok-merge.merge.stores ≡ 2 = ap MergeState.stores merge in
     let same = λ (store : HashState). store.shape ≡ c.in_ok-merge.merge.shape in
     subst (λ (count : ℕ). All same (oldest_stores count (c.in_ok-newest.newest.store ∷ c.in_ok-older.older.store ∷ []))) (sym stores)
-      (All-cons same c.in_ok-newest.newest.store (c.in_ok-older.older.store ∷ []) (newest ∙ sym shape)
-        (All-cons same c.in_ok-older.older.store [] (older ∙ sym shape) (All-nil same)))
+    (All-cons same c.in_ok-newest.newest.store (c.in_ok-older.older.store ∷ []) (newest ∙ sym shape)
+    (All-cons same c.in_ok-older.older.store [] (older ∙ sym shape) (All-nil same)))
