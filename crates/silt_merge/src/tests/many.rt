@@ -184,7 +184,10 @@ fn each_look_up_after_a_merge_makes_one_read(rt: HostRuntime) -> Result<(), Fail
         let Some(store) = merge_many(alloc, &mut disk, geometry) else {
             return Err(Fail::new("no merge"));
         };
-        assert_eq!(rt; first_missed(&store, disk, count_merged() + further), want);
+        assert_eq!(rt;
+            first_missed(&store, disk, count_merged().saturating_add(further)),
+            want
+        );
     }
     Ok(())
 }
