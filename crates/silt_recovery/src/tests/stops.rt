@@ -181,6 +181,9 @@ fn got(
 ) -> Result<(Option<bool>, [u8; 2]), Fail> {
     let disk = FaultDisk::new(MemDisk::with_bytes(alloc, bytes)?, Call::Read, number);
     let opened = open(alloc, disk).ok().ok_or("opens")?;
+    if opened.stores.geometry().value_len() != 2 {
+        return Err("values of two bytes".into());
+    }
     let mut value = [0; 2];
     let answer = opened.stores.get(&opened.disk, &key, &mut value);
     Ok((answer.ok(), value))
