@@ -1,10 +1,11 @@
 // What the calls of many sessions were recorded as is done again by a plain map.
-ghost use Rattle.std.specs.Prelude.{◌≡◌};
+ghost use Rattle.std.specs.Prelude.{◌≡◌, []};
 ghost use Rattle.silt_desk.specs.Seeing.{seen};
+ghost use Rattle.silt_desk.specs.Traces.{IsHistory};
 
 use crate::Listens;
 use crate::serve::{Hall, serve_desk};
-use crate::tests::record::ask_all;
+use crate::tests::record::{Found, ask_all};
 use crate::tests::{Open, Patient, formatted};
 use silt_desk::{Desk, Kept, Naming, RecordedCall};
 use silt_device::{Disk, Geometry, MemDisk};
@@ -147,7 +148,7 @@ fn serve_recorded<
     requires accepted { (desk_blanks.1.name ≡ N.accepted_name) × (desk_blanks.1.parts ≡ N.seats) }
     requires put { (inbox_blanks.0.name ≡ P.put_name) × (inbox_blanks.0.parts ≡ P.feeders) × (P.feeders ≡ 64) }
     requires taken { (inbox_blanks.1.name ≡ P.taken_name) × (inbox_blanks.1.parts ≡ 1) }
-    requires trace { Kept.agrees kept (seen D.content core) × Kept.counts kept 0 0 }
+    requires trace { IsHistory kept (seen D.content core) × (kept.calls ≡ []) }
 {
     let (calls, accepted) = desk_blanks;
     let (put, taken) = inbox_blanks;
@@ -167,7 +168,9 @@ fn serve_kept<L: Listens, R: Threads + Wait + Sync>(
     sessions: u32,
 ) -> Option<(Told, u8)> {
     let core = Core::open(alloc, disk).ok()?;
-    let kept = Kept::new(alloc, &core, 400_000).ok()?;
+    let Ok(kept) = Kept::new(alloc, &core, 400_000) else {
+        return None;
+    };
     let mut written = Vec::new(alloc);
     serve_recorded::<L, MemDisk, Brand, Brand, R, Vec<u8>>(
         rt,
@@ -182,22 +185,30 @@ fn serve_kept<L: Listens, R: Threads + Wait + Sync>(
     )
 }
 
+/// A server of sixty-four sessions, which ask at once, and what its record tells.
+fn serve_all<R: Net<Listener = TcpListener, Stream = TcpStream> + Clock + Threads + Wait + Sync>(
+    rt: &R,
+    alloc: Global,
+    disk: MemDisk,
+) -> Result<(Option<(Told, u8)>, Found), Fail> {
+    let listener = TcpListener::bind(rt, ("127.0.0.1", 0u16))?;
+    let addr = listener.local_addr()?;
+    let listener = Patient { rt, listener };
+    let (served, asked) = thread::join(
+        rt,
+        || serve_kept(rt, alloc, &listener, disk, 64),
+        || ask_all(rt, alloc, addr),
+    );
+    Ok((served, asked?))
+}
+
 #[test]
 fn records_what_a_plain_map_does(rt: HostRuntime) -> Result<(), Fail> {
     let alloc = rt.alloc();
     let geometry = Geometry::new(2, 16, 64, 8, 16, 4000)
         .ok()
         .ok_or("in limits")?;
-    let disk = formatted(alloc, geometry)?;
-    let listener = TcpListener::bind(&rt, ("127.0.0.1", 0u16))?;
-    let addr = listener.local_addr()?;
-    let listener = Patient { rt: &rt, listener };
-    let (served, asked) = thread::join(
-        &rt,
-        || serve_kept(&rt, alloc, &listener, disk, 64),
-        || ask_all(&rt, alloc, addr),
-    );
-    let found = asked?;
+    let (served, found) = serve_all(&rt, alloc, formatted(alloc, geometry)?)?;
     let (told, status) = served.ok_or("served")?;
     assert_eq!(rt; status, 0);
     assert_eq!(rt; (found.wrong, told.wrong), (0, 0));
