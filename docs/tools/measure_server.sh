@@ -3,13 +3,13 @@
 #
 #     sh docs/tools/measure_server.sh [PROGRAM [SECONDS]]
 #
-# PROGRAM is silt, built (else ./silt at the top), SECONDS how long each run lasts (else 5). It needs cc, and 200 MB in the folder that TMPDIR
+# PROGRAM is silt, built (else ./silt at the top), SECONDS how long each run lasts (else 3). It needs cc, and 200 MB in the folder that TMPDIR
 # names (else /tmp): the file is made there, so that folder's disk is what is measured. Leave the machine alone while it runs.
 set -eu
 
 top=$(cd "$(dirname "$0")/../.." && pwd)
 silt=${1:-$top/silt}
-seconds=${2:-5}
+seconds=${2:-3}
 value_len=100
 dir=$(mktemp -d)
 server=
@@ -34,7 +34,7 @@ port_of_server() {
 # background, and the calls that the server counts are the puts and the flushes. Gets are no calls.
 run() {
     rm -f "$dir/store"
-    "$silt" format "$dir/store" $value_len 65536 262144 2 1 262144 >"$dir/formatted"
+    "$silt" format "$dir/store" $value_len 32768 131072 2 1 131072 >"$dir/formatted"
     : >"$dir/told"
     "$silt" serve "$dir/store" 0 --sessions $(($1 + $2)) >"$dir/told" &
     server=$!
