@@ -16,9 +16,10 @@ job_ended (Ok status) wrap (inr told) done = wrap status (inr told)
 job_ended (Err error) wrap told done = tt
 
 -- no job was read
-pub unread : (words : List (List ℕ)) (error : WordsError) → (error ≡ Usage → job_named words ≡ None) → IsUnread words error
-unread words Usage none = none refl
-unread words NoMemory none = tt
+pub unread : (told : List (List ℕ) → Type 0) (words : List (List ℕ)) (error : WordsError) → (error ≡ Usage → job_named words ≡ None) → (error ≡ Usage → told words)
+    → IsUnread told words error
+unread told words Usage none noted = (none refl, noted refl)
+unread told words NoMemory none noted = tt
 
 -- what holds at a status that is no failure of the reader or the writer
 pub at_status : {E : Type 0} (P : ℕ → Type 0) (ended : Result ℕ E) (result status : ℕ) → result ≡ result_unwrap_or ended 1 → (status ≡ 1 → ⊥) → result ≡ status → IfOk ended P → P status
@@ -34,11 +35,11 @@ done_at_0 Named Done Told Unread status before after is (inl (job, named, inr h)
 done_at_0 Named Done Told Unread status before after is (inr (Usage, cause, told)) = absurd (omega (arith, is, told.0))
 done_at_0 Named Done Told Unread status before after is (inr (NoMemory, cause, told)) = absurd (omega (arith, is, told.0))
 
--- with 2 the words name no job
-pub usage_at_2 : {A : Type 0} (Named Done Told : A → Type 0) (words : List (List ℕ)) (status : ℕ) (before after : Option (List ℕ)) → status ≡ 2
-    → ((job : A) × Named job × (((status ≡ 0) × Done job) ⊎ ((status ≡ 1) × Told job))) ⊎ ((error : WordsError) × IsUnread words error × TellsWords error status before after)
-    → (job_named words ≡ None) × Appends before after (codes "usage\n")
-usage_at_2 Named Done Told words status before after is (inl (job, named, inl h)) = absurd (omega (arith, is, h.0))
-usage_at_2 Named Done Told words status before after is (inl (job, named, inr h)) = absurd (omega (arith, is, h.0))
-usage_at_2 Named Done Told words status before after is (inr (Usage, cause, told)) = (cause, told.1)
-usage_at_2 Named Done Told words status before after is (inr (NoMemory, cause, told)) = absurd (omega (arith, is, told.0))
+-- with 2 the words name no job, and why was told
+pub usage_at_2 : {A : Type 0} (Named Done Told : A → Type 0) (told_words : List (List ℕ) → Type 0) (words : List (List ℕ)) (status : ℕ) (before after : Option (List ℕ)) → status ≡ 2
+    → ((job : A) × Named job × (((status ≡ 0) × Done job) ⊎ ((status ≡ 1) × Told job))) ⊎ ((error : WordsError) × IsUnread told_words words error × TellsWords error status before after)
+    → (job_named words ≡ None) × told_words words × Appends before after (codes "usage\n")
+usage_at_2 Named Done Told told_words words status before after is (inl (job, named, inl h)) = absurd (omega (arith, is, h.0))
+usage_at_2 Named Done Told told_words words status before after is (inl (job, named, inr h)) = absurd (omega (arith, is, h.0))
+usage_at_2 Named Done Told told_words words status before after is (inr (Usage, cause, told)) = (cause.0, cause.1, told.1)
+usage_at_2 Named Done Told told_words words status before after is (inr (NoMemory, cause, told)) = absurd (omega (arith, is, told.0))

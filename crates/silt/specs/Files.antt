@@ -1,5 +1,5 @@
 -- What the jobs on the disk of a path do.
-use Rattle.std.specs.Prelude.{◌≡◌, ◌⊎◌, ℕ, List, Option, Some}
+use Rattle.std.specs.Prelude.{◌≡◌, ◌⊎◌, ℕ, List, IsSome, Option, Some}
 use Rattle.std.specs.Option.{IsSomeAnd}
 use Rattle.silt_device.specs.Disk.{Content, size}
 use Rattle.silt_device.specs.Layout.{InLimits, Shape, device_size}
@@ -8,7 +8,7 @@ use Rattle.silt_server.specs.Serving.{IsServed}
 use Rattle.silt_wire.specs.declared.sessions.SessionEnd.TheVariants.{End}
 use Rattle.silt.specs.Jobs.{BreaksRun, EndsCheck, EndsFormat, EndsRun, Tells, TellsCheck, TellsFormat, TellsOpening}
 
--- it was written that the source gave no disk
+-- it was written that the source gave no disk, and for a cause
 abbrev pub TellsNoDisk : {E : Type 0} → (E → Type 0) → Option (List ℕ) → Option (List ℕ) → Type 0
 TellsNoDisk {E} IsCause before after = (error : E) × IsCause error × Tells (Device (tt {0})) before after
 
@@ -18,18 +18,18 @@ module _ {D F : Type 0} (content : D → Content) (failures : D → ℕ) (gave :
   RunsFile Opened given remaining left before after =
       (old : D) × Opened old × IsSomeAnd given (λ new. EndsRun content failures gave End old new remaining left before after)
 
-module _ {D F E : Type 0} (content : D → Content) (failures : D → ℕ) (gave : D → F → Type 0) (Opened : D → Type 0) (NotOpened : E → Type 0) where
+module _ {D F E : Type 0} (content : D → Content) (failures : D → ℕ) (gave : D → F → Type 0) (told : F → Type 0) (Opened : D → Type 0) (NotOpened : E → Type 0) where
   -- it was written that the source opened no disk, or why the store was not taken up from the one that it opened, or the session on it broke off
   abbrev pub TellsRunFile : Option D → Option (List ℕ) → Option (List ℕ) → Option (List ℕ) → Option (List ℕ) → Type 0
   TellsRunFile given remaining left before after =
       TellsNoDisk NotOpened before after ⊎ ((old : D) × Opened old
-      × IsSomeAnd given (λ new. TellsOpening content gave old new before after ⊎ BreaksRun content failures gave old new remaining left before after))
+      × IsSomeAnd given (λ new. TellsOpening content gave told old new before after ⊎ BreaksRun content failures gave old new remaining left before after))
 
-module _ {D F E : Type 0} (content : D → Content) (gave : D → F → Type 0) (Opened : D → Type 0) (NotOpened : E → Type 0) where
+module _ {D F E : Type 0} (content : D → Content) (gave : D → F → Type 0) (told : F → Type 0) (Opened : D → Type 0) (NotOpened : E → Type 0) where
   -- it was written that the source opened no disk, or what is wrong with the one that it opened, which is given back
   abbrev pub TellsCheckFile : Option D → Option (List ℕ) → Option (List ℕ) → Type 0
   TellsCheckFile given before after =
-      TellsNoDisk NotOpened before after ⊎ ((disk : D) × Opened disk × (given ≡ Some disk) × TellsCheck content gave disk before after)
+      TellsNoDisk NotOpened before after ⊎ ((disk : D) × Opened disk × (given ≡ Some disk) × TellsCheck content gave told disk before after)
 
 -- the report of a disk that the source opened was written, and the disk is given back
 abbrev pub ChecksFile : {D : Type 0} → (D → Content) → (D → Type 0) → Option D → Option (List ℕ) → Option (List ℕ) → Type 0
@@ -39,16 +39,16 @@ ChecksFile {D} content Opened given before after = (disk : D) × Opened disk × 
 abbrev pub ServesFile : {D : Type 0} → (D → Content) → (D → Type 0) → Option D → Option (List ℕ) → Option (List ℕ) → Type 0
 ServesFile {D} content Opened given before after = (old : D) × Opened old × IsSomeAnd given (λ new. IsServed (content new) before after)
 
--- of what is written where nothing is served, or the network failed, nothing is said
-abbrev pub TellsServeFile : Type 0
-TellsServeFile = Unit {0}
+-- it was written that the source opened no disk, or a disk that it opened is given back; of what is then written nothing is said
+abbrev pub TellsServeFile : {D E : Type 0} → (D → Type 0) → (E → Type 0) → Option D → Option (List ℕ) → Option (List ℕ) → Type 0
+TellsServeFile {D} Opened NotOpened given before after = TellsNoDisk NotOpened before after ⊎ ((old : D) × Opened old × IsSome given)
 
 -- a disk that the source made at exactly the length of this shape is an empty store, and is given back
 abbrev pub FormatsFile : {D : Type 0} → (D → Content) → (ℕ → D → Type 0) → Shape → Option D → Option (List ℕ) → Option (List ℕ) → Type 0
 FormatsFile {D} content Created shape given before after =
     (old : D) × Created (device_size shape) old × IsSomeAnd given (λ new. EndsFormat content shape new before after)
 
-module _ {D F E : Type 0} (content : D → Content) (gave : D → F → Type 0) (Created : ℕ → D → Type 0) (NotCreated : ℕ → E → Type 0) (shape : Shape) where
+module _ {D F E : Type 0} (content : D → Content) (gave : D → F → Type 0) (told : F → Type 0) (Created : ℕ → D → Type 0) (NotCreated : ℕ → E → Type 0) (shape : Shape) where
   -- it was written that a number is out of its limits, that the source made no disk of the length of this shape, or why the one that it made was
   -- not formatted
   abbrev pub TellsFormatFile : Option D → Option (List ℕ) → Option (List ℕ) → Type 0
@@ -56,4 +56,4 @@ module _ {D F E : Type 0} (content : D → Content) (gave : D → F → Type 0) 
       ((¬ InLimits shape) × Tells {F = Unit {0}} BadGeometry before after)
       ⊎ ((InLimits shape × TellsNoDisk (NotCreated (device_size shape)) before after)
       ⊎ (InLimits shape × ((old : D) × Created (device_size shape) old × (size (content old) ≡ device_size shape)
-      × IsSomeAnd given (λ new. TellsFormat content gave shape old new before after))))
+      × IsSomeAnd given (λ new. TellsFormat content gave told shape old new before after))))

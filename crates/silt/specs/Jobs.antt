@@ -21,6 +21,7 @@ use Rattle.silt_wire.specs.Reports.{report_text}
 use Rattle.silt_wire.specs.Sessions.{Ends}
 use Rattle.silt_wire.specs.declared.sessions.SessionEnd.{SessionEnd}
 use Rattle.silt_wire.specs.declared.sessions.SessionEnd.TheVariants.{End}
+use Rattle.silt.specs.Notes.{IsTold}
 use Rattle.silt.specs.Scripts.{reply_line}
 
 -- the length of a device that was formatted, in bytes
@@ -62,18 +63,19 @@ abbrev pub EndsFormat : {D : Type 0} → (D → Content) → Shape → D → Opt
 EndsFormat content shape new before after =
     (size (content new) ≡ device_size shape) × LeavesOnly (content new) (StandsFor shape empty) × Appends before after (formatted_line (device_size shape))
 
-module _ {D F : Type 0} (content : D → Content) (gave : D → F → Type 0) where
-  -- it was written that the store was not taken up from the disk, for its cause
+module _ {D F : Type 0} (content : D → Content) (gave : D → F → Type 0) (told : F → Type 0) where
+  -- it was written that the store was not taken up from the disk, for its cause, and a fault was told
   abbrev pub TellsOpening : D → D → Option (List ℕ) → Option (List ℕ) → Type 0
-  TellsOpening old new before after = (refusal : Refusal F) × OpeningCause content gave (content old) new refusal × Tells refusal before after
+  TellsOpening old new before after = (refusal : Refusal F) × OpeningCause content gave (content old) new refusal × Tells refusal before after × IsTold told refusal
 
-  -- it was written what is wrong with the disk, or that it could not be looked at, for its cause
+  -- it was written what is wrong with the disk, or that it could not be looked at, for its cause, and a fault was told
   abbrev pub TellsCheck : D → Option (List ℕ) → Option (List ℕ) → Type 0
   TellsCheck disk before after =
       (error : OpenError F) × IsRefusedLook (λ finding. IsTrue (content disk).honest → IsFound (content disk).shown finding) (gave disk) error
-      × Tells (refusal_of_opening error) before after
+      × Tells (refusal_of_opening error) before after × IsTold told (refusal_of_opening error)
 
-  -- it was written that the disk was not formatted, for its cause
+  -- it was written that the disk was not formatted, for its cause, and a fault was told
   abbrev pub TellsFormat : Shape → D → D → Option (List ℕ) → Option (List ℕ) → Type 0
   TellsFormat shape old new before after =
       (error : FormatError F) × FormatCause content gave shape old new error × Tells (refusal_of_formatting error) before after
+      × IsTold told (refusal_of_formatting error)

@@ -1,6 +1,7 @@
 pub mod Files
 pub mod Jobs
 pub mod NewStores
+pub mod Notes
 pub mod Numbers
 pub mod Programs
 pub mod Scripts

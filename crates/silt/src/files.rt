@@ -8,8 +8,9 @@ ghost use Rattle.silt.specs.Numbers.{shape_asked};
 
 use crate::geometry::geometry_of;
 use crate::jobs::{check_on, format_on, run_on};
+use crate::notes::{FaultNotes, SourceNotes};
 use crate::refusal::refuse;
-use silt_device::DiskSource;
+use silt_device::{Disk, DiskSource};
 use silt_store_set::{Refusal, Served};
 use silt_words::Numbers;
 use std::alloc::Global;
@@ -22,15 +23,21 @@ use std::io::{self, Read, Write};
 /// # Errors
 ///
 /// The writer's, and want of memory for the text.
-pub fn format_file<S: DiskSource, W: Write>(
+pub fn format_file<
+    S: DiskSource,
+    W: Write,
+    N: SourceNotes<S::Error> + FaultNotes<<S::Disk as Disk>::Fault>,
+>(
     alloc: Global,
     source: S,
     path: &str,
     numbers: &Numbers,
     writer: &mut W,
+    notes: &mut N,
 ) -> (Option<S::Disk>, io::Result<u8>)
     ensures refused { ¬ InLimits (shape_asked numbers.now) → IfOk result.1 (λ status. (status ≡ 1) × Appends (W.contents writer.old) (W.contents writer.new) (codes "refused 2 BadGeometry\n")) }
-    ensures told { IfOk result.1 (λ status. (status ≡ 0) ⊎ ((status ≡ 1) × TellsFormatFile S.Disk.Disk.content (GaveAny S.Disk.Disk.gave) (S.created source path.now) (S.not_created source path.now) (shape_asked numbers.now) result.0 (W.contents writer.old) (W.contents writer.new))) }
+    ensures told { IfOk result.1 (λ status. (status ≡ 0) ⊎ ((status ≡ 1) × TellsFormatFile S.Disk.Disk.content (GaveAny S.Disk.Disk.gave) (N.told_fault notes.old notes.new path.now) (S.created source path.now)
+        (λ len error. S.not_created source path.now len error × N.told_error notes.old notes.new path.now error) (shape_asked numbers.now) result.0 (W.contents writer.old) (W.contents writer.new))) }
     ensures formatted { result.1 ≡ Ok 0 → FormatsFile S.Disk.Disk.content (S.created source path.now) (shape_asked numbers.now) result.0 (W.contents writer.old) (W.contents writer.new) }
 {
     let Ok(geometry) = geometry_of(numbers) else {
@@ -38,10 +45,13 @@ pub fn format_file<S: DiskSource, W: Write>(
     };
     match source.create(path, geometry.size()) {
         Ok(disk) => {
-            let (disk, status) = format_on(alloc, disk, geometry, writer);
+            let (disk, status) = format_on(alloc, disk, geometry, path, writer, notes);
             (Some(disk), status)
         }
-        Err(_) => (None, refuse(alloc, &Refusal::Device(()), writer)),
+        Err(error) => {
+            notes.tell_error(path, &error);
+            (None, refuse(alloc, &Refusal::Device(()), writer))
+        }
     }
 }
 
@@ -51,47 +61,66 @@ pub fn format_file<S: DiskSource, W: Write>(
 /// # Errors
 ///
 /// The writer's, before the first line is read, and want of memory for the text of a refusal.
-pub fn run_file<S: DiskSource, R: Read, W: Write>(
+pub fn run_file<
+    S: DiskSource,
+    R: Read,
+    W: Write,
+    N: SourceNotes<S::Error> + FaultNotes<<S::Disk as Disk>::Fault>,
+>(
     alloc: Global,
     source: S,
     path: &str,
     reader: &mut R,
     writer: &mut W,
+    notes: &mut N,
 ) -> (Option<S::Disk>, io::Result<u8>)
 where
     S::Disk: Served,
-    ensures told { IfOk result.1 (λ status. (status ≡ 0) ⊎ ((status ≡ 1) × TellsRunFile S.Disk.Disk.content S.Disk.Disk.failures (GaveAny S.Disk.Disk.gave) (S.opened source path.now) (S.not_opened source path.now) result.0 (R.remaining reader.old) (R.remaining reader.new) (W.contents writer.old) (W.contents writer.new))) }
+    ensures told { IfOk result.1 (λ status. (status ≡ 0) ⊎ ((status ≡ 1) × TellsRunFile S.Disk.Disk.content S.Disk.Disk.failures (GaveAny S.Disk.Disk.gave) (N.told_fault notes.old notes.new path.now) (S.opened source path.now)
+        (λ error. S.not_opened source path.now error × N.told_error notes.old notes.new path.now error) result.0 (R.remaining reader.old) (R.remaining reader.new) (W.contents writer.old) (W.contents writer.new))) }
     ensures answered { result.1 ≡ Ok 0 → RunsFile S.Disk.Disk.content S.Disk.Disk.failures (GaveAny S.Disk.Disk.gave) (S.opened source path.now) result.0 (R.remaining reader.old) (R.remaining reader.new) (W.contents writer.old) (W.contents writer.new) }
 {
     match source.open(path) {
         Ok(disk) => {
-            let (disk, status) = run_on(alloc, disk, reader, writer);
+            let (disk, status) = run_on(alloc, disk, path, reader, writer, notes);
             (Some(disk), status)
         }
-        Err(_) => (None, refuse(alloc, &Refusal::Device(()), writer)),
+        Err(error) => {
+            notes.tell_error(path, &error);
+            (None, refuse(alloc, &Refusal::Device(()), writer))
+        }
     }
 }
 
-/// Writes what the store on the disk of a path consists of, in numbers. Answers the disk and the status: 0 after the report, 1
+/// Writes what the store on the disk of a path consists of, in numbers: the disk is opened to be read beside others. Answers the disk and the status: 0 after the report, 1
 /// where the disk is not opened or is refused.
 ///
 /// # Errors
 ///
 /// The writer's, and want of memory for the text.
-pub fn check_file<S: DiskSource, W: Write>(
+pub fn check_file<
+    S: DiskSource,
+    W: Write,
+    N: SourceNotes<S::Error> + FaultNotes<<S::Disk as Disk>::Fault>,
+>(
     alloc: Global,
     source: S,
     path: &str,
     writer: &mut W,
+    notes: &mut N,
 ) -> (Option<S::Disk>, io::Result<u8>)
-    ensures told { IfOk result.1 (λ status. (status ≡ 0) ⊎ ((status ≡ 1) × TellsCheckFile S.Disk.Disk.content (GaveAny S.Disk.Disk.gave) (S.opened source path.now) (S.not_opened source path.now) result.0 (W.contents writer.old) (W.contents writer.new))) }
-    ensures reported { result.1 ≡ Ok 0 → ChecksFile S.Disk.Disk.content (S.opened source path.now) result.0 (W.contents writer.old) (W.contents writer.new) }
+    ensures told { IfOk result.1 (λ status. (status ≡ 0) ⊎ ((status ≡ 1) × TellsCheckFile S.Disk.Disk.content (GaveAny S.Disk.Disk.gave) (N.told_fault notes.old notes.new path.now) (S.shared source path.now)
+        (λ error. S.not_shared source path.now error × N.told_error notes.old notes.new path.now error) result.0 (W.contents writer.old) (W.contents writer.new))) }
+    ensures reported { result.1 ≡ Ok 0 → ChecksFile S.Disk.Disk.content (S.shared source path.now) result.0 (W.contents writer.old) (W.contents writer.new) }
 {
-    match source.open(path) {
+    match source.open_shared(path) {
         Ok(disk) => {
-            let status = check_on(alloc, &disk, writer);
+            let status = check_on(alloc, &disk, path, writer, notes);
             (Some(disk), status)
         }
-        Err(_) => (None, refuse(alloc, &Refusal::Device(()), writer)),
+        Err(error) => {
+            notes.tell_error(path, &error);
+            (None, refuse(alloc, &Refusal::Device(()), writer))
+        }
     }
 }

@@ -7,6 +7,7 @@ ghost use Rattle.silt_wire.specs.declared.sessions.SessionEnd.{SessionEnd as Ses
 ghost use Rattle.silt_wire.specs.declared.sessions.SessionEnd.TheVariants.{End};
 ghost use Rattle.silt.specs.Jobs.{AnswersReader, BreaksRun, EndsCheck, EndsFormat, EndsRun, TellsCheck, TellsFormat, TellsOpening, formatted_line, status_of};
 
+use crate::notes::{FaultNotes, tell_refusal};
 use crate::refusal::refuse;
 use silt_device::{Disk, Geometry};
 use silt_recovery::{check, format};
@@ -15,20 +16,22 @@ use silt_wire::{SessionEnd, session, write_report};
 use std::alloc::Global;
 use std::io::{self, Read, Write};
 
-/// One life of the store on a disk: it is taken up, and answers the reader's lines to their end. Nothing is flushed at the end.
+/// One life of the store on the disk of a file: it is taken up, and answers the reader's lines to their end. Nothing is flushed at the end.
 /// Gives the disk back, and the status: 0 at the end of the lines, 1 where the store is not taken up, and where its session ends
 /// before: where a read or write fails, or memory is wanted for a line or for the text of a reply.
 ///
 /// # Errors
 ///
 /// The writer's, before the first line is read, and want of memory for the text of a refusal.
-pub fn run_on<D: Served, R: Read, W: Write>(
+pub fn run_on<D: Served, R: Read, W: Write, N: FaultNotes<D::Fault>>(
     alloc: Global,
     disk: D,
+    file: &str,
     reader: &mut R,
     writer: &mut W,
+    notes: &mut N,
 ) -> (D, io::Result<u8>)
-    ensures told { IfOk result.1 (λ status. (status ≡ 0) ⊎ ((status ≡ 1) × (TellsOpening D.content (GaveAny D.gave) disk result.0 (W.contents writer.old) (W.contents writer.new)
+    ensures told { IfOk result.1 (λ status. (status ≡ 0) ⊎ ((status ≡ 1) × (TellsOpening D.content (GaveAny D.gave) (N.told_fault notes.old notes.new file.now) disk result.0 (W.contents writer.old) (W.contents writer.new)
         ⊎ BreaksRun D.content D.failures (GaveAny D.gave) disk result.0 (R.remaining reader.old) (R.remaining reader.new) (W.contents writer.old) (W.contents writer.new)))) }
     ensures answered { result.1 ≡ Ok 0 → EndsRun D.content D.failures (GaveAny D.gave) End disk result.0
         (R.remaining reader.old) (R.remaining reader.new) (W.contents writer.old) (W.contents writer.new) }
@@ -39,6 +42,7 @@ pub fn run_on<D: Served, R: Read, W: Write>(
             (core.close(), status)
         }
         Err(fault) => {
+            tell_refusal(file, &fault.refusal, notes);
             let status = refuse(alloc, &fault.refusal, writer);
             (fault.disk, status)
         }
@@ -72,13 +76,19 @@ fn status_of(end: SessionEnd) -> u8
     }
 }
 
-/// Writes what the store on a disk consists of, in numbers. Answers the status: 0 after the report, 1 where the device is refused.
+/// Writes what the store on the disk of a file consists of, in numbers. Answers the status: 0 after the report, 1 where the device is refused.
 ///
 /// # Errors
 ///
 /// The writer's, and want of memory for the text.
-pub fn check_on<D: Disk, W: Write>(alloc: Global, disk: &D, writer: &mut W) -> io::Result<u8>
-    ensures told { IfOk result (λ status. (status ≡ 0) ⊎ ((status ≡ 1) × TellsCheck D.content (GaveAny D.gave) disk.now (W.contents writer.old) (W.contents writer.new))) }
+pub fn check_on<D: Disk, W: Write, N: FaultNotes<D::Fault>>(
+    alloc: Global,
+    disk: &D,
+    file: &str,
+    writer: &mut W,
+    notes: &mut N,
+) -> io::Result<u8>
+    ensures told { IfOk result (λ status. (status ≡ 0) ⊎ ((status ≡ 1) × TellsCheck D.content (GaveAny D.gave) (N.told_fault notes.old notes.new file.now) disk.now (W.contents writer.old) (W.contents writer.new))) }
     ensures reported { result ≡ Ok 0 → EndsCheck D.content disk.now (W.contents writer.old) (W.contents writer.new) }
 {
     match check(alloc, disk) {
@@ -87,29 +97,37 @@ pub fn check_on<D: Disk, W: Write>(alloc: Global, disk: &D, writer: &mut W) -> i
             writer.flush()?;
             Ok(0)
         }
-        Err(error) => refuse(alloc, &Refusal::from(error), writer),
+        Err(error) => {
+            let refusal = Refusal::from(error);
+            tell_refusal(file, &refusal, notes);
+            refuse(alloc, &refusal, writer)
+        }
     }
 }
 
-/// Makes an empty store of this geometry of a disk, and writes the disk's length. Gives the disk back, and the status: 0 after
+/// Makes an empty store of this geometry of the disk of a file, and writes the disk's length. Gives the disk back, and the status: 0 after
 /// the length, 1 where the disk is not formatted.
 ///
 /// # Errors
 ///
 /// The writer's, and want of memory for the text. The disk may be formatted then.
-pub fn format_on<D: Disk, W: Write>(
+pub fn format_on<D: Disk, W: Write, N: FaultNotes<D::Fault>>(
     alloc: Global,
     disk: D,
     geometry: Geometry,
+    file: &str,
     writer: &mut W,
+    notes: &mut N,
 ) -> (D, io::Result<u8>)
-    ensures told { IfOk result.1 (λ status. (status ≡ 0) ⊎ ((status ≡ 1) × TellsFormat D.content (GaveAny D.gave) geometry disk result.0 (W.contents writer.old) (W.contents writer.new))) }
+    ensures told { IfOk result.1 (λ status. (status ≡ 0) ⊎ ((status ≡ 1) × TellsFormat D.content (GaveAny D.gave) (N.told_fault notes.old notes.new file.now) geometry disk result.0 (W.contents writer.old) (W.contents writer.new))) }
     ensures formatted { result.1 ≡ Ok 0 → EndsFormat D.content geometry result.0 (W.contents writer.old) (W.contents writer.new) }
 {
     match format(alloc, disk, geometry) {
         Ok(disk) => (disk, write_formatted(alloc, geometry.size(), writer)),
         Err(fault) => {
-            let status = refuse(alloc, &Refusal::from(fault.error), writer);
+            let refusal = Refusal::from(fault.error);
+            tell_refusal(file, &refusal, notes);
+            let status = refuse(alloc, &refusal, writer);
             (fault.disk, status)
         }
     }

@@ -16,6 +16,7 @@
 mod files;
 mod geometry;
 mod jobs;
+mod notes;
 mod program;
 mod refusal;
 mod script;
@@ -24,7 +25,9 @@ mod service;
 #[cfg(test)]
 mod tests;
 mod transcript;
+mod usage;
 
+use notes::NoteLines;
 use program::{program, refuse_words, status_of};
 use silt_device::FileDisks;
 use silt_words::WordsError;
@@ -42,6 +45,7 @@ fn main(rt: HostRuntime) -> ExitCode {
             words.as_slice(),
             &mut rt.reader(),
             &mut writer,
+            &mut NoteLines::new(rt.stderr()),
         ),
         Err(error) => status_of(refuse_words(error, &mut writer)),
     };

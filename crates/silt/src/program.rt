@@ -8,9 +8,10 @@ ghost use Rattle.silt_words.specs.Commands.{job_named};
 ghost use Rattle.silt.specs.Programs.{Answers, EndsJob, NamesJob, TellsJob, TellsWords};
 
 use crate::files::{check_file, format_file, run_file};
+use crate::notes::{FaultNotes, Notes, SourceNotes};
 use crate::script::script;
 use crate::service::serve_file;
-use silt_device::DiskSource;
+use silt_device::{Disk, DiskSource};
 use silt_store_set::Served;
 use silt_words::{Job, WordsError, read_words};
 use std::alloc::Global;
@@ -26,15 +27,25 @@ pub fn program<
     H: Net<Listener = TcpListener, Stream = TcpStream> + Threads + Wait + Sync,
     R: Read,
     W: Write,
->(rt: &H, alloc: Global, source: S, words: &[String], reader: &mut R, writer: &mut W) -> u8
+    N: Notes + SourceNotes<S::Error> + FaultNotes<<S::Disk as Disk>::Fault>,
+>(
+    rt: &H,
+    alloc: Global,
+    source: S,
+    words: &[String],
+    reader: &mut R,
+    writer: &mut W,
+    notes: &mut N,
+) -> u8
 where
     S::Disk: Served,
     ensures done { result ≡ 0 → (job : JobOf) × NamesJob (map string_bytes words.now) job
-        × EndsJob S.Disk.Disk.content S.Disk.Disk.failures (GaveAny S.Disk.Disk.gave) (S.opened source) (S.created source) job
+        × EndsJob S.Disk.Disk.content S.Disk.Disk.failures (GaveAny S.Disk.Disk.gave) (S.opened source) (S.shared source) (S.created source) job
         (R.remaining reader.old) (R.remaining reader.new) (W.contents writer.old) (W.contents writer.new) }
-    ensures usage { result ≡ 2 → (job_named (map string_bytes words.now) ≡ None) × Appends (W.contents writer.old) (W.contents writer.new) (codes "usage\n") }
+    ensures usage { result ≡ 2 → (job_named (map string_bytes words.now) ≡ None) × N.told_words notes.old notes.new (map string_bytes words.now)
+        × Appends (W.contents writer.old) (W.contents writer.new) (codes "usage\n") }
 {
-    status_of(answer(rt, alloc, source, words, reader, writer))
+    status_of(answer(rt, alloc, source, words, reader, writer, notes))
 }
 
 /// The status that the program ends with: 1 where its reader or writer failed.
@@ -54,6 +65,7 @@ pub fn answer<
     H: Net<Listener = TcpListener, Stream = TcpStream> + Threads + Wait + Sync,
     R: Read,
     W: Write,
+    N: Notes + SourceNotes<S::Error> + FaultNotes<<S::Disk as Disk>::Fault>,
 >(
     rt: &H,
     alloc: Global,
@@ -61,15 +73,31 @@ pub fn answer<
     words: &[String],
     reader: &mut R,
     writer: &mut W,
+    notes: &mut N,
 ) -> io::Result<u8>
 where
     S::Disk: Served,
-    ensures { IfOk result (λ status. Answers S.Disk.Disk.content S.Disk.Disk.failures (GaveAny S.Disk.Disk.gave) (S.opened source) (S.not_opened source) (S.created source) (S.not_created source)
+    ensures { IfOk result (λ status. Answers S.Disk.Disk.content S.Disk.Disk.failures (GaveAny S.Disk.Disk.gave) (N.told_fault notes.old notes.new) (S.opened source) (λ path error. S.not_opened source path error × N.told_error notes.old notes.new path error)
+        (S.shared source) (λ path error. S.not_shared source path error × N.told_error notes.old notes.new path error)
+        (S.created source) (λ path len error. S.not_created source path len error × N.told_error notes.old notes.new path error) (N.told_words notes.old notes.new)
         (map string_bytes words.now) status (R.remaining reader.old) (R.remaining reader.new) (W.contents writer.old) (W.contents writer.new)) }
 {
     match read_words(alloc, words) {
-        Ok(job) => do_job(rt, alloc, source, job, reader, writer),
-        Err(error) => refuse_words(error, writer),
+        Ok(job) => do_job(rt, alloc, source, job, reader, writer, notes),
+        Err(error) => {
+            tell_unread(error, words, notes);
+            refuse_words(error, writer)
+        }
+    }
+}
+
+// Tells why the words name no job, where that is why none was read of them.
+fn tell_unread<N: Notes>(error: WordsError, words: &[String], notes: &mut N)
+    ensures { error ≡ WordsError.Usage → N.told_words notes.old notes.new (map string_bytes words.now) }
+{
+    match error {
+        WordsError::Usage => notes.tell_words(words),
+        WordsError::NoMemory => {}
     }
 }
 
@@ -79,20 +107,33 @@ fn do_job<
     H: Net<Listener = TcpListener, Stream = TcpStream> + Threads + Wait + Sync,
     R: Read,
     W: Write,
->(rt: &H, alloc: Global, source: S, job: Job<'_>, reader: &mut R, writer: &mut W) -> io::Result<u8>
+    N: Notes + SourceNotes<S::Error> + FaultNotes<<S::Disk as Disk>::Fault>,
+>(
+    rt: &H,
+    alloc: Global,
+    source: S,
+    job: Job<'_>,
+    reader: &mut R,
+    writer: &mut W,
+    notes: &mut N,
+) -> io::Result<u8>
 where
     S::Disk: Served,
-    ensures told { IfOk result (λ status. (status ≡ 0) ⊎ ((status ≡ 1) × TellsJob S.Disk.Disk.content S.Disk.Disk.failures (GaveAny S.Disk.Disk.gave) (S.opened source) (S.not_opened source) (S.created source) (S.not_created source)
+    ensures told { IfOk result (λ status. (status ≡ 0) ⊎ ((status ≡ 1) × TellsJob S.Disk.Disk.content S.Disk.Disk.failures (GaveAny S.Disk.Disk.gave) (N.told_fault notes.old notes.new) (S.opened source) (λ path error. S.not_opened source path error × N.told_error notes.old notes.new path error)
+        (S.shared source) (λ path error. S.not_shared source path error × N.told_error notes.old notes.new path error)
+        (S.created source) (λ path len error. S.not_created source path len error × N.told_error notes.old notes.new path error)
         job.entry (R.remaining reader.old) (R.remaining reader.new) (W.contents writer.old) (W.contents writer.new))) }
-    ensures done { result ≡ Ok 0 → EndsJob S.Disk.Disk.content S.Disk.Disk.failures (GaveAny S.Disk.Disk.gave) (S.opened source) (S.created source)
+    ensures done { result ≡ Ok 0 → EndsJob S.Disk.Disk.content S.Disk.Disk.failures (GaveAny S.Disk.Disk.gave) (S.opened source) (S.shared source) (S.created source)
         job.entry (R.remaining reader.old) (R.remaining reader.new) (W.contents writer.old) (W.contents writer.new) }
 {
     match job {
-        Job::Format { file, numbers } => format_file(alloc, source, file, &numbers, writer).1,
+        Job::Format { file, numbers } => format_file(
+            alloc, source, file, &numbers, writer, notes,
+        ).1,
         Job::Script(numbers) => script(alloc, &numbers, reader, writer),
-        Job::Run { file } => run_file(alloc, source, file, reader, writer).1,
-        Job::Check { file } => check_file(alloc, source, file, writer).1,
-        Job::Serve(service) => serve_file(rt, alloc, source, &service, writer).1,
+        Job::Run { file } => run_file(alloc, source, file, reader, writer, notes).1,
+        Job::Check { file } => check_file(alloc, source, file, writer, notes).1,
+        Job::Serve(service) => serve_file(rt, alloc, source, &service, writer, notes).1,
     }
 }
 

@@ -2,6 +2,7 @@
 ghost use Rattle.std.specs.Prelude.{◌≡◌, ◌⊎◌, Ok, IfOk};
 ghost use Rattle.silt.specs.Files.{ServesFile, TellsServeFile};
 
+use crate::notes::{Notes, SourceNotes};
 use crate::refusal::refuse;
 use silt_desk::{Gate, Spot};
 use silt_device::DiskSource;
@@ -32,22 +33,33 @@ pub fn serve_file<
     S: DiskSource,
     H: Net<Listener = TcpListener, Stream = TcpStream> + Threads + Wait + Sync,
     W: Write,
+    N: Notes + SourceNotes<S::Error>,
 >(
     rt: &H,
     alloc: Global,
     source: S,
     service: &Service<'_>,
     writer: &mut W,
+    notes: &mut N,
 ) -> (Option<S::Disk>, io::Result<u8>)
-    ensures told { IfOk result.1 (λ status. (status ≡ 0) ⊎ ((status ≡ 1) × TellsServeFile)) }
+    ensures told { IfOk result.1 (λ status. (status ≡ 0) ⊎ ((status ≡ 1) × TellsServeFile (S.opened source service.now.file.now)
+        (λ error. S.not_opened source service.now.file.now error × N.told_error notes.old notes.new service.now.file.now error) result.0 (W.contents writer.old) (W.contents writer.new))) }
     ensures served { result.1 ≡ Ok 0 → ServesFile S.Disk.Disk.content (S.opened source service.now.file.now) result.0 (W.contents writer.old) (W.contents writer.new) }
 {
-    let Ok(disk) = source.open(service.file) else {
-        return (None, refuse(alloc, &Refusal::Device(()), writer));
+    let disk = match source.open(service.file) {
+        Ok(disk) => disk,
+        Err(error) => {
+            notes.tell_error(service.file, &error);
+            return (None, refuse(alloc, &Refusal::Device(()), writer));
+        }
     };
-    let Ok(listener) = TcpListener::bind(rt, ("127.0.0.1", service.port)) else {
-        let (disk, status) = refuse_network(alloc, disk, writer);
-        return (Some(disk), status);
+    let listener = match TcpListener::bind(rt, ("127.0.0.1", service.port)) {
+        Ok(listener) => listener,
+        Err(error) => {
+            notes.tell_port(service.port, &error);
+            let (disk, status) = refuse_network(alloc, disk, writer);
+            return (Some(disk), status);
+        }
     };
     let sessions = service.sessions.unwrap_or(0);
     let audit = service.audit.map(u64::from);
@@ -57,7 +69,7 @@ pub fn serve_file<
 
 // The status of a server that has ended: 0 where it is 0, else 1.
 fn done_or_failed(ended: io::Result<u8>) -> io::Result<u8>
-    ensures told { IfOk result (λ status. (status ≡ 0) ⊎ ((status ≡ 1) × TellsServeFile)) }
+    ensures told { IfOk result (λ status. (status ≡ 0) ⊎ (status ≡ 1)) }
     ensures done { result ≡ Ok 0 → ended ≡ Ok 0 }
 {
     match ended {

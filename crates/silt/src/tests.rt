@@ -1,12 +1,15 @@
 // What no contract says: printed text and statuses, letter for letter, through the program over memory.
 
 mod conversion;
+mod examples;
 mod files;
 mod freeze;
 mod jobs;
 mod lines;
 mod merge;
+mod notes;
 
+use crate::notes::{FaultNotes, Notes, SourceNotes};
 use crate::program::{program, refuse_words};
 use crate::script_lines::read_script;
 use silt_device::FileDisks;
@@ -71,6 +74,66 @@ impl Write for Short {
     }
 }
 
+// How many notes of each kind were told.
+#[derive(Drop)]
+pub(crate) struct Counted {
+    pub errors: u32,
+    pub faults: u32,
+    pub others: u32,
+}
+
+impl Counted {
+    pub(crate) fn new() -> Self {
+        Counted {
+            errors: 0,
+            faults: 0,
+            others: 0,
+        }
+    }
+}
+
+impl Notes for Counted {
+    ghost use Rattle.std.specs.Prelude.{⊤};
+
+    ghost told_port = { λ _ _ _. ⊤ };
+
+    ghost told_store = { λ _ _ _. ⊤ };
+
+    ghost told_words = { λ _ _ _. ⊤ };
+
+    fn tell_port(&mut self, _port: u16, _error: &io::Error) {
+        self.others = self.others.wrapping_add(1);
+    }
+
+    fn tell_store(&mut self, _file: &str) {
+        self.others = self.others.wrapping_add(1);
+    }
+
+    fn tell_words(&mut self, _words: &[String]) {
+        self.others = self.others.wrapping_add(1);
+    }
+}
+
+impl<E> SourceNotes<E> for Counted {
+    ghost use Rattle.std.specs.Prelude.{⊤};
+
+    ghost told_error = { λ _ _ _ _. ⊤ };
+
+    fn tell_error(&mut self, _file: &str, _error: &E) {
+        self.errors = self.errors.wrapping_add(1);
+    }
+}
+
+impl<F> FaultNotes<F> for Counted {
+    ghost use Rattle.std.specs.Prelude.{⊤};
+
+    ghost told_fault = { λ _ _ _ _. ⊤ };
+
+    fn tell_fault(&mut self, _file: &str, _fault: &F) {
+        self.faults = self.faults.wrapping_add(1);
+    }
+}
+
 fn words<S: AllocGlobal>(rt: &S, text: &str) -> Result<Vec<String>, Fail> {
     let mut words = Vec::new(rt.alloc());
     for word in text.split(' ') {
@@ -99,6 +162,7 @@ pub(crate) fn answers<
         words.as_slice(),
         &mut reader,
         &mut out,
+        &mut Counted::new(),
     );
     assert_eq!(rt; out.as_slice(), output);
     assert_eq!(rt; code, status);
@@ -154,7 +218,8 @@ fn answers_any_pieces(rt: HostRuntime) -> Result<(), Fail> {
                 FileDisks::new(&rt),
                 words.as_slice(),
                 &mut reader,
-                &mut out
+                &mut out,
+                &mut Counted::new()
             ),
             0
         );
@@ -182,7 +247,8 @@ fn ends_by_a_reader_that_fails(rt: HostRuntime) -> Result<(), Fail> {
             FileDisks::new(&rt),
             words.as_slice(),
             &mut reader,
-            &mut out
+            &mut out,
+            &mut Counted::new()
         ),
         1
     );
@@ -220,7 +286,8 @@ fn ends_by_a_writer_that_fails(rt: HostRuntime) -> Result<(), Fail> {
                 FileDisks::new(&rt),
                 words.as_slice(),
                 &mut reader,
-                &mut writer
+                &mut writer,
+                &mut Counted::new()
             ),
             1
         );

@@ -28,16 +28,32 @@ pub record IsOpened {F : Type 0} (count : ℕ) (disk : RandomAccessDisk F) : Typ
   pub honest : (file_content disk).honest ≡ false
   pub failures : disk.failures ≡ 0
 
--- a disk in a file that was synced, of the length that the system told of it
-pub record IsOpenedFile {F : Type 0} (measured : F → Metadata → Type 0) (synced : F → Type 0) (disk : RandomAccessDisk F) : Type 0 where
+-- a disk in a file that was found, then locked, then synced, of the length that the system told of it
+pub record IsOpenedFile {F : Type 0} (found : F → Type 0) (locked : F → F → Type 0) (measured : F → Metadata → Type 0) (synced : F → Type 0)
+    (disk : RandomAccessDisk F) : Type 0 where
+  pub first : F
+  pub there : found first
+  pub owned : locked first disk.file
   pub settled : synced disk.file
   pub metadata : Metadata
   pub told : measured disk.file metadata
   pub opened : IsOpened (metadata_len metadata) disk
 
--- a file that was made, then given this length, and then synced
-pub record IsMadeFile {F : Type 0} (made : F → Type 0) (resized : F → ℕ → F → Type 0) (synced : F → Type 0) (len : ℕ) (file : F) : Type 0 where
+-- a disk in a file that was found, and then locked beside others, of the length that the system told of it
+pub record IsSharedFile {F : Type 0} (found : F → Type 0) (shared : F → F → Type 0) (measured : F → Metadata → Type 0)
+    (disk : RandomAccessDisk F) : Type 0 where
   pub first : F
+  pub there : found first
+  pub held : shared first disk.file
+  pub metadata : Metadata
+  pub told : measured disk.file metadata
+  pub opened : IsOpened (metadata_len metadata) disk
+
+-- a file that was made, then locked, then given this length, and then synced
+pub record IsMadeFile {F : Type 0} (made : F → Type 0) (locked : F → F → Type 0) (resized : F → ℕ → F → Type 0) (synced : F → Type 0) (len : ℕ) (file : F) : Type 0 where
+  pub first : F
+  pub second : F
   pub opened : made first
-  pub sized : resized first len file
+  pub owned : locked first second
+  pub sized : resized second len file
   pub settled : synced file

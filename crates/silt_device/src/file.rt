@@ -4,7 +4,7 @@ ghost use Rattle.std.specs.Prelude.{◌≡◌, ◌≤◌, ◌^◌, ◌+◌, ◌%
 use crate::system::{FileSystem, RandomAccessFile};
 use crate::{Call, Disk};
 use std::fs::{File, Metadata};
-use std::io;
+use std::{fmt, io};
 
 /// The fault of one device call: the call, its range, how many calls had failed then, and the error that the system gave. Only a
 /// disk makes one, and nothing copies it.
@@ -26,12 +26,25 @@ impl FileFault {
     }
 }
 
+// What failed, and the system's words for it.
+impl fmt::Display for FileFault {
+    fn fmt<W: fmt::Write>(&self, f: &mut fmt::Formatter<W>) -> fmt::Result {
+        let error = self.error;
+        let at = self.at;
+        match self.call {
+            Call::Read => write!(f, "a read at {at}: {error}"),
+            Call::Write => write!(f, "a write at {at}: {error}"),
+            Call::Sync => write!(f, "a sync: {error}"),
+        }
+    }
+}
+
 /// A disk in a file, whose length never changes.
 ///
 /// It is proved that the length stays, which calls of the system were made, at which places and with which bytes, that failed writes
 /// and syncs are counted, and that each fault is this disk's own, for the call that failed. That the file behaves as the crash premise says is assumed: no clause speaks of what the file holds. It is
-/// not so where the system, after a failed sync, goes on to show bytes that it will never write. Nor does anything here keep
-/// another process, or a second disk, from the same file: that is the caller's part.
+/// not so where the system, after a failed sync, goes on to show bytes that it will never write. The lock is an advisory one: it keeps
+/// out whoever asks for it, as each disk here does, and nobody else.
 #[derive(Drop)]
 pub struct RandomAccessDisk<F = File> {
     file: F,
@@ -41,43 +54,64 @@ pub struct RandomAccessDisk<F = File> {
 
 impl<F: RandomAccessFile> RandomAccessDisk<F> {
     ghost use Rattle.std.specs.Fs.{metadata_len};
-    ghost use Rattle.silt_device.specs.File.{file_gave, IsOpened, IsOpenedFile, IsMadeFile};
+    ghost use Rattle.silt_device.specs.File.{file_gave, IsOpened, IsOpenedFile, IsMadeFile, IsSharedFile};
 
-    /// Makes the file, or takes the one that is there, at exactly this length in bytes, and syncs it and the folder that it is in.
-    /// What a file that is there held up to this length stays, and what is new are zeros. Where the path is a link, the folder
-    /// that is synced is that of the link.
+    /// Makes the file, or takes the one that is there, locks it, gives it exactly this length in bytes, and syncs it and the folder
+    /// that it is in. What a file that is there held up to this length stays, and what is new are zeros. Where the path is a link,
+    /// the folder that is synced is that of the link. The lock goes with the disk: until the disk is dropped no other open of the
+    /// file gets one.
     ///
     /// # Errors
     ///
-    /// The error of the system, where the file or its folder cannot be opened, sized or synced. The file may then be there, at
-    /// its old length or at the new one. A length of 2^63 or more is always an error.
+    /// The error of the system, where the file cannot be opened or locked, and then nothing in it is changed, or where it or its
+    /// folder cannot be sized or synced. The file may then be there, at its old length or at the new one. A length of 2^63 or more
+    /// is always an error.
     pub fn create<R: FileSystem<File = F>>(
         system: &R,
         path: &str,
         len: u64,
     ) -> io::Result<RandomAccessDisk<F>>
         ensures opened { IfOk result (IsOpened len) }
-        ensures made { IfOk result (λ disk. IsMadeFile (R.made system.now path.now) F.resized F.synced len disk.file) }
+        ensures made { IfOk result (λ disk. IsMadeFile (R.made system.now path.now) (R.locked system.now) F.resized F.synced len disk.file) }
         ensures folder { OnOk result (R.folder_synced system.now path.now) }
         ensures too_long { 2 ^ 63 ≤ len → IsErr result }
     {
-        let file = system.make_file_at(path)?.resize(len)?;
+        let file = system.lock_file(system.make_file_at(path)?)?.resize(len)?;
         file.settle()?;
         system.sync_folder_of(path)?;
         Ok(RandomAccessDisk::of_len(file, len))
     }
 
-    /// Opens a file that is there, at the length that it has, and syncs it: what an earlier process wrote and did not sync is
-    /// then settled.
+    /// Opens a file that is there, locks it, and syncs it, at the length that it then has: what an earlier process wrote and did
+    /// not sync is then settled. The lock goes with the disk.
     ///
     /// # Errors
     ///
-    /// The error of the system, where the file is not there, or cannot be read, written, measured or synced.
+    /// The error of the system, where the file is not there, another open of it has a lock, or it cannot be read, written, measured
+    /// or synced.
     pub fn open<R: FileSystem<File = F>>(system: &R, path: &str) -> io::Result<RandomAccessDisk<F>>
-        ensures opened { IfOk result (λ disk. R.opened system.now path.now disk.file × IsOpenedFile F.measured F.synced disk) }
+        ensures opened { IfOk result (IsOpenedFile (R.opened system.now path.now) (R.locked system.now) F.measured F.synced) }
     {
-        let found = system.open_file_at(path)?;
+        let found = system.lock_file(system.open_file_at(path)?)?;
         found.settle()?;
+        let metadata = found.measure()?;
+        Ok(RandomAccessDisk::measured(found, &metadata))
+    }
+
+    /// Opens a file that is there, to read alone, at the length that it has. It shares the file's lock with others that do so, and
+    /// syncs nothing. Each write on the disk is an error.
+    ///
+    /// # Errors
+    ///
+    /// The error of the system, where the file is not there, another open of it has the exclusive lock, or it cannot be read or
+    /// measured.
+    pub fn open_shared<R: FileSystem<File = F>>(
+        system: &R,
+        path: &str,
+    ) -> io::Result<RandomAccessDisk<F>>
+        ensures opened { IfOk result (IsSharedFile (R.opened_to_read system.now path.now) (R.shared system.now) F.measured) }
+    {
+        let found = system.share_file(system.open_file_to_read_at(path)?)?;
         let metadata = found.measure()?;
         Ok(RandomAccessDisk::measured(found, &metadata))
     }

@@ -62,6 +62,7 @@ fn create_gives_the_length(rt: HostRuntime) -> Result<(), Fail> {
     for (len, held) in table {
         let disk = FileDisk::create(&rt, "sized/disk", len)?;
         assert_eq!(rt; disk.len(), len);
+        drop(disk);
         let bytes = fs::read(&rt, "sized/disk")?;
         assert_eq!(rt; bytes.as_slice(), held, "at {len}");
         assert_eq!(rt; FileDisk::open(&rt, "sized/disk")?.len(), len);
@@ -130,6 +131,50 @@ fn each_call_hands_out_its_error(rt: HostRuntime) -> Result<(), Fail> {
         Some(ErrorKind::InvalidInput)
     );
     fs::remove_dir_all(&rt, "failing")?;
+    Ok(())
+}
+
+// While a disk is there, no other open of its file gets a disk that could change it, and nothing in the file is changed.
+#[test]
+fn a_file_has_one_owner(rt: HostRuntime) -> Result<(), Fail> {
+    make_folder(&rt, "owned")?;
+    let busy = Some(ErrorKind::WouldBlock);
+    let owner = FileDisk::create(&rt, "owned/disk", 3)?;
+    assert_eq!(rt; kind_of(FileDisk::open(&rt, "owned/disk")), busy);
+    assert_eq!(rt; kind_of(FileDisk::create(&rt, "owned/disk", 2)), busy);
+    assert_eq!(rt; kind_of(FileDisk::open_shared(&rt, "owned/disk")), busy);
+    assert_eq!(rt; fs::metadata(&rt, "owned/disk")?.len(), 3);
+    drop(owner);
+    let owner = FileDisk::open(&rt, "owned/disk")?;
+    assert_eq!(rt; kind_of(FileDisk::open_shared(&rt, "owned/disk")), busy);
+    drop(owner);
+    assert_eq!(rt; FileDisk::open(&rt, "owned/disk")?.len(), 3);
+    fs::remove_dir_all(&rt, "owned")?;
+    Ok(())
+}
+
+// Who only reads shares the file with others that do, and keeps an owner out.
+#[test]
+fn readers_share_a_file(rt: HostRuntime) -> Result<(), Fail> {
+    make_folder(&rt, "shared")?;
+    fs::write(&rt, "shared/disk", FIRST.as_slice())?;
+    let mut first = FileDisk::open_shared(&rt, "shared/disk")?;
+    let second = FileDisk::open_shared(&rt, "shared/disk")?;
+    assert_eq!(rt; (first.len(), second.len()), (4, 4));
+    let busy = Some(ErrorKind::WouldBlock);
+    assert_eq!(rt; kind_of(FileDisk::open(&rt, "shared/disk")), busy);
+    assert_eq!(rt; kind_of(FileDisk::create(&rt, "shared/disk", 2)), busy);
+    let refused = first.write(0, &SECOND).err();
+    assert_eq!(rt;
+        refused.and_then(|fault| fault.error().raw_os_error()),
+        Some(9)
+    );
+    let mut read = [0; 4];
+    second.read(0, &mut read)?;
+    assert_eq!(rt; read, FIRST);
+    let missing = Some(ErrorKind::NotFound);
+    assert_eq!(rt; kind_of(FileDisk::open_shared(&rt, "shared/none")), missing);
+    fs::remove_dir_all(&rt, "shared")?;
     Ok(())
 }
 

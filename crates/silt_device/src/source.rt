@@ -21,18 +21,29 @@ pub trait DiskSource: Drop {
     /// The source answered that it cannot open a disk at this path, with this error.
     ghost not_opened: { Self → List ℕ → Self.Error → Type 0 };
 
+    /// The source opened this disk, at this path, to be read beside others.
+    ghost shared: { Self → List ℕ → Self.Disk → Type 0 };
+
+    /// The source answered that it cannot open a disk at this path to be read beside others, with this error.
+    ghost not_shared: { Self → List ℕ → Self.Error → Type 0 };
+
     /// The source made this disk, at this path and of this length in bytes.
     ghost created: { Self → List ℕ → ℕ → Self.Disk → Type 0 };
 
     /// The source answered that it cannot make a disk at this path and of this length, with this error.
     ghost not_created: { Self → List ℕ → ℕ → Self.Error → Type 0 };
 
-    /// Opens the disk that is there.
+    /// Opens the disk that is there, for itself alone.
     fn open(self, path: &str) -> Result<Self::Disk, Self::Error>
         ensures opened { IfOk result (opened self path.now) }
         ensures not_opened { IfErr result (not_opened self path.now) };
 
-    /// Makes a disk of this length in bytes, or takes the one that is there at exactly this length.
+    /// Opens the disk that is there, to be read beside others.
+    fn open_shared(self, path: &str) -> Result<Self::Disk, Self::Error>
+        ensures shared { IfOk result (shared self path.now) }
+        ensures not_shared { IfErr result (not_shared self path.now) };
+
+    /// Makes a disk of this length in bytes, or takes the one that is there at exactly this length, for itself alone.
     fn create(self, path: &str, len: u64) -> Result<Self::Disk, Self::Error>
         ensures created { IfOk result (created self path.now len) }
         ensures size { IfOk result (λ disk. size (Self.Disk.Disk.content disk) ≡ len) }
@@ -59,23 +70,31 @@ where
     S: FileSystem<File = File> + Drop,
 {
     ghost use Rattle.std.specs.Prelude.{⊤};
-    ghost use Rattle.silt_device.specs.File.{IsOpened, IsOpenedFile, IsMadeFile};
+    ghost use Rattle.silt_device.specs.File.{IsOpened, IsOpenedFile, IsMadeFile, IsSharedFile};
 
     type Disk = FileDisk;
 
     type Error = io::Error;
 
-    ghost opened = { λ source path disk. S.opened source.system path disk.inner.file × IsOpenedFile (λ _ _. ⊤) (λ _. ⊤) disk.inner };
+    ghost opened = { λ source path disk. IsOpenedFile (S.opened source.system path) (S.locked source.system) (λ _ _. ⊤) (λ _. ⊤) disk.inner };
 
     ghost not_opened = { λ _ _ _. ⊤ };
 
+    ghost shared = { λ source path disk. IsSharedFile (S.opened_to_read source.system path) (S.shared source.system) (λ _ _. ⊤) disk.inner };
+
+    ghost not_shared = { λ _ _ _. ⊤ };
+
     ghost created = { λ source path len disk. IsOpened len disk.inner
-        × IsMadeFile (S.made source.system path) (λ _ _ _. ⊤) (λ _. ⊤) len disk.inner.file × S.folder_synced source.system path };
+        × IsMadeFile (S.made source.system path) (S.locked source.system) (λ _ _ _. ⊤) (λ _. ⊤) len disk.inner.file × S.folder_synced source.system path };
 
     ghost not_created = { λ _ _ _ _. ⊤ };
 
     fn open(self, path: &str) -> io::Result<FileDisk> {
         FileDisk::open(&self.system, path)
+    }
+
+    fn open_shared(self, path: &str) -> io::Result<FileDisk> {
+        FileDisk::open_shared(&self.system, path)
     }
 
     fn create(self, path: &str, len: u64) -> io::Result<FileDisk> {
@@ -117,6 +136,10 @@ impl<D: Disk> DiskSource for NamedDisk<D> {
 
     ghost not_opened = { λ source path _. NotNamed source path };
 
+    ghost shared = { λ source path disk. NamedOpened source path disk };
+
+    ghost not_shared = { λ source path _. NotNamed source path };
+
     ghost created = { λ source path len disk. NamedCreated D.content source path len disk };
 
     ghost not_created = { λ source path len _. NotSized D.content source path len };
@@ -126,6 +149,10 @@ impl<D: Disk> DiskSource for NamedDisk<D> {
             return Err(NoSuchDisk);
         }
         Ok(self.disk)
+    }
+
+    fn open_shared(self, path: &str) -> Result<D, NoSuchDisk> {
+        self.open(path)
     }
 
     fn create(self, path: &str, len: u64) -> Result<D, NoSuchDisk> {

@@ -3,8 +3,8 @@
 ghost use Rattle.std.specs.Prelude.{◌≡◌, ◌≤◌, ◌^◌, ℕ, List, length, IfOk, OnOk, IsErr};
 ghost use Rattle.std.specs.declared.fs.attrs.Metadata.{Metadata as MetadataOf};
 
-use std::fs::{File, Metadata, OpenOptions};
-use std::io;
+use std::fs::{File, Metadata, OpenOptions, TryLockError};
+use std::io::{self, ErrorKind};
 use std::os::unix::fs::FileExt;
 use std::path::Path;
 use std::rt::Files;
@@ -66,6 +66,15 @@ pub trait FileSystem {
     /// The system opened this file at this path, to read and to write, and made it where none was there.
     ghost made: { Self → List ℕ → Self.File → Type 0 };
 
+    /// The system opened this file at this path, to read alone.
+    ghost opened_to_read: { Self → List ℕ → Self.File → Type 0 };
+
+    /// The system gave this file's exclusive lock, and then it is the second one.
+    ghost locked: { Self → Self.File → Self.File → Type 0 };
+
+    /// The system gave a shared lock of this file, and then it is the second one.
+    ghost shared: { Self → Self.File → Self.File → Type 0 };
+
     /// The system settled the names in the folder of this path.
     ghost folder_synced: { Self → List ℕ → Type 0 };
 
@@ -76,6 +85,20 @@ pub trait FileSystem {
     /// Opens the file that is there, or makes an empty one, to read and to write.
     fn make_file_at(&self, path: &str) -> io::Result<Self::File>
         ensures { IfOk result (made self.now path.now) };
+
+    /// Opens the file that is there, to read alone.
+    fn open_file_to_read_at(&self, path: &str) -> io::Result<Self::File>
+        ensures { IfOk result (opened_to_read self.now path.now) };
+
+    /// Takes the exclusive lock of the file, and gives the file back. It does not wait: where another open of the file has a lock,
+    /// it is an error.
+    fn lock_file(&self, file: Self::File) -> io::Result<Self::File>
+        ensures { IfOk result (locked self.now file) };
+
+    /// Takes a shared lock of the file, and gives the file back. It does not wait: where another open of the file has the exclusive
+    /// lock, it is an error.
+    fn share_file(&self, file: Self::File) -> io::Result<Self::File>
+        ensures { IfOk result (shared self.now file) };
 
     /// Syncs the folder in which the path has its last name, so that a stop does not take that name away.
     fn sync_folder_of(&self, path: &str) -> io::Result<()>
@@ -123,6 +146,14 @@ impl RandomAccessFile for File {
     }
 }
 
+// Why a lock was not given, in words that say more than the system's where another open of the file has one.
+fn lock_error(error: TryLockError) -> io::Error {
+    match error {
+        TryLockError::Error(error) => error,
+        TryLockError::WouldBlock => io::Error::new(ErrorKind::WouldBlock, "the file is in use"),
+    }
+}
+
 impl<R: Files<File = File>> FileSystem for R {
     ghost use Rattle.std.specs.Prelude.{⊤};
 
@@ -131,6 +162,12 @@ impl<R: Files<File = File>> FileSystem for R {
     ghost opened = { λ _ _ _. ⊤ };
 
     ghost made = { λ _ _ _. ⊤ };
+
+    ghost opened_to_read = { λ _ _ _. ⊤ };
+
+    ghost locked = { λ _ _ _. ⊤ };
+
+    ghost shared = { λ _ _ _. ⊤ };
 
     ghost folder_synced = { λ _ _. ⊤ };
 
@@ -144,6 +181,24 @@ impl<R: Files<File = File>> FileSystem for R {
             .write(true)
             .create(true)
             .open(self, path)
+    }
+
+    fn open_file_to_read_at(&self, path: &str) -> io::Result<File> {
+        File::open(self, path)
+    }
+
+    fn lock_file(&self, file: File) -> io::Result<File> {
+        match file.try_lock() {
+            Ok(()) => Ok(file),
+            Err(error) => Err(lock_error(error)),
+        }
+    }
+
+    fn share_file(&self, file: File) -> io::Result<File> {
+        match file.try_lock_shared() {
+            Ok(()) => Ok(file),
+            Err(error) => Err(lock_error(error)),
+        }
     }
 
     fn sync_folder_of(&self, path: &str) -> io::Result<()> {

@@ -15,23 +15,25 @@ pub struct FileDisk {
 }
 
 impl FileDisk {
-    ghost use Rattle.silt_device.specs.File.{IsOpened, IsOpenedFile, IsMadeFile};
+    ghost use Rattle.silt_device.specs.File.{IsOpened, IsOpenedFile, IsMadeFile, IsSharedFile};
 
-    /// Makes the file, or takes the one that is there, at exactly this length in bytes, and syncs it and the folder that it is in.
-    /// What a file that is there held up to this length stays, and what is new are zeros. Where the path is a link, the folder
-    /// that is synced is that of the link.
+    /// Makes the file, or takes the one that is there, locks it, gives it exactly this length in bytes, and syncs it and the folder
+    /// that it is in. What a file that is there held up to this length stays, and what is new are zeros. Where the path is a link,
+    /// the folder that is synced is that of the link. The lock goes with the disk: until the disk is dropped no other open of the
+    /// file gets one.
     ///
     /// # Errors
     ///
-    /// The error of the system, where the file or its folder cannot be opened, sized or synced. The file may then be there, at
-    /// its old length or at the new one. A length of 2^63 or more is always an error.
+    /// The error of the system, where the file cannot be opened or locked, and then nothing in it is changed, or where it or its
+    /// folder cannot be sized or synced. The file may then be there, at its old length or at the new one. A length of 2^63 or more
+    /// is always an error.
     pub fn create<R: FileSystem<File = File>>(
         system: &R,
         path: &str,
         len: u64,
     ) -> io::Result<FileDisk>
         ensures opened { IfOk result (λ disk. IsOpened len disk.inner) }
-        ensures made { IfOk result (λ disk. IsMadeFile (R.made system.now path.now) (λ _ _ _. ⊤) (λ _. ⊤) len disk.inner.file) }
+        ensures made { IfOk result (λ disk. IsMadeFile (R.made system.now path.now) (R.locked system.now) (λ _ _ _. ⊤) (λ _. ⊤) len disk.inner.file) }
         ensures folder { OnOk result (R.folder_synced system.now path.now) }
         ensures too_long { 2 ^ 63 ≤ len → IsErr result }
     {
@@ -39,16 +41,31 @@ impl FileDisk {
         Ok(FileDisk { inner })
     }
 
-    /// Opens a file that is there, at the length that it has, and syncs it: what an earlier process wrote and did not sync is
-    /// then settled.
+    /// Opens a file that is there, locks it, and syncs it, at the length that it then has: what an earlier process wrote and did
+    /// not sync is then settled. The lock goes with the disk.
     ///
     /// # Errors
     ///
-    /// The error of the system, where the file is not there, or cannot be read, written, measured or synced.
+    /// The error of the system, where the file is not there, another open of it has a lock, or it cannot be read, written, measured
+    /// or synced.
     pub fn open<R: FileSystem<File = File>>(system: &R, path: &str) -> io::Result<FileDisk>
-        ensures opened { IfOk result (λ disk. R.opened system.now path.now disk.inner.file × IsOpenedFile (λ _ _. ⊤) (λ _. ⊤) disk.inner) }
+        ensures opened { IfOk result (λ disk. IsOpenedFile (R.opened system.now path.now) (R.locked system.now) (λ _ _. ⊤) (λ _. ⊤) disk.inner) }
     {
         let inner = RandomAccessDisk::open(system, path)?;
+        Ok(FileDisk { inner })
+    }
+
+    /// Opens a file that is there, to read alone, at the length that it has. It shares the file's lock with others that do so, and
+    /// syncs nothing. Each write on the disk is an error.
+    ///
+    /// # Errors
+    ///
+    /// The error of the system, where the file is not there, another open of it has the exclusive lock, or it cannot be read or
+    /// measured.
+    pub fn open_shared<R: FileSystem<File = File>>(system: &R, path: &str) -> io::Result<FileDisk>
+        ensures opened { IfOk result (λ disk. IsSharedFile (R.opened_to_read system.now path.now) (R.shared system.now) (λ _ _. ⊤) disk.inner) }
+    {
+        let inner = RandomAccessDisk::open_shared(system, path)?;
         Ok(FileDisk { inner })
     }
 

@@ -23,16 +23,33 @@ struct Job {
     replies: Sender<Answered>,
 }
 
+/// Pushes a job, once more where it is handed back for want of memory, and then the queue is as it was.
+fn push(rt: &impl Abort, queue: &mut Queue<u64>, job: u64) -> Result<(), Fail> {
+    let len = queue.len();
+    let Err(refused) = queue.push(job) else {
+        return Ok(());
+    };
+    assert_eq!(rt; (refused.job, queue.len()), (job, len));
+    queue.push(refused.job).ok().ok_or("memory")?;
+    Ok(())
+}
+
+// It passes whichever one request for memory is refused, and where none is.
 #[test]
 fn a_queue_keeps_the_order(rt: HostRuntime) -> Result<(), Fail> {
     let mut queue = Queue::new(rt.alloc());
-    for number in 0..3u64 {
-        queue.push(number).ok().ok_or("memory")?;
+    for number in 0..100u64 {
+        push(&rt, &mut queue, number)?;
     }
-    assert_eq!(rt; queue.len(), 3);
+    assert_eq!(rt; queue.len(), 100);
     let jobs = queue.drain();
-    assert_eq!(rt; jobs.as_slice(), [0, 1, 2].as_slice());
+    assert_eq!(rt; jobs.len(), 100);
+    for (number, job) in jobs.iter().enumerate() {
+        assert_eq!(rt; *job, number as u64);
+    }
     assert_eq!(rt; queue.len(), 0);
+    push(&rt, &mut queue, 7)?;
+    assert_eq!(rt; queue.drain().as_slice(), [7].as_slice());
     Ok(())
 }
 
@@ -171,7 +188,10 @@ fn closed_inbox<P: Post, R: Wait + Abort>(
 {
     let (inbox, mut feeders, mut taker) = Inbox::<u64, P>::new(alloc, 1, put, taken)?;
     let mut feeder = feeders.pop().ok_or("a feeder")?;
-    inbox.put(rt, &mut feeder, 7).ok().ok_or("memory")?;
+    if let Err(refused) = inbox.put(rt, &mut feeder, 7) {
+        assert_eq!(rt; (refused.reason, refused.job), (NotPutReason::NoMemory, 7));
+        inbox.put(rt, &mut feeder, 7).ok().ok_or("memory")?;
+    }
     inbox.close(rt);
     let refused = inbox.put(rt, &mut feeder, 8).err().ok_or("is closed")?;
     assert_eq!(rt; (refused.reason, refused.job), (NotPutReason::Closed, 8));

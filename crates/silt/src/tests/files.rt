@@ -3,7 +3,7 @@
 use crate::program::program;
 use crate::tests::freeze::{FIVE_PUTS, with_keys};
 use crate::tests::lines::{BAD_KEYS, BAD_LINES, BAD_VALUES};
-use crate::tests::{Pieces, Short, answers, words};
+use crate::tests::{Counted, Pieces, Short, answers, words};
 use silt_device::{Disk, FileDisk, FileDisks};
 use std::fs::{self, File};
 use std::io::{self, Cursor};
@@ -55,7 +55,8 @@ fn formats_a_file_again(rt: HostRuntime) -> Result<(), Fail> {
                 FileDisks::new(&rt),
                 words.as_slice(),
                 &mut reader,
-                &mut out
+                &mut out,
+                &mut Counted::new()
             ),
             0
         );
@@ -197,6 +198,7 @@ fn refuses_other_files(rt: HostRuntime) -> Result<(), Fail> {
     answers(&rt, format, b"", 0, b"formatted 45056\n")?;
     let disk = FileDisk::create(&rt, "others/disk", 45_055)?;
     assert_eq!(rt; disk.len(), 45_055);
+    drop(disk);
     let reply = b"refused 3 Damaged length\n";
     answers(&rt, "silt run others/disk", b"flush\n", 1, reply)?;
     answers(&rt, "silt check others/disk", b"", 1, reply)?;
@@ -225,7 +227,8 @@ fn ends_a_life_by_a_fault(rt: HostRuntime) -> Result<(), Fail> {
             FileDisks::new(&rt),
             words.as_slice(),
             &mut reader,
-            &mut out
+            &mut out,
+            &mut Counted::new()
         ),
         1
     );
@@ -244,7 +247,8 @@ fn ends_a_life_by_a_fault(rt: HostRuntime) -> Result<(), Fail> {
                 FileDisks::new(&rt),
                 words.as_slice(),
                 &mut reader,
-                &mut writer
+                &mut writer,
+                &mut Counted::new()
             ),
             1
         );

@@ -2,6 +2,7 @@
 
 use crate::files::{check_file, format_file, run_file};
 use crate::jobs::{check_on, format_on, run_on};
+use crate::tests::Counted;
 use crate::tests::freeze::{FIVE_PUTS, with_keys};
 use silt_device::{Call, Disk, FaultDisk, Geometry, MemDisk, NamedDisk};
 use silt_store_set::Served;
@@ -19,7 +20,14 @@ fn formats<S: AllocGlobal + Abort, D: Disk>(
     output: &[u8],
 ) -> Result<D, Fail> {
     let mut out = Vec::new(rt.alloc());
-    let (disk, code) = format_on(rt.alloc(), disk, geometry, &mut out);
+    let (disk, code) = format_on(
+        rt.alloc(),
+        disk,
+        geometry,
+        "disk",
+        &mut out,
+        &mut Counted::new(),
+    );
     assert_eq!(rt; out.as_slice(), output);
     assert_eq!(rt; code?, status);
     Ok(disk)
@@ -35,7 +43,14 @@ fn runs<S: AllocGlobal + Abort, D: Served>(
 ) -> Result<D, Fail> {
     let mut reader = Cursor::new(text);
     let mut out = Vec::new(rt.alloc());
-    let (disk, code) = run_on(rt.alloc(), disk, &mut reader, &mut out);
+    let (disk, code) = run_on(
+        rt.alloc(),
+        disk,
+        "disk",
+        &mut reader,
+        &mut out,
+        &mut Counted::new(),
+    );
     assert_eq!(rt; out.as_slice(), output);
     assert_eq!(rt; code?, status);
     Ok(disk)
@@ -49,7 +64,7 @@ fn checks<S: AllocGlobal + Abort, D: Disk>(
     output: &[u8],
 ) -> Result<(), Fail> {
     let mut out = Vec::new(rt.alloc());
-    let code = check_on(rt.alloc(), disk, &mut out);
+    let code = check_on(rt.alloc(), disk, "disk", &mut out, &mut Counted::new());
     assert_eq!(rt; out.as_slice(), output);
     assert_eq!(rt; code?, status);
     Ok(())
@@ -139,7 +154,14 @@ fn formats_path<S: AllocGlobal + Abort>(
     };
     let source = named(rt, MemDisk::new(rt.alloc(), bytes)?)?;
     let mut out = Vec::new(rt.alloc());
-    let (disk, code) = format_file(rt.alloc(), source, path, &numbers, &mut out);
+    let (disk, code) = format_file(
+        rt.alloc(),
+        source,
+        path,
+        &numbers,
+        &mut out,
+        &mut Counted::new(),
+    );
     assert_eq!(rt; out.as_slice(), output);
     assert_eq!(rt; code?, status);
     Ok(disk)
@@ -154,7 +176,14 @@ fn works_on_the_disk_of_a_path(rt: HostRuntime) -> Result<(), Fail> {
     };
     let mut reader = Cursor::new(b"put =abc 0102\nflush\n".as_slice());
     let mut out = Vec::new(rt.alloc());
-    let (left, code) = run_file(rt.alloc(), named(&rt, disk)?, "disk", &mut reader, &mut out);
+    let (left, code) = run_file(
+        rt.alloc(),
+        named(&rt, disk)?,
+        "disk",
+        &mut reader,
+        &mut out,
+        &mut Counted::new(),
+    );
     assert_eq!(rt; code?, 0);
     assert_eq!(rt;
         out.as_slice(),
@@ -164,7 +193,13 @@ fn works_on_the_disk_of_a_path(rt: HostRuntime) -> Result<(), Fail> {
         return Err(Fail::new("no disk"));
     };
     let mut report = Vec::new(rt.alloc());
-    let (_, code) = check_file(rt.alloc(), named(&rt, disk)?, "disk", &mut report);
+    let (_, code) = check_file(
+        rt.alloc(),
+        named(&rt, disk)?,
+        "disk",
+        &mut report,
+        &mut Counted::new(),
+    );
     assert_eq!(rt; code?, 0);
     let output =
         b"generation 0\nactive log 0 rows 1\nfrozen logs 0 rows 0\nhash stores 0 rows 0\nsorted entries 0\ncharge 1\n";

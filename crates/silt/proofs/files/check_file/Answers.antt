@@ -4,10 +4,10 @@ use Rattle.silt.proofs.FileRefusals.{told_refusal, told_weaker}
 use Rattle.silt.proofs.files.check_file.Goals as goal
 
 pub returns-in-Ok-clause-told : goal.returns-in-Ok-clause-told
-returns-in-Ok-clause-told g c = told_weaker c.check_on-status.result (λ told. inr (c.in-Ok.disk, c.in-Ok.ensures.opened, refl, told)) c.check_on-status.ensures.told
+returns-in-Ok-clause-told g c = told_weaker c.check_on-status.result (λ told. inr (c.in-Ok.disk, c.in-Ok.ensures.shared, refl, told)) c.check_on-status.ensures.told
 
 pub returns-in-Ok-clause-reported : goal.returns-in-Ok-clause-reported
-returns-in-Ok-clause-reported g c = λ is. (c.in-Ok.disk, c.in-Ok.ensures.opened, refl, c.check_on-status.ensures.reported is)
+returns-in-Ok-clause-reported g c = λ is. (c.in-Ok.disk, c.in-Ok.ensures.shared, refl, c.check_on-status.ensures.reported is)
 
-pub returns-clause-told : goal.returns-clause-told
-returns-clause-told g c = told_refusal {F = Unit {0}} c.refuse.result (Device tt) _ _ (λ told. inl (c.in-Err.field-0, c.in-Err.ensures.not_opened, told)) c.refuse.ensures
+pub returns-in-Err-clause-told : goal.returns-in-Err-clause-told
+returns-in-Err-clause-told g c = told_refusal {F = Unit {0}} c.refuse.result (Device tt) _ _ (λ told. inl (c.in-Err.error, (c.in-Err.ensures.not_shared, c.tell_error.ensures), told)) c.refuse.ensures

@@ -23,7 +23,7 @@ returns-in-Ok-create-clause-formatted g c =
     let len = c.size.ensures.value ∙ ap device_size c.in-Ok.ensures.0 in
     λ is. (c.in-Ok-create.disk, rw (len) at c.in-Ok-create.ensures.created, rw (c.in-Ok.ensures.0) at (c.format_on-disk.ensures.formatted is))
 
-pub returns-clause-told : goal.returns-clause-told
-returns-clause-told g c =
+pub returns-in-Err-clause-told : goal.returns-in-Err-clause-told
+returns-in-Err-clause-told g c =
     let len = c.size.ensures.value ∙ ap device_size c.in-Ok.ensures.0 in
-    told_refusal {F = Unit {0}} c.refuse-in-Err.result (Device tt) _ _ (λ told. inr (inl (c.in-Ok.ensures.1, (c.in-Err.field-0, rw (len) at c.in-Err.ensures.not_created, told)))) c.refuse-in-Err.ensures
+    told_refusal {F = Unit {0}} c.refuse-in-Err.result (Device tt) _ _ (λ told. inr (inl (c.in-Ok.ensures.1, (c.in-Err.error, (rw (len) at c.in-Err.ensures.not_created, c.tell_error.ensures), told)))) c.refuse-in-Err.ensures

@@ -20,7 +20,7 @@ pub returns-in-Check-clause-done : goal.returns-in-Check-clause-done
 returns-in-Check-clause-done g c = rw c.in-Check.is (λ is. (c.check_file.result.0, c.check_file.ensures.reported is))
 
 pub returns-in-Serve-clause-told : goal.returns-in-Serve-clause-told
-returns-in-Serve-clause-told g c = rw c.in-Serve.is (told_weaker c.serve_file.result.1 (λ told. told) c.serve_file.ensures.told)
+returns-in-Serve-clause-told g c = rw c.in-Serve.is (told_weaker c.serve_file.result.1 (λ told. (c.serve_file.result.0, told)) c.serve_file.ensures.told)
 
 pub returns-in-Serve-clause-done : goal.returns-in-Serve-clause-done
 returns-in-Serve-clause-done g c = rw c.in-Serve.is (λ is. (c.serve_file.result.0, c.serve_file.ensures.served is))

@@ -7,4 +7,4 @@ returns-clause-done g c = λ is. done_at_0 _ _ _ _ 0 _ _ refl (at_status _ c.ans
 
 pub returns-clause-usage : goal.returns-clause-usage
 returns-clause-usage g c =
-    λ is. usage_at_2 _ _ _ (map string_bytes c.args.words.now) 2 _ _ refl (at_status _ c.answer.result c.status_of.result 2 c.status_of.ensures (λ no. omega (arith, no)) is c.answer.ensures)
+    λ is. usage_at_2 _ _ _ (g.N.Notes.told_words c.args.notes.now c.answer.new.notes) (map string_bytes c.args.words.now) 2 _ _ refl (at_status _ c.answer.result c.status_of.result 2 c.status_of.ensures (λ no. omega (arith, no)) is c.answer.ensures)

@@ -1,0 +1,164 @@
+// What people are told, on files and by words, and one owner for a file. Each test has a folder of its own.
+
+use crate::notes::NoteLines;
+use crate::program::program;
+use crate::tests::{answers, words};
+use crate::usage::{FORMS, complaint_of};
+use silt_device::{FileDisk, FileDisks};
+use std::fs::{self, File};
+use std::io::{self, Cursor};
+use std::net::{Net, TcpListener, TcpStream};
+use std::process::Abort;
+use std::rt::Files;
+use std::sync::Wait;
+use std::test::Fail;
+use std::thread::Threads;
+
+// Makes a folder, without what an earlier run left in it.
+fn make_folder(runtime: &HostRuntime, name: &str) -> io::Result<()> {
+    if fs::exists(runtime, name)? {
+        fs::remove_dir_all(runtime, name)?;
+    }
+    fs::create_dir(runtime, name)
+}
+
+// Runs the program, which is to end with this status, and compares what people are told.
+fn tells<
+    S: Files<File = File>
+        + AllocGlobal
+        + Abort
+        + Net<Listener = TcpListener, Stream = TcpStream>
+        + Threads
+        + Wait
+        + Sync,
+>(rt: &S, call: &str, status: u8, told: &str) -> Result<(), Fail> {
+    let words = words(rt, call)?;
+    let mut notes = Vec::new(rt.alloc());
+    let code = program(
+        rt,
+        rt.alloc(),
+        FileDisks::new(rt),
+        words.as_slice(),
+        &mut Cursor::new(b"".as_slice()),
+        &mut Vec::new(rt.alloc()),
+        &mut NoteLines::new(&mut notes),
+    );
+    assert_eq!(rt; notes.as_slice(), told.as_bytes(), "{call}");
+    assert_eq!(rt; code, status);
+    Ok(())
+}
+
+// A file that cannot be made or opened is told with the system's words, and nothing is told of a job that is done.
+#[test]
+fn tells_why_a_file_is_refused(rt: HostRuntime) -> Result<(), Fail> {
+    make_folder(&rt, "why")?;
+    let missing = "silt: why/disk: No such file or directory (os error 2)\n";
+    tells(&rt, "silt run why/disk", 1, missing)?;
+    tells(&rt, "silt check why/disk", 1, missing)?;
+    tells(&rt, "silt serve why/disk 0", 1, missing)?;
+    let folder = "silt: why: Is a directory (os error 21)\n";
+    tells(&rt, "silt format why 2 2 4 2 2 8", 1, folder)?;
+    tells(&rt, "silt format why/disk 2 3 4 2 2 8", 1, "")?;
+    tells(&rt, "silt format why/disk 2 2 4 2 2 8", 0, "")?;
+    tells(&rt, "silt run why/disk", 0, "")?;
+    tells(&rt, "silt check why/disk", 0, "")?;
+    fs::remove_dir_all(&rt, "why")?;
+    Ok(())
+}
+
+// While a file is in use each job on it is refused, before anything in it is read or written.
+#[test]
+fn one_job_has_a_file(rt: HostRuntime) -> Result<(), Fail> {
+    make_folder(&rt, "busy")?;
+    let format = "silt format busy/disk 2 2 4 2 2 8";
+    answers(&rt, format, b"", 0, b"formatted 45056\n")?;
+    let owner = FileDisk::open(&rt, "busy/disk")?;
+    let told = "silt: busy/disk: the file is in use\n";
+    for call in [
+        "silt run busy/disk",
+        "silt check busy/disk",
+        "silt serve busy/disk 0",
+        "silt format busy/disk 2 2 8 2 2 16",
+        "silt format busy/disk 100 1024 3000 4 4 100000",
+    ] {
+        answers(&rt, call, b"flush\n", 1, b"refused 5 Device\n")?;
+        tells(&rt, call, 1, told)?;
+    }
+    assert_eq!(rt; fs::metadata(&rt, "busy/disk")?.len(), 45_056);
+    drop(owner);
+    answers(&rt, "silt run busy/disk", b"", 0, b"opened\n")?;
+    fs::remove_dir_all(&rt, "busy")?;
+    Ok(())
+}
+
+// A check shares the file with others that only read it, and keeps those out that write.
+#[test]
+fn checks_share_a_file(rt: HostRuntime) -> Result<(), Fail> {
+    make_folder(&rt, "looked")?;
+    let format = "silt format looked/disk 2 2 4 2 2 8";
+    answers(&rt, format, b"", 0, b"formatted 45056\n")?;
+    let reader = FileDisk::open_shared(&rt, "looked/disk")?;
+    tells(&rt, "silt check looked/disk", 0, "")?;
+    answers(&rt, "silt run looked/disk", b"", 1, b"refused 5 Device\n")?;
+    drop(reader);
+    fs::remove_dir_all(&rt, "looked")?;
+    Ok(())
+}
+
+// A port that is in use is a fault of the network, behind `opened`.
+#[test]
+fn tells_a_port_that_is_in_use(rt: HostRuntime) -> Result<(), Fail> {
+    make_folder(&rt, "port")?;
+    let format = "silt format port/disk 2 2 4 2 2 8";
+    answers(&rt, format, b"", 0, b"formatted 45056\n")?;
+    let listener = TcpListener::bind(&rt, ("127.0.0.1", 0))?;
+    let port = listener.local_addr()?.port();
+    let call = format!(in rt.alloc(); "silt serve port/disk {port}")?;
+    answers(&rt, &call, b"", 1, b"opened\nnetwork fault\n")?;
+    let told = format!(in rt.alloc();
+        "silt: 127.0.0.1:{port}: Address already in use (os error 98)\n"
+    )?;
+    tells(&rt, &call, 1, &told)?;
+    fs::remove_dir_all(&rt, "port")?;
+    Ok(())
+}
+
+// What is wrong with words that name no job, and nothing where they ask for help.
+#[test]
+fn tells_which_word_is_wrong(rt: HostRuntime) -> Result<(), Fail> {
+    for (call, complaint) in [
+        ("silt", "no job is named"),
+        ("silt prune disk", "there is no job 'prune'"),
+        ("silt run", "FILE is missing"),
+        ("silt check disk disk2", "'disk2' is one word too many"),
+        ("silt run disk --fast", "'--fast' is no option here"),
+        ("silt format disk 2 2 4 2 2", "S is missing"),
+        ("silt format disk 2 x 4 2 2 8", "B cannot be 'x'"),
+        (
+            "silt script 2 2 4 2 2 4294967296",
+            "S cannot be '4294967296'",
+        ),
+        ("silt serve disk 65536", "PORT cannot be '65536'"),
+        ("silt serve disk 0 --audit", "--audit is missing"),
+        ("silt serve disk 0 --audit x", "--audit cannot be 'x'"),
+        (
+            "silt serve disk 0 --sessions 1 2",
+            "'2' is one word too many",
+        ),
+    ] {
+        let words = words(&rt, call)?;
+        let Some(found) = complaint_of(words.as_slice()) else {
+            return Err(Fail::new("no complaint"));
+        };
+        let text = format!(in rt.alloc(); "{found}")?;
+        assert_eq!(rt; text.as_str(), complaint);
+        let told = format!(in rt.alloc(); "silt: {complaint}\n{FORMS}")?;
+        tells(&rt, call, 2, &told)?;
+        answers(&rt, call, b"", 2, b"usage\n")?;
+    }
+    for call in ["silt --help", "silt --version", "silt run --help"] {
+        tells(&rt, call, 2, FORMS)?;
+        answers(&rt, call, b"", 2, b"usage\n")?;
+    }
+    Ok(())
+}
