@@ -76,7 +76,7 @@ pub is_has_key : (keys : List (List ℕ)) (slots : Slots) (key : List ℕ) (slot
 is_has_key keys slots key slot e is same = let test = (bytes_eq-Decides (get_or keys e.1 []) key).1 same in rw (is, test) refl
 
 -- where no slot has the key, no place that is held is that of the key
-no_key : (keys : List (List ℕ)) (slots : Slots) (key : List ℕ) (place : ℕ) → slot_of_key keys slots key ≡ None → HoldsPlace slots place → get_or keys place [] ≢ key
+pub no_key : (keys : List (List ℕ)) (slots : Slots) (key : List ℕ) (place : ℕ) → slot_of_key keys slots key ≡ None → HoldsPlace slots place → get_or keys place [] ≢ key
 no_key keys slots key place none (slot, held) same =
     let entry = has_entry slots slot place held in
     let there = entry_inside slots slot entry.0 entry.1 in

@@ -29,6 +29,16 @@ pub record Begins (some all : List Command) : Type 0 where
   pub rest : List Command
   pub is : some ++ rest ≡ all
 
+-- this command waits behind those that waited, and the base is as it was
+pub record WaitsBehind (command : Command) (old_base new_base : Map) (old_waiting new_waiting : List Command) : Type 0 where
+  pub waiting : new_waiting ≡ old_waiting ++ command ∷ []
+  pub base : new_base ≡ old_base
+
+-- what waited went into the base, and this command alone waits
+pub record WaitsAlone (command : Command) (old_base new_base : Map) (old_waiting new_waiting : List Command) : Type 0 where
+  pub waiting : new_waiting ≡ command ∷ []
+  pub base : new_base ≡ map_after old_base old_waiting
+
 -- how a proof tells two maps apart
 abbrev pub map_code : Coded Map
 map_code = code (coded_list coded_ℕ) (coded_list coded_ℕ)

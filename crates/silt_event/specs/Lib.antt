@@ -1,2 +1,4 @@
 pub mod Commands
 pub mod Events
+pub mod Findings
+pub mod Rows

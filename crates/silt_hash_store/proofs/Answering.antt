@@ -1,14 +1,11 @@
 -- The rows that a conversion writes make of a map what the log's rows make.
-use Rattle.std.proofs.Common.{◌≡◌, ℕ, zero, suc, ◌*◌, ◌<◌, ◌⊎◌, ◌==◌, Bool, true, false, cond, if◌then◌else◌, List, [], ◌∷◌, length, map, filter, get_or, slice_get, Option, Some, None, inl, inr, refl, sym, ap, ◌∙◌, arith}
-use Rattle.std.specs.FinMap.{get, get-insert, get-remove, same_map, slice_cmp-IsAntisymmetric, nat_cmp-IsAntisymmetric}
+use Rattle.std.proofs.Common.{◌≡◌, ℕ, zero, suc, ◌*◌, ◌<◌, ◌⊎◌, Bool, true, false, cond, List, [], ◌∷◌, length, map, filter, get_or, slice_get, Option, Some, None, inl, inr, refl, sym, ap, ◌∙◌, arith}
+use Rattle.std.specs.FinMap.{get, same_map, slice_cmp-IsAntisymmetric, nat_cmp-IsAntisymmetric}
 use Rattle.std.specs.List.{range_with_len}
 use Rattle.std.specs.Str.{bytes_eq}
-use Rattle.std.specs.Ordering.{nat_cmp, eq_by_cmp}
-use Rattle.std.specs.Cmp.Lexicographic.{slice_cmp}
 use Rattle.std.proofs.lemmas.Bool.{and_from, and_parts, cases_Bool}
-use Rattle.std.proofs.lemmas.Cmp.{eq_by_cmp_equiv, nat_list_cmp_total}
+use Rattle.std.proofs.lemmas.Cmp.{nat_list_cmp_total}
 use Rattle.std.proofs.lemmas.List.FromFn.{get_or-map-range_with_len, length-map-range_with_len}
-use Rattle.std.proofs.lemmas.Map.Text.{is_eq-slice_cmp}
 use Rattle.std.proofs.lemmas.Option.{get_or_from_slice_get, slice_get-get_or, slice_get_within}
 use Rattle.std.proofs.lemmas.Slice.Eq.{bytes_eq-Decides}
 use Rattle.silt_cuckoo.specs.Index.{IsNewest}
@@ -17,9 +14,9 @@ use Rattle.silt_cuckoo.proofs.Paths.{entry_inside}
 use Rattle.silt_cuckoo.proofs.Placed.{has_entry}
 use Rattle.silt_cuckoo.proofs.Indexing.{index_law, newest_apart}
 use Rattle.silt_device.specs.Layout.{Shape}
-use Rattle.silt_event.specs.Commands.{Map, changed, delete, map_after, put}
-use Rattle.silt_image.specs.Laws.{value_given}
-use Rattle.silt_image.specs.Meaning.{command_of}
+use Rattle.silt_event.proofs.Rows.{changed_get}
+use Rattle.silt_event.specs.Commands.{Map, changed, map_after}
+use Rattle.silt_event.specs.Rows.{value_given, command_of}
 use Rattle.silt_frame.specs.Rows.{keys_of, has_known_kind, StoredRow}
 use Rattle.silt_log_store.proofs.Entries.{entry_law}
 use Rattle.silt_log_store.proofs.Rows.{key_of_row, keys_count}
@@ -28,26 +25,6 @@ use Rattle.silt_hash_store.specs.Laws.{ConvertedMapLaw, IsTableOf}
 use Rattle.silt_hash_store.specs.Slots.{is_row_of}
 use Rattle.silt_hash_store.proofs.Slotting.{empty_not_known}
 use Rattle.silt_hash_store.proofs.Soundness.{empty_kind, entry_known, place_inside, row_of_entry, row_of_none}
-
--- two keys are told apart as bytes
-same_key : (key other : List ℕ) → eq_by_cmp (slice_cmp nat_cmp) key other ≡ bytes_eq other key
-same_key key other = (eq_by_cmp_equiv nat_list_cmp_total).symm key other ∙ is_eq-slice_cmp other key
-
--- what a map has for a key after one row more
-changed_get : (m : Map) (row : StoredRow) (key : List ℕ) → get (changed m (command_of row)) key ≡ cond (bytes_eq row.key key) (value_given row) (get m key)
-changed_get m row key = go (row.kind == 1) refl
-  where
-    go : (b : Bool) → (row.kind == 1) ≡ b → get (changed m (command_of row)) key ≡ cond (bytes_eq row.key key) (value_given row) (get m key)
-    go true is =
-        ap (λ (b : Bool). get (changed m (if b then put row.key row.value else delete row.key)) key) is
-        ∙ get-insert nat_list_cmp_total m row.key row.value key
-        ∙ ap (λ (b : Bool). cond b (Some row.value) (get m key)) (same_key key row.key)
-        ∙ ap (λ (b : Bool). cond (bytes_eq row.key key) (if b then Some row.value else None) (get m key)) (sym is)
-    go false is =
-        ap (λ (b : Bool). get (changed m (if b then put row.key row.value else delete row.key)) key) is
-        ∙ get-remove nat_list_cmp_total m row.key key
-        ∙ ap (λ (b : Bool). cond b None (get m key)) (same_key key row.key)
-        ∙ ap (λ (b : Bool). cond (bytes_eq row.key key) (if b then Some row.value else None) (get m key)) (sym is)
 
 -- a row of the key sets its value, and another row leaves what there is
 set_by : (m : Map) (row : StoredRow) (key : List ℕ) → bytes_eq row.key key ≡ true → get (changed m (command_of row)) key ≡ value_given row

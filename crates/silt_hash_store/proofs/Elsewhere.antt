@@ -3,14 +3,13 @@ use Rattle.std.proofs.Common.{◌≡◌, ℕ, ◌+◌, ◌*◌, ◌≤◌, ◌<�
 use Rattle.silt_device.specs.Disk.{LiesOutside, Torn, size}
 use Rattle.silt_device.specs.Layout.{Shape, device_size, hash_at, row_len, slots_len}
 use Rattle.silt_device.proofs.Images.{torn_slice_after, torn_slice_before}
-use Rattle.silt_image.specs.Meaning.{hash_findings}
+use Rattle.silt_hash_store.specs.Findings.{hash_findings}
 use Rattle.silt_frame.specs.Rows.{put_count, has_known_kind, row_of, StoredRow}
-use Rattle.silt_image.specs.Stores.{hash_rows}
+use Rattle.silt_hash_store.specs.Slots.{hash_rows, rows_before, hash_slot_at, slot_row, tag_of}
 use Rattle.silt_log.proofs.Bodies.{map_range_same}
 use Rattle.silt_log_store.proofs.Elsewhere.{rows_outside}
 use Rattle.silt_hash_store.specs.Conversion.{converted_before, converted_row}
 use Rattle.silt_hash_store.specs.Laws.{HashElsewhereLaw, WrittenElsewhereLaw}
-use Rattle.silt_hash_store.specs.Slots.{rows_before, hash_slot_at, slot_row, tag_of}
 use Rattle.silt_hash_store.proofs.Reading.{slot_inside}
 use Rattle.silt_hash_store.proofs.Slotting.{all_before}
 use Rattle.silt_hash_store.proofs.Writing.{slots_inside}

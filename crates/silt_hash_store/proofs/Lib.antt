@@ -5,7 +5,6 @@ pub mod Finding
 pub mod Growing
 pub mod Marking
 pub mod Reading
-pub mod Replacing
 pub mod Slotting
 pub mod Soundness
 pub mod Writing

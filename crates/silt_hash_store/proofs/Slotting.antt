@@ -9,11 +9,10 @@ use Rattle.silt_cuckoo.specs.Keys.{first_bucket, second_bucket}
 use Rattle.silt_cuckoo.specs.Placing.{other_bucket}
 use Rattle.silt_device.specs.Layout.{Shape, hash_at, row_len}
 use Rattle.silt_frame.specs.Frame.{kind_of}
-use Rattle.silt_image.specs.Meaning.{holds_key, is_in_bucket, is_sound_hash_slot}
-use Rattle.silt_image.specs.Stores.{hash_rows}
+use Rattle.silt_hash_store.specs.Findings.{holds_key, is_in_bucket, is_sound_hash_slot}
+use Rattle.silt_hash_store.specs.Slots.{hash_rows, is_row_of, rows_before, slot_row, tag_of}
 use Rattle.silt_log.specs.Rows.{body_row}
 use Rattle.silt_frame.specs.Rows.{has_known_kind, StoredRow}
-use Rattle.silt_hash_store.specs.Slots.{is_row_of, rows_before, slot_row, tag_of}
 
 -- ---- the rows of a region
 

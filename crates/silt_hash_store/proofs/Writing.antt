@@ -7,10 +7,10 @@ use Rattle.silt_cuckoo.specs.Slots.{Entry, IsBucketCount, Slots, entry_at}
 use Rattle.silt_device.specs.Disk.{ChangesWithin, Content, LiesOutside, size}
 use Rattle.silt_device.specs.Layout.{Shape, device_size, gates_at, hash_at, log_len, row_len}
 use Rattle.silt_device.proofs.Regions.{regions_apart}
-use Rattle.silt_image.specs.Meaning.{hash_findings}
+use Rattle.silt_hash_store.specs.Findings.{hash_findings}
 use Rattle.silt_frame.specs.Rows.{put_count, has_known_kind, StoredRow}
-use Rattle.silt_image.specs.Stores.{hash_rows}
-use Rattle.silt_image.proofs.Rows.{count_law}
+use Rattle.silt_hash_store.specs.Slots.{hash_rows, rows_before, hash_slot_at, slot_row, slot_tag, tag_of}
+use Rattle.silt_event.proofs.Rows.{count_law}
 use Rattle.silt_log.specs.Rows.{row_at}
 use Rattle.silt_log.specs.State.{InBounds, all_rows}
 use Rattle.silt_log.proofs.Bodies.{map_range_same}
@@ -20,7 +20,6 @@ use Rattle.silt_log_store.proofs.Elsewhere.{frozen_elsewhere, rows_outside}
 use Rattle.silt_log_store.proofs.Rows.{known_there}
 use Rattle.silt_hash_store.specs.Conversion.{ConversionState, HasWritten, IsHeldConversion, Steps, converted_before, converted_row, converted_rows, empty_row, row_for, tag_of_entry, with_entry}
 use Rattle.silt_hash_store.specs.Laws.{IsTableOf}
-use Rattle.silt_hash_store.specs.Slots.{rows_before, hash_slot_at, slot_row, slot_tag, tag_of}
 use Rattle.silt_hash_store.specs.State.{IsHashStore}
 use Rattle.silt_hash_store.proofs.Reading.{slot_elsewhere}
 use Rattle.silt_hash_store.proofs.Slotting.{all_before}

@@ -1,17 +1,16 @@
 -- Laws of hash stores and conversions, for the layers above.
-use Rattle.std.specs.Prelude.{◌≡◌, ℕ, ◌+◌, ◌-◌, ◌*◌, ◌≤◌, ◌<◌, true, List, [], ◌∷◌, ◌++◌, Some, length, map, filter, take}
+use Rattle.std.specs.Prelude.{◌≡◌, ℕ, ◌*◌, ◌≤◌, ◌<◌, true, List, [], Some, map, filter}
 use Rattle.std.specs.List.{list_all}
 use Rattle.silt_cuckoo.specs.Slots.{Slots, IsBucketCount}
 use Rattle.silt_cuckoo.specs.Index.{index_of_keys}
 use Rattle.silt_device.specs.Disk.{ChangesWithin, Content, LiesOutside, size}
 use Rattle.silt_device.specs.Layout.{Shape, device_size, gates_at, hash_at, log_len, slots_len}
 use Rattle.silt_event.specs.Commands.{Map, map_after}
-use Rattle.silt_image.specs.Meaning.{IsSound, charge_of, command_of, hash_findings, known_rows, map_of_rows, rows_of}
+use Rattle.silt_event.specs.Rows.{command_of}
+use Rattle.silt_hash_store.specs.Findings.{hash_findings}
 use Rattle.silt_frame.specs.Rows.{put_count, keys_of, has_known_kind, StoredRow}
-use Rattle.silt_image.specs.Stores.{Part, Stores}
 use Rattle.silt_log.specs.State.{InBounds}
 use Rattle.silt_log_store.specs.State.{LogStoreState}
-use Rattle.silt_manifest.specs.declared.body.Body.{Body}
 use Rattle.silt_hash_store.specs.Conversion.{ConversionState, HasWritten, converted_rows}
 use Rattle.silt_hash_store.specs.State.{HashState, IsHashStore, IsHeldHash}
 
@@ -40,31 +39,6 @@ ConvertedChargeLaw =
     → put_count (filter has_known_kind (converted_rows shape table rows)) ≤ put_count rows
 
 -- ---- a conversion that is finished
-
--- the stores under a body that names this hash store in front of the others, and no longer the oldest log
-unfoldable pub with_converted : Body → Part → Stores → Stores
-with_converted body part s = record s { body = body; logs = take (length s.logs - 1) s.logs; hashes = part ∷ s.hashes }
-
--- the oldest log of the stores has these rows
-pub record HasOldest (rows : List StoredRow) (s : Stores) : Type 0 where
-  pub newer : List Part
-  pub region : ℕ
-  pub logs : s.logs ≡ newer ++ record { region = region; rows = rows } ∷ []
-
--- stores with this hash store in place of a log of these rows stand for the same map, also with rows behind, are sound, and have the
--- puts of the hash store in place of the log's
-pub record ReplacesLog (rows : List StoredRow) (part : Part) (old new : Stores) : Type 0 where
-  pub map : map_of_rows (rows_of new) ≡ map_of_rows (rows_of old)
-  pub behind : (more : List StoredRow) → map_of_rows (rows_of new ++ more) ≡ map_of_rows (rows_of old ++ more)
-  pub sound : IsSound new
-  pub charge : charge_of new + put_count rows ≡ charge_of old + put_count (known_rows part)
-
--- the rows that are due may stand in a hash store in place of the oldest log
-abbrev pub ConvertsLaw : Type 0
-ConvertsLaw =
-    (s : Stores) (body : Body) (rows : List StoredRow) (table : Slots) (region : ℕ) → HasOldest rows s → IsTableOf s.shape rows table → IsSound s
-    → ReplacesLog rows (record { region = region; rows = converted_rows s.shape table rows }) s
-    (with_converted body (record { region = region; rows = converted_rows s.shape table rows }) s)
 
 -- ---- changes elsewhere
 

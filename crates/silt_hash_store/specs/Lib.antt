@@ -1,3 +1,4 @@
+pub mod Findings
 pub mod Slots
 pub mod Lookup
 pub mod State

@@ -4,7 +4,7 @@ use Rattle.silt_device.specs.Layout.{Shape}
 use Rattle.silt_frame.specs.Frame.{kind_byte}
 use Rattle.silt_frame.specs.declared.key.Kind.{Kind}
 use Rattle.silt_frame.specs.declared.key.Row.{Row}
-use Rattle.silt_image.specs.Meaning.{holds_key}
+use Rattle.silt_hash_store.specs.Findings.{holds_key}
 use Rattle.silt_log.specs.Rows.{IsRow}
 use Rattle.silt_frame.specs.Rows.{has_known_kind, StoredRow}
 use Rattle.silt_log_store.specs.declared.store.Found.{Found}

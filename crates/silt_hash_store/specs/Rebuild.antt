@@ -6,12 +6,12 @@ use Rattle.silt_device.specs.Disk.{Content}
 use Rattle.silt_device.specs.Layout.{Shape}
 use Rattle.silt_frame.specs.Frame.{kind_of}
 use Rattle.silt_frame.specs.declared.key.Kind.{Kind}
-use Rattle.silt_image.specs.Meaning.{hash_findings, is_in_bucket, known_rows}
+use Rattle.silt_hash_store.specs.Findings.{hash_findings, is_in_bucket}
+use Rattle.silt_log_store.specs.Parts.{known_rows}
 use Rattle.silt_frame.specs.Rows.{put_count, has_known_kind, StoredRow, puts_of}
-use Rattle.silt_image.specs.Stores.{hash_part}
-use Rattle.silt_image.specs.declared.damage.Finding.TheVariants as finding
+use Rattle.silt_hash_store.specs.Slots.{hash_part, is_sound_slot, rows_before, slot_row, tag_of}
+use Rattle.silt_event.specs.declared.finding.Finding.TheVariants as finding
 use Rattle.silt_event.specs.declared.place.Place.TheVariants.{Hash}
-use Rattle.silt_hash_store.specs.Slots.{is_sound_slot, rows_before, slot_row, tag_of}
 use Rattle.silt_hash_store.specs.State.{HashState, IsHashStore, IsTagged}
 use Rattle.silt_hash_store.specs.declared.rebuild.Rebuilt.{Rebuilt}
 use Rattle.silt_hash_store.specs.declared.rebuild.RebuildError.{RebuildError}

@@ -8,10 +8,18 @@ use Rattle.silt_device.specs.Layout.{Shape, hash_at, row_len}
 use Rattle.silt_frame.specs.Frame.{kind_of}
 use Rattle.silt_hash_store.specs.declared.region.Head.{Head}
 use Rattle.silt_hash_store.specs.declared.region.Head.TheVariants.{Empty, Unknown, Row}
-use Rattle.silt_image.specs.Meaning.{is_sound_hash_slot}
-use Rattle.silt_image.specs.Stores.{hash_rows}
+use Rattle.silt_hash_store.specs.Findings.{is_sound_hash_slot}
 use Rattle.silt_log.specs.Rows.{body_row}
 use Rattle.silt_frame.specs.Rows.{has_known_kind, StoredRow}
+use Rattle.silt_log_store.specs.Parts.{Part}
+
+-- the rows in the slots of a hash region, in order
+unfoldable pub hash_rows : Shape → ℕ → List ℕ → List StoredRow
+hash_rows shape region image = map (body_row (hash_at shape region) (row_len shape) image) (range_with_len 0 (4 * shape.buckets))
+
+-- a hash store of an image
+abbrev pub hash_part : Shape → List ℕ → ℕ → Part
+hash_part shape image region = record { region = region; rows = hash_rows shape region image }
 
 -- where a slot begins
 abbrev pub hash_slot_at : Shape → ℕ → ℕ → ℕ

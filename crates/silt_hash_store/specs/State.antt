@@ -3,9 +3,9 @@ use Rattle.std.specs.Prelude.{◌≡◌, ℕ, ◌*◌, ◌<◌, ◌≤◌, true,
 use Rattle.silt_device.specs.Disk.{Content}
 use Rattle.silt_device.specs.Layout.{Shape}
 use Rattle.silt_frame.specs.Rows.{put_count}
-use Rattle.silt_image.specs.Meaning.{hash_findings, known_rows}
-use Rattle.silt_image.specs.Stores.{hash_part}
-use Rattle.silt_hash_store.specs.Slots.{is_sound_slot, slot_row, slot_tag, tag_of}
+use Rattle.silt_hash_store.specs.Findings.{hash_findings}
+use Rattle.silt_log_store.specs.Parts.{known_rows}
+use Rattle.silt_hash_store.specs.Slots.{hash_part, is_sound_slot, slot_row, slot_tag, tag_of}
 
 -- a hash store: its region, the tag of each slot, and how many of its rows are puts
 pub record HashState : Type 0 where

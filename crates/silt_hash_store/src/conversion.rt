@@ -4,7 +4,7 @@ ghost use Rattle.silt_device.specs.Disk.{Content, ChangesWithin, CountsFault, Ga
 ghost use Rattle.silt_device.specs.Layout.{device_size, row_len};
 ghost use Rattle.silt_hash_store.specs.Conversion.{converted_row, converted_rows, with_entry};
 ghost use Rattle.silt_frame.specs.Rows.{put_count, has_known_kind, row_of};
-ghost use Rattle.silt_image.specs.Stores.{hash_rows};
+ghost use Rattle.silt_hash_store.specs.Slots.{hash_rows};
 ghost use Rattle.silt_log.specs.State.{all_rows};
 ghost use Rattle.silt_log_store.specs.State.{IsHeldStore, IsIndexed};
 

@@ -1,5 +1,5 @@
 // Laws of hash stores and conversions, for the layers above.
-ghost use Rattle.silt_hash_store.specs.Laws.{ConvertedChargeLaw, ConvertedMapLaw, ConvertedSoundLaw, ConvertsLaw, HashElsewhereLaw, WrittenElsewhereLaw};
+ghost use Rattle.silt_hash_store.specs.Laws.{ConvertedChargeLaw, ConvertedMapLaw, ConvertedSoundLaw, HashElsewhereLaw, WrittenElsewhereLaw};
 
 /// Nothing is found in the rows that a conversion writes.
 #[tactic(auto, using(crate::proofs::Soundness::converted_sound))]
@@ -16,11 +16,6 @@ pub fn converted_map_law()
 /// The rows that a conversion writes have no more puts than the log's rows.
 pub fn converted_charge_law()
     ensures { ConvertedChargeLaw }
-{}
-
-/// What a conversion has written may stand in a hash store in place of the oldest log.
-pub fn converts_law()
-    ensures { ConvertsLaw }
 {}
 
 /// A hash store stands on after a change outside its slots.

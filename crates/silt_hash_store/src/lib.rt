@@ -21,7 +21,7 @@ mod tags;
 
 pub use conversion::{Conversion, StepError};
 pub use laws::{
-    converted_charge_law, converted_map_law, converted_sound_law, converts_law, hash_elsewhere_law,
+    converted_charge_law, converted_map_law, converted_sound_law, hash_elsewhere_law,
     written_elsewhere_law,
 };
 pub use rebuild::{RebuildError, Rebuilt};

@@ -2,7 +2,7 @@
 ghost use Rattle.std.specs.Prelude.{◌≡◌, ◌*◌, ◌<◌, ◌≤◌, ℕ, length, IsTrue, IfOk, IfErr, IfSome, OnOk};
 ghost use Rattle.silt_device.specs.Disk.{GaveAny, size};
 ghost use Rattle.silt_device.specs.Layout.{device_size};
-ghost use Rattle.silt_image.specs.Stores.{hash_rows};
+ghost use Rattle.silt_hash_store.specs.Slots.{hash_rows};
 
 use crate::lookup::find_in;
 use crate::rebuild::{RebuildError, Rebuilt, rebuild_region};

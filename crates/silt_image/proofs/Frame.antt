@@ -20,11 +20,15 @@ use Rattle.silt_manifest.specs.declared.slot.Damage.{Damage}
 use Rattle.silt_manifest.proofs.Laws.{other_regions, same_found}
 use Rattle.silt_manifest.proofs.SoundBodies.{sound_parts}
 use Rattle.silt_image.specs.Header.{header_of}
-use Rattle.silt_image.specs.Stores.{Part, Stores, hash_part, hash_rows, image_stores, log_part, shape_found, sorted_rows, stores_named, stores_ruled, stores_shaped}
-use Rattle.silt_image.specs.Meaning.{image_charge, image_fits, image_map, image_rows, image_stands, image_verdict, findings_of, map_where_sound, all_logs_fit, rows_found, map_of_rows, with_log_rows, with_new_log, with_part_rows}
-use Rattle.silt_image.specs.Laws.{Agree, FrameLaw, FreeHashLaw, FreeLogLaw, FreeSortedLaw, FreezeLaw, FreezesActive, HasStores, LogRegionLaw, ManifestLaw, MeaningLaw, NextBodyLaw, RulingLaw, SameBodyLaw, SameRegions, SameWithin}
-use Rattle.silt_image.specs.declared.damage.Finding.{Finding}
-use Rattle.silt_image.proofs.Named.{stores_law, whole_law, ruling_sound, shape_parts, apart_of}
+use Rattle.silt_log_store.specs.Parts.{Part, log_part}
+use Rattle.silt_image.specs.Stores.{Stores, image_stores, shape_found, stores_named, stores_ruled, stores_shaped}
+use Rattle.silt_hash_store.specs.Slots.{hash_part, hash_rows}
+use Rattle.silt_sorted_store.specs.State.{sorted_rows}
+use Rattle.silt_image.specs.Meaning.{image_charge, image_fits, image_map, image_rows, image_stands, image_verdict, findings_of, map_where_sound, all_logs_fit, rows_found, with_log_rows, with_new_log, with_part_rows}
+use Rattle.silt_event.specs.Rows.{map_of_rows}
+use Rattle.silt_image.specs.Laws.{Agree, FrameLaw, FreeHashLaw, FreeSortedLaw, FreezeLaw, FreezesActive, HasStores, LogRegionLaw, ManifestLaw, MeaningLaw, SameRegions, SameWithin}
+use Rattle.silt_event.specs.declared.finding.Finding.{Finding}
+use Rattle.silt_image.proofs.Named.{stores_law, ruling_sound, shape_parts}
 use Rattle.silt_image.proofs.Rows.{keeps_rows, takes_rows}
 
 -- ---- ranges
@@ -418,23 +422,3 @@ freeze_law image s next e freezes none =
 found_of : (r : Result Body Damage) (body : Body) → where_found r ≡ Some body → r ≡ Ok body
 found_of (Ok found) body e = cc
 found_of (Err damaged) body e = absurd (cc)
-
-pub ruling_law : RulingLaw
-ruling_law shape image body rules = found_of (manifest_found shape image) body rules
-
--- a change in a manifest slot after which the same body rules changes nothing
-pub same_body_law : SameBodyLaw
-same_body_law before after s slot e below torn rules =
-    manifest_law before after s slot s.body e below torn (ruling_law s.shape after s.body rules) ∙ ap Ok (sym ((stores_law before s).0 e).named)
-
--- a change in a manifest slot after which a body rules that freezes the active log
-pub next_body_law : NextBodyLaw
-next_body_law before after s slot next e below torn rules freezes none =
-    manifest_law before after s slot next e below torn (ruling_law s.shape after next rules) ∙ ap Ok (freeze_law before s next e freezes none)
-
--- the new log of such a body has a region that no log had
-pub free_log_law : FreeLogLaw
-free_log_law image s slot next e freezes sound =
-    (whole_law image s e).names next.active
-    ∙ ap (list_any (λ id. id == next.active)) (sym freezes.frozen)
-    ∙ apart_of s.shape slot next sound

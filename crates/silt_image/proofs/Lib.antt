@@ -6,5 +6,4 @@ pub mod Verdict
 pub mod Search
 pub mod Headers
 mod WorkedRows
-pub mod Changes
 pub mod HeaderExits

@@ -1,22 +1,23 @@
 -- The first finding, as a search comes upon it.
-use Rattle.std.proofs.Common.{◌≡◌, IsTrue, ℕ, zero, suc, ◌+◌, ◌≤◌, Bool, true, not, List, [], ◌∷◌, ◌++◌, take, flat_map, slice_get, Some, sym, ap, ◌∙◌, arith, length, map, get_or, refl, ◌<◌, false}
-use Rattle.std.specs.List.{list_all, enumerate_from, range_with_len}
-use Rattle.std.proofs.lemmas.Bool.{and_from, and_parts, lt-ltb}
+use Rattle.std.proofs.Common.{◌≡◌, ℕ, zero, suc, ◌+◌, ◌≤◌, Bool, true, not, List, [], ◌∷◌, ◌++◌, take, flat_map, slice_get, Some, sym, ap, ◌∙◌, arith, false}
+use Rattle.std.specs.List.{list_all, enumerate_from}
+use Rattle.std.proofs.lemmas.Bool.{and_parts, lt-ltb}
 use Rattle.std.proofs.lemmas.List.{take-take}
 use Rattle.std.proofs.lemmas.Grind.{flat_map-append}
-use Rattle.std.proofs.lemmas.List.FromFn.{length-map-range_with_len, get_or-map-range_with_len, take-map-range_with_len}
-use Rattle.std.proofs.lemmas.List.Folds.{list_all_more}
-use Rattle.std.proofs.lemmas.Option.{slice_get-get_or}
 use Rattle.silt_device.specs.Layout.{Shape}
-use Rattle.silt_log.specs.Rows.{FirstUnknown, log_rows, open_count, row_at, rows_from}
 use Rattle.silt_frame.specs.Rows.{has_known_kind, StoredRow}
-use Rattle.silt_image.specs.Stores.{Part, log_part}
-use Rattle.silt_image.specs.Meaning.{charge_findings, charge_of, finding_if, fits_table, hash_findings, log_findings, row_findings, sorted_findings, store_findings}
-use Rattle.silt_image.specs.Laws.{ChargeFoundLaw, CrowdedRowLaw, FirstEntryLaw, FirstFinding, FirstFindingLaw, FirstSlotLaw, OverchargedLaw, UnknownRowLaw}
-use Rattle.silt_image.specs.declared.damage.Finding.{Finding}
-use Rattle.silt_image.specs.declared.damage.Finding.TheVariants.{Damaged, Crowded}
+use Rattle.silt_log_store.specs.Parts.{Part}
+use Rattle.silt_image.specs.Meaning.{charge_findings, charge_of, store_findings}
+use Rattle.silt_event.specs.Findings.{finding_if}
+use Rattle.silt_log_store.specs.Findings.{fits_table, log_findings, row_findings}
+use Rattle.silt_hash_store.specs.Findings.{hash_findings}
+use Rattle.silt_sorted_store.specs.Findings.{sorted_findings}
+use Rattle.silt_image.specs.Laws.{ChargeFoundLaw, FirstEntryLaw, FirstFinding, FirstFindingLaw, FirstSlotLaw}
+use Rattle.silt_event.specs.declared.finding.Finding.{Finding}
+use Rattle.silt_event.specs.declared.finding.Finding.TheVariants.{Damaged, Crowded}
 use Rattle.silt_event.specs.declared.place.Place.TheVariants.{Log, Charge}
-use Rattle.silt_image.proofs.Sound.{fits_take, no_entries, no_hashes, nothing_both, nothing_where_passes}
+use Rattle.silt_log_store.proofs.Findings.{fits_take}
+use Rattle.silt_event.proofs.Findings.{nothing_both, nothing_where_passes}
 use Rattle.silt_image.proofs.Verdict.{verdict_of}
 
 -- the first of a list is the first of a longer one
@@ -77,53 +78,11 @@ first_finding_law image s before after part place row finding e logs none first 
     (first_of_front (flat_map (log_findings s.shape) s.logs ++ flat_map (hash_findings s.shape) s.hashes) (sorted_findings s.entries) finding
     (first_of_front (flat_map (log_findings s.shape) s.logs) (flat_map (hash_findings s.shape) s.hashes) finding in_logs))
 
--- numbers from a place on pass a test
-all_in_range : (f : ℕ → StoredRow) (from n : ℕ) → ((place : ℕ) → from ≤ place → place < from + n → has_known_kind (f place) ≡ true) → list_all has_known_kind (map f (range_with_len from n)) ≡ true
-all_in_range f from zero each = refl
-all_in_range f from (suc n) each =
-    and_from (has_known_kind (f from)) _ (each from (omega arith) (omega arith)) (all_in_range f (from + 1) n (λ place low high. each place (omega arith) (omega arith)))
-
--- what is found first in a row of an unknown kind
-unknown_row : (shape : Shape) (part : Part) (place : ℕ) (row : StoredRow) → has_known_kind row ≡ false → slice_get (row_findings shape part (place, row)) 0 ≡ Some (Damaged (Log part.region place))
-unknown_row shape part place row unknown =
-    ap (λ (b : Bool). slice_get (finding_if (not b) (Damaged (Log part.region place)) ++ finding_if (not (fits_table shape (take (place + 1) part.rows))) Crowded) 0) unknown
-
 -- and in one of a known kind without a place
 crowded_row : (shape : Shape) (part : Part) (place : ℕ) (row : StoredRow) → has_known_kind row ≡ true → fits_table shape (take (place + 1) part.rows) ≡ false → slice_get (row_findings shape part (place, row)) 0 ≡ Some Crowded
 crowded_row shape part place row known crowded =
     ap (λ (b : Bool). slice_get (finding_if (not b) (Damaged (Log part.region place)) ++ finding_if (not (fits_table shape (take (place + 1) part.rows))) Crowded) 0) known
     ∙ ap (λ (b : Bool). slice_get (finding_if (not b) Crowded) 0) crowded
-
--- the first row of an unknown kind, among those of a log
-unknown_first : (shape : Shape) (image : List ℕ) (region place : ℕ) → FirstUnknown (row_at shape region image) (open_count shape region image) place → IsTrue (fits_table shape (take place (log_rows shape region image)))
-    → FirstFinding shape (log_part shape image region) place (row_at shape region image place) (Damaged (Log region place))
-unfolding log_rows rows_from
-unknown_first shape image region place first fits =
-    let row : ℕ → StoredRow = row_at shape region image in
-    let count : ℕ = open_count shape region image in
-    let rows : List StoredRow = map row (range_with_len 0 count) in
-    let long : length rows ≡ count = length-map-range_with_len row 0 count in
-    record {
-      there = slice_get-get_or rows place (row place) (omega (arith, first.counts, long)) ∙ ap Some (get_or-map-range_with_len row 0 count place place (row place) first.counts (omega arith));
-      known = ap (list_all has_known_kind) (take-map-range_with_len row 0 count place (omega (arith, first.counts))) ∙ all_in_range row 0 place (λ earlier low high. first.known earlier (omega arith));
-      fits = fits;
-      first = unknown_row shape (log_part shape image region) place (row place) first.unknown;
-    }
-
--- so is a row of an unknown kind
-pub unknown_row_law : UnknownRowLaw
-unknown_row_law image s before after region place e logs none first fits =
-    first_finding_law image s before after (log_part s.shape image region) place (row_at s.shape region image place) (Damaged (Log region place)) e logs none
-    (unknown_first s.shape image region place first fits)
-
--- and a row without a place
-pub crowded_row_law : CrowdedRowLaw
-crowded_row_law image s before after part place e logs none inside known fits crowded =
-    let blank : StoredRow = record { kind = 0; key = []; value = [] } in
-    let row : StoredRow = get_or part.rows place blank in
-    let both = and_parts (list_all has_known_kind (take place part.rows)) (has_known_kind row) (sym (list_all_more has_known_kind part.rows place blank inside) ∙ known) in
-    first_finding_law image s before after part place row Crowded e logs none
-    (record { there = slice_get-get_or part.rows place blank inside; known = both.0; fits = fits; first = crowded_row s.shape part place row both.1 crowded })
 
 -- so is that in the first hash store that has one
 pub first_slot_law : FirstSlotLaw
@@ -156,7 +115,3 @@ charge_found_law image s e logs hashes entries many =
     (nothing_both (flat_map (log_findings s.shape) s.logs ++ flat_map (hash_findings s.shape) s.hashes) (sorted_findings s.entries)
     (nothing_both (flat_map (log_findings s.shape) s.logs) (flat_map (hash_findings s.shape) s.hashes) logs hashes) entries)
     (ap (λ (b : Bool). slice_get (finding_if b (Damaged Charge)) 0) (lt-ltb s.shape.sorted_capacity (charge_of s) many))
-
--- of stores with logs alone
-pub overcharged_law : OverchargedLaw
-overcharged_law image s e logs hashes entries many = charge_found_law image s e logs (no_hashes s hashes) (no_entries s entries) many

@@ -6,14 +6,23 @@ use Rattle.silt_device.specs.Layout.{Shape}
 use Rattle.silt_log.specs.Rows.{log_rows}
 use Rattle.silt_frame.specs.Rows.{has_known_kind, StoredRow, keys_of, put_count}
 use Rattle.silt_manifest.specs.Body.{first_body}
-use Rattle.silt_image.specs.Stores.{Part, Stores, image_stores, sorted_rows, stores_named, stores_ruled, stores_shaped}
-use Rattle.silt_image.specs.Meaning.{IsSound, all_logs_fit, charge_findings, charge_of, entry_findings, finding_if, findings_of, fits_table, hash_findings, image_fits, image_map, image_rows, image_stands, image_verdict, is_crowding, is_key_below, is_sound_hash_slot, log_findings, map_of_rows, map_where_sound, row_findings, rows_found, rows_of, slot_findings, sorted_findings, store_findings}
-use Rattle.silt_image.specs.Laws.{EmptyLaw, GoodLaw, GoodStandsLaw, NoStoresLaw, RowsLaw, SoundLaw, StandsLaw, VerdictLaw}
-use Rattle.silt_image.specs.declared.damage.Finding.{Finding}
-use Rattle.silt_image.specs.declared.damage.Finding.TheVariants.{Damaged, Crowded}
+use Rattle.silt_log_store.specs.Parts.{Part}
+use Rattle.silt_image.specs.Stores.{Stores, image_stores, stores_named, stores_ruled, stores_shaped}
+use Rattle.silt_sorted_store.specs.State.{sorted_rows}
+use Rattle.silt_image.specs.Meaning.{IsSound, all_logs_fit, charge_findings, charge_of, findings_of, image_fits, image_map, image_rows, image_stands, image_verdict, is_crowding, map_where_sound, rows_found, rows_of, store_findings}
+use Rattle.silt_sorted_store.specs.Findings.{entry_findings, is_key_below, sorted_findings}
+use Rattle.silt_event.specs.Findings.{finding_if}
+use Rattle.silt_log_store.specs.Findings.{fits_table, log_findings, row_findings}
+use Rattle.silt_hash_store.specs.Findings.{hash_findings, is_sound_hash_slot, slot_findings}
+use Rattle.silt_event.specs.Rows.{map_of_rows}
+use Rattle.silt_image.specs.Laws.{EmptyLaw, NoStoresLaw, RowsLaw, SoundLaw, StandsLaw, VerdictLaw}
+use Rattle.silt_event.specs.declared.finding.Finding.{Finding}
+use Rattle.silt_event.specs.declared.finding.Finding.TheVariants.{Damaged, Crowded}
 use Rattle.silt_event.specs.declared.place.Place.TheVariants.{Log, Hash, Sorted, Charge}
 use Rattle.silt_image.proofs.Named.{whole_law}
-use Rattle.silt_image.proofs.Sound.{fine_of, finds_nothing, fits_none, fits_take, logs_sound_law, nothing_both, nothing_first, nothing_second, of_fine}
+use Rattle.silt_log_store.proofs.Findings.{fine_of, fits_none, fits_take, of_fine}
+use Rattle.silt_image.proofs.Sound.{finds_nothing, logs_sound_law}
+use Rattle.silt_event.proofs.Findings.{nothing_both, nothing_first, nothing_second}
 
 -- ---- findings
 
@@ -136,15 +145,6 @@ sound_law image s e = (
   λ sound. verdict_of image s e ∙ ap (λ fs. slice_get fs 0) sound,
 )
 
--- a good image has stores in which nothing is found
-pub good_law : GoodLaw
-unfolding image_verdict
-good_law image good = go (image_stores image) refl
-  where
-    go : (r : Result Stores Finding) → image_stores image ≡ r → (s : Stores) × (image_stores image ≡ Ok s) × IsSound s
-    go (Err f) e = absurd (let found : slice_get (findings_of (Err f)) 0 ≡ None = sym (ap (λ r. slice_get (findings_of r) 0) e) ∙ good in cc)
-    go (Ok s) e = (s, e, (sound_law image s e).0 good)
-
 -- the rows of an image with stores are theirs
 pub rows_law : RowsLaw
 unfolding image_rows
@@ -158,17 +158,6 @@ stands_law image s e sound = record {
   has_shape = (whole_law image s e).has_shape;
   has_map = ap map_of_rows (rows_law image s e);
 }
-
--- a good image stands for its own map
-pub good_stands_law : GoodStandsLaw
-unfolding image_stands image_map
-good_stands_law image good =
-    let has = good_law image good in
-    let s = has.0 in
-    let all : list_all is_crowding (store_findings s) ≡ true = ap (list_all is_crowding) has.2 in
-    ap map_where_sound has.1
-    ∙ ap (λ (b : Bool). if b then Some (map_of_rows (rows_of s)) else None) all
-    ∙ ap (λ rows. Some (map_of_rows rows)) (sym (rows_law image s has.1))
 
 -- an image without stores has the finding in their place as its verdict
 pub no_stores_law : NoStoresLaw

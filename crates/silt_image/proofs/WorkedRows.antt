@@ -9,11 +9,16 @@ use Rattle.silt_manifest.specs.declared.body.Body.{Body}
 use Rattle.silt_cuckoo.specs.Index.{added, indexed}
 use Rattle.silt_cuckoo.specs.Placing.{free_slot, moved_along, path_for, placed, put_along, shortest_walk, turns, victim}
 use Rattle.silt_image.specs.Header.{header_bytes}
-use Rattle.silt_image.specs.Stores.{Stores, hash_rows, image_stores, shape_found, sorted_rows, stores_named}
-use Rattle.silt_image.specs.Meaning.{fits_table, hash_findings, image_rows, image_verdict, log_findings, report_of, rows_of, sorted_findings, store_findings}
-use Rattle.silt_image.specs.Laws.{newest_row}
-use Rattle.silt_image.specs.declared.damage.Finding.{Finding}
-use Rattle.silt_image.specs.declared.damage.Finding.TheVariants.{NotFormatted, Damaged, Crowded}
+use Rattle.silt_image.specs.Stores.{Stores, image_stores, shape_found, stores_named}
+use Rattle.silt_hash_store.specs.Slots.{hash_rows}
+use Rattle.silt_sorted_store.specs.State.{sorted_rows}
+use Rattle.silt_log_store.specs.Findings.{fits_table, log_findings}
+use Rattle.silt_hash_store.specs.Findings.{hash_findings}
+use Rattle.silt_image.specs.Meaning.{image_rows, image_verdict, report_of, rows_of, store_findings}
+use Rattle.silt_sorted_store.specs.Findings.{sorted_findings}
+use Rattle.silt_event.specs.Rows.{newest_row}
+use Rattle.silt_event.specs.declared.finding.Finding.{Finding}
+use Rattle.silt_event.specs.declared.finding.Finding.TheVariants.{NotFormatted, Damaged, Crowded}
 use Rattle.silt_event.specs.declared.place.Place.TheVariants.{Hash, Length, Log, Slot, Sorted}
 use Rattle.silt_event.specs.declared.report.Report.{Report}
 

@@ -1,22 +1,25 @@
 -- Laws of images, for the layers above.
-use Rattle.std.specs.Prelude.{◌≡◌, ◌≢◌, ◌≤◌, ◌<◌, ◌↔◌, ℕ, ◌+◌, ◌%◌, ◌==◌, true, false, if◌then◌else◌, IsTrue, IsSome, List, [], ◌∷◌, ◌++◌, length, map, take, reverse, find, flat_map, get_or, slice_get, Contains, Option, Some, None, option_and_then, Ok, Err}
+use Rattle.std.specs.Prelude.{◌≡◌, ◌≢◌, ◌≤◌, ◌<◌, ◌↔◌, ℕ, ◌+◌, ◌%◌, ◌==◌, true, false, IsTrue, IsSome, List, [], ◌∷◌, ◌++◌, length, map, take, flat_map, get_or, slice_get, Contains, Some, Ok, Err}
 use Rattle.std.specs.List.{list_any, list_all}
-use Rattle.std.specs.Str.{bytes_eq}
-use Rattle.std.specs.FinMap.{get, empty}
+use Rattle.std.specs.FinMap.{empty}
 use Rattle.silt_device.specs.Disk.{Torn}
 use Rattle.silt_device.specs.Layout.{Shape, InLimits, device_size, slot_at, gates_at, hash_at, sorted_at, log_size, hash_size, sorted_size}
-use Rattle.silt_log.specs.Rows.{FirstUnknown, log_rows, open_count, row_at}
-use Rattle.silt_frame.specs.Rows.{StoredRow, has_known_kind, is_put_row, put_count}
+use Rattle.silt_log.specs.Rows.{log_rows}
+use Rattle.silt_frame.specs.Rows.{StoredRow, has_known_kind}
 use Rattle.silt_manifest.specs.Body.{first_body, is_well_formed}
-use Rattle.silt_manifest.specs.Ruling.{manifest_found, open_body, ruling_manifest}
+use Rattle.silt_manifest.specs.Ruling.{manifest_found, open_body}
 use Rattle.silt_manifest.specs.declared.body.Body.{Body}
-use Rattle.silt_event.specs.Commands.{map_after}
 use Rattle.silt_image.specs.Header.{FitsHeader, IsHeader, header_bytes, header_of, header_shape, is_in_limits, shape_of}
-use Rattle.silt_image.specs.Stores.{Part, Stores, image_stores, log_part, shape_found, stores_named}
-use Rattle.silt_image.specs.Meaning.{HasActive, IsGood, IsSound, StandsFor, charge_of, command_of, fits_table, hash_findings, image_charge, image_fits, image_map, image_rows, image_stands, image_verdict, log_findings, map_of_rows, names_log, row_findings, rows_of, sorted_findings, with_log_rows, with_new_log}
-use Rattle.silt_image.specs.declared.damage.Finding.{Finding}
-use Rattle.silt_image.specs.declared.damage.Finding.TheVariants.{Crowded, Damaged}
-use Rattle.silt_event.specs.declared.place.Place.TheVariants.{Charge, Log}
+use Rattle.silt_log_store.specs.Parts.{Part}
+use Rattle.silt_image.specs.Stores.{Stores, image_stores, shape_found, stores_named}
+use Rattle.silt_image.specs.Meaning.{HasActive, IsGood, IsSound, StandsFor, charge_of, image_charge, image_fits, image_map, image_rows, image_stands, image_verdict, names_log, rows_of, with_log_rows, with_new_log}
+use Rattle.silt_event.specs.Rows.{map_of_rows}
+use Rattle.silt_log_store.specs.Findings.{fits_table, log_findings, row_findings}
+use Rattle.silt_hash_store.specs.Findings.{hash_findings}
+use Rattle.silt_sorted_store.specs.Findings.{sorted_findings}
+use Rattle.silt_event.specs.declared.finding.Finding.{Finding}
+use Rattle.silt_event.specs.declared.finding.Finding.TheVariants.{Damaged}
+use Rattle.silt_event.specs.declared.place.Place.TheVariants.{Charge}
 use Rattle.silt_frame.specs.Gate.{gate_open}
 
 -- ---- the header
@@ -124,16 +127,6 @@ ManifestLaw =
     (before after : List ℕ) (s : Stores) (slot : ℕ) (body : Body) → image_stores before ≡ Ok s → slot < 2 → Torn (slot_at slot) 4096 before after
     → manifest_found s.shape after ≡ Ok body → image_stores after ≡ Ok (stores_named s.shape body before)
 
--- a body that rules was found
-abbrev pub RulingLaw : Type 0
-RulingLaw = (shape : Shape) (image : List ℕ) (body : Body) → ruling_manifest shape image ≡ Some body → manifest_found shape image ≡ Ok body
-
--- a change in a manifest slot after which the same body rules changes nothing
-abbrev pub SameBodyLaw : Type 0
-SameBodyLaw =
-    (before after : List ℕ) (s : Stores) (slot : ℕ) → image_stores before ≡ Ok s → slot < 2 → Torn (slot_at slot) 4096 before after
-    → ruling_manifest s.shape after ≡ Some s.body → image_stores after ≡ Ok s
-
 -- a body freezes the active log of another: it has a new one, and the old one in front of the frozen ones
 pub record FreezesActive (old new : Body) : Type 0 where
   pub frozen : new.frozen ≡ old.active ∷ old.frozen
@@ -146,18 +139,6 @@ abbrev pub FreezeLaw : Type 0
 FreezeLaw =
     (image : List ℕ) (s : Stores) (next : Body) → image_stores image ≡ Ok s → FreezesActive s.body next → log_rows s.shape next.active image ≡ []
     → stores_named s.shape next image ≡ with_new_log next s
-
--- a change in a manifest slot after which such a body rules: the stores have a new log in front
-abbrev pub NextBodyLaw : Type 0
-NextBodyLaw =
-    (before after : List ℕ) (s : Stores) (slot : ℕ) (next : Body) → image_stores before ≡ Ok s → slot < 2 → Torn (slot_at slot) 4096 before after
-    → ruling_manifest s.shape after ≡ Some next → FreezesActive s.body next → log_rows s.shape next.active before ≡ [] → image_stores after ≡ Ok (with_new_log next s)
-
--- the new log of such a body has a region that no log had
-abbrev pub FreeLogLaw : Type 0
-FreeLogLaw =
-    (image : List ℕ) (s : Stores) (slot : ℕ) (next : Body) → image_stores image ≡ Ok s → FreezesActive s.body next → is_well_formed s.shape slot next ≡ true
-    → names_log s next.active ≡ false
 
 -- ---- when nothing is found
 
@@ -199,47 +180,13 @@ ChargeLaw = (s : Stores) → IsSound s → charge_of s ≤ s.shape.sorted_capaci
 abbrev pub AppendLaw : Type 0
 AppendLaw = (s : Stores) (rows more : List StoredRow) → HasActive rows s → rows_of (with_log_rows s.body.active (rows ++ more) s) ≡ rows_of s ++ more
 
--- their puts are added
-abbrev pub PutsLaw : Type 0
-PutsLaw =
-    (s : Stores) (rows more : List StoredRow) → HasActive rows s
-    → charge_of (with_log_rows s.body.active (rows ++ more) s) ≡ charge_of s + put_count more
-
 -- a new log has no rows
 abbrev pub NewLogLaw : Type 0
 NewLogLaw = (s : Stores) (next : Body) → rows_of (with_new_log next s) ≡ rows_of s
 
--- the active log with other rows is still the active one
-abbrev pub ActiveLaw : Type 0
-ActiveLaw = (s : Stores) (rows other : List StoredRow) → HasActive rows s → HasActive other (with_log_rows s.body.active other s)
-
 -- a log with its own rows is as it was
 abbrev pub OwnRowsLaw : Type 0
 OwnRowsLaw = (s : Stores) (rows : List StoredRow) → HasActive rows s → with_log_rows s.body.active rows s ≡ s
-
--- all but the rows of the logs are the same
-pub record SameButRows (s other : Stores) : Type 0 where
-  pub shape : other.shape ≡ s.shape
-  pub body : other.body ≡ s.body
-  pub hashes : other.hashes ≡ s.hashes
-  pub entries : other.entries ≡ s.entries
-  pub names : (region : ℕ) → names_log other region ≡ names_log s region
-
--- other rows of a log leave all else
-abbrev pub OtherRowsLaw : Type 0
-OtherRowsLaw = (s : Stores) (region : ℕ) (rows : List StoredRow) → SameButRows s (with_log_rows region rows s)
-
--- all but the body and its active log are the same
-pub record SameButLog (next : Body) (s other : Stores) : Type 0 where
-  pub shape : other.shape ≡ s.shape
-  pub body : other.body ≡ next
-  pub logs : other.logs ≡ record { region = next.active; rows = [] } ∷ s.logs
-  pub hashes : other.hashes ≡ s.hashes
-  pub entries : other.entries ≡ s.entries
-
--- a new log leaves all else
-abbrev pub OtherLogsLaw : Type 0
-OtherLogsLaw = (s : Stores) (next : Body) → SameButLog next s (with_new_log next s)
 
 -- of the rows in place of a log's own the last ones count
 abbrev pub AgainLaw : Type 0
@@ -248,26 +195,6 @@ AgainLaw = (s : Stores) (region : ℕ) (rows other : List StoredRow) → with_lo
 -- a new log in a region that no log has is the active one
 abbrev pub NewActiveLaw : Type 0
 NewActiveLaw = (s : Stores) (next : Body) → names_log s next.active ≡ false → HasActive [] (with_new_log next s)
-
--- the map of more rows
-abbrev pub MapLaw : Type 0
-MapLaw = (rows more : List StoredRow) → map_of_rows (rows ++ more) ≡ map_after (map_of_rows rows) (map command_of more)
-
--- the puts among more rows
-abbrev pub CountLaw : Type 0
-CountLaw = (rows more : List StoredRow) → put_count (rows ++ more) ≡ put_count rows + put_count more
-
--- the last row of a key
-abbrev pub newest_row : List StoredRow → List ℕ → Option StoredRow
-newest_row rows key = find (λ row. bytes_eq row.key key) (reverse rows)
-
--- the value that a row gives its key, none where it is a delete
-abbrev pub value_given : StoredRow → Option (List ℕ)
-value_given row = if is_put_row row then Some row.value else None
-
--- the last row of a key decides: a put gives its value, and a delete none
-abbrev pub NewestLaw : Type 0
-NewestLaw = (rows : List StoredRow) (key : List ℕ) → get (map_of_rows rows) key ≡ option_and_then value_given (newest_row rows key)
 
 -- ---- the verdict
 
@@ -279,10 +206,6 @@ VerdictLaw = (image : List ℕ) → IsGood image ↔ (IsSome (image_stands image
 abbrev pub SoundLaw : Type 0
 SoundLaw = (image : List ℕ) (s : Stores) → image_stores image ≡ Ok s → IsGood image ↔ IsSound s
 
--- a good image has stores in which nothing is found
-abbrev pub GoodLaw : Type 0
-GoodLaw = (image : List ℕ) → IsGood image → (s : Stores) × (image_stores image ≡ Ok s) × IsSound s
-
 -- an image with sound stores stands for the map of their rows
 abbrev pub StandsLaw : Type 0
 StandsLaw = (image : List ℕ) (s : Stores) → image_stores image ≡ Ok s → IsSound s → StandsFor s.shape (map_of_rows (rows_of s)) image
@@ -290,10 +213,6 @@ StandsLaw = (image : List ℕ) (s : Stores) → image_stores image ≡ Ok s → 
 -- the rows of an image with stores are theirs
 abbrev pub RowsLaw : Type 0
 RowsLaw = (image : List ℕ) (s : Stores) → image_stores image ≡ Ok s → image_rows image ≡ rows_of s
-
--- a good image stands for its own map
-abbrev pub GoodStandsLaw : Type 0
-GoodStandsLaw = (image : List ℕ) → IsGood image → image_stands image ≡ Some (image_map image)
 
 -- a device that was just formatted stands for the empty map
 abbrev pub EmptyLaw : Type 0
@@ -317,20 +236,6 @@ FirstFindingLaw =
     → s.logs ≡ before ++ part ∷ after → flat_map (log_findings s.shape) before ≡ [] → FirstFinding s.shape part place row finding
     → image_verdict image ≡ Some finding
 
--- so is a row of an unknown kind, behind rows of known kinds that have places
-abbrev pub UnknownRowLaw : Type 0
-UnknownRowLaw =
-    (image : List ℕ) (s : Stores) (before after : List Part) (region place : ℕ) → image_stores image ≡ Ok s → s.logs ≡ before ++ log_part s.shape image region ∷ after
-    → flat_map (log_findings s.shape) before ≡ [] → FirstUnknown (row_at s.shape region image) (open_count s.shape region image) place
-    → IsTrue (fits_table s.shape (take place (log_rows s.shape region image))) → image_verdict image ≡ Some (Damaged (Log region place))
-
--- and a row without a place, behind rows of known kinds that have places
-abbrev pub CrowdedRowLaw : Type 0
-CrowdedRowLaw =
-    (image : List ℕ) (s : Stores) (before after : List Part) (part : Part) (place : ℕ) → image_stores image ≡ Ok s → s.logs ≡ before ++ part ∷ after
-    → flat_map (log_findings s.shape) before ≡ [] → place < length part.rows → list_all has_known_kind (take (place + 1) part.rows) ≡ true
-    → IsTrue (fits_table s.shape (take place part.rows)) → fits_table s.shape (take (place + 1) part.rows) ≡ false → image_verdict image ≡ Some Crowded
-
 -- so is that in the first hash store that has one, where nothing is found in the logs
 abbrev pub FirstSlotLaw : Type 0
 FirstSlotLaw =
@@ -344,10 +249,6 @@ FirstEntryLaw =
     (image : List ℕ) (s : Stores) (finding : Finding) → image_stores image ≡ Ok s → flat_map (log_findings s.shape) s.logs ≡ []
     → flat_map (hash_findings s.shape) s.hashes ≡ [] → slice_get (sorted_findings s.entries) 0 ≡ Some finding → image_verdict image ≡ Some finding
 
--- nothing is found in a log of known kinds whose keys have places, and in no other
-abbrev pub LogSoundLaw : Type 0
-LogSoundLaw = (shape : Shape) (part : Part) → (log_findings shape part ≡ []) ↔ ((list_all has_known_kind part.rows ≡ true) × IsTrue (fits_table shape part.rows))
-
 -- of stores with logs alone, nothing found in these, nothing is found exactly where the puts are no more than the store may hold
 abbrev pub LogsSoundLaw : Type 0
 LogsSoundLaw =
@@ -358,12 +259,6 @@ abbrev pub ChargeFoundLaw : Type 0
 ChargeFoundLaw =
     (image : List ℕ) (s : Stores) → image_stores image ≡ Ok s → flat_map (log_findings s.shape) s.logs ≡ [] → flat_map (hash_findings s.shape) s.hashes ≡ []
     → sorted_findings s.entries ≡ [] → s.shape.sorted_capacity < charge_of s → image_verdict image ≡ Some (Damaged Charge)
-
--- of stores with logs alone, with more puts than the store may hold, that is the verdict
-abbrev pub OverchargedLaw : Type 0
-OverchargedLaw =
-    (image : List ℕ) (s : Stores) → image_stores image ≡ Ok s → flat_map (log_findings s.shape) s.logs ≡ [] → s.hashes ≡ [] → s.entries ≡ []
-    → s.shape.sorted_capacity < charge_of s → image_verdict image ≡ Some (Damaged Charge)
 
 -- an image without stores has the finding in their place as its verdict
 abbrev pub NoStoresLaw : Type 0

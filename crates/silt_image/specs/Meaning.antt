@@ -1,107 +1,34 @@
 -- What the stores of an image stand for, and what is found wrong in them.
-use Rattle.std.specs.Prelude.{◌≡◌, ℕ, ◌+◌, ◌-◌, ◌/◌, ◌==◌, nat_lt, Bool, true, false, ◌&&◌, ◌||◌, not, if◌then◌else◌, List, [], ◌∷◌, ◌++◌, map, filter, take, drop, sum_by, length, flat_map, count_by, get_or, slice_get, is_some, Option, Some, None, Result, Ok, Err}
-use Rattle.std.specs.List.{range_with_len, enumerate_from, list_any, list_all}
-use Rattle.std.specs.FinMap.{empty}
-use Rattle.std.specs.Str.{bytes_eq}
-use Rattle.std.specs.Cmp.Lexicographic.{slice_cmp}
-use Rattle.std.specs.Ordering.{nat_cmp, is_lt}
+use Rattle.std.specs.Prelude.{◌≡◌, ℕ, ◌+◌, ◌==◌, nat_lt, Bool, true, false, if◌then◌else◌, List, [], ◌∷◌, ◌++◌, map, take, drop, sum_by, length, flat_map, slice_get, Option, Some, None, Result, Ok, Err}
+use Rattle.std.specs.List.{list_any, list_all}
 use Rattle.silt_device.specs.Layout.{Shape}
-use Rattle.silt_frame.specs.Rows.{StoredRow, has_known_kind, is_put_row, keys_of, put_count}
+use Rattle.silt_frame.specs.Rows.{StoredRow, put_count}
 use Rattle.silt_manifest.specs.declared.body.Body.{Body}
-use Rattle.silt_cuckoo.specs.Keys.{first_bucket, second_bucket}
-use Rattle.silt_cuckoo.specs.Index.{index_of_keys}
-use Rattle.silt_event.specs.Commands.{Command, put, delete, Map, map_after}
+use Rattle.silt_event.specs.Commands.{Map}
 use Rattle.silt_image.specs.Header.{shape_of}
-use Rattle.silt_image.specs.Stores.{Part, Stores, image_stores}
-use Rattle.silt_image.specs.declared.damage.Finding.{Finding}
-use Rattle.silt_image.specs.declared.damage.Finding.TheVariants.{Damaged, Crowded}
-use Rattle.silt_event.specs.declared.place.Place.TheVariants.{Log, Hash, Sorted, Charge}
+use Rattle.silt_log_store.specs.Parts.{Part, part_rows, known_rows, oldest_first}
+use Rattle.silt_image.specs.Stores.{Stores, image_stores}
+use Rattle.silt_event.specs.declared.finding.Finding.{Finding}
+use Rattle.silt_event.specs.declared.finding.Finding.TheVariants.{Damaged, Crowded}
+use Rattle.silt_event.specs.declared.place.Place.TheVariants.{Charge}
 use Rattle.silt_event.specs.declared.report.Report.{Report}
+use Rattle.silt_event.specs.Findings.{finding_if}
+use Rattle.silt_event.specs.Rows.{map_of_rows}
+use Rattle.silt_log_store.specs.Findings.{fits_table, log_findings}
+use Rattle.silt_hash_store.specs.Findings.{hash_findings}
+use Rattle.silt_sorted_store.specs.Findings.{sorted_findings}
 
 -- ---- the rows and their map
-
--- the rows of stores that are listed the newest first, as one list from the oldest row on
-abbrev pub oldest_first : List (List StoredRow) → List StoredRow
-oldest_first [] = []
-oldest_first (newest ∷ older) = oldest_first older ++ newest
-
--- the rows of a store
-abbrev pub part_rows : Part → List StoredRow
-part_rows part = part.rows
-
--- the rows of a hash store that are puts and deletes
-abbrev pub known_rows : Part → List StoredRow
-known_rows part = filter has_known_kind part.rows
 
 -- All rows of the stores, the oldest first: the sorted entries, the hash stores, the frozen logs, the active log.
 unfoldable pub rows_of : Stores → List StoredRow
 rows_of s = s.entries ++ oldest_first (map known_rows s.hashes) ++ oldest_first (map part_rows s.logs)
-
--- what a row does to the map
-abbrev pub command_of : StoredRow → Command
-command_of row = if is_put_row row then put row.key row.value else delete row.key
-
--- the map that rows make, the oldest first
-abbrev pub map_of_rows : List StoredRow → Map
-map_of_rows rows = map_after empty (map command_of rows)
 
 -- how many of all rows of the stores are puts
 abbrev pub charge_of : Stores → ℕ
 charge_of s = put_count (rows_of s)
 
 -- ---- what is found in the stores, in the order of the search
-
--- this finding where the test succeeds
-abbrev pub finding_if : Bool → Finding → List Finding
-finding_if test finding = if test then finding ∷ [] else []
-
--- the keys of the rows of a log, the oldest first, have places in a table
-unfoldable pub fits_table : Shape → List StoredRow → Bool
-fits_table shape rows = is_some (index_of_keys shape.buckets (keys_of rows))
-
--- a row of a log, with its place: an unknown kind, and then no place in the table of the rows before it
-abbrev pub row_findings : Shape → Part → ℕ × StoredRow → List Finding
-row_findings shape part (place, row) =
-    finding_if (not (has_known_kind row)) (Damaged (Log part.region place))
-    ++ finding_if (not (fits_table shape (take (place + 1) part.rows))) Crowded
-
--- a log, row by row
-unfoldable pub log_findings : Shape → Part → List Finding
-log_findings shape part = flat_map (row_findings shape part) (enumerate_from 0 part.rows)
-
--- a slot of a table lies in one of the two buckets of a key
-abbrev pub is_in_bucket : Shape → ℕ → List ℕ → Bool
-is_in_bucket shape slot key = (slot / 4 == first_bucket shape.buckets key) || (slot / 4 == second_bucket shape.buckets key)
-
--- a row of a known kind among these has the key
-abbrev pub holds_key : List ℕ → List StoredRow → Bool
-holds_key key rows = list_any (λ row. has_known_kind row && bytes_eq row.key key) rows
-
--- a slot of a hash region is empty, or has a row of a known kind in one of its key's buckets whose key no earlier slot has
-abbrev pub is_sound_hash_slot : Shape → List StoredRow → ℕ → StoredRow → Bool
-is_sound_hash_slot shape rows slot row =
-    (row.kind == 0) || (has_known_kind row && is_in_bucket shape slot row.key && not (holds_key row.key (take slot rows)))
-
--- a slot of a hash store, with its number
-abbrev pub slot_findings : Shape → Part → ℕ × StoredRow → List Finding
-slot_findings shape part (slot, row) = finding_if (not (is_sound_hash_slot shape part.rows slot row)) (Damaged (Hash part.region slot))
-
--- a hash store, slot by slot
-unfoldable pub hash_findings : Shape → Part → List Finding
-hash_findings shape part = flat_map (slot_findings shape part) (enumerate_from 0 part.rows)
-
--- a key lies below another by its bytes
-abbrev pub is_key_below : List ℕ → List ℕ → Bool
-is_key_below low high = is_lt (slice_cmp nat_cmp low high)
-
--- an entry of the sorted store that is not above the one before it
-abbrev pub entry_findings : List StoredRow → ℕ → List Finding
-entry_findings rows place =
-    finding_if (not (is_key_below (get_or (keys_of rows) (place - 1) []) (get_or (keys_of rows) place []))) (Damaged (Sorted place))
-
--- the sorted store, from its second entry on
-unfoldable pub sorted_findings : List StoredRow → List Finding
-sorted_findings rows = flat_map (entry_findings rows) (range_with_len 1 (length rows - 1))
 
 -- more puts than the store may hold
 abbrev pub charge_findings : Stores → List Finding

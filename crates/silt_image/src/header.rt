@@ -4,10 +4,9 @@ ghost use Rattle.silt_device.specs.Layout.{InLimits, device_size};
 ghost use Rattle.silt_image.specs.Header.{header_bytes, header_shape, is_formatted};
 ghost use Rattle.silt_image.specs.Stores.{shape_found};
 
-use crate::Finding;
 use byteorder::{BigEndian, ByteOrder};
 use silt_device::{BadGeometry, Geometry};
-use silt_event::Place;
+use silt_event::{Finding, Place};
 use silt_frame::is_open;
 
 /// The bytes of a header that count: its gate, the magic bytes, the version and the six numbers.

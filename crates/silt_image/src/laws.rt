@@ -1,6 +1,7 @@
 // Laws of images, for the layers above.
-
-ghost use Rattle.silt_image.specs.Laws.{ActiveLaw, AgainLaw, AppendLaw, BeginningLaw, ChargeFoundLaw, ChargeLaw, CountLaw, CrowdedRowLaw, EmptyLaw, FirstEntryLaw, FirstFindingLaw, FirstSlotLaw, FormattedLaw, FrameLaw, FreeHashLaw, FreeLogLaw, FreeSortedLaw, FreezeLaw, FrozenLaw, GoodLaw, GoodStandsLaw, HeaderLaw, LimitsLaw, LogRegionLaw, LogSoundLaw, LogsSoundLaw, ManifestLaw, MapLaw, MeaningLaw, NewActiveLaw, NewLogLaw, NewestLaw, NextBodyLaw, NoStoresLaw, OtherLogsLaw, OtherRowsLaw, OverchargedLaw, OwnRowsLaw, PartsLaw, PutsLaw, RowsLaw, RulingLaw, SameBodyLaw, SoundLaw, StandsLaw, StoresLaw, TakenLaw, UnknownRowLaw, UnnamedLaw, VerdictLaw, WholeLaw};
+ghost use Rattle.silt_image.specs.Laws.{AgainLaw, AppendLaw, BeginningLaw, ChargeFoundLaw, ChargeLaw, EmptyLaw, FirstEntryLaw, FirstFindingLaw, FirstSlotLaw, FormattedLaw, FrameLaw, FreeHashLaw};
+ghost use Rattle.silt_image.specs.Laws.{FreeSortedLaw, FreezeLaw, FrozenLaw, HeaderLaw, LimitsLaw, LogRegionLaw, ManifestLaw, MeaningLaw, NewActiveLaw, NewLogLaw, NoStoresLaw};
+ghost use Rattle.silt_image.specs.Laws.{OwnRowsLaw, PartsLaw, RowsLaw, SoundLaw, StandsLaw, StoresLaw, TakenLaw, UnnamedLaw, VerdictLaw, WholeLaw};
 
 /// A header reads back, behind whatever gate.
 pub fn header_law()
@@ -97,11 +98,6 @@ pub fn new_log_law()
     ensures { NewLogLaw }
 {}
 
-/// The active log with other rows is still the active one.
-pub fn active_law()
-    ensures { ActiveLaw }
-{}
-
 /// A log with its own rows is as it was.
 pub fn own_rows_law()
     ensures { OwnRowsLaw }
@@ -117,21 +113,6 @@ pub fn new_active_law()
     ensures { NewActiveLaw }
 {}
 
-/// The map of more rows.
-pub fn map_law()
-    ensures { MapLaw }
-{}
-
-/// The puts among more rows.
-pub fn count_law()
-    ensures { CountLaw }
-{}
-
-/// The last row of a key decides what the map has for it.
-pub fn newest_law()
-    ensures { NewestLaw }
-{}
-
 /// An image is good exactly where it stands for a map and the keys of its logs have places.
 pub fn verdict_law()
     ensures { VerdictLaw }
@@ -140,11 +121,6 @@ pub fn verdict_law()
 /// An image with stores is good exactly where nothing is found in them.
 pub fn sound_law()
     ensures { SoundLaw }
-{}
-
-/// A good image has stores in which nothing is found.
-pub fn good_law()
-    ensures { GoodLaw }
 {}
 
 /// An image with sound stores stands for the map of their rows.
@@ -157,11 +133,6 @@ pub fn rows_law()
     ensures { RowsLaw }
 {}
 
-/// A good image stands for its own map.
-pub fn good_stands_law()
-    ensures { GoodStandsLaw }
-{}
-
 /// A device that was just formatted stands for the empty map.
 pub fn empty_law()
     ensures { EmptyLaw }
@@ -172,64 +143,14 @@ pub fn first_finding_law()
     ensures { FirstFindingLaw }
 {}
 
-/// Nothing is found in a log of known kinds whose keys have places, and in no other.
-pub fn log_sound_law()
-    ensures { LogSoundLaw }
-{}
-
-/// Of stores with logs alone, nothing is found exactly where the puts are not too many.
-pub fn logs_sound_law()
-    ensures { LogsSoundLaw }
-{}
-
-/// With more puts than the store may hold, that is the verdict.
-pub fn overcharged_law()
-    ensures { OverchargedLaw }
-{}
-
 /// An image without stores has the finding in their place as its verdict.
 pub fn no_stores_law()
     ensures { NoStoresLaw }
 {}
 
-/// A body that rules was found.
-pub fn ruling_law()
-    ensures { RulingLaw }
-{}
-
-/// A change in a manifest slot after which the same body rules changes nothing.
-pub fn same_body_law()
-    ensures { SameBodyLaw }
-{}
-
-/// After a change in a manifest slot by which the active log is frozen, the stores have a new log in front.
-pub fn next_body_law()
-    ensures { NextBodyLaw }
-{}
-
-/// The new log of a body that freezes the active one has a region that no log had.
-pub fn free_log_law()
-    ensures { FreeLogLaw }
-{}
-
 /// Nothing is found exactly where nothing is in each part.
 pub fn parts_law()
     ensures { PartsLaw }
-{}
-
-/// Rows at the end of the active log add their puts.
-pub fn puts_law()
-    ensures { PutsLaw }
-{}
-
-/// Other rows of a log leave all else.
-pub fn other_rows_law()
-    ensures { OtherRowsLaw }
-{}
-
-/// A new log leaves all else.
-pub fn other_logs_law()
-    ensures { OtherLogsLaw }
 {}
 
 /// The first finding in the first hash store that has one is the verdict, where the logs have none.
@@ -245,14 +166,4 @@ pub fn first_entry_law()
 /// Where nothing else is found, too many puts are the verdict.
 pub fn charge_found_law()
     ensures { ChargeFoundLaw }
-{}
-
-/// A row of an unknown kind, behind rows of known kinds that have places, is the verdict.
-pub fn unknown_row_law()
-    ensures { UnknownRowLaw }
-{}
-
-/// A row without a place, behind rows of known kinds that have places, is the verdict.
-pub fn crowded_row_law()
-    ensures { CrowdedRowLaw }
 {}

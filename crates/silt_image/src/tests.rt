@@ -1,7 +1,7 @@
 // Worked headers.
 use super::*;
 use silt_device::Geometry;
-use silt_event::Place;
+use silt_event::{Finding, Place};
 use silt_manifest::Damage;
 
 // The header of a store with values of 2 bytes, 2 buckets, logs of 4 rows, 2 logs, 2 hash regions and 8 sorted entries.
@@ -42,6 +42,6 @@ fn the_first_finding_is_told(rt: HostRuntime) {
 
 #[test]
 fn manifest_damage_is_a_finding(rt: HostRuntime) {
-    assert!(rt; Finding::from(Damage::Slot(1)) == Finding::Damaged(Place::Slot(1)));
-    assert!(rt; Finding::from(Damage::NoSlot) == Finding::Damaged(Place::NoSlot));
+    assert!(rt; finding_of(Damage::Slot(1)) == Finding::Damaged(Place::Slot(1)));
+    assert!(rt; finding_of(Damage::NoSlot) == Finding::Damaged(Place::NoSlot));
 }

@@ -8,13 +8,13 @@ use Rattle.silt_inbox.specs.declared.answered.EventKind.{EventKind}
 use Rattle.silt_inbox.specs.declared.answered.EventKind.TheVariants.{Put, Delete, Flush, Get, Convert, Merge}
 
 -- an event without its contents
-abbrev pub kind_of : Event → EventKind
-kind_of (event.Put key value) = Put
-kind_of (event.Delete key) = Delete
-kind_of event.Flush = Flush
-kind_of (event.Get key) = Get
-kind_of event.Convert = Convert
-kind_of event.Merge = Merge
+abbrev pub event_kind : Event → EventKind
+event_kind (event.Put key value) = Put
+event_kind (event.Delete key) = Delete
+event_kind event.Flush = Flush
+event_kind (event.Get key) = Get
+event_kind event.Convert = Convert
+event_kind event.Merge = Merge
 
 -- a command is accepted, or accepted and not settled, a flush acknowledged, a get finds a value or none, a step makes progress; and each may be refused
 abbrev pub is_allowed : {F : Type 0} → EventKind → Reply F → Bool

@@ -4,7 +4,7 @@ ghost use Rattle.silt_event.specs.Commands.{Map};
 ghost use Rattle.silt_event.specs.Events.{Step};
 ghost use Rattle.silt_event.specs.declared.event.Event.{Event as EventOf};
 ghost use Rattle.silt_event.specs.declared.reply.Reply.{Reply as ReplyOf};
-ghost use Rattle.silt_inbox.specs.Answers.{is_allowed, kind_of};
+ghost use Rattle.silt_inbox.specs.Answers.{is_allowed, event_kind};
 
 use silt_event::{Event, Reply};
 
@@ -22,7 +22,7 @@ pub enum EventKind {
 impl EventKind {
     /// The kind of an event.
     pub fn of(event: &Event) -> EventKind
-        ensures { result ≡ kind_of event.now }
+        ensures { result ≡ event_kind event.now }
     {
         match event {
             Event::Put(_, _) => EventKind::Put,
@@ -70,5 +70,5 @@ impl Answered {
 
 /// Whatever a map answers to an event, the event's kind allows.
 pub fn answered_law()
-    ensures { (map to : Map) (event : EventOf) (reply : ReplyOf (Unit {0})) → Step map event reply to → is_allowed (kind_of event) reply ≡ true }
+    ensures { (map to : Map) (event : EventOf) (reply : ReplyOf (Unit {0})) → Step map event reply to → is_allowed (event_kind event) reply ≡ true }
 {}

@@ -5,18 +5,15 @@ use Rattle.std.specs.Str.{bytes_eq}
 use Rattle.std.proofs.lemmas.Bool.{cases_Bool, cases_eq}
 use Rattle.std.proofs.lemmas.Slice.Eq.{bytes_eq-Decides}
 use Rattle.silt_cuckoo.specs.declared.lookup.Candidate.{Candidate}
-use Rattle.silt_cuckoo.specs.Slots.{Slots, HoldsPlace}
+use Rattle.silt_cuckoo.specs.Slots.{Slots}
 use Rattle.silt_cuckoo.specs.Keys.{first_bucket, second_bucket, key_pair}
 use Rattle.silt_cuckoo.specs.Lookup.{candidates_of}
-use Rattle.silt_cuckoo.specs.Index.{IsNewest, Indexes, is_entry_of, slot_of_key, index_of_keys, placed_or_replaced}
+use Rattle.silt_cuckoo.specs.Index.{IsNewest, Indexes, slot_of_key, index_of_keys, placed_or_replaced}
 use Rattle.silt_cuckoo.proofs.Finding.{find_law}
 use Rattle.silt_cuckoo.proofs.KeyIndex.{push_law}
-use Rattle.silt_cuckoo.proofs.Indexing.{is_has_key}
+use Rattle.silt_cuckoo.proofs.Indexing.{no_key}
 use Rattle.silt_cuckoo.proofs.Matching.{Stands, candidates_standing}
-use Rattle.silt_cuckoo.proofs.Paths.{entry_inside}
-use Rattle.silt_cuckoo.proofs.Placed.{has_entry}
 use Rattle.silt_cuckoo.proofs.Places.{holds_from_pair}
-use Rattle.silt_cuckoo.proofs.Search.{none_in_range}
 use Rattle.silt_frame.specs.Rows.{StoredRow, keys_of}
 use Rattle.silt_log_store.specs.LastRow.{FindsLast}
 use Rattle.silt_log_store.specs.Lookup.{IsFirstMatch, candidate_of}
@@ -52,15 +49,6 @@ last_below keys key (suc n) = elim (cases_Bool (bytes_eq (get_or keys n []) key)
         ])
       ]
 ]
-
--- where no slot has the key, no place that is held is that of the key
-no_key : (keys : List (List ℕ)) (slots : Slots) (key : List ℕ) (place : ℕ) → slot_of_key keys slots key ≡ None → HoldsPlace slots place → get_or keys place [] ≢ key
-no_key keys slots key place none (slot, held) same =
-    let entry = has_entry slots slot place held in
-    let there = entry_inside slots slot entry.0 entry.1 in
-    let fails = none_in_range (is_entry_of keys slots key) 0 (length slots) none slot (omega arith) (omega arith) in
-    let passes = is_has_key keys slots key slot entry.0 entry.1 (ap (λ n. get_or keys n []) entry.2 ∙ same) in
-    absurd (cc)
 
 -- a key whose slot is not there stands nowhere
 none_of_key : (keys : List (List ℕ)) (slots : Slots) (buckets : ℕ) (key : List ℕ) → Indexes slots buckets keys → slot_of_key keys slots key ≡ None → (place : ℕ) → place < length keys → get_or keys place [] ≢ key

@@ -1,3 +1,5 @@
+pub mod Parts
+pub mod Findings
 pub mod State
 pub mod LastRow
 pub mod Lookup

@@ -1,4 +1,5 @@
-// A law of the table of a log's keys, for the layers above.
+// Laws of a log with its table, for the layers above.
+ghost use Rattle.silt_log_store.specs.Findings.{LogSoundLaw};
 ghost use Rattle.silt_log_store.specs.Laws.{TableEntryLaw};
 
 /// In the table of some keys each entry has the newest place of a key and stands under the key's two buckets, and each newest
@@ -6,4 +7,10 @@ ghost use Rattle.silt_log_store.specs.Laws.{TableEntryLaw};
 #[tactic(auto, using(crate::proofs::Entries::entry_law))]
 pub fn entry_law()
     ensures { TableEntryLaw }
+{}
+
+/// Nothing is found in a log of known kinds whose keys have places, and in no other.
+#[tactic(auto, using(crate::proofs::Findings::log_sound_law))]
+pub fn log_sound_law()
+    ensures { LogSoundLaw }
 {}

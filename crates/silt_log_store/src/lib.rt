@@ -18,7 +18,7 @@ mod placement;
 mod rebuild;
 mod store;
 
-pub use laws::entry_law;
+pub use laws::{entry_law, log_sound_law};
 pub use placement::Placing;
 pub use rebuild::RebuildError;
 pub use store::{Found, LogStore};

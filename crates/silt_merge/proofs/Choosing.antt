@@ -14,7 +14,8 @@ use Rattle.silt_frame.specs.Rows.{entry_row, StoredRow}
 use Rattle.silt_sorted_store.proofs.Entries.{key_of_row}
 use Rattle.silt_sorted_store.proofs.Rising.{key_at, not_below_itself}
 use Rattle.silt_merge.specs.Choice.{IsFirstWaiting, IsNextEntry, IsOffered, choice_of, lower_choice}
-use Rattle.silt_merge.specs.State.{is_above, is_behind, source_at}
+use Rattle.silt_trie.specs.Building.{is_above}
+use Rattle.silt_merge.specs.State.{is_behind, source_at}
 use Rattle.silt_merge.specs.declared.choice.Choice.{Choice}
 use Rattle.silt_merge.specs.declared.source.Source.{Source}
 use Rattle.silt_merge.proofs.Deciding.{IsLowest}

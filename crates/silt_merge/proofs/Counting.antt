@@ -10,9 +10,8 @@ use Rattle.std.proofs.lemmas.Cmp.{eq_by_cmp_equiv, nat_list_cmp_total}
 use Rattle.std.proofs.lemmas.List.{length-map}
 use Rattle.std.proofs.lemmas.Map.Text.{is_eq-slice_cmp}
 use Rattle.silt_event.specs.Commands.{Map}
-use Rattle.silt_image.specs.Laws.{value_given}
-use Rattle.silt_image.specs.Meaning.{map_of_rows}
-use Rattle.silt_image.proofs.Rows.{newest_law}
+use Rattle.silt_event.specs.Rows.{value_given, map_of_rows}
+use Rattle.silt_event.proofs.Rows.{newest_law}
 use Rattle.silt_frame.specs.Rows.{StoredRow, is_put_row}
 use Rattle.silt_merge.specs.Laws.{MergedCountLaw}
 use Rattle.silt_merge.specs.Rows.{merged_rows, newest_rows}

@@ -11,7 +11,7 @@ use Rattle.std.proofs.lemmas.List.{length-take-le, take-append-le, take_all, tak
 use Rattle.std.proofs.lemmas.List.Elements.{filter-append}
 use Rattle.std.proofs.lemmas.List.Folds.{list_any-append}
 use Rattle.std.proofs.lemmas.Option.{get_or_from_slice_get, slice_get_within}
-use Rattle.silt_image.specs.Laws.{newest_row}
+use Rattle.silt_event.specs.Rows.{newest_row}
 use Rattle.silt_frame.specs.Rows.{StoredRow, is_put_row}
 use Rattle.silt_sorted_store.proofs.Entries.{key_of_row, row_inside}
 use Rattle.silt_sorted_store.proofs.Rising.{key_at}

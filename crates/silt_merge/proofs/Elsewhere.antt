@@ -9,14 +9,16 @@ use Rattle.silt_device.specs.Layout.{Shape, device_size, entries_len, entry_len,
 use Rattle.silt_device.proofs.Regions.{regions_apart}
 use Rattle.silt_hash_store.proofs.Elsewhere.{slot_outside}
 use Rattle.silt_frame.specs.Frame.{kind_byte}
-use Rattle.silt_hash_store.specs.Slots.{rows_before, slot_row}
+use Rattle.silt_hash_store.specs.Slots.{rows_before, slot_row, hash_part}
 use Rattle.silt_hash_store.specs.State.{HashState}
 use Rattle.silt_hash_store.proofs.Slotting.{all_before}
 use Rattle.silt_hash_store.proofs.Writing.{slots_inside}
-use Rattle.silt_image.specs.Laws.{newest_row}
-use Rattle.silt_image.specs.Meaning.{hash_findings, known_rows, oldest_first, sorted_findings}
+use Rattle.silt_event.specs.Rows.{newest_row}
+use Rattle.silt_hash_store.specs.Findings.{hash_findings}
+use Rattle.silt_log_store.specs.Parts.{known_rows, oldest_first, Part}
+use Rattle.silt_sorted_store.specs.Findings.{sorted_findings}
 use Rattle.silt_frame.specs.Rows.{StoredRow, has_known_kind, is_put_row, keys_of}
-use Rattle.silt_image.specs.Stores.{Part, hash_part, sorted_rows}
+use Rattle.silt_sorted_store.specs.State.{sorted_rows, IsHeldSorted, SortedState}
 use Rattle.silt_log.proofs.Bodies.{map_range_same}
 use Rattle.silt_merge.specs.Laws.{MergedElsewhereLaw, OldestStoresLaw}
 use Rattle.silt_sorted_store.proofs.Elsewhere.{entries_inside, entries_outside}
@@ -24,7 +26,6 @@ use Rattle.silt_merge.specs.Merging.{AreSound, IsGatheredIn, IsMergedIn, decided
 use Rattle.silt_merge.specs.Rows.{entries_in, has_row_with, rows_of_hashes, key_count, newest_rows, regions_of, sources}
 use Rattle.silt_merge.specs.State.{IsHeldMerge, MergeState, oldest_stores, source_at}
 use Rattle.silt_merge.specs.declared.source.Source.{Source}
-use Rattle.silt_sorted_store.specs.State.{IsHeldSorted, SortedState}
 use Rattle.silt_trie.specs.Coded.{bytes_of}
 
 -- ---- all that is merged

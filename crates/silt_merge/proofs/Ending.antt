@@ -20,15 +20,16 @@ use Rattle.std.specs.declared.cmp.Ordering.{Ordering}
 use Rattle.std.specs.declared.cmp.Ordering.TheVariants.{Less, Equal, Greater}
 use Rattle.std.proofs.lemmas.Map.Lookups.{exact_bytes}
 use Rattle.std.specs.Cmp.Lexicographic.{slice_cmp}
-use Rattle.silt_image.specs.Laws.{newest_row}
-use Rattle.silt_image.specs.Meaning.{sorted_findings}
-use Rattle.silt_image.specs.Stores.{sorted_rows}
+use Rattle.silt_event.specs.Rows.{newest_row}
+use Rattle.silt_sorted_store.specs.Findings.{sorted_findings}
+use Rattle.silt_sorted_store.specs.State.{sorted_rows, IsHeldSorted, SortedState, entries_of}
 use Rattle.silt_frame.specs.Rows.{StoredRow, entry_row, is_put_row, keys_of}
 use Rattle.silt_merge.specs.Choice.{IsFirstWaiting, IsNextEntry, IsOffered, ReadsRow, choice_of, choice_puts}
 use Rattle.silt_sorted_store.specs.Region.{due_rows}
 use Rattle.silt_merge.specs.Merging.{AreSound, HasMerged, IsGatheredIn, IsMergeOf, source_row}
 use Rattle.silt_merge.specs.Rows.{entries_in, has_row_with, rows_of_hashes, key_count, merged_rows, newest_rows, regions_of, sources}
-use Rattle.silt_merge.specs.State.{AreKeysUpTo, IsHeldMerge, IsInside, MergeState, is_above, is_behind, is_done, keys_after, next_after, next_bytes, passed_after, source_at, steps_for, steps_of, written_after}
+use Rattle.silt_merge.specs.State.{AreKeysUpTo, IsHeldMerge, IsInside, MergeState, is_behind, is_done, keys_after, next_after, next_bytes, passed_after, source_at, steps_for, steps_of, written_after}
+use Rattle.silt_trie.specs.Building.{is_above}
 use Rattle.silt_merge.specs.declared.choice.Choice.{Choice}
 use Rattle.silt_merge.specs.declared.source.Source.{Source}
 use Rattle.silt_merge.proofs.Choosing.{IsChosen, chosen}
@@ -37,7 +38,6 @@ use Rattle.silt_merge.proofs.Elsewhere.{SameSources, merged_same, regions_count,
 use Rattle.silt_merge.proofs.Gathering.{all_gathered}
 use Rattle.silt_merge.proofs.Keys.{written_keys}
 use Rattle.silt_merge.proofs.Newest.{Rises, key_itself, merged_law, rises_from, turned}
-use Rattle.silt_sorted_store.specs.State.{IsHeldSorted, SortedState, entries_of}
 use Rattle.silt_sorted_store.proofs.Entries.{entry_count, key_of_row}
 use Rattle.silt_sorted_store.proofs.Rising.{key_at, lower_below}
 use Rattle.silt_trie.specs.Coded.{bytes_of}

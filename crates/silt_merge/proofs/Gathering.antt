@@ -8,13 +8,13 @@ use Rattle.std.proofs.lemmas.List.Elements.{filter-append}
 use Rattle.silt_device.specs.Layout.{Shape}
 use Rattle.silt_frame.specs.declared.key.Row.{Row}
 use Rattle.silt_hash_store.specs.Lookup.{IsRowAt}
-use Rattle.silt_hash_store.specs.Slots.{rows_before, slot_row}
+use Rattle.silt_hash_store.specs.Slots.{rows_before, slot_row, hash_part, hash_rows}
 use Rattle.silt_hash_store.proofs.Growing.{all_sound}
 use Rattle.silt_hash_store.proofs.Slotting.{all_before, before_more, before_taken, sound_parts}
-use Rattle.silt_image.specs.Laws.{newest_row}
-use Rattle.silt_image.specs.Meaning.{hash_findings, holds_key, known_rows, oldest_first}
-use Rattle.silt_image.specs.Stores.{hash_part, hash_rows}
-use Rattle.silt_image.proofs.Sound.{nothing_first, nothing_second}
+use Rattle.silt_event.specs.Rows.{newest_row}
+use Rattle.silt_hash_store.specs.Findings.{hash_findings, holds_key}
+use Rattle.silt_log_store.specs.Parts.{known_rows, oldest_first}
+use Rattle.silt_event.proofs.Findings.{nothing_first, nothing_second}
 use Rattle.silt_frame.specs.Rows.{has_known_kind, StoredRow}
 use Rattle.silt_merge.specs.Choice.{Gathers, own_source}
 use Rattle.silt_merge.specs.State.{slot_after, source_at}

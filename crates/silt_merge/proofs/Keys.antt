@@ -12,8 +12,9 @@ use Rattle.std.proofs.lemmas.Map.Lookups.{exact_bytes}
 use Rattle.std.proofs.Math.Seq.{get_or-append_seam}
 use Rattle.silt_frame.specs.declared.key.Key.{Key}
 use Rattle.silt_frame.specs.Rows.{StoredRow, is_put_row, keys_of}
-use Rattle.silt_image.specs.Meaning.{is_key_below}
-use Rattle.silt_merge.specs.State.{AreKeysUpTo, HasKeyBytes, is_above, keys_after, written_after}
+use Rattle.silt_sorted_store.specs.Findings.{is_key_below}
+use Rattle.silt_merge.specs.State.{AreKeysUpTo, HasKeyBytes, keys_after, written_after}
+use Rattle.silt_trie.specs.Building.{is_above}
 use Rattle.silt_merge.proofs.Newest.{turned}
 use Rattle.silt_sorted_store.proofs.Rising.{is_less, not_below_itself}
 use Rattle.silt_trie.specs.Code.{Follows, IsCodable}

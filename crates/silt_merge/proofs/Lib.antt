@@ -11,4 +11,3 @@ pub mod Kept
 pub mod Keys
 pub mod Stepping
 pub mod Viewing
-pub mod Replacing

@@ -15,13 +15,13 @@ use Rattle.std.proofs.lemmas.List.Sums.{sum_by-cons}
 use Rattle.std.proofs.lemmas.Map.Lookups.{exact_bytes}
 use Rattle.std.proofs.lemmas.Map.Text.{is_eq-slice_cmp}
 use Rattle.std.proofs.lemmas.Slice.Eq.{bytes_eq-Decides}
-use Rattle.silt_image.specs.Laws.{newest_row, value_given}
-use Rattle.silt_image.specs.Meaning.{entry_findings, is_key_below, map_of_rows, sorted_findings}
+use Rattle.silt_event.specs.Rows.{newest_row, value_given, map_of_rows}
+use Rattle.silt_sorted_store.specs.Findings.{entry_findings, is_key_below, sorted_findings}
 use Rattle.silt_frame.specs.Rows.{StoredRow, is_put_row, put_count}
-use Rattle.silt_image.specs.declared.damage.Finding.TheVariants.{Damaged}
+use Rattle.silt_event.specs.declared.finding.Finding.TheVariants.{Damaged}
 use Rattle.silt_event.specs.declared.place.Place.TheVariants.{Sorted}
-use Rattle.silt_image.proofs.Rows.{newest_law}
-use Rattle.silt_image.proofs.Sound.{nothing_where_passes}
+use Rattle.silt_event.proofs.Rows.{newest_law}
+use Rattle.silt_event.proofs.Findings.{nothing_where_passes}
 use Rattle.silt_sorted_store.proofs.Ranges.{none_of_all}
 use Rattle.silt_sorted_store.proofs.Rising.{key_at, not_below_itself}
 use Rattle.silt_merge.specs.Laws.{KeyCountLaw, MergedLaw}

@@ -4,9 +4,9 @@ use Rattle.std.specs.List.{All}
 use Rattle.silt_device.specs.Disk.{Content}
 use Rattle.silt_device.specs.Layout.{Shape}
 use Rattle.silt_hash_store.specs.State.{HashState, IsHashStore}
-use Rattle.silt_image.specs.Meaning.{hash_findings}
-use Rattle.silt_image.specs.Stores.{hash_part}
-use Rattle.silt_image.proofs.Sound.{nothing_both}
+use Rattle.silt_hash_store.specs.Findings.{hash_findings}
+use Rattle.silt_hash_store.specs.Slots.{hash_part}
+use Rattle.silt_event.proofs.Findings.{nothing_both}
 use Rattle.silt_merge.specs.Laws.{SoundStoresLaw}
 use Rattle.silt_merge.specs.Rows.{regions_of}
 

@@ -11,18 +11,18 @@ use Rattle.silt_frame.specs.declared.key.Row.{Row}
 use Rattle.silt_hash_store.specs.Lookup.{IsRowAt}
 use Rattle.silt_hash_store.specs.Slots.{slot_row}
 use Rattle.silt_hash_store.specs.State.{HashState}
-use Rattle.silt_image.specs.Laws.{newest_row}
-use Rattle.silt_image.specs.Stores.{sorted_rows}
+use Rattle.silt_event.specs.Rows.{newest_row}
+use Rattle.silt_sorted_store.specs.State.{sorted_rows, SortedState}
 use Rattle.silt_frame.specs.Rows.{StoredRow, keys_of}
 use Rattle.silt_merge.specs.Choice.{Gathers, own_source}
 use Rattle.silt_merge.specs.Merging.{HasMerged, decided_rows, gathered_rows, source_row}
 use Rattle.silt_merge.specs.Rows.{has_row_with, regions_of}
-use Rattle.silt_merge.specs.State.{IsHeldMerge, MergeState, is_above, slot_after, source_at}
+use Rattle.silt_merge.specs.State.{IsHeldMerge, MergeState, slot_after, source_at}
+use Rattle.silt_trie.specs.Building.{is_above}
 use Rattle.silt_merge.specs.declared.source.Source.{Source}
 use Rattle.silt_merge.proofs.Elsewhere.{regions_count}
 use Rattle.silt_merge.proofs.Gathering.{next_gathered, none_gathered, waits_kept}
 use Rattle.silt_merge.proofs.Reading.{store_at}
-use Rattle.silt_sorted_store.specs.State.{SortedState}
 use Rattle.silt_trie.specs.Coded.{bytes_of}
 
 -- ---- at the start

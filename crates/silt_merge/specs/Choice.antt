@@ -11,7 +11,8 @@ use Rattle.silt_frame.specs.Frame.{is_put}
 use Rattle.silt_frame.specs.declared.key.Row.{Row}
 use Rattle.silt_hash_store.specs.Slots.{slot_row}
 use Rattle.silt_frame.specs.Rows.{entry_row, StoredRow}
-use Rattle.silt_merge.specs.State.{is_above, source_at}
+use Rattle.silt_trie.specs.Building.{is_above}
+use Rattle.silt_merge.specs.State.{source_at}
 use Rattle.silt_merge.specs.declared.choice.Choice.{Choice}
 use Rattle.silt_merge.specs.declared.source.Source.{Source}
 

@@ -1,14 +1,13 @@
 -- Laws of merges, for the layers above.
-use Rattle.std.specs.Prelude.{◌≡◌, ℕ, ◌+◌, ◌≤◌, IsTrue, List, [], ◌++◌, length, map}
+use Rattle.std.specs.Prelude.{◌≡◌, ℕ, ◌+◌, ◌≤◌, IsTrue, List, [], ◌++◌, length}
 use Rattle.std.specs.FinMap.{len}
 use Rattle.std.specs.List.{All}
 use Rattle.silt_device.specs.Disk.{ChangesWithin, Content, LiesOutside, size}
 use Rattle.silt_device.specs.Layout.{device_size, entries_len, hash_at, slots_len, sorted_at}
 use Rattle.silt_hash_store.specs.State.{HashState, IsHashStore, IsHeldHash}
-use Rattle.silt_image.specs.Meaning.{IsSound, charge_of, known_rows, map_of_rows, oldest_first, rows_of, sorted_findings}
+use Rattle.silt_event.specs.Rows.{map_of_rows}
+use Rattle.silt_sorted_store.specs.Findings.{sorted_findings}
 use Rattle.silt_frame.specs.Rows.{put_count, StoredRow}
-use Rattle.silt_image.specs.Stores.{Part, Stores}
-use Rattle.silt_manifest.specs.declared.body.Body.{Body}
 use Rattle.silt_merge.specs.Merging.{AreSound, HasMerged, IsMergeOf}
 use Rattle.silt_merge.specs.Rows.{entries_in, key_count, merged_rows}
 use Rattle.silt_merge.specs.State.{IsHeldMerge, MergeState, oldest_stores}
@@ -46,25 +45,3 @@ abbrev pub OldestStoresLaw : Type 0
 OldestStoresLaw = (newer stores : List HashState) (count : ℕ) → count ≤ length stores → oldest_stores count (newer ++ stores) ≡ oldest_stores count stores
 
 -- ---- a merge that is finished
-
--- the rows that a merge takes of stores whose last hash stores are these, the oldest first
-abbrev pub taken_rows : List Part → Stores → List StoredRow
-taken_rows taken s = s.entries ++ oldest_first (map known_rows taken)
-
--- the stores under a body that names these newer hash stores alone, and these entries
-unfoldable pub with_merged : Body → List Part → List StoredRow → Stores → Stores
-with_merged body newer entries s = record s { body = body; hashes = newer; entries = entries }
-
--- stores with these entries in place of these rows stand for the same map, also with rows behind, are sound, and have the entries as puts
--- in place of the rows' puts
-pub record ReplacesStores (rows entries : List StoredRow) (old new : Stores) : Type 0 where
-  pub map : map_of_rows (rows_of new) ≡ map_of_rows (rows_of old)
-  pub behind : (more : List StoredRow) → map_of_rows (rows_of new ++ more) ≡ map_of_rows (rows_of old ++ more)
-  pub sound : IsSound new
-  pub charge : charge_of new + put_count rows ≡ charge_of old + length entries
-
--- a merge of the entries and the oldest hash stores may stand as the entries in their place
-abbrev pub MergesLaw : Type 0
-MergesLaw =
-    (s : Stores) (body : Body) (newer taken : List Part) (entries : List StoredRow) → s.hashes ≡ newer ++ taken → IsSound s → IsMergeOf (taken_rows taken s) entries
-    → ReplacesStores (taken_rows taken s) entries s (with_merged body newer entries s)

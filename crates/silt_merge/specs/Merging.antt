@@ -4,19 +4,19 @@ use Rattle.std.specs.List.{All}
 use Rattle.silt_device.specs.Disk.{Content}
 use Rattle.silt_device.specs.Layout.{Shape}
 use Rattle.silt_frame.specs.Frame.{kind_byte}
-use Rattle.silt_hash_store.specs.Slots.{rows_before, slot_row}
+use Rattle.silt_hash_store.specs.Slots.{rows_before, slot_row, hash_part}
 use Rattle.silt_hash_store.specs.State.{HashState}
-use Rattle.silt_image.specs.Laws.{newest_row}
-use Rattle.silt_image.specs.Meaning.{hash_findings, map_of_rows, sorted_findings}
+use Rattle.silt_event.specs.Rows.{newest_row, map_of_rows}
+use Rattle.silt_hash_store.specs.Findings.{hash_findings}
+use Rattle.silt_sorted_store.specs.Findings.{sorted_findings}
 use Rattle.silt_frame.specs.Rows.{StoredRow, entry_row, has_known_kind, is_put_row, keys_of, put_count}
-use Rattle.silt_image.specs.Stores.{hash_part, sorted_rows}
+use Rattle.silt_sorted_store.specs.State.{sorted_rows, SortedState}
 use Rattle.silt_frame.specs.declared.key.Key.{Key}
 use Rattle.silt_merge.specs.Rows.{entries_in, has_row_with, rows_of_hashes, key_count, newest_rows, regions_of, sources}
 use Rattle.silt_merge.specs.State.{MergeState, source_at}
 use Rattle.silt_merge.specs.declared.merge.StepError.{StepError}
 use Rattle.silt_merge.specs.declared.merge.StepError.TheVariants.{Read, Write, NoMemory}
 use Rattle.silt_merge.specs.declared.source.Source.{Source}
-use Rattle.silt_sorted_store.specs.State.{SortedState}
 use Rattle.silt_trie.specs.Coded.{bytes_of}
 
 -- the stores that are merged lie in hash regions, and nothing is found in them

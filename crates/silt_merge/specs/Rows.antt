@@ -6,10 +6,10 @@ use Rattle.std.specs.Cmp.Lexicographic.{slice_cmp}
 use Rattle.std.specs.Str.{bytes_eq}
 use Rattle.silt_device.specs.Layout.{Shape}
 use Rattle.silt_hash_store.specs.State.{HashState}
-use Rattle.silt_image.specs.Meaning.{known_rows, oldest_first}
-use Rattle.silt_image.specs.Stores.{hash_part, sorted_rows}
+use Rattle.silt_log_store.specs.Parts.{known_rows, oldest_first}
+use Rattle.silt_hash_store.specs.Slots.{hash_part}
+use Rattle.silt_sorted_store.specs.State.{sorted_rows, SortedState}
 use Rattle.silt_frame.specs.Rows.{StoredRow, is_put_row}
-use Rattle.silt_sorted_store.specs.State.{SortedState}
 
 -- a row, put among rows that rise by key, unless one of them has its key
 abbrev pub with_older : StoredRow → List StoredRow → List StoredRow

@@ -7,9 +7,9 @@ use Rattle.std.specs.Cmp.Lexicographic.{slice_cmp}
 use Rattle.silt_device.specs.Layout.{Shape}
 use Rattle.silt_frame.specs.declared.key.Key.{Key}
 use Rattle.silt_hash_store.specs.State.{HashState}
-use Rattle.silt_image.specs.Meaning.{is_key_below}
 use Rattle.silt_merge.specs.declared.source.Source.{Source}
 use Rattle.silt_sorted_store.specs.State.{SortedState}
+use Rattle.silt_trie.specs.Building.{is_above}
 use Rattle.silt_trie.specs.Code.{IsCodable}
 use Rattle.silt_trie.specs.Coded.{bytes_of}
 
@@ -35,11 +35,6 @@ pub record MergeState : Type 0 where
 abbrev pub next_bytes : Bool → List ℕ → Option (List ℕ)
 next_bytes true bytes = Some bytes
 next_bytes false bytes = None
-
--- a key is above the last one that is decided
-abbrev pub is_above : Option Key → List ℕ → Bool
-is_above None key = true
-is_above (Some last) key = is_key_below last.0 key
 
 -- the next entry is not above the last key that is decided
 abbrev pub is_behind : Option Key → Option Key → Bool

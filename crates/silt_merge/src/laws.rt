@@ -1,5 +1,5 @@
 // Laws of merges, for the layers above.
-ghost use Rattle.silt_merge.specs.Laws.{KeyCountLaw, MergedCountLaw, MergedElsewhereLaw, MergedLaw, MergesLaw, OldestStoresLaw, SoundStoresLaw};
+ghost use Rattle.silt_merge.specs.Laws.{KeyCountLaw, MergedCountLaw, MergedElsewhereLaw, MergedLaw, OldestStoresLaw, SoundStoresLaw};
 
 /// The newest rows that are puts are a merge of all rows.
 pub fn merged_law()
@@ -29,9 +29,4 @@ pub fn merged_elsewhere_law()
 /// The stores that a merge took are the oldest ones still, after others came in front of them.
 pub fn oldest_stores_law()
     ensures { OldestStoresLaw }
-{}
-
-/// A merge of the entries and the oldest hash stores may stand as the entries in their place.
-pub fn merges_law()
-    ensures { MergesLaw }
 {}

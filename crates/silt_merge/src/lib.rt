@@ -20,8 +20,8 @@ mod merge;
 mod source;
 
 pub use laws::{
-    key_count_law, merged_count_law, merged_elsewhere_law, merged_law, merges_law,
-    oldest_stores_law, sound_stores_law,
+    key_count_law, merged_count_law, merged_elsewhere_law, merged_law, oldest_stores_law,
+    sound_stores_law,
 };
 pub use merge::{Merge, StepError};
 

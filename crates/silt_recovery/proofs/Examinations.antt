@@ -11,8 +11,8 @@ use Rattle.silt_hash_store.specs.State.{HashState, IsHashStore}
 use Rattle.silt_image.specs.Meaning.{IsSound, charge_of}
 use Rattle.silt_frame.specs.Rows.{put_count}
 use Rattle.silt_image.specs.Stores.{Stores, image_stores, stores_named}
-use Rattle.silt_image.specs.declared.damage.Finding.{Finding}
-use Rattle.silt_image.specs.declared.damage.Finding.TheVariants.{Damaged}
+use Rattle.silt_event.specs.declared.finding.Finding.{Finding}
+use Rattle.silt_event.specs.declared.finding.Finding.TheVariants.{Damaged}
 use Rattle.silt_event.specs.declared.place.Place.TheVariants.{Charge}
 use Rattle.silt_image.proofs.Search.{charge_found_law}
 use Rattle.silt_image.proofs.Sound.{parts_law}
@@ -22,7 +22,7 @@ use Rattle.silt_manifest.specs.Body.{all_below, is_well_formed}
 use Rattle.silt_manifest.specs.Standing.{ManifestState, Rules}
 use Rattle.silt_manifest.specs.declared.body.Body.{Body}
 use Rattle.silt_manifest.proofs.SoundBodies.{sound_parts}
-use Rattle.silt_sorted_store.specs.Index.{IsIndexed}
+use Rattle.silt_sorted_store.specs.Index.{HasIndex}
 use Rattle.silt_sorted_store.specs.State.{IsHeldSorted, SortedState}
 use Rattle.silt_trie.specs.Marks.{MarkedCode}
 use Rattle.silt_stores.specs.State.{IsHashOf, IsSettled, sorted_named}
@@ -119,7 +119,7 @@ module _ (content : Content) (shape : Shape) (body : Body) (named : IsTrue conte
           module _ (manifest : ManifestState) (same_shape : shape ≡ manifest.shape) (same_body : body ≡ manifest.ruling) where
             -- what is held
             pub held : (active : LogStoreState) (index : MarkedCode) (charge : ℕ) → InLimits shape → size content ≡ device_size manifest.shape → manifest.prepared ≡ None → (Rests content → Rules manifest content)
-                → IsReadLog content shape active → active.log.region ≡ body.active → IsIndexed content sorted index → charge ≡ newest + older + hash_puts + sorted.count → charge ≤ shape.sorted_capacity
+                → IsReadLog content shape active → active.log.region ≡ body.active → HasIndex content sorted index → charge ≡ newest + older + hash_puts + sorted.count → charge ≤ shape.sorted_capacity
                 → Holds content (record { manifest = manifest; active = active; frozen = frozen; hashes = hashes; sorted = sorted; index = index; converting = None; merging = None; charge = charge })
             held active index charge limits sized idle rules own region located total most = record {
               limits = subst InLimits same_shape limits;

@@ -8,13 +8,17 @@ use Rattle.silt_device.specs.Disk.{Content}
 use Rattle.silt_device.specs.Layout.{Shape}
 use Rattle.silt_hash_store.specs.Rebuild.{IsFirstUnsound}
 use Rattle.silt_hash_store.specs.State.{HashState}
-use Rattle.silt_image.specs.Meaning.{charge_of, hash_findings, image_verdict, known_rows, oldest_first, part_rows, rows_of}
+use Rattle.silt_image.specs.Meaning.{charge_of, image_verdict, rows_of}
+use Rattle.silt_hash_store.specs.Findings.{hash_findings}
+use Rattle.silt_log_store.specs.Parts.{known_rows, oldest_first, part_rows, Part, log_part}
 use Rattle.silt_frame.specs.Rows.{put_count, StoredRow}
-use Rattle.silt_image.specs.Stores.{Part, hash_part, image_stores, log_part, sorted_rows, stores_named}
-use Rattle.silt_image.specs.declared.damage.Finding.{Finding}
-use Rattle.silt_image.specs.declared.damage.Finding.TheVariants.{Damaged}
+use Rattle.silt_hash_store.specs.Slots.{hash_part}
+use Rattle.silt_image.specs.Stores.{image_stores, stores_named}
+use Rattle.silt_sorted_store.specs.State.{sorted_rows}
+use Rattle.silt_event.specs.declared.finding.Finding.{Finding}
+use Rattle.silt_event.specs.declared.finding.Finding.TheVariants.{Damaged}
 use Rattle.silt_event.specs.declared.place.Place.TheVariants.{Hash}
-use Rattle.silt_image.proofs.Rows.{count_law}
+use Rattle.silt_event.proofs.Rows.{count_law}
 use Rattle.silt_image.proofs.Search.{first_slot_law}
 use Rattle.silt_manifest.specs.declared.body.Body.{Body}
 use Rattle.silt_stores.specs.State.{hash_region_of}

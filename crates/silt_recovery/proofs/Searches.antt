@@ -10,15 +10,18 @@ use Rattle.silt_device.specs.Disk.{Content}
 use Rattle.silt_device.specs.Layout.{Shape}
 use Rattle.silt_cuckoo.specs.Index.{index_of_keys}
 use Rattle.silt_image.specs.Laws.{FirstFinding}
-use Rattle.silt_image.specs.Meaning.{finding_if, fits_table, image_verdict, log_findings, oldest_first, part_rows}
+use Rattle.silt_event.specs.Findings.{finding_if}
+use Rattle.silt_log_store.specs.Findings.{fits_table, log_findings}
+use Rattle.silt_image.specs.Meaning.{image_verdict}
+use Rattle.silt_log_store.specs.Parts.{oldest_first, part_rows, log_part}
 use Rattle.silt_frame.specs.Rows.{put_count, keys_of, has_known_kind, StoredRow}
-use Rattle.silt_image.specs.Stores.{image_stores, log_part, stores_named}
-use Rattle.silt_image.specs.declared.damage.Finding.{Finding}
-use Rattle.silt_image.specs.declared.damage.Finding.TheVariants.{Damaged, Crowded}
+use Rattle.silt_image.specs.Stores.{image_stores, stores_named}
+use Rattle.silt_event.specs.declared.finding.Finding.{Finding}
+use Rattle.silt_event.specs.declared.finding.Finding.TheVariants.{Damaged, Crowded}
 use Rattle.silt_event.specs.declared.place.Place.TheVariants.{Log}
-use Rattle.silt_image.proofs.Rows.{count_law}
+use Rattle.silt_event.proofs.Rows.{count_law}
 use Rattle.silt_image.proofs.Search.{first_finding_law}
-use Rattle.silt_image.proofs.Sound.{log_sound_law}
+use Rattle.silt_log_store.proofs.Findings.{log_sound_law}
 use Rattle.silt_log.specs.Rows.{log_rows}
 use Rattle.silt_log_store.specs.Rebuild.{IsFirstCrowded, IsFirstDamaged, IsRebuilt, has_known_kind_at}
 use Rattle.silt_log_store.specs.State.{LogStoreState}

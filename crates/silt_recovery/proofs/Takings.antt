@@ -16,9 +16,11 @@ use Rattle.silt_hash_store.specs.State.{HashState, IsHashStore}
 use Rattle.silt_hash_store.proofs.Elsewhere.{hash_elsewhere}
 use Rattle.silt_image.specs.Header.{shape_of}
 use Rattle.silt_image.specs.Laws.{IsWhole}
-use Rattle.silt_image.specs.Meaning.{IsGood, IsSound, StandsFor, charge_of, image_map, map_of_rows, rows_of, with_log_rows}
+use Rattle.silt_image.specs.Meaning.{IsGood, IsSound, StandsFor, charge_of, image_map, rows_of, with_log_rows}
+use Rattle.silt_event.specs.Rows.{map_of_rows}
 use Rattle.silt_frame.specs.Rows.{has_known_kind, StoredRow, keys_of, put_count}
-use Rattle.silt_image.specs.Stores.{Part, Stores, image_stores, log_part, stores_named}
+use Rattle.silt_log_store.specs.Parts.{Part, log_part}
+use Rattle.silt_image.specs.Stores.{Stores, image_stores, stores_named}
 use Rattle.silt_image.proofs.Frame.{log_region_law}
 use Rattle.silt_image.proofs.Named.{stores_law, whole_law}
 use Rattle.silt_image.proofs.Rows.{own_rows_law}

@@ -1,9 +1,9 @@
 -- The sorted entries as they are read from a device.
 use Rattle.std.specs.Prelude.{◌≡◌, ℕ, List, [], slice_get, Some}
 use Rattle.silt_device.specs.Layout.{Shape}
-use Rattle.silt_image.specs.Meaning.{sorted_findings}
-use Rattle.silt_image.specs.Stores.{sorted_rows}
-use Rattle.silt_image.specs.declared.damage.Finding.{Finding}
+use Rattle.silt_sorted_store.specs.Findings.{sorted_findings}
+use Rattle.silt_sorted_store.specs.State.{sorted_rows}
+use Rattle.silt_event.specs.declared.finding.Finding.{Finding}
 
 -- nothing is found in so many entries of this sorted region of an image
 abbrev pub AreSoundEntries : Shape → List ℕ → ℕ → ℕ → Type 0

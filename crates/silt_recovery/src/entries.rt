@@ -4,7 +4,7 @@ ghost use Rattle.silt_device.specs.Disk.{GaveAny, size};
 ghost use Rattle.silt_device.specs.Layout.{device_size};
 ghost use Rattle.silt_recovery.specs.Entries.{AreSoundEntries, HasFirstEntry};
 ghost use Rattle.silt_recovery.specs.Refusals.{IsRefusedLook};
-ghost use Rattle.silt_sorted_store.specs.Index.{IsIndexed};
+ghost use Rattle.silt_sorted_store.specs.Index.{HasIndex};
 
 use crate::fault::OpenError;
 use silt_device::{Disk, Geometry};
@@ -29,7 +29,7 @@ pub fn read_entries<D: Disk>(
     requires count { count ≤ geometry.sorted_capacity }
     requires size { size (D.content disk.now) ≡ device_size geometry }
     ensures store { IfOk result (λ store. store.sorted ≡ record { shape = geometry; region = region; count = count }) }
-    ensures indexed { IfOk result (λ store. IsIndexed (D.content disk.now) store.sorted store.index) }
+    ensures indexed { IfOk result (λ store. HasIndex (D.content disk.now) store.sorted store.index) }
     ensures sound { IsTrue (D.content disk.now).honest → OnOk result (AreSoundEntries geometry (D.content disk.now).shown region count) }
     ensures cause { IfErr result (IsRefusedLook
         (λ finding. IsTrue (D.content disk.now).honest → HasFirstEntry geometry (D.content disk.now).shown region count finding)

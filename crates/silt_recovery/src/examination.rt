@@ -16,7 +16,7 @@ use crate::logs::{read_frozen, read_log};
 use silt_device::{Disk, Geometry};
 use silt_event::Place;
 use silt_hash_store::HashStore;
-use silt_image::Finding;
+use silt_image::finding_of;
 use silt_log_store::LogStore;
 use silt_manifest::{Manifest, ReadFault, read_current};
 use silt_sorted_store::SortedStore;
@@ -48,7 +48,7 @@ fn read_manifest<D: Disk>(disk: &D, geometry: Geometry) -> Result<Manifest, Open
 {
     match read_current(disk, geometry) {
         Ok(manifest) => Ok(manifest),
-        Err(ReadFault::Damaged(damage)) => Err(OpenError::from(Finding::from(damage))),
+        Err(ReadFault::Damaged(damage)) => Err(OpenError::from(finding_of(damage))),
         Err(ReadFault::Device(fault)) => Err(OpenError::Device(fault)),
     }
 }

@@ -4,8 +4,7 @@ ghost use Rattle.silt_recovery.specs.Refusals.{refusal_of};
 ghost use Rattle.silt_recovery.specs.Errors.{refusal_of_formatting, refusal_of_opening};
 
 use silt_device::Disk;
-use silt_event::{Place, Refusal};
-use silt_image::Finding;
+use silt_event::{Finding, Place, Refusal};
 
 /// Why a device was not formatted. A fault is the disk's own, of a call that failed within this very call.
 #[derive(Debug, Drop)]

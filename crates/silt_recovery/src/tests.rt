@@ -5,8 +5,7 @@ mod stops;
 
 use crate::{OpenError, OpenFault, check, format, open};
 use silt_device::{Geometry, MemDisk, MemFault};
-use silt_event::Report;
-use silt_image::Finding;
+use silt_event::{Finding, Report};
 use std::alloc::Global;
 use std::process::Abort;
 use std::test::Fail;

@@ -12,12 +12,12 @@ use Rattle.silt_event.specs.declared.event.Event.TheVariants.{Get}
 use Rattle.silt_event.specs.declared.refusal.Refusal.{Refusal}
 use Rattle.silt_event.specs.declared.refusal.Refusal.TheVariants.{NoMemory}
 use Rattle.silt_store_set.specs.CoreState.{CoreState}
-use Rattle.silt_server.specs.Sessions.{Finds, IsAnswer}
+use Rattle.silt_server.specs.Sessions.{AnswersGet, IsAnswer}
 use Rattle.silt_server.specs.Texts.{calls_text, listening_text, refused_text}
 
 module _ {D F : Type 0} (content : D → Content) (failures : D → ℕ) (gave : D → F → Type 0) where
   -- what a look finds is an answer to a get
-  pub found_answers : (core : CoreState D) (key : Key) (reply : Option PlainReply) → IfSome reply (Finds content failures gave core key) → IfSome reply (IsAnswer content failures gave (Get key))
+  pub found_answers : (core : CoreState D) (key : Key) (reply : Option PlainReply) → IfSome reply (AnswersGet content failures gave core key) → IfSome reply (IsAnswer content failures gave (Get key))
   found_answers core key None found = found
   found_answers core key (Some reply) found = inr (core, found)
 

@@ -14,10 +14,10 @@ abbrev pub Answer : Type 0
 Answer = Result ℕ (Refusal (Unit {0}))
 
 -- the event that is asked for
-abbrev pub event_of : Request → Event
-event_of (Put key value) = event.Put key value
-event_of (Delete key) = event.Delete key
-event_of Flush = event.Flush
+abbrev pub asked_event : Request → Event
+asked_event (Put key value) = event.Put key value
+asked_event (Delete key) = event.Delete key
+asked_event Flush = event.Flush
 
 -- the reply to a flush that was answered so
 abbrev pub acknowledged : Answer → PlainReply

@@ -67,8 +67,8 @@ BreaksServing has_port before after =
 
 module _ {D F : Type 0} (content : D → Content) (gave : D → F → Type 0) where
   -- it was written that the store was not taken up from the disk, for its cause
-  abbrev pub TellsOpening : D → D → Option (List ℕ) → Option (List ℕ) → Type 0
-  TellsOpening old new before after = (refusal : Refusal F) × OpeningCause content gave (content old) new refusal × Appends before after (refused_text refusal)
+  abbrev pub TellsNotOpened : D → D → Option (List ℕ) → Option (List ℕ) → Type 0
+  TellsNotOpened old new before after = (refusal : Refusal F) × OpeningCause content gave (content old) new refusal × Appends before after (refused_text refusal)
 
   -- it was written that the entries of the store on the disk could not be kept, for their cause
   abbrev pub TellsEntries : D → Option (List ℕ) → Option (List ℕ) → Type 0
@@ -78,7 +78,7 @@ module _ {D F : Type 0} (content : D → Content) (gave : D → F → Type 0) wh
   -- it was written why the store is not served to the end
   abbrev pub TellsNotServed : (ℕ → Type 0) → D → D → Option (List ℕ) → Option (List ℕ) → Type 0
   TellsNotServed has_port old new before after =
-      TellsOpening old new before after ⊎ (TellsEntries new before after ⊎ BreaksServing has_port before after)
+      TellsNotOpened old new before after ⊎ (TellsEntries new before after ⊎ BreaksServing has_port before after)
 
   -- what a server gives back, however it ends: each image that a stop may leave might have been left before or stands for what was shown, or all
   -- stand for one map after a beginning of one list of commands

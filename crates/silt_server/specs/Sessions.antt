@@ -8,20 +8,20 @@ use Rattle.silt_event.specs.declared.event.Event.TheVariants.{Get, Convert, Merg
 use Rattle.silt_event.specs.declared.refusal.Refusal.TheVariants.{NoMemory}
 use Rattle.silt_event.specs.declared.reply.Reply.{Reply}
 use Rattle.silt_event.specs.declared.reply.Reply.TheVariants.{Refused, NotServed}
-use Rattle.silt_inbox.specs.Answers.{is_allowed, kind_of}
+use Rattle.silt_inbox.specs.Answers.{is_allowed, event_kind}
 use Rattle.silt_store_set.specs.CoreState.{CoreState, Does}
 
 module _ {D F : Type 0} (content : D → Content) (failures : D → ℕ) (gave : D → F → Type 0) where
   -- a look at this store, which changes nothing, finds so
-  abbrev pub Finds : CoreState D → Key → PlainReply → Type 0
-  Finds core key reply = (told : Reply F) × Does content failures gave core core (Get key) told × (reply ≡ plain told)
+  abbrev pub AnswersGet : CoreState D → Key → PlainReply → Type 0
+  AnswersGet core key reply = (told : Reply F) × Does content failures gave core core (Get key) told × (reply ≡ plain told)
 
   -- a get is answered by a look, or for want of memory; a step is not served; and all else is given a reply that it may have
   abbrev pub IsAnswer : Event → PlainReply → Type 0
-  IsAnswer (Get key) reply = (reply ≡ Refused NoMemory) ⊎ ((core : CoreState D) × Finds core key reply)
+  IsAnswer (Get key) reply = (reply ≡ Refused NoMemory) ⊎ ((core : CoreState D) × AnswersGet core key reply)
   IsAnswer Convert reply = reply ≡ NotServed
   IsAnswer Merge reply = reply ≡ NotServed
-  IsAnswer event reply = is_allowed (kind_of event) reply ≡ true
+  IsAnswer event reply = is_allowed (event_kind event) reply ≡ true
 
 -- what contracts see of a session's client: what it asks, and whether its session is lost
 pub record ClientState (A : Type 0) : Type 0 where

@@ -2,9 +2,9 @@
 ghost use Rattle.std.specs.Prelude.{◌≡◌, ◌≢◌, ◌+◌, true, IfSome, IfNone, MatchResult, vec_len};
 ghost use Rattle.silt_device.specs.Disk.{GaveAny};
 ghost use Rattle.silt_event.specs.declared.event.Event.TheVariants as event_case;
-ghost use Rattle.silt_inbox.specs.Answers.{is_allowed, kind_of};
-ghost use Rattle.silt_server.specs.Requests.{event_of};
-ghost use Rattle.silt_server.specs.Sessions.{Finds, IsAnswer};
+ghost use Rattle.silt_inbox.specs.Answers.{is_allowed, event_kind};
+ghost use Rattle.silt_server.specs.Requests.{asked_event};
+ghost use Rattle.silt_server.specs.Sessions.{AnswersGet, IsAnswer};
 
 use crate::job::{Job, Request};
 use crate::places::Place;
@@ -23,7 +23,7 @@ fn look_up<D: Disk, T: Trace, N: Naming>(
     key: &Key,
     mut out: Vec<u8>,
 ) -> Option<Reply<()>>
-    ensures found { IfSome result (Finds D.content D.failures (GaveAny D.gave) desk.now.core key.now) }
+    ensures found { IfSome result (AnswersGet D.content D.failures (GaveAny D.gave) desk.now.core key.now) }
     ensures none { IfNone result (vec_len out ≢ desk.now.core.shape.value_len) }
 {
     if desk.geometry().value_len() as usize != out.len() {
@@ -76,7 +76,7 @@ fn ask<P: Post, R: Wait>(
     place: &Mutex<Place<P>>,
     request: Request,
 ) -> Option<Reply<()>>
-    ensures { IfSome result (λ reply. is_allowed (kind_of (event_of request)) reply ≡ true) }
+    ensures { IfSome result (λ reply. is_allowed (event_kind (asked_event request)) reply ≡ true) }
 {
     let kind = request.kind();
     let put = put_request(rt, alloc, inbox, place.lock(rt).feeder(), request);

@@ -1,7 +1,7 @@
 // What goes from the sessions to the writer.
 ghost use Rattle.std.specs.Prelude.{◌≡◌, None, option_map};
-ghost use Rattle.silt_inbox.specs.Answers.{kind_of};
-ghost use Rattle.silt_server.specs.Requests.{acknowledged, changed, event_of, reply_due, reply_in};
+ghost use Rattle.silt_inbox.specs.Answers.{event_kind};
+ghost use Rattle.silt_server.specs.Requests.{acknowledged, changed, asked_event, reply_due, reply_in};
 
 use crossbeam_channel::Sender;
 use silt_event::{Refusal, Reply};
@@ -20,7 +20,7 @@ pub enum Request {
 impl Request {
     /// The kind of the event that is asked for.
     pub fn kind(&self) -> EventKind
-        ensures { result ≡ kind_of (event_of self.now) }
+        ensures { result ≡ event_kind (asked_event self.now) }
     {
         match self {
             Request::Put(_, _) => EventKind::Put,

@@ -7,7 +7,7 @@ ghost use Rattle.silt_recovery.specs.Opening.{LeavesNoOther};
 ghost use Rattle.silt_store_set.specs.CoreInvariant.{LeavesBegun};
 ghost use Rattle.silt_store_set.specs.CoreState.{CoreState};
 ghost use Rattle.silt_desk.specs.Seeing.{seen};
-ghost use Rattle.silt_server.specs.Serving.{BreaksServing, IsStatus, LeavesServed, ServesAt, ServesKept, TellsCalls, TellsEntries, TellsNotServed, TellsOpening, TellsServed, head_text, network_text, no_memory_text};
+ghost use Rattle.silt_server.specs.Serving.{BreaksServing, IsStatus, LeavesServed, ServesAt, ServesKept, TellsCalls, TellsEntries, TellsNotServed, TellsNotOpened, TellsServed, head_text, network_text, no_memory_text};
 ghost use Rattle.silt_server.specs.Texts.{refused_text};
 
 use crate::admission::accept_clients;
@@ -78,7 +78,7 @@ pub fn serve_on<L: Listens, D: Disk, G: Gate + Sync, R: Threads + Wait + Sync, W
 ///
 /// The writer's, and want of memory for the text of a line.
 pub fn refuse_network<D: Disk, W: Write>(alloc: Global, disk: D, out: &mut W) -> (D, io::Result<u8>)
-    ensures told { IfOk result.1 (λ status. (status ≡ 1) × (TellsOpening D.content (GaveAny D.gave) disk result.0 (W.contents out.old) (W.contents out.new) ⊎ Appends (W.contents out.old) (W.contents out.new) (codes "opened\n" ++ network_text))) }
+    ensures told { IfOk result.1 (λ status. (status ≡ 1) × (TellsNotOpened D.content (GaveAny D.gave) disk result.0 (W.contents out.old) (W.contents out.new) ⊎ Appends (W.contents out.old) (W.contents out.new) (codes "opened\n" ++ network_text))) }
     ensures left { LeavesNoOther (D.content disk) (D.content result.0) }
 {
     match Core::open(alloc, disk) {

@@ -4,10 +4,9 @@ use Rattle.std.proofs.lemmas.List.{take-append-drop}
 use Rattle.std.proofs.Math.Nat.{add-mul, mul-le-mul_right}
 use Rattle.silt_device.specs.Layout.{Shape, device_size, entry_len}
 use Rattle.silt_frame.specs.Rows.{StoredRow}
-use Rattle.silt_image.specs.Stores.{sorted_rows}
+use Rattle.silt_sorted_store.specs.State.{sorted_rows, sorted_entry_at}
 use Rattle.silt_log.proofs.Parts.{slice_of_slice}
 use Rattle.silt_sorted_store.specs.Indexing.{HoldsKeys}
-use Rattle.silt_sorted_store.specs.State.{sorted_entry_at}
 use Rattle.silt_sorted_store.proofs.Entries.{key_read, part_inside}
 use Rattle.silt_sorted_store.proofs.Elsewhere.{entries_inside}
 use Rattle.silt_sorted_store.proofs.Rising.{key_at}

@@ -5,12 +5,11 @@ use Rattle.silt_device.specs.Disk.{LiesOutside, Torn}
 use Rattle.silt_device.specs.Layout.{Shape, device_size, entries_len, entry_len, sorted_at}
 use Rattle.silt_device.proofs.Images.{torn_slice_after, torn_slice_before}
 use Rattle.silt_device.proofs.Regions.{next_region, regions_apart}
-use Rattle.silt_image.specs.Stores.{sorted_rows}
+use Rattle.silt_sorted_store.specs.State.{sorted_rows, sorted_entry_at}
 use Rattle.silt_frame.specs.Rows.{entry_row}
 use Rattle.silt_log.proofs.Bodies.{map_range_same}
 use Rattle.silt_sorted_store.specs.Laws.{EntriesElsewhereLaw, IndexedElsewhereLaw}
 use Rattle.silt_sorted_store.specs.Index.{IsIndexOf}
-use Rattle.silt_sorted_store.specs.State.{sorted_entry_at}
 use Rattle.silt_sorted_store.proofs.Entries.{part_inside}
 
 -- the entries of a sorted region lie within the device

@@ -7,8 +7,7 @@ use Rattle.silt_device.specs.Layout.{Shape, entry_len}
 use Rattle.silt_device.proofs.Regions.{next_region}
 use Rattle.silt_frame.specs.Rows.{StoredRow, entry_row, keys_of}
 use Rattle.silt_log.proofs.Parts.{slice_of_slice, slice_to_end}
-use Rattle.silt_image.specs.Stores.{sorted_rows}
-use Rattle.silt_sorted_store.specs.State.{sorted_entry_at}
+use Rattle.silt_sorted_store.specs.State.{sorted_rows, sorted_entry_at}
 use Rattle.silt_sorted_store.specs.OnlyRow.{HasEntry, HasValue}
 use Rattle.silt_sorted_store.specs.Laws.{EntriesLaw}
 

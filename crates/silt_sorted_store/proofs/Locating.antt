@@ -6,7 +6,7 @@ use Rattle.std.proofs.lemmas.Slice.Eq.{bytes_eq-Decides}
 use Rattle.std.proofs.lemmas.List.{length-map}
 use Rattle.std.proofs.lemmas.Option.{slice_get_within}
 use Rattle.silt_frame.specs.Rows.{StoredRow, entry_row, keys_of}
-use Rattle.silt_image.specs.Meaning.{sorted_findings}
+use Rattle.silt_sorted_store.specs.Findings.{sorted_findings}
 use Rattle.silt_sorted_store.specs.Index.{IsIndexOf, IsPlaceOfKey}
 use Rattle.silt_sorted_store.specs.OnlyRow.{FindsEntry, HasEntry, HasKeyAndValue, HasNoEntry, HasOnlyValue, HasValue, IsOnlyRow}
 use Rattle.silt_sorted_store.proofs.Entries.{key_of_row, row_inside}

@@ -7,10 +7,10 @@ use Rattle.std.specs.declared.cmp.Ordering.TheVariants.{Less, Equal, Greater}
 use Rattle.std.proofs.lemmas.Bool.{cases_order}
 use Rattle.std.proofs.lemmas.Cmp.{nat_list_cmp_total, tied_itself}
 use Rattle.silt_frame.specs.Rows.{StoredRow, keys_of}
-use Rattle.silt_image.specs.Meaning.{entry_findings, is_key_below, sorted_findings}
-use Rattle.silt_image.specs.declared.damage.Finding.TheVariants.{Damaged}
+use Rattle.silt_sorted_store.specs.Findings.{entry_findings, is_key_below, sorted_findings}
+use Rattle.silt_event.specs.declared.finding.Finding.TheVariants.{Damaged}
 use Rattle.silt_event.specs.declared.place.Place.TheVariants.{Sorted}
-use Rattle.silt_image.proofs.Sound.{passes_where_nothing}
+use Rattle.silt_event.proofs.Findings.{passes_where_nothing}
 use Rattle.silt_sorted_store.specs.Laws.{RisingLaw}
 use Rattle.silt_sorted_store.proofs.Ranges.{none_of_each}
 

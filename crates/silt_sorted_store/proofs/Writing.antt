@@ -4,11 +4,10 @@ use Rattle.std.proofs.lemmas.List.{length-append, take-append-le, take_all}
 use Rattle.silt_device.specs.Disk.{ChangesWithin, Content, Tears, Writes, size, splice}
 use Rattle.silt_device.specs.Layout.{Shape, device_size, entry_len, sorted_at}
 use Rattle.silt_device.proofs.Images.{splice_slice, within_wider, write_within}
-use Rattle.silt_image.specs.Stores.{sorted_rows}
+use Rattle.silt_sorted_store.specs.State.{sorted_rows, sorted_entry_at}
 use Rattle.silt_frame.specs.Rows.{entry_row, StoredRow}
 use Rattle.silt_sorted_store.specs.Region.{due_rows}
 use Rattle.silt_sorted_store.proofs.Elsewhere.{entries_before, entries_inside, entry_bytes, entry_more}
-use Rattle.silt_sorted_store.specs.State.{sorted_entry_at}
 use Rattle.silt_sorted_store.proofs.Entries.{entry_count, part_inside}
 
 module _ (s : Shape) (region place : ℕ) where

@@ -15,8 +15,8 @@ abbrev pub IsIndexOf : List StoredRow → MarkedCode → Type 0
 IsIndexOf rows index = IsMadeOf (keys_of rows) index
 
 -- on an honest disk the index is that of the entries
-abbrev pub IsIndexed : Content → SortedState → MarkedCode → Type 0
-IsIndexed content sorted index = IsTrue content.honest → IsIndexOf (entries_of content sorted) index
+abbrev pub HasIndex : Content → SortedState → MarkedCode → Type 0
+HasIndex content sorted index = IsTrue content.honest → IsIndexOf (entries_of content sorted) index
 
 -- where a row has the key, this is its place
 abbrev pub IsPlaceOfKey : List StoredRow → List ℕ → Option ℕ → Type 0

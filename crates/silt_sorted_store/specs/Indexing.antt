@@ -2,7 +2,7 @@
 use Rattle.std.specs.Prelude.{◌≡◌, ℕ, ◌+◌, ◌-◌, ◌*◌, ◌<◌, List, [], get_or, slice_range, take, Option, Some, None}
 use Rattle.silt_frame.specs.Rows.{StoredRow, keys_of}
 use Rattle.silt_frame.specs.declared.key.Key.{Key}
-use Rattle.silt_image.specs.Meaning.{entry_findings}
+use Rattle.silt_sorted_store.specs.Findings.{entry_findings}
 use Rattle.silt_sorted_store.specs.Rebuild.{IsFirstOutOfOrder}
 use Rattle.silt_trie.specs.Building.{Building, IsBuildingOf}
 

@@ -3,10 +3,9 @@ use Rattle.std.specs.Prelude.{◌≡◌, ℕ, ◌<◌, ◌≤◌, IsTrue, List, 
 use Rattle.silt_device.specs.Disk.{ChangesWithin, Content, LiesOutside, size}
 use Rattle.silt_device.specs.Layout.{Shape, device_size, entries_len, sorted_at}
 use Rattle.silt_frame.specs.Rows.{StoredRow, keys_of}
-use Rattle.silt_image.specs.Stores.{sorted_rows}
-use Rattle.silt_image.specs.Meaning.{is_key_below, sorted_findings}
-use Rattle.silt_sorted_store.specs.State.{IsHeldSorted, SortedState, entries_of}
-use Rattle.silt_sorted_store.specs.Index.{IsIndexed}
+use Rattle.silt_sorted_store.specs.State.{sorted_rows, IsHeldSorted, SortedState, entries_of}
+use Rattle.silt_sorted_store.specs.Findings.{is_key_below, sorted_findings}
+use Rattle.silt_sorted_store.specs.Index.{HasIndex}
 use Rattle.silt_trie.specs.Marks.{MarkedCode}
 
 -- so many rows, each of them a put
@@ -37,4 +36,4 @@ EntriesElsewhereLaw =
 abbrev pub IndexedElsewhereLaw : Type 0
 IndexedElsewhereLaw =
     (store : SortedState) (index : MarkedCode) (old new : Content) (at count : ℕ) → IsHeldSorted store → device_size store.shape ≤ size old → LiesOutside (sorted_at store.shape store.region) (entries_len store.shape) at count
-    → ChangesWithin at count old new → IsIndexed old store index → IsIndexed new store index
+    → ChangesWithin at count old new → HasIndex old store index → HasIndex new store index

@@ -1,3 +1,4 @@
+pub mod Findings
 pub mod State
 pub mod Region
 pub mod OnlyRow

@@ -1,9 +1,15 @@
 -- A sorted store, and its entries on a disk.
-use Rattle.std.specs.Prelude.{ℕ, ◌+◌, ◌*◌, ◌<◌, ◌≤◌, List}
+use Rattle.std.specs.Prelude.{ℕ, ◌+◌, ◌*◌, ◌<◌, ◌≤◌, List, map, slice_range}
 use Rattle.silt_device.specs.Disk.{Content}
 use Rattle.silt_device.specs.Layout.{Shape, entry_len, sorted_at}
-use Rattle.silt_frame.specs.Rows.{StoredRow}
-use Rattle.silt_image.specs.Stores.{sorted_rows}
+use Rattle.silt_frame.specs.Rows.{StoredRow, entry_row}
+use Rattle.std.specs.List.{range_with_len}
+
+-- this many entries of a sorted region, from its front on
+unfoldable pub sorted_rows : Shape → ℕ → ℕ → List ℕ → List StoredRow
+sorted_rows shape region count image =
+    map (λ place. entry_row (slice_range image (sorted_at shape region + place * entry_len shape) (sorted_at shape region + place * entry_len shape + entry_len shape)))
+    (range_with_len 0 count)
 
 -- so many entries of a sorted region
 pub record SortedState : Type 0 where

@@ -3,7 +3,7 @@ ghost use Rattle.std.specs.Prelude.{◌≡◌, ◌+◌, ◌*◌, ◌<◌, ◌≤
 ghost use Rattle.silt_device.specs.Disk.{GaveAny, size};
 ghost use Rattle.silt_device.specs.Layout.{device_size, entry_len};
 ghost use Rattle.silt_frame.specs.Rows.{StoredRow};
-ghost use Rattle.silt_image.specs.Meaning.{sorted_findings};
+ghost use Rattle.silt_sorted_store.specs.Findings.{sorted_findings};
 ghost use Rattle.silt_sorted_store.specs.State.{entries_of};
 ghost use Rattle.silt_sorted_store.specs.Index.{IsIndexOf};
 ghost use Rattle.silt_sorted_store.specs.Indexing.{HoldsKeys, IsIndexing, TakesKeys};

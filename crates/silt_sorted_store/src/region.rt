@@ -2,9 +2,8 @@
 ghost use Rattle.std.specs.Prelude.{◌≡◌, ◌+◌, ◌*◌, ◌<◌, ◌≤◌, ◌^◌, ◌++◌, length, take, IsTrue, IfOk, MatchResult};
 ghost use Rattle.silt_device.specs.Disk.{ChangesWithin, CountsFault, size};
 ghost use Rattle.silt_device.specs.Layout.{device_size, entry_len, sorted_at};
-ghost use Rattle.silt_image.specs.Stores.{sorted_rows};
+ghost use Rattle.silt_sorted_store.specs.State.{sorted_rows, sorted_entry_at};
 ghost use Rattle.silt_sorted_store.specs.Region.{due_rows};
-ghost use Rattle.silt_sorted_store.specs.State.{sorted_entry_at};
 
 use silt_device::{Disk, Geometry};
 

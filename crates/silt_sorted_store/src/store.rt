@@ -2,8 +2,8 @@
 ghost use Rattle.std.specs.Prelude.{◌≡◌, ◌==◌, ◌<◌, ◌≤◌, [], true, false, Ok, IsTrue, IfSome, IfOk, IfErr, OnOk, List, length};
 ghost use Rattle.silt_device.specs.Disk.{GaveAny, size};
 ghost use Rattle.silt_device.specs.Layout.{device_size};
-ghost use Rattle.silt_image.specs.Meaning.{sorted_findings};
-ghost use Rattle.silt_image.specs.Stores.{sorted_rows};
+ghost use Rattle.silt_sorted_store.specs.Findings.{sorted_findings};
+ghost use Rattle.silt_sorted_store.specs.State.{sorted_rows};
 ghost use Rattle.silt_frame.specs.Rows.{StoredRow};
 ghost use Rattle.silt_trie.specs.Code.{IsCodable};
 ghost use Rattle.silt_trie.specs.Coded.{bytes_of};
@@ -40,7 +40,7 @@ impl Model for SortedStore {
 
 impl SortedStore {
     ghost use Rattle.silt_sorted_store.specs.State.{IsHeldSorted, entries_of};
-    ghost use Rattle.silt_sorted_store.specs.Index.{IsIndexOf, IsIndexed, IsPlaceOfKey};
+    ghost use Rattle.silt_sorted_store.specs.Index.{IsIndexOf, HasIndex, IsPlaceOfKey};
     ghost use Rattle.silt_sorted_store.specs.OnlyRow.{FindsEntry, HasNoEntry, HasOnlyValue, HasValue};
     ghost use Rattle.silt_sorted_store.specs.Rebuild.{IsFirstOutOfOrder, IsRefusedSorted};
 
@@ -184,7 +184,7 @@ impl SortedStore {
         requires count { count ≤ geometry.sorted_capacity }
         requires size { device_size geometry ≤ size (D.content disk.now) }
         ensures store { IfOk result (λ store. store.sorted ≡ record { shape = geometry; region = region; count = count }) }
-        ensures indexed { IfOk result (λ store. IsIndexed (D.content disk.now) store.sorted store.index) }
+        ensures indexed { IfOk result (λ store. HasIndex (D.content disk.now) store.sorted store.index) }
         ensures rising { IsTrue (D.content disk.now).honest → OnOk result (sorted_findings (sorted_rows geometry region count (D.content disk.now).shown) ≡ []) }
         ensures err { IfErr result (IsRefusedSorted
             (λ place. (place < count) × (IsTrue (D.content disk.now).honest → IsFirstOutOfOrder (sorted_rows geometry region count (D.content disk.now).shown) place))

@@ -6,7 +6,7 @@ use Rattle.silt_frame.specs.declared.key.Key.{Key}
 use Rattle.silt_frame.specs.declared.key.Kind.{Kind}
 use Rattle.silt_frame.specs.declared.key.Kind.TheVariants as kind
 use Rattle.silt_event.specs.Commands.{Command, Map, map_after}
-use Rattle.silt_image.specs.Meaning.{command_of}
+use Rattle.silt_event.specs.Rows.{command_of}
 use Rattle.silt_log.specs.Rows.{log_rows}
 use Rattle.silt_frame.specs.Rows.{stored_row, StoredRow}
 use Rattle.silt_log.specs.State.{all_rows}

@@ -7,7 +7,7 @@ use Rattle.silt_device.specs.Layout.{Shape}
 use Rattle.silt_frame.specs.declared.key.Key.{Key}
 use Rattle.silt_frame.specs.declared.key.Kind.{Kind}
 use Rattle.silt_frame.specs.declared.key.Kind.TheVariants as kind
-use Rattle.silt_event.specs.Commands.{Begins, Command, Map, delete, map_after, put}
+use Rattle.silt_event.specs.Commands.{Begins, Command, Map, WaitsAlone, WaitsBehind, delete, map_after, put}
 use Rattle.silt_image.specs.Header.{shape_of}
 use Rattle.silt_image.specs.Meaning.{image_map, IsGood, StandsFor}
 use Rattle.silt_image.specs.Stores.{Stores, stores_named}
@@ -207,16 +207,6 @@ pub record Freezes (logs : ℕ) (old new : Body) : Type 0 where
   pub lowest : IsLowestFree logs old new.active
   pub is : new ≡ next_body old new.active
 
--- this command waits behind those that waited, and the base is as it was
-pub record WaitsBehind {D : Type 0} (old new : CoreState D) (command : Command) : Type 0 where
-  pub waiting : new.waiting ≡ old.waiting ++ command ∷ []
-  pub base : new.base ≡ old.base
-
--- what waited went into the base, and this command alone waits
-pub record WaitsAlone {D : Type 0} (old new : CoreState D) (command : Command) : Type 0 where
-  pub waiting : new.waiting ≡ command ∷ []
-  pub base : new.base ≡ map_after old.base old.waiting
-
 module _ {D F : Type 0} (content : D → Content) (failures : D → ℕ) (gave : D → F → Type 0) (old new : CoreState D) where
   -- the active log cannot take a row of this key: it is full, or the placing rule gives up
   abbrev pub IsStuck : List ℕ → Type 0
@@ -230,8 +220,8 @@ module _ {D F : Type 0} (content : D → Content) (failures : D → ℕ) (gave :
   -- row, whose command alone waits
   abbrev pub Takes : List ℕ → Command → Type 0
   Takes key command =
-      (StaysActive key × (IsTrue (content old.disk).honest → WaitsBehind old new command))
-      ⊎ ((Freezes old.shape.logs old.body new.body × IsStuck key) × (IsTrue (content old.disk).honest → WaitsAlone old new command))
+      (StaysActive key × (IsTrue (content old.disk).honest → WaitsBehind command old.base new.base old.waiting new.waiting))
+      ⊎ ((Freezes old.shape.logs old.body new.body × IsStuck key) × (IsTrue (content old.disk).honest → WaitsAlone command old.base new.base old.waiting new.waiting))
 
   -- a row of this key, which does this command, was written, and no call failed
   abbrev pub WritesRow : List ℕ → Command → Type 0

@@ -15,8 +15,10 @@ use Rattle.silt_log_store.specs.Calls.{KeepsStore, TakesRow}
 use Rattle.silt_cuckoo.specs.Slots.{Slots}
 use Rattle.silt_cuckoo.specs.Index.{index_of_keys}
 use Rattle.silt_image.specs.Stores.{Stores, image_stores}
-use Rattle.silt_image.specs.Meaning.{IsSound, command_of, fits_table, map_of_rows, rows_of, with_log_rows}
-use Rattle.silt_image.proofs.Rows.{count_law}
+use Rattle.silt_image.specs.Meaning.{IsSound, rows_of, with_log_rows}
+use Rattle.silt_event.specs.Rows.{command_of, map_of_rows}
+use Rattle.silt_log_store.specs.Findings.{fits_table}
+use Rattle.silt_event.proofs.Rows.{count_law}
 use Rattle.silt_image.proofs.Sound.{taken_law}
 use Rattle.silt_stores.specs.State.{AreWhole, StoresState}
 use Rattle.silt_stores.specs.Standing.{Stands, shown_stores, waiting_commands}

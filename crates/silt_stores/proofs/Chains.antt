@@ -5,7 +5,7 @@ use Rattle.silt_device.specs.Disk.{Content}
 use Rattle.silt_device.specs.Layout.{Shape}
 use Rattle.silt_event.specs.Commands.{Command, Map, map_after}
 use Rattle.silt_image.specs.Meaning.{StandsFor, image_map}
-use Rattle.silt_image.proofs.Rows.{map_after-append}
+use Rattle.silt_event.proofs.Rows.{map_after-append}
 use Rattle.silt_stores.specs.State.{StoresState}
 use Rattle.silt_stores.specs.Standing.{Stands, base_map, full_image, waiting_commands}
 use Rattle.silt_stores.specs.Calls.{Advances, Breaks, HasBegun, MovesIntoBase, Remaps, SameDisk}

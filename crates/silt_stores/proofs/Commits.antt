@@ -15,7 +15,8 @@ use Rattle.silt_hash_store.specs.Conversion.{HasWritten}
 use Rattle.silt_manifest.specs.Standing.{ManifestState, spare_slot}
 use Rattle.silt_manifest.specs.declared.body.Body.{Body}
 use Rattle.silt_image.specs.Stores.{Stores, stores_named}
-use Rattle.silt_image.specs.Meaning.{HasActive, IsSound, command_of, map_of_rows, rows_of, with_log_rows, with_new_log}
+use Rattle.silt_image.specs.Meaning.{HasActive, IsSound, rows_of, with_log_rows, with_new_log}
+use Rattle.silt_event.specs.Rows.{command_of, map_of_rows}
 use Rattle.silt_image.specs.Laws.{FreezesActive}
 use Rattle.silt_image.proofs.Frame.{freeze_law}
 use Rattle.silt_image.proofs.Named.{whole_law}

@@ -11,14 +11,18 @@ use Rattle.silt_log.specs.State.{all_rows, waiting_rows}
 use Rattle.silt_log_store.specs.State.{IsFrozenStore}
 use Rattle.silt_log_store.proofs.Buckets.{bucket_count_is}
 use Rattle.silt_manifest.specs.declared.body.Body.{Body}
-use Rattle.silt_image.specs.Stores.{Part, Stores, hash_rows, image_stores}
-use Rattle.silt_image.specs.Meaning.{IsSound, known_rows, map_of_rows, rows_of, with_log_rows}
+use Rattle.silt_log_store.specs.Parts.{Part, known_rows}
+use Rattle.silt_image.specs.Stores.{Stores, image_stores}
+use Rattle.silt_hash_store.specs.Slots.{hash_rows}
+use Rattle.silt_image.specs.Meaning.{IsSound, rows_of, with_log_rows}
+use Rattle.silt_event.specs.Rows.{map_of_rows}
 use Rattle.silt_image.proofs.Named.{whole_law}
-use Rattle.silt_image.proofs.Rows.{count_law}
+use Rattle.silt_event.proofs.Rows.{count_law}
 use Rattle.silt_hash_store.specs.Conversion.{ConversionState, HasWritten, converted_rows}
-use Rattle.silt_hash_store.specs.Laws.{HasOldest, IsTableOf, ReplacesLog, with_converted}
+use Rattle.silt_stores.specs.Replacements.{HasOldest, ReplacesLog, with_converted}
+use Rattle.silt_hash_store.specs.Laws.{IsTableOf}
 use Rattle.silt_hash_store.proofs.Charging.{converted_charge}
-use Rattle.silt_hash_store.proofs.Replacing.{converts}
+use Rattle.silt_stores.proofs.LogReplaced.{converts}
 use Rattle.silt_hash_store.proofs.Writing.{all_charged, all_due}
 use Rattle.silt_stores.specs.State.{IsUnderWay, StoresState, oldest_log, region_of}
 use Rattle.silt_stores.specs.Standing.{IsFrozen, Stands, base_map, shown_stores}

@@ -6,10 +6,13 @@ use Rattle.silt_device.specs.Layout.{Shape}
 use Rattle.silt_log.specs.Rows.{log_rows}
 use Rattle.silt_frame.specs.Rows.{StoredRow}
 use Rattle.silt_manifest.specs.declared.body.Body.{Body}
-use Rattle.silt_image.specs.Stores.{Part, Stores, hash_part, hash_rows, log_part, sorted_rows, stores_named}
-use Rattle.silt_image.specs.Meaning.{part_rows, with_log_rows, with_part_rows}
+use Rattle.silt_log_store.specs.Parts.{Part, log_part, part_rows}
+use Rattle.silt_image.specs.Stores.{Stores, stores_named}
+use Rattle.silt_hash_store.specs.Slots.{hash_part, hash_rows}
+use Rattle.silt_sorted_store.specs.State.{sorted_rows}
+use Rattle.silt_image.specs.Meaning.{with_log_rows, with_part_rows}
 use Rattle.silt_image.proofs.Rows.{keeps_rows}
-use Rattle.silt_hash_store.specs.Laws.{HasOldest, with_converted}
+use Rattle.silt_stores.specs.Replacements.{HasOldest, with_converted}
 use Rattle.silt_stores.specs.Conversion.{converted_body}
 
 -- ---- lists without their last element

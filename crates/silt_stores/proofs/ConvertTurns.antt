@@ -17,12 +17,12 @@ use Rattle.silt_log_store.proofs.Buckets.{bucket_count_is}
 use Rattle.silt_manifest.specs.Standing.{ManifestState, spare_slot}
 use Rattle.silt_manifest.specs.declared.body.Body.{Body}
 use Rattle.silt_image.specs.Stores.{Stores, stores_named}
-use Rattle.silt_image.specs.Meaning.{IsSound, command_of, rows_of, with_log_rows}
+use Rattle.silt_image.specs.Meaning.{IsSound, rows_of, with_log_rows}
+use Rattle.silt_event.specs.Rows.{command_of}
 use Rattle.silt_image.proofs.Named.{whole_law}
 use Rattle.silt_hash_store.specs.Conversion.{ConversionState, HasWritten}
-use Rattle.silt_hash_store.specs.State.{IsHashStore, IsHeldHash}
+use Rattle.silt_hash_store.specs.State.{IsHashStore, IsHeldHash, HashState}
 use Rattle.silt_hash_store.proofs.Writing.{store_stands}
-use Rattle.silt_hash_store.specs.State.{HashState}
 use Rattle.silt_merge.specs.State.{MergeState}
 use Rattle.silt_merge.specs.Merging.{HasMerged}
 use Rattle.silt_merge.proofs.Elsewhere.{oldest_stores_law}

@@ -13,7 +13,8 @@ use Rattle.silt_log.proofs.Elsewhere.{all_are_settled_and_waiting}
 use Rattle.silt_log.proofs.Exits.{log_inside}
 use Rattle.silt_event.specs.Commands.{Map, map_after}
 use Rattle.silt_image.specs.Stores.{Stores, image_stores}
-use Rattle.silt_image.specs.Meaning.{HasActive, IsSound, StandsFor, command_of, image_charge, image_map, map_of_rows, rows_of, with_log_rows}
+use Rattle.silt_image.specs.Meaning.{HasActive, IsSound, StandsFor, image_charge, image_map, rows_of, with_log_rows}
+use Rattle.silt_event.specs.Rows.{command_of, map_of_rows}
 use Rattle.silt_image.proofs.Verdict.{rows_law, stands_law}
 use Rattle.silt_stores.specs.State.{StoresState}
 use Rattle.silt_stores.specs.Standing.{Stands, base_map, current_map, full_image, shown_stores}

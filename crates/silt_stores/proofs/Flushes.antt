@@ -14,7 +14,8 @@ use Rattle.silt_log_store.specs.State.{LogStoreState}
 use Rattle.silt_log_store.specs.Calls.{OpensSomeOfStore, OpensStore}
 use Rattle.silt_event.specs.Commands.{Map, map_after}
 use Rattle.silt_image.specs.Stores.{Stores, image_stores}
-use Rattle.silt_image.specs.Meaning.{IsSound, command_of, image_map, map_of_rows, rows_of, with_log_rows}
+use Rattle.silt_image.specs.Meaning.{IsSound, image_map, rows_of, with_log_rows}
+use Rattle.silt_event.specs.Rows.{command_of, map_of_rows}
 use Rattle.silt_image.proofs.Rows.{again_law}
 use Rattle.silt_stores.specs.State.{StoresState}
 use Rattle.silt_stores.specs.Standing.{Stands, full_image, shown_stores, waiting_commands}

@@ -12,12 +12,12 @@ use Rattle.std.proofs.lemmas.List.Elements.{filter-append}
 use Rattle.std.proofs.lemmas.Option.{get_or_from_slice_get, slice_get_within}
 use Rattle.silt_device.specs.Layout.{Shape}
 use Rattle.silt_frame.specs.declared.key.Key.{Key}
-use Rattle.silt_hash_store.specs.Slots.{rows_before, slot_row}
+use Rattle.silt_hash_store.specs.Slots.{rows_before, slot_row, hash_rows}
 use Rattle.silt_hash_store.proofs.Slotting.{all_before, before_more}
 use Rattle.silt_event.specs.Commands.{Command, Map, changed, delete, map_after, put}
-use Rattle.silt_image.specs.Meaning.{command_of, oldest_first}
-use Rattle.silt_image.specs.Stores.{hash_rows}
-use Rattle.silt_image.proofs.Rows.{map_after-append}
+use Rattle.silt_event.specs.Rows.{command_of}
+use Rattle.silt_log_store.specs.Parts.{oldest_first}
+use Rattle.silt_event.proofs.Rows.{map_after-append}
 use Rattle.silt_sorted_store.specs.OnlyRow.{HasEntry}
 use Rattle.silt_frame.specs.Rows.{entry_row, has_known_kind, StoredRow, key_cmp, stored_row}
 use Rattle.silt_frame.specs.declared.key.Kind.TheVariants.{Put}

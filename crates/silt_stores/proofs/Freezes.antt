@@ -22,7 +22,8 @@ use Rattle.silt_manifest.specs.declared.slot.Damage.{Damage}
 use Rattle.silt_manifest.proofs.Laws.{rules_elsewhere}
 use Rattle.silt_event.specs.Commands.{map_after}
 use Rattle.silt_image.specs.Stores.{Stores, image_stores}
-use Rattle.silt_image.specs.Meaning.{IsSound, command_of, map_of_rows, names_log, rows_of, with_log_rows}
+use Rattle.silt_image.specs.Meaning.{IsSound, names_log, rows_of, with_log_rows}
+use Rattle.silt_event.specs.Rows.{command_of, map_of_rows}
 use Rattle.silt_image.proofs.Named.{whole_law}
 use Rattle.silt_image.proofs.Rows.{unnamed_law}
 use Rattle.silt_merge.specs.State.{MergeState}

@@ -1,3 +1,5 @@
+pub mod LogReplaced
+pub mod StoresReplaced
 pub mod Named
 pub mod Facts
 pub mod Elsewhere

@@ -16,7 +16,7 @@ use Rattle.silt_device.proofs.Images.{shown_left}
 use Rattle.silt_frame.specs.Frame.{is_put, kind_byte, kind_of}
 use Rattle.silt_frame.specs.declared.key.Kind.{Kind}
 use Rattle.silt_frame.specs.declared.key.Kind.TheVariants.{Put, Delete}
-use Rattle.silt_hash_store.specs.Slots.{is_row_of, rows_before, slot_row}
+use Rattle.silt_hash_store.specs.Slots.{is_row_of, rows_before, slot_row, hash_part, hash_rows}
 use Rattle.silt_hash_store.specs.State.{HashState}
 use Rattle.silt_hash_store.proofs.Growing.{all_sound}
 use Rattle.silt_hash_store.proofs.Slotting.{all_before, before_at, before_count, before_taken, before_there, unsound_twice}
@@ -29,13 +29,16 @@ use Rattle.silt_log_store.specs.LastRow.{FindsLast, HasNoRow, IsLastRow}
 use Rattle.silt_log_store.specs.declared.store.Found.{Found}
 use Rattle.silt_manifest.specs.declared.body.Body.{Body}
 use Rattle.silt_event.specs.Commands.{Map, map_after}
-use Rattle.silt_image.specs.Stores.{hash_part, hash_rows, log_part, sorted_rows, stores_named}
-use Rattle.silt_image.specs.Meaning.{hash_findings, holds_key, known_rows, map_of_rows, oldest_first, part_rows, rows_of, sorted_findings}
-use Rattle.silt_image.specs.Laws.{newest_row, value_given}
-use Rattle.silt_image.proofs.Rows.{map_law, newest_law}
+use Rattle.silt_log_store.specs.Parts.{log_part, known_rows, oldest_first, part_rows}
+use Rattle.silt_sorted_store.specs.State.{sorted_rows, SortedState, entries_of}
+use Rattle.silt_image.specs.Stores.{stores_named}
+use Rattle.silt_hash_store.specs.Findings.{hash_findings, holds_key}
+use Rattle.silt_event.specs.Rows.{map_of_rows, newest_row, value_given}
+use Rattle.silt_image.specs.Meaning.{rows_of}
+use Rattle.silt_sorted_store.specs.Findings.{sorted_findings}
+use Rattle.silt_event.proofs.Rows.{map_law, newest_law}
 use Rattle.silt_image.proofs.Sound.{finds_nothing}
 use Rattle.silt_sorted_store.specs.OnlyRow.{FindsEntry, HasNoEntry, HasOnlyValue, IsOnlyRow}
-use Rattle.silt_sorted_store.specs.State.{SortedState, entries_of}
 use Rattle.silt_sorted_store.proofs.Entries.{entries_law}
 use Rattle.silt_stores.specs.declared.location.Holder.{Holder}
 use Rattle.silt_stores.specs.declared.location.Holder.TheVariants.{Active, Frozen, Hashed, Sorted}

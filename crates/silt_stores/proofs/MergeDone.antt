@@ -7,22 +7,25 @@ use Rattle.silt_device.specs.Disk.{Content}
 use Rattle.silt_device.specs.Layout.{Shape}
 use Rattle.silt_frame.specs.Rows.{StoredRow, put_count}
 use Rattle.silt_hash_store.specs.State.{HashState, IsHashStore, IsHeldHash}
-use Rattle.silt_image.specs.Meaning.{IsSound, charge_of, known_rows, map_of_rows, oldest_first, part_rows, rows_of, sorted_findings, with_log_rows}
-use Rattle.silt_image.specs.Stores.{Part, Stores, sorted_rows, stores_named}
-use Rattle.silt_image.proofs.Rows.{count_law}
+use Rattle.silt_image.specs.Meaning.{IsSound, charge_of, rows_of, with_log_rows}
+use Rattle.silt_log_store.specs.Parts.{known_rows, oldest_first, part_rows, Part}
+use Rattle.silt_event.specs.Rows.{map_of_rows}
+use Rattle.silt_sorted_store.specs.Findings.{sorted_findings}
+use Rattle.silt_image.specs.Stores.{Stores, stores_named}
+use Rattle.silt_sorted_store.specs.State.{sorted_rows, SortedState, entries_of}
+use Rattle.silt_event.proofs.Rows.{count_law}
 use Rattle.silt_image.proofs.Sound.{charge_law, parts_law}
 use Rattle.silt_log.specs.State.{all_rows, waiting_rows}
 use Rattle.silt_manifest.specs.declared.body.Body.{Body}
-use Rattle.silt_merge.specs.Laws.{ReplacesStores, with_merged}
+use Rattle.silt_stores.specs.Replacements.{ReplacesStores, with_merged}
 use Rattle.silt_merge.specs.Merging.{AreSound, HasMerged, IsMergeOf}
 use Rattle.silt_merge.specs.Rows.{entries_in, key_count, merged_rows, sources}
 use Rattle.silt_merge.specs.State.{MergeState, is_done, oldest_stores, steps_for, steps_of}
 use Rattle.silt_merge.proofs.Ending.{done_entries, done_steps}
 use Rattle.silt_merge.proofs.Newest.{key_count_law, merged_law}
-use Rattle.silt_merge.proofs.Replacing.{merges, rows_old}
+use Rattle.silt_stores.proofs.StoresReplaced.{merges, rows_old}
 use Rattle.silt_merge.proofs.Sounding.{sound_stores}
 use Rattle.silt_sorted_store.specs.Index.{IndexedState, IsIndexOf}
-use Rattle.silt_sorted_store.specs.State.{SortedState, entries_of}
 use Rattle.silt_sorted_store.proofs.Entries.{entry_count}
 use Rattle.silt_stores.specs.Merge.{EndsMerge, IsDoneBySteps, charge_without, merge_sources, merged_body, puts_in}
 use Rattle.silt_stores.specs.Merge as spec

@@ -7,16 +7,18 @@ use Rattle.silt_device.specs.Disk.{Content}
 use Rattle.silt_device.specs.Layout.{Shape}
 use Rattle.silt_frame.specs.Rows.{StoredRow, entry_row, put_count}
 use Rattle.silt_hash_store.specs.State.{HashState, IsHashStore}
-use Rattle.silt_image.specs.Meaning.{IsSound, known_rows, oldest_first, with_log_rows}
-use Rattle.silt_image.specs.Stores.{Part, Stores, hash_part, log_part, sorted_rows, stores_named}
-use Rattle.silt_image.proofs.Rows.{count_law}
+use Rattle.silt_image.specs.Meaning.{IsSound, with_log_rows}
+use Rattle.silt_log_store.specs.Parts.{known_rows, oldest_first, Part, log_part}
+use Rattle.silt_image.specs.Stores.{Stores, stores_named}
+use Rattle.silt_hash_store.specs.Slots.{hash_part}
+use Rattle.silt_sorted_store.specs.State.{sorted_rows, SortedState}
+use Rattle.silt_event.proofs.Rows.{count_law}
 use Rattle.silt_manifest.specs.declared.body.Body.{Body}
-use Rattle.silt_merge.specs.Laws.{taken_rows, with_merged}
+use Rattle.silt_stores.specs.Replacements.{taken_rows, with_merged}
 use Rattle.silt_merge.specs.Merging.{IsMergeOf}
 use Rattle.silt_merge.specs.Rows.{entries_in, regions_of, rows_of_hashes, sources}
 use Rattle.silt_merge.specs.State.{oldest_stores}
-use Rattle.silt_merge.proofs.Replacing.{merges}
-use Rattle.silt_sorted_store.specs.State.{SortedState}
+use Rattle.silt_stores.proofs.StoresReplaced.{merges}
 use Rattle.silt_sorted_store.proofs.Elsewhere.{entry_bytes, entry_more}
 use Rattle.silt_stores.specs.Merge.{merge_sources, merged_body, puts_in}
 use Rattle.silt_stores.specs.State.{hash_region_of, sorted_named}

@@ -8,10 +8,12 @@ use Rattle.silt_frame.specs.Rows.{StoredRow}
 use Rattle.silt_manifest.specs.declared.body.Body.{Body}
 use Rattle.silt_event.specs.Commands.{Map, map_after}
 use Rattle.silt_image.specs.Stores.{Stores, image_stores, stores_named}
-use Rattle.silt_image.specs.Meaning.{HasActive, IsSound, StandsFor, command_of, image_map, map_of_rows, rows_of, with_log_rows}
+use Rattle.silt_image.specs.Meaning.{HasActive, IsSound, StandsFor, image_map, rows_of, with_log_rows}
+use Rattle.silt_event.specs.Rows.{command_of, map_of_rows}
 use Rattle.silt_image.proofs.Named.{stores_law, whole_law}
 use Rattle.silt_image.proofs.Frame.{log_region_law}
-use Rattle.silt_image.proofs.Rows.{append_law, map_law, own_rows_law}
+use Rattle.silt_image.proofs.Rows.{append_law, own_rows_law}
+use Rattle.silt_event.proofs.Rows.{map_law}
 use Rattle.silt_image.proofs.Sound.{beginning_law}
 use Rattle.silt_image.proofs.Verdict.{rows_law, stands_law}
 

@@ -7,7 +7,8 @@ use Rattle.silt_device.proofs.Images.{shown_left, within_trans, within_wider}
 use Rattle.silt_manifest.specs.Ruling.{ruling_manifest}
 use Rattle.silt_manifest.specs.Standing.{ManifestState, Rules, RulesOldOrNew, spare_slot}
 use Rattle.silt_manifest.specs.declared.body.Body.{Body}
-use Rattle.silt_image.specs.Meaning.{StandsFor, image_map, map_of_rows, rows_of}
+use Rattle.silt_image.specs.Meaning.{StandsFor, image_map, rows_of}
+use Rattle.silt_event.specs.Rows.{map_of_rows}
 use Rattle.silt_image.specs.Stores.{Stores, image_stores}
 use Rattle.silt_stores.specs.State.{StoresState}
 use Rattle.silt_stores.specs.Standing.{Stands, base_map, shown_stores, waiting_commands}

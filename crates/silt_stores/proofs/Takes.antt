@@ -13,18 +13,18 @@ use Rattle.silt_stores.specs.State.{StoresState}
 use Rattle.silt_stores.specs.Standing.{Stands, base_map, waiting_commands}
 use Rattle.silt_stores.specs.Calls.{Advances, CannotTake, MovesIntoBase, SameDisk}
 use Rattle.silt_stores.specs.NextLog.{HasFrozen, IsNextLog}
-use Rattle.silt_stores.specs.RowWrite.{HasPlace, NeedsNext, TurnsFor, WaitsAlone, WaitsBehind}
+use Rattle.silt_stores.specs.RowWrite.{HasPlace, NeedsNext, TurnsFor}
 use Rattle.silt_stores.proofs.Chains.{honest_after}
 
 -- what waits where none of it went into the base
 pub waits_behind : (command : Command) (old new : Content) (before after : StoresState) → MovesIntoBase (command ∷ []) old new before after
-    → waiting_commands new after ≡ waiting_commands old before ++ command ∷ [] → WaitsBehind command old new before after
+    → waiting_commands new after ≡ waiting_commands old before ++ command ∷ [] → WaitsBehind command (base_map old before) (base_map new after) (waiting_commands old before) (waiting_commands new after)
 waits_behind command old new before after moves waits =
     let none : moves.moved ≡ [] = append_cancel_right moves.moved [] (waiting_commands new after) (moves.rest ∙ sym waits) in
     record { waiting = waits; base = moves.base ∙ ap (map_after (base_map old before)) none }
 
 -- what waits where all that waited went into the base
-pub waits_alone : (command : Command) (old new : Content) (before after : StoresState) → MovesIntoBase (command ∷ []) old new before after → waiting_commands new after ≡ command ∷ [] → WaitsAlone command old new before after
+pub waits_alone : (command : Command) (old new : Content) (before after : StoresState) → MovesIntoBase (command ∷ []) old new before after → waiting_commands new after ≡ command ∷ [] → WaitsAlone command (base_map old before) (base_map new after) (waiting_commands old before) (waiting_commands new after)
 waits_alone command old new before after moves waits =
     let all : moves.moved ≡ waiting_commands old before =
     append_cancel_right moves.moved (waiting_commands old before) (command ∷ []) (ap (λ (cs : List Command). moves.moved ++ cs) (sym waits) ∙ moves.rest) in

@@ -11,7 +11,8 @@ use Rattle.silt_manifest.specs.Ruling.{manifest_found, ruling_manifest}
 use Rattle.silt_manifest.specs.declared.body.Body.{Body}
 use Rattle.silt_image.specs.Stores.{Stores, image_stores, stores_named}
 use Rattle.silt_event.specs.Commands.{Map, map_after}
-use Rattle.silt_image.specs.Meaning.{StandsFor, command_of, image_map, map_of_rows, rows_of}
+use Rattle.silt_image.specs.Meaning.{StandsFor, image_map, rows_of}
+use Rattle.silt_event.specs.Rows.{command_of, map_of_rows}
 use Rattle.silt_image.proofs.Frame.{manifest_law}
 use Rattle.silt_stores.specs.State.{StoresState}
 use Rattle.silt_stores.specs.Standing.{Stands, base_map, full_image, shown_stores, waiting_commands}

@@ -8,7 +8,8 @@ use Rattle.std.proofs.lemmas.List.{get_or_default}
 use Rattle.silt_device.specs.Disk.{Content}
 use Rattle.silt_hash_store.specs.Lookup.{FindsRow}
 use Rattle.silt_hash_store.specs.State.{HashState, IsHashStore}
-use Rattle.silt_image.specs.Meaning.{holds_key, sorted_findings}
+use Rattle.silt_hash_store.specs.Findings.{holds_key}
+use Rattle.silt_sorted_store.specs.Findings.{sorted_findings}
 use Rattle.silt_log.specs.State.{all_rows}
 use Rattle.silt_log_store.specs.State.{IsIndexed, LogStoreState}
 use Rattle.silt_log_store.specs.LastRow.{FindsLast, HasNoRow}

@@ -1,3 +1,4 @@
+pub mod Replacements
 pub mod State
 pub mod Standing
 pub mod Calls

@@ -7,13 +7,12 @@ use Rattle.std.specs.FinMap.{get}
 use Rattle.silt_device.specs.Disk.{Content}
 use Rattle.silt_frame.specs.declared.key.Key.{Key}
 use Rattle.silt_hash_store.specs.Lookup.{FindsRow}
-use Rattle.silt_hash_store.specs.Slots.{slot_row}
+use Rattle.silt_hash_store.specs.Slots.{slot_row, hash_rows}
 use Rattle.silt_hash_store.specs.State.{HashState}
 use Rattle.silt_event.specs.Commands.{Map}
 use Rattle.silt_frame.specs.Frame.{is_put}
-use Rattle.silt_image.specs.Laws.{newest_row, value_given}
-use Rattle.silt_image.specs.Meaning.{holds_key}
-use Rattle.silt_image.specs.Stores.{hash_rows}
+use Rattle.silt_event.specs.Rows.{newest_row, value_given}
+use Rattle.silt_hash_store.specs.Findings.{holds_key}
 use Rattle.silt_log.specs.Rows.{row_at}
 use Rattle.silt_frame.specs.Rows.{StoredRow, key_cmp}
 use Rattle.silt_log.specs.State.{all_rows}

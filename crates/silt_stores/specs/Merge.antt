@@ -9,7 +9,7 @@ use Rattle.silt_image.specs.Stores.{Stores, stores_named}
 use Rattle.silt_hash_store.specs.State.{HashState}
 use Rattle.silt_manifest.specs.Standing.{ManifestState}
 use Rattle.silt_manifest.specs.declared.body.Body.{Body}
-use Rattle.silt_merge.specs.Laws.{taken_rows}
+use Rattle.silt_stores.specs.Replacements.{taken_rows}
 use Rattle.silt_merge.specs.Merging.{IsSameMerge, TakesMemory}
 use Rattle.silt_merge.specs.Rows.{key_count, merged_rows}
 use Rattle.silt_merge.specs.State.{MergeState, is_done, oldest_stores, steps_for, steps_of}
@@ -20,7 +20,7 @@ use Rattle.silt_stores.specs.declared.merge.MergeError.TheVariants.{Spent, NoMem
 use Rattle.silt_stores.specs.Calls.{Breaks, IsLastGeneration, Remaps}
 use Rattle.silt_stores.specs.Conversion.{is_work}
 use Rattle.silt_stores.specs.Standing.{Stands, full_image}
-use Rattle.silt_sorted_store.specs.Index.{IndexedState, IsIndexed}
+use Rattle.silt_sorted_store.specs.Index.{HasIndex, IndexedState}
 use Rattle.silt_stores.specs.State.{AreWhole, StoresState}
 
 -- the next progress, with so many hash stores, where a merge under way has decided all keys or not: none where no merge is under way
@@ -120,7 +120,7 @@ pub record EndsMerge (s : StoresState) (body : Body) (store : IndexedState) : Ty
   pub done : is_done merge s.sorted ≡ true
   pub unspent : s.manifest.ruling.generation < 2 ^ 63 - 1
   pub entries : store.sorted ≡ record { shape = merge.shape; region = merge.region; count = merge.written }
-  pub located : (content : Content) → Stands content s → IsIndexed content store.sorted store.index
+  pub located : (content : Content) → Stands content s → HasIndex content store.sorted store.index
   pub is : body ≡ merged_body s.manifest.ruling merge.stores merge.region merge.written
 
 -- how many of the rows of hash stores are puts

@@ -1,7 +1,7 @@
 -- A put or a delete as a whole, and why it is refused.
 use Rattle.std.specs.Prelude.{◌≡◌, ◌⊎◌, ℕ, IsTrue, List, [], ◌∷◌, ◌++◌}
 use Rattle.silt_device.specs.Disk.{Content}
-use Rattle.silt_event.specs.Commands.{Command, map_after}
+use Rattle.silt_event.specs.Commands.{Command, WaitsAlone, WaitsBehind}
 use Rattle.silt_log.specs.State.{all_rows}
 use Rattle.silt_stores.specs.declared.row_write.TakeError.{TakeError}
 use Rattle.silt_stores.specs.declared.row_write.TakeError.TheVariants.{Read, Write, NoRoom, Spent, NoMemory}
@@ -18,21 +18,11 @@ NeedsNext content s key = IsTrue content.honest → CannotTake s.manifest.shape 
 abbrev pub HasPlace : Content → StoresState → List ℕ → Type 0
 HasPlace content s key = IsTrue content.honest → CannotTake s.manifest.shape (all_rows content s.active.log) key → ⊥
 
--- this command waits behind those that waited, and the base is as it was
-pub record WaitsBehind (command : Command) (old new : Content) (before after : StoresState) : Type 0 where
-  pub waiting : waiting_commands new after ≡ waiting_commands old before ++ command ∷ []
-  pub base : base_map new after ≡ base_map old before
-
--- what waited went into the base, and this command alone waits
-pub record WaitsAlone (command : Command) (old new : Content) (before after : StoresState) : Type 0 where
-  pub waiting : waiting_commands new after ≡ command ∷ []
-  pub base : base_map new after ≡ map_after (base_map old before) (waiting_commands old before)
-
 -- the active log took a row of this key, under the same body
 pub record StaysFor (old new : Content) (before after : StoresState) (key : List ℕ) (command : Command) : Type 0 where
   pub has_place : HasPlace old before key
   pub ruling : after.manifest.ruling ≡ before.manifest.ruling
-  pub waits : IsTrue old.honest → WaitsBehind command old new before after
+  pub waits : IsTrue old.honest → WaitsBehind command (base_map old before) (base_map new after) (waiting_commands old before) (waiting_commands new after)
 
 -- the active log was frozen for a row of this key: the body that then rules is the next one, with the lowest free region
 pub record TurnsFor (old new : Content) (before after : StoresState) (key : List ℕ) (command : Command) : Type 0 where
@@ -40,7 +30,7 @@ pub record TurnsFor (old new : Content) (before after : StoresState) (key : List
   pub region : ℕ
   pub lowest : IsLowestFree before.manifest.shape.logs before.manifest.ruling region
   pub ruling : after.manifest.ruling ≡ next_body before.manifest.ruling region
-  pub waits : IsTrue old.honest → WaitsAlone command old new before after
+  pub waits : IsTrue old.honest → WaitsAlone command (base_map old before) (base_map new after) (waiting_commands old before) (waiting_commands new after)
 
 -- a row of this key, which does this command, was taken: by the log that was active or by the next one
 abbrev pub TakesKey : Content → Content → StoresState → StoresState → List ℕ → Command → Type 0

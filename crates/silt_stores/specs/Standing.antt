@@ -6,7 +6,8 @@ use Rattle.silt_hash_store.specs.Conversion.{HasWritten}
 use Rattle.silt_hash_store.specs.State.{IsHashStore}
 use Rattle.silt_event.specs.Commands.{Command, Map, map_after}
 use Rattle.silt_image.specs.Stores.{Stores, image_stores, stores_named}
-use Rattle.silt_image.specs.Meaning.{IsSound, command_of, map_of_rows, rows_of, with_log_rows}
+use Rattle.silt_image.specs.Meaning.{IsSound, rows_of, with_log_rows}
+use Rattle.silt_event.specs.Rows.{command_of, map_of_rows}
 use Rattle.silt_frame.specs.Rows.{put_count}
 use Rattle.silt_log.specs.Rows.{open_count}
 use Rattle.silt_log.specs.State.{IsLog, all_rows, waiting_rows}
@@ -15,7 +16,7 @@ use Rattle.silt_log_store.specs.State.{LogStoreState, IsIndexed}
 use Rattle.silt_manifest.specs.Standing.{Rules}
 use Rattle.silt_merge.specs.Merging.{HasMerged}
 use Rattle.silt_merge.specs.State.{MergeState, oldest_stores}
-use Rattle.silt_sorted_store.specs.Index as tries
+use Rattle.silt_sorted_store.specs.Index.{HasIndex}
 use Rattle.silt_stores.specs.State.{StoresState, AreWhole, oldest_log}
 
 -- ---- what they mean
@@ -49,7 +50,7 @@ pub record IsFrozen (content : Content) (store : LogStoreState) : Type 0 where
 
 -- the index is that of the sorted store's entries
 abbrev pub IsLocated : Content → StoresState → Type 0
-IsLocated content s = tries.IsIndexed content s.sorted s.index
+IsLocated content s = HasIndex content s.sorted s.index
 
 -- a merge has gathered and written what is due so far, of the oldest hash stores and the sorted store
 abbrev pub HasGathered : Content → StoresState → MergeState → Type 0

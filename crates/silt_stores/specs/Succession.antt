@@ -2,7 +2,8 @@
 use Rattle.std.specs.Prelude.{◌≡◌, ◌⊎◌, true, IsTrue, None}
 use Rattle.silt_device.specs.Disk.{ChangesWithin, Content, LeavesOnly}
 use Rattle.silt_device.specs.Layout.{slot_at}
-use Rattle.silt_image.specs.Meaning.{IsSound, map_of_rows, rows_of}
+use Rattle.silt_image.specs.Meaning.{IsSound, rows_of}
+use Rattle.silt_event.specs.Rows.{map_of_rows}
 use Rattle.silt_image.specs.Stores.{Stores, stores_named}
 use Rattle.silt_manifest.specs.Body.{is_well_formed}
 use Rattle.silt_manifest.specs.Standing.{IsNext, ManifestState, Rules, ruling_slot, spare_slot}

@@ -2,8 +2,7 @@
 ghost use Rattle.std.specs.Prelude.{◌≡◌, ◌<◌, ◌≤◌, ◌*◌, [], ◌∷◌, length, filter, IsTrue, IfErr, IfOk, OnOk};
 ghost use Rattle.silt_device.specs.Disk.{GaveAny, size};
 ghost use Rattle.silt_device.specs.Layout.{device_size, entry_len, row_len};
-ghost use Rattle.silt_hash_store.specs.Slots.{slot_row};
-ghost use Rattle.silt_image.specs.Stores.{hash_rows};
+ghost use Rattle.silt_hash_store.specs.Slots.{slot_row, hash_rows};
 ghost use Rattle.silt_frame.specs.Rows.{has_known_kind, row_of, stored_row};
 ghost use Rattle.silt_frame.specs.declared.key.Kind.TheVariants.{Put};
 ghost use Rattle.silt_log.specs.State.{all_rows};

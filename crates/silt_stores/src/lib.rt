@@ -34,7 +34,7 @@ mod stores;
 pub use crate::stores::Stores;
 pub use conversion::ConvertError;
 pub use entries::EntriesError;
-pub use laws::standing_law;
+pub use laws::{converts_law, merges_law, standing_law};
 pub use location::Location;
 pub use merge::MergeError;
 pub use next_log::{NextLog, NoNextLog};

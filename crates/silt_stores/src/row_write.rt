@@ -1,7 +1,7 @@
 // A put or a delete as a whole: a row in the active log, which is frozen first where it cannot take the row.
 ghost use Rattle.std.specs.Prelude.{◌≡◌, ◌+◌, ◌≤◌, [], ◌∷◌, length, IfErr, OnOk};
 ghost use Rattle.silt_device.specs.Disk.{CountsFault, GaveAny};
-ghost use Rattle.silt_image.specs.Meaning.{command_of};
+ghost use Rattle.silt_event.specs.Rows.{command_of};
 ghost use Rattle.silt_log.specs.Rows.{IsValueOf};
 ghost use Rattle.silt_frame.specs.Rows.{stored_row, puts_of};
 ghost use Rattle.silt_stores.specs.Standing.{Stands};

@@ -3,7 +3,7 @@ ghost use Rattle.std.specs.Prelude.{vec_capacity, ◌≡◌, ◌+◌, ◌<◌, �
 ghost use Rattle.silt_device.specs.Disk.{Content, CountsFault, GaveAny, LeavesOnly, size};
 ghost use Rattle.silt_device.specs.Layout.{device_size};
 ghost use Rattle.silt_frame.specs.declared.key.Kind.{Kind};
-ghost use Rattle.silt_image.specs.Meaning.{command_of};
+ghost use Rattle.silt_event.specs.Rows.{command_of};
 ghost use Rattle.silt_log.specs.Rows.{IsValueOf};
 ghost use Rattle.silt_frame.specs.Rows.{stored_row, puts_of};
 ghost use Rattle.silt_log.specs.State.{all_rows};

@@ -3,8 +3,7 @@ ghost use Rattle.std.specs.Prelude.{◌<◌, ◌≤◌, length};
 
 use crate::tests::{EMPTY, formatted, looked_at, small};
 use silt_device::Geometry;
-use silt_event::{Place, Report};
-use silt_image::Finding;
+use silt_event::{Finding, Place, Report};
 use std::alloc::Global;
 use std::process::Abort;
 use std::test::Fail;

@@ -3,9 +3,8 @@
 use crate::tests::{EMPTY, checked, formatted, small};
 use crate::{FormatError, FormatFault, OpenError, OpenFault, check, format, open};
 use silt_device::{Call, FaultDisk, Fill, MemDisk, Stop, Stoppable};
-use silt_event::Report;
+use silt_event::{Finding, Report};
 use silt_frame::Key;
-use silt_image::Finding;
 use std::alloc::Global;
 use std::process::Abort;
 use std::test::Fail;

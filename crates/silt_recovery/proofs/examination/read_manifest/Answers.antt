@@ -14,7 +14,7 @@ returns-in-Err-Damaged-clause-cause g c =
     let refused = subst (IsNotRead content c.args.geometry gave) c.in-Err-Damaged.field-0-is c.in-Err-Damaged.ensures.refused in
     let found : IsTrue content.honest → IsFound content.shown (damage_finding c.in-Err-Damaged.damage) = λ h. damage_verdict c.args.geometry content.shown c.in-Err-Damaged.damage (c.requires.shape h) (refused.holds h) in
     subst (IsRefusedLook (λ finding. IsTrue content.honest → IsFound content.shown finding) gave)
-    (ap refusal_of (sym c.from.ensures) ∙ sym c.from-in-Err-Damaged.ensures)
+    (ap refusal_of (sym c.finding_of.ensures) ∙ sym c.from.ensures)
     (look_refused (λ finding. IsTrue content.honest → IsFound content.shown finding) gave (damage_finding c.in-Err-Damaged.damage) found)
 
 pub returns-in-Ok-clause-named : goal.returns-in-Ok-clause-named

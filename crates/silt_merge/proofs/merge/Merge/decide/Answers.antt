@@ -4,10 +4,9 @@ use Rattle.std.specs.Vec.{vec_len}
 use Rattle.std.proofs.lemmas.List.{take_at}
 use Rattle.silt_device.specs.Layout.{Shape}
 use Rattle.silt_hash_store.specs.State.{HashState}
-use Rattle.silt_image.specs.Stores.{sorted_rows}
+use Rattle.silt_sorted_store.specs.State.{sorted_rows, entries_of}
 use Rattle.silt_merge.specs.Choice.{IsNextEntry, ReadsRow, choice_puts}
 use Rattle.silt_sorted_store.specs.Region.{due_rows}
-use Rattle.silt_sorted_store.specs.State.{entries_of}
 use Rattle.silt_merge.specs.Merging.{HasMerged}
 use Rattle.silt_merge.specs.Rows.{regions_of}
 use Rattle.silt_merge.specs.State.{MergeState, keys_after, next_after, passed_after, written_after}

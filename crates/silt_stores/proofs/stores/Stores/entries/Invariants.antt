@@ -1,5 +1,5 @@
 use Rattle.std.proofs.Common.{IsTrue, drop, map}
-use Rattle.silt_image.specs.Meaning.{oldest_first}
+use Rattle.silt_log_store.specs.Parts.{oldest_first}
 use Rattle.silt_stores.specs.Entries.{DoesRows}
 use Rattle.silt_stores.proofs.Lookups.{rows_in}
 use Rattle.silt_stores.proofs.stores.Stores.entries.Given as goal

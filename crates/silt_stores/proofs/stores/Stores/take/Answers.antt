@@ -1,5 +1,5 @@
 use Rattle.std.proofs.Common.{inl, ap}
-use Rattle.silt_image.specs.Meaning.{command_of}
+use Rattle.silt_event.specs.Rows.{command_of}
 use Rattle.silt_frame.specs.Rows.{stored_row}
 use Rattle.silt_stores.proofs.Takes.{has_place, waits_behind}
 use Rattle.silt_stores.proofs.stores.Stores.take.Goals as goal

@@ -1,5 +1,5 @@
 use Rattle.std.proofs.Common.{◌+◌, ◌%◌, ◌^◌, ℕ, [], ◌∷◌, ap, ◌∙◌}
-use Rattle.silt_image.specs.Meaning.{command_of}
+use Rattle.silt_event.specs.Rows.{command_of}
 use Rattle.silt_frame.specs.Rows.{stored_row}
 use Rattle.silt_stores.proofs.Chains.{advances_trans, breaks_after, remaps_trans}
 use Rattle.silt_stores.proofs.Takes.{turns_for}

@@ -6,14 +6,20 @@ use Rattle.std.proofs.lemmas.List.{map-append}
 use Rattle.silt_cuckoo.specs.Slots.{Slots}
 use Rattle.silt_event.specs.Commands.{Map, map_after}
 use Rattle.silt_image.specs.Laws.{FindsNothing}
-use Rattle.silt_image.specs.Meaning.{IsSound, charge_of, command_of, hash_findings, known_rows, log_findings, map_of_rows, oldest_first, part_rows, rows_of}
+use Rattle.silt_image.specs.Meaning.{IsSound, charge_of, rows_of}
+use Rattle.silt_event.specs.Rows.{command_of, map_of_rows}
+use Rattle.silt_hash_store.specs.Findings.{hash_findings}
+use Rattle.silt_log_store.specs.Parts.{known_rows, oldest_first, part_rows, Part}
+use Rattle.silt_log_store.specs.Findings.{log_findings}
 use Rattle.silt_frame.specs.Rows.{put_count, StoredRow}
-use Rattle.silt_image.specs.Stores.{Part, Stores}
-use Rattle.silt_image.proofs.Rows.{count_law, map_after-append, map_law}
-use Rattle.silt_image.proofs.Sound.{finds_nothing, is_sound, nothing_both, nothing_first}
+use Rattle.silt_image.specs.Stores.{Stores}
+use Rattle.silt_event.proofs.Rows.{count_law, map_after-append, map_law}
+use Rattle.silt_image.proofs.Sound.{finds_nothing, is_sound}
+use Rattle.silt_event.proofs.Findings.{nothing_both, nothing_first}
 use Rattle.silt_manifest.specs.declared.body.Body.{Body}
 use Rattle.silt_hash_store.specs.Conversion.{converted_rows}
-use Rattle.silt_hash_store.specs.Laws.{ConvertsLaw, HasOldest, IsTableOf, with_converted}
+use Rattle.silt_stores.specs.Replacements.{ConvertsLaw, HasOldest, with_converted}
+use Rattle.silt_hash_store.specs.Laws.{IsTableOf}
 use Rattle.silt_hash_store.proofs.Answering.{converted_map}
 use Rattle.silt_hash_store.proofs.Charging.{converted_charge}
 use Rattle.silt_hash_store.proofs.Soundness.{converted_sound}

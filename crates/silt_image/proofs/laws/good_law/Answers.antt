@@ -1,5 +1,0 @@
-use Rattle.silt_image.proofs.Verdict.{good_law}
-use Rattle.silt_image.proofs.laws.good_law.Goals as goal
-
-pub returns : goal.returns
-returns c = good_law
