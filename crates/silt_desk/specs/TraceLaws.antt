@@ -88,7 +88,8 @@ acknowledged_more n [] c = refl
 acknowledged_more n (x ∷ calls) c = acknowledged_more (acknowledged_by n x.reply) calls c
 
 -- what was acknowledged by one reply is settled after it
-acknowledged_one : (reply : PlainReply) (before count next total : ℕ) (store : SeenStore) → Counts count reply next → NoneWaits store reply → total + length store.waiting ≡ next → before ≤ total → acknowledged_by before reply ≤ total
+acknowledged_one : (reply : PlainReply) (before count next total : ℕ) (store : SeenStore) → Counts count reply next → NoneWaits store reply → total + length store.waiting ≡ next
+    → before ≤ total → acknowledged_by before reply ≤ total
 acknowledged_one (Accepted n) before count next total store counts none sum less = less
 acknowledged_one (Acknowledged n) before count next total store counts none sum less = omega (arith, counts.0, counts.1, ap length none, sum)
 acknowledged_one (Found v) before count next total store counts none sum less = less
@@ -138,7 +139,8 @@ records_on a c shape base waiting image none same kept =
     )
 
 -- of a store that is not failed a stop keeps what went into the base
-keeps_settled : (a : Keeping) (base : Map) (waiting : List Command) (t : SeenStore) (image : List ℕ) → HasSettled a base waiting t → StandsFor t.shape t.base image → StandsRecorded a t.shape base waiting image
+keeps_settled : (a : Keeping) (base : Map) (waiting : List Command) (t : SeenStore) (image : List ℕ) → HasSettled a base waiting t → StandsFor t.shape t.base image
+    → StandsRecorded a t.shape base waiting image
 keeps_settled a base waiting t image settled stands = (
   settled.moved,
   record { begins = record { rest = t.waiting; is = settled.rest }; acknowledged = settled.acknowledged },

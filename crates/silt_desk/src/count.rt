@@ -43,7 +43,8 @@ impl Trace for Count {
 
     ghost agrees_after = { λ a b c s t agrees extends step. tt };
 
-    ghost counts_after = { λ a b c n m k l counts extends more accepted. (next_count a.calls b.calls n 1 k counts.0 extends.0 more, next_count a.accepted b.accepted m (accepted_by c.reply) l counts.1 extends.1 accepted) };
+    ghost counts_after = { λ a b c n m k l counts extends more accepted.
+        (next_count a.calls b.calls n 1 k counts.0 extends.0 more, next_count a.accepted b.accepted m (accepted_by c.reply) l counts.1 extends.1 accepted) };
 
     fn prepare(&self, alloc: Global, _len: usize) -> Result<Vec<u8>, NotPrepared> {
         Ok(Vec::new(alloc))

@@ -73,7 +73,8 @@ pub fn convert_once<D: Disk, T: Trace, N: Naming>(
     seat: &mut Seat<N>,
 ) -> Turn
     ensures waits { wants_convert desk.old.core ≡ false → (result ≡ TurnOf.Wait) × (desk.new ≡ desk.old) × (seat.new ≡ seat.old) }
-    ensures steps { wants_convert desk.old.core ≡ true → (answer : Result ProgressOf (RefusalOf D.Fault)) × (result ≡ turn_of answer) × Serves D.content D.failures (GaveAny D.gave) T.extends T.is_full T.takes_memory desk.old desk.new seat.old seat.new Convert (progress_reply answer) }
+    ensures steps { wants_convert desk.old.core ≡ true → (answer : Result ProgressOf (RefusalOf D.Fault)) × (result ≡ turn_of answer)
+        × Serves D.content D.failures (GaveAny D.gave) T.extends T.is_full T.takes_memory desk.old desk.new seat.old seat.new Convert (progress_reply answer) }
 {
     if !desk.wants_convert() {
         return Turn::Wait;
@@ -88,7 +89,8 @@ pub fn merge_once<D: Disk, T: Trace, N: Naming>(
     seat: &mut Seat<N>,
 ) -> Turn
     ensures waits { wants_merge desk.old.core ≡ false → (result ≡ TurnOf.Wait) × (desk.new ≡ desk.old) × (seat.new ≡ seat.old) }
-    ensures steps { wants_merge desk.old.core ≡ true → (answer : Result ProgressOf (RefusalOf D.Fault)) × (result ≡ turn_of answer) × Serves D.content D.failures (GaveAny D.gave) T.extends T.is_full T.takes_memory desk.old desk.new seat.old seat.new Merge (progress_reply answer) }
+    ensures steps { wants_merge desk.old.core ≡ true → (answer : Result ProgressOf (RefusalOf D.Fault)) × (result ≡ turn_of answer)
+        × Serves D.content D.failures (GaveAny D.gave) T.extends T.is_full T.takes_memory desk.old desk.new seat.old seat.new Merge (progress_reply answer) }
 {
     if !desk.wants_merge() {
         return Turn::Wait;

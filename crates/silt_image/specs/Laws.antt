@@ -12,7 +12,8 @@ use Rattle.silt_manifest.specs.declared.body.Body.{Body}
 use Rattle.silt_image.specs.Header.{FitsHeader, IsHeader, header_bytes, header_of, header_shape, is_in_limits, shape_of}
 use Rattle.silt_log_store.specs.Parts.{Part}
 use Rattle.silt_image.specs.Stores.{Stores, image_stores, shape_found, stores_named}
-use Rattle.silt_image.specs.Meaning.{HasActive, IsGood, IsSound, StandsFor, charge_of, image_charge, image_fits, image_map, image_rows, image_stands, image_verdict, names_log, rows_of, with_log_rows, with_new_log}
+use Rattle.silt_image.specs.Meaning.{HasActive, IsGood, IsSound, StandsFor, charge_of, image_charge, image_fits, image_map}
+use Rattle.silt_image.specs.Meaning.{image_rows, image_stands, image_verdict, names_log, rows_of, with_log_rows, with_new_log}
 use Rattle.silt_event.specs.Rows.{map_of_rows}
 use Rattle.silt_log_store.specs.Findings.{fits_table, log_findings, row_findings}
 use Rattle.silt_hash_store.specs.Findings.{hash_findings}

@@ -51,7 +51,8 @@ impl<J: Drop, P: Post> Model for Letters<J, P> {
 
     ghost view = { λ l. record { jobs = l.queue; closed = l.closed } };
 
-    ghost invariant = { λ l. (l.put_book.total ≡ l.taken_book.total + length l.queue) × (l.put ≡ l.put_book.total % 2 ^ 64) × (l.taken ≡ l.taken_book.total % 2 ^ 64) × (l.feeders ≡ P.feeders) × (l.idle.parts ≡ 0) × (l.idle.amount ≡ 0) };
+    ghost invariant = { λ l. (l.put_book.total ≡ l.taken_book.total + length l.queue) × (l.put ≡ l.put_book.total % 2 ^ 64) × (l.taken ≡ l.taken_book.total % 2 ^ 64)
+        × (l.feeders ≡ P.feeders) × (l.idle.parts ≡ 0) × (l.idle.amount ≡ 0) };
 }
 
 impl<J: Drop, P: Post> Letters<J, P> {
@@ -82,7 +83,8 @@ impl<J: Drop, P: Post> Letters<J, P> {
 
     // Puts a job at the back, or hands it back.
     pub fn put(&mut self, feeder: &mut Feeder<P>, job: J) -> Result<(), NotPut<J>>
-        ensures put { MatchResult result (λ _. (self.new.jobs ≡ self.old.jobs ++ job ∷ []) × (feeder.new ≡ feeder.old + 1)) (λ e. (e.job ≡ job) × (self.new.jobs ≡ self.old.jobs) × (feeder.new ≡ feeder.old)) }
+        ensures put { MatchResult result (λ _. (self.new.jobs ≡ self.old.jobs ++ job ∷ []) × (feeder.new ≡ feeder.old + 1)) (λ e. (e.job ≡ job) × (self.new.jobs ≡ self.old.jobs)
+            × (feeder.new ≡ feeder.old)) }
         ensures reason { MatchResult result (λ _. self.old.closed ≡ false) (λ e. IsReason self.old.closed e.reason) }
         ensures closed { self.new.closed ≡ self.old.closed }
     {

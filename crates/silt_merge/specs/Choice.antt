@@ -4,10 +4,11 @@ use Rattle.std.specs.Ordering.{match_ordering, nat_cmp}
 use Rattle.std.specs.Option.{option_or}
 use Rattle.std.specs.Cmp.Lexicographic.{slice_cmp}
 use Rattle.std.specs.Str.{bytes_eq}
+use Rattle.silt_frame.specs.declared.key.Kind.TheVariants.{Put}
 use Rattle.silt_device.specs.Layout.{Shape}
 use Rattle.silt_frame.specs.declared.key.Key.{Key}
 use Rattle.std.specs.declared.cmp.Ordering.TheVariants.{Less}
-use Rattle.silt_frame.specs.Frame.{is_put}
+use Rattle.silt_frame.specs.Frame.{is_put, kind_byte}
 use Rattle.silt_frame.specs.declared.key.Row.{Row}
 use Rattle.silt_hash_store.specs.Slots.{slot_row}
 use Rattle.silt_frame.specs.Rows.{entry_row, StoredRow}
@@ -61,7 +62,7 @@ choice_puts (Some source) = is_put source.kind
 abbrev pub ReadsRow : Shape → List ℕ → List ℕ → List ℕ → Option Source → List ℕ → List ℕ → Type 0
 ReadsRow shape image regions key None old new = new ≡ old
 ReadsRow shape image regions key (Some source) old new =
-    is_put source.kind ≡ true → entry_row new ≡ record { kind = 1; key = key; value = (slot_row shape (get_or regions source.store 0) image source.slot).value }
+    is_put source.kind ≡ true → entry_row new ≡ record { kind = kind_byte Put; key = key; value = (slot_row shape (get_or regions source.store 0) image source.slot).value }
 
 -- a choice is of the lowest key for which a row waits, or of the next entry; its key is above the last one that is decided
 pub record IsOffered (waiting : List (Key × Source)) (last : Option Key) (choice : Choice) : Type 0 where

@@ -1,5 +1,6 @@
 // A merge of hash stores and a sorted store, by steps.
-ghost use Rattle.std.specs.Prelude.{◌≡◌, ◌≢◌, ◌==◌, ◌+◌, ◌*◌, ◌<◌, ◌≤◌, ◌^◌, ◌↔◌, ℕ, List, [], Option, true, false, Some, None, cond, length, take, IsTrue, IfOk, IfErr, IfSome, OnOk, OnErr, MatchResult, is_some, nat_lt, slice_index, vec_capacity, vec_len};
+ghost use Rattle.std.specs.Prelude.{◌≡◌, ◌≢◌, ◌==◌, ◌+◌, ◌*◌, ◌<◌, ◌≤◌, ◌^◌, ◌↔◌, ℕ, List, [], Option, true, false, Some};
+ghost use Rattle.std.specs.Prelude.{None, cond, length, take, IsTrue, IfOk, IfErr, IfSome, OnOk, OnErr, MatchResult, is_some, nat_lt, slice_index, vec_capacity, vec_len};
 ghost use Rattle.std.specs.List.{All};
 ghost use Rattle.std.specs.Str.{bytes_eq};
 ghost use Rattle.silt_device.specs.Disk.{Content, ChangesWithin, CountsFault, GaveAny, size};
@@ -91,7 +92,8 @@ impl Model for Merge {
       decided = a.decided;
       last = a.last;
       next = next_bytes a.is_read a.next.items;
-    }) × (vec_len a.next ≡ entry_len a.target.geometry) × (vec_len a.entry ≡ entry_len a.target.geometry) × (vec_len a.made ≡ entry_len a.target.geometry) × (a.target.geometry.sorted_capacity ≤ vec_capacity a.keys) × (a.target.geometry.sorted_capacity ≤ 16777216) };
+    }) × (vec_len a.next ≡ entry_len a.target.geometry) × (vec_len a.entry ≡ entry_len a.target.geometry) × (vec_len a.made ≡ entry_len a.target.geometry)
+        × (a.target.geometry.sorted_capacity ≤ vec_capacity a.keys) × (a.target.geometry.sorted_capacity ≤ 16777216) };
 }
 
 // Puts the bytes of the next entry of the sorted store into a buffer, where not all are passed over: those that are kept, or it reads

@@ -7,7 +7,8 @@ ghost use Rattle.silt_recovery.specs.Opening.{LeavesNoOther};
 ghost use Rattle.silt_store_set.specs.CoreInvariant.{LeavesBegun};
 ghost use Rattle.silt_store_set.specs.CoreState.{CoreState};
 ghost use Rattle.silt_desk.specs.Seeing.{seen};
-ghost use Rattle.silt_server.specs.Serving.{BreaksServing, IsStatus, LeavesServed, ServesAt, ServesKept, TellsCalls, TellsEntries, TellsNotServed, TellsNotOpened, TellsServed, head_text, network_text, no_memory_text};
+ghost use Rattle.silt_server.specs.Serving.{BreaksServing, IsStatus, LeavesServed, ServesAt, ServesKept, TellsCalls, TellsEntries};
+ghost use Rattle.silt_server.specs.Serving.{TellsNotServed, TellsNotOpened, TellsServed, head_text, network_text, no_memory_text};
 ghost use Rattle.silt_server.specs.Texts.{refused_text};
 
 use crate::admission::accept_clients;
@@ -78,7 +79,8 @@ pub fn serve_on<L: Listens, D: Disk, G: Gate + Sync, R: Threads + Wait + Sync, W
 ///
 /// The writer's, and want of memory for the text of a line.
 pub fn refuse_network<D: Disk, W: Write>(alloc: Global, disk: D, out: &mut W) -> (D, io::Result<u8>)
-    ensures told { IfOk result.1 (λ status. (status ≡ 1) × (TellsNotOpened D.content (GaveAny D.gave) disk result.0 (W.contents out.old) (W.contents out.new) ⊎ Appends (W.contents out.old) (W.contents out.new) (codes "opened\n" ++ network_text))) }
+    ensures told { IfOk result.1 (λ status. (status ≡ 1) × (TellsNotOpened D.content (GaveAny D.gave) disk result.0 (W.contents out.old) (W.contents out.new)
+        ⊎ Appends (W.contents out.old) (W.contents out.new) (codes "opened\n" ++ network_text))) }
     ensures left { LeavesNoOther (D.content disk) (D.content result.0) }
 {
     match Core::open(alloc, disk) {
@@ -142,7 +144,8 @@ fn serve_kept<L: Listens, D: Disk, G: Gate + Sync, R: Threads + Wait + Sync, W: 
 ) -> (D, io::Result<u8>)
     ensures served { result.1 ≡ Ok 0 → ServesAt (L.has_port listener.now) (D.content result.0) (W.contents out.old) (W.contents out.new) }
     ensures kept { result.1 ≡ Ok 0 → ServesKept D.content (L.has_port listener.now) result.0 (W.contents out.old) (W.contents out.new) }
-    ensures told { IfOk result.1 (IsStatus (TellsEntries D.content (GaveAny D.gave) result.0 (W.contents out.old) (W.contents out.new) ⊎ BreaksServing (L.has_port listener.now) (W.contents out.old) (W.contents out.new))) }
+    ensures told { IfOk result.1 (IsStatus (TellsEntries D.content (GaveAny D.gave) result.0 (W.contents out.old) (W.contents out.new)
+        ⊎ BreaksServing (L.has_port listener.now) (W.contents out.old) (W.contents out.new))) }
     ensures left { (shape : Shape) × LeavesBegun (D.content result.0) shape }
 {
     match Kept::new(alloc, &core, most) {
@@ -208,7 +211,8 @@ fn serve_traced<
     requires put { (blanks.put.name ≡ P.put_name) × (blanks.put.parts ≡ P.feeders) × (P.feeders ≡ 64) }
     requires taken { (blanks.taken.name ≡ P.taken_name) × (blanks.taken.parts ≡ 1) }
     requires trace { T.agrees trace (seen D.content core) × T.counts trace 0 0 }
-    ensures served { result.1 ≡ Ok 0 → (core : CoreState D) × (trace : T) × (core.disk ≡ result.0) × T.agrees trace (seen D.content core) × TellsServed (L.has_port listener.now) T.counts trace (W.contents out.old) (W.contents out.new) }
+    ensures served { result.1 ≡ Ok 0 → (core : CoreState D) × (trace : T) × (core.disk ≡ result.0) × T.agrees trace (seen D.content core)
+        × TellsServed (L.has_port listener.now) T.counts trace (W.contents out.old) (W.contents out.new) }
     ensures told { IfOk result.1 (IsStatus (BreaksServing (L.has_port listener.now) (W.contents out.old) (W.contents out.new))) }
     ensures left { (shape : Shape) × LeavesBegun (D.content result.0) shape }
 {

@@ -1,5 +1,7 @@
 -- Laws of entries, for the layers above.
 use Rattle.std.specs.Prelude.{◌≡◌, ℕ, ◌<◌, ◌≤◌, IsTrue, List, [], length, get_or, slice_get, Some}
+use Rattle.silt_frame.specs.declared.key.Kind.TheVariants.{Put}
+use Rattle.silt_frame.specs.Frame.{kind_byte}
 use Rattle.silt_device.specs.Disk.{ChangesWithin, Content, LiesOutside, size}
 use Rattle.silt_device.specs.Layout.{Shape, device_size, entries_len, sorted_at}
 use Rattle.silt_frame.specs.Rows.{StoredRow, keys_of}
@@ -11,7 +13,7 @@ use Rattle.silt_trie.specs.Marks.{MarkedCode}
 -- so many rows, each of them a put
 pub record ArePuts (rows : List StoredRow) (count : ℕ) : Type 0 where
   pub counted : length rows ≡ count
-  pub puts : (place : ℕ) (row : StoredRow) → slice_get rows place ≡ Some row → row.kind ≡ 1
+  pub puts : (place : ℕ) (row : StoredRow) → slice_get rows place ≡ Some row → row.kind ≡ kind_byte Put
 
 -- the entries of a region are so many puts
 abbrev pub EntriesLaw : Type 0
@@ -29,11 +31,13 @@ RisingLaw = (rows : List StoredRow) → sorted_findings rows ≡ [] → IsRising
 -- entries stay, after a change outside them
 abbrev pub EntriesElsewhereLaw : Type 0
 EntriesElsewhereLaw =
-    (store : SortedState) (old new : Content) (at count : ℕ) → IsHeldSorted store → device_size store.shape ≤ size old → LiesOutside (sorted_at store.shape store.region) (entries_len store.shape) at count
+    (store : SortedState) (old new : Content) (at count : ℕ) → IsHeldSorted store → device_size store.shape ≤ size old
+    → LiesOutside (sorted_at store.shape store.region) (entries_len store.shape) at count
     → ChangesWithin at count old new → IsTrue new.honest → entries_of new store ≡ entries_of old store
 
 -- what is the index of entries is so after a change outside them
 abbrev pub IndexedElsewhereLaw : Type 0
 IndexedElsewhereLaw =
-    (store : SortedState) (index : MarkedCode) (old new : Content) (at count : ℕ) → IsHeldSorted store → device_size store.shape ≤ size old → LiesOutside (sorted_at store.shape store.region) (entries_len store.shape) at count
+    (store : SortedState) (index : MarkedCode) (old new : Content) (at count : ℕ) → IsHeldSorted store → device_size store.shape ≤ size old
+    → LiesOutside (sorted_at store.shape store.region) (entries_len store.shape) at count
     → ChangesWithin at count old new → HasIndex old store index → HasIndex new store index

@@ -44,7 +44,8 @@ impl SortedRegion {
         ensures size { size (D.content disk.new) ≡ size (D.content disk.old) }
         ensures changes { ChangesWithin (sorted_entry_at self.now.geometry self.now.number place) (entry_len self.now.geometry) (D.content disk.old) (D.content disk.new) }
         ensures region { ChangesWithin (sorted_at self.now.geometry self.now.number) (self.now.geometry.sorted_capacity * entry_len self.now.geometry) (D.content disk.old) (D.content disk.new) }
-        ensures kept { IsTrue (D.content disk.old).honest → sorted_rows self.now.geometry self.now.number place (D.content disk.new).shown ≡ sorted_rows self.now.geometry self.now.number place (D.content disk.old).shown }
+        ensures kept { IsTrue (D.content disk.old).honest
+            → sorted_rows self.now.geometry self.now.number place (D.content disk.new).shown ≡ sorted_rows self.now.geometry self.now.number place (D.content disk.old).shown }
         ensures written { IsTrue (D.content disk.old).honest → IfOk result (λ count. sorted_rows self.now.geometry self.now.number count (D.content disk.new).shown
             ≡ take self.now.geometry.sorted_capacity (sorted_rows self.now.geometry self.now.number place (D.content disk.old).shown ++ due_rows is_due entry.now)) }
         ensures most { IfOk result (λ count. count ≤ self.now.geometry.sorted_capacity) }

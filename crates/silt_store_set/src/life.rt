@@ -32,7 +32,8 @@ pub fn lives<D: Stoppable>(
     lives: &[Vec<Event>],
 ) -> Result<Vec<LifeReply<D::Fault>>, AllocError>
     requires { All (λ life. All (HasValueOf value_len) life.items) lives.now }
-    ensures history { (map : Map) → IsTrue (D.content disk).honest → LeavesOnly (D.content disk) (IsSafe value_len map) → IfOk result (λ replies. (to : Map) × LivesHistory map lives.now replies.items to) }
+    ensures history { (map : Map) → IsTrue (D.content disk).honest → LeavesOnly (D.content disk) (IsSafe value_len map) → IfOk result (λ replies. (to : Map)
+        × LivesHistory map lives.now replies.items to) }
     ensures ran { IfOk result (λ replies. LivesRun D.content D.failures (GaveAny D.gave) value_len lives.now replies.items disk) }
 {
     let mut replies = Vec::with_capacity(alloc, lives.len())?;
@@ -55,7 +56,8 @@ fn live<D: Stoppable>(
     requires { All (HasValueOf value_len) events.now }
     ensures honest { (D.content result.1).honest ≡ (D.content disk).honest }
     ensures ran { LifeEnds D.content D.failures (GaveAny D.gave) value_len events.now result.0 disk result.1 }
-    ensures life { (map : Map) → IsTrue (D.content disk).honest → LeavesOnly (D.content disk) (IsSafe value_len map) → (to : Map) × LifeHistory map events.now result.0 to × LeavesOnly (D.content result.1) (IsSafe value_len to) }
+    ensures life { (map : Map) → IsTrue (D.content disk).honest → LeavesOnly (D.content disk) (IsSafe value_len map) → (to : Map) × LifeHistory map events.now result.0 to
+        × LeavesOnly (D.content result.1) (IsSafe value_len to) }
 {
     let mut core = match Core::open(alloc, disk) {
         Ok(core) => core,

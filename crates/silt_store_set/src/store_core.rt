@@ -44,7 +44,19 @@ impl<D: Disk> Model for Core<D> {
 
     ghost coded = { Prim.hlevel (codes, map_code) };
 
-    ghost view = { λ a. record { disk = a.disk; shape = a.stores.manifest.shape; body = a.stores.manifest.ruling; full = full_image (D.content a.disk) a.stores; base = image_map (D.content a.disk).shown; waiting = waiting_commands (D.content a.disk) a.stores; converting = convert_work a.stores.converting; merging = merge_work a.stores.merging; charge = a.stores.charge; count = a.count; failed = a.failed } };
+    ghost view = { λ a. record {
+      disk = a.disk;
+      shape = a.stores.manifest.shape;
+      body = a.stores.manifest.ruling;
+      full = full_image (D.content a.disk) a.stores;
+      base = image_map (D.content a.disk).shown;
+      waiting = waiting_commands (D.content a.disk) a.stores;
+      converting = convert_work a.stores.converting;
+      merging = merge_work a.stores.merging;
+      charge = a.stores.charge;
+      count = a.count;
+      failed = a.failed;
+    } };
 
     ghost invariant = { λ a. IsCore (D.content a.disk) a.stores a.count a.failed };
 }

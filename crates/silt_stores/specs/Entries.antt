@@ -1,6 +1,8 @@
 -- Rows done one after the other on a map in memory.
 use Rattle.std.specs.Prelude.{◌≡◌, ℕ, List, filter, map}
 use Rattle.std.specs.BTreeMap.{BTreeMap}
+use Rattle.silt_frame.specs.declared.key.Kind.TheVariants.{Put}
+use Rattle.silt_frame.specs.Frame.{kind_byte}
 use Rattle.silt_frame.specs.declared.key.Key.{Key}
 use Rattle.silt_event.specs.Commands.{Map, map_after}
 use Rattle.silt_device.specs.Disk.{Content}
@@ -16,7 +18,7 @@ DoesRows rows before after = (m : Map) → AreEntriesOf m before → AreEntriesO
 
 -- a put of this key
 abbrev pub IsPutOf : StoredRow → List ℕ → Type 0
-IsPutOf row key = (row.kind ≡ 1) × (row.key ≡ key)
+IsPutOf row key = (row.kind ≡ kind_byte Put) × (row.key ≡ key)
 
 -- the rows of the hash stores that are shown, the oldest store first
 abbrev pub hashed_rows : Content → StoresState → List StoredRow

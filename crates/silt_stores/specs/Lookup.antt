@@ -4,13 +4,14 @@ use Rattle.std.specs.Option.{option_and_then, option_map}
 use Rattle.std.specs.BTreeMap.{BTreeMap}
 use Rattle.std.specs.BTreeMap as tree
 use Rattle.std.specs.FinMap.{get}
+use Rattle.silt_frame.specs.declared.key.Kind.TheVariants.{Put}
 use Rattle.silt_device.specs.Disk.{Content}
 use Rattle.silt_frame.specs.declared.key.Key.{Key}
 use Rattle.silt_hash_store.specs.Lookup.{FindsRow}
 use Rattle.silt_hash_store.specs.Slots.{slot_row, hash_rows}
 use Rattle.silt_hash_store.specs.State.{HashState}
 use Rattle.silt_event.specs.Commands.{Map}
-use Rattle.silt_frame.specs.Frame.{is_put}
+use Rattle.silt_frame.specs.Frame.{is_put, kind_byte}
 use Rattle.silt_event.specs.Rows.{newest_row, value_given}
 use Rattle.silt_hash_store.specs.Findings.{holds_key}
 use Rattle.silt_log.specs.Rows.{row_at}
@@ -57,7 +58,7 @@ located holder found = if is_put found.kind then Some (record { holder = holder;
 
 -- the entry at this place of a sorted store, as a put
 abbrev pub entry_in : Content → SortedState → ℕ → StoredRow
-entry_in content store place = get_or (entries_of content store) place (record { kind = 1; key = []; value = [] })
+entry_in content store place = get_or (entries_of content store) place (record { kind = kind_byte Put; key = []; value = [] })
 
 -- the row at a place of a holder
 abbrev pub row_in : Content → StoresState → Holder → ℕ → StoredRow

@@ -2,7 +2,8 @@
 ghost use Rattle.std.specs.Prelude.{◌≡◌, ◌<◌, ◌*◌, ◌-◌, ◌^◌, [], length, false, true, None, IsSome, IsTrue, IfOk, IfErr, IfSome, IfNone, OnOk, OnErr, MatchResult};
 ghost use Rattle.silt_device.specs.Disk.{CountsFault, GaveAny, Rests};
 ghost use Rattle.silt_stores.specs.Calls.{Advances, Breaks, Remaps, SameDisk};
-ghost use Rattle.silt_stores.specs.Conversion.{AreAllHashesNamed, ConvertErrorCause, Converts, EndsConversion, Finishes, IsLowestFreeHash, MayReplace, convert_turn, converted_body, is_work, oldest_replaced};
+ghost use Rattle.silt_stores.specs.Conversion.{AreAllHashesNamed, ConvertErrorCause, Converts, EndsConversion, Finishes, IsLowestFreeHash};
+ghost use Rattle.silt_stores.specs.Conversion.{MayReplace, convert_turn, converted_body, is_work, oldest_replaced};
 ghost use Rattle.silt_event.specs.declared.progress.Progress.TheVariants.{Finished, Moved};
 ghost use Rattle.silt_stores.specs.State.{AreWhole, names_hash};
 ghost use Rattle.silt_stores.specs.Standing.{Stands, shown_stores};

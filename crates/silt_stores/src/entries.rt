@@ -139,7 +139,8 @@ fn do_slot<D: Disk>(
 ) -> Result<(), EntriesError<D::Fault>>
     requires slot { slot < 4 * store.now.shape.buckets }
     requires size { device_size store.now.shape ≤ size (D.content disk.now) }
-    ensures ok { IsTrue (D.content disk.now).honest → OnOk result (DoesRows (filter has_known_kind (slot_row store.now.shape store.now.region (D.content disk.now).shown slot ∷ [])) entries.old entries.new) }
+    ensures ok { IsTrue (D.content disk.now).honest
+        → OnOk result (DoesRows (filter has_known_kind (slot_row store.now.shape store.now.region (D.content disk.now).shown slot ∷ [])) entries.old entries.new) }
     ensures cause { IfErr result (EntriesErrorCause (GaveAny D.gave disk.now)) }
 {
     let row = match store.row_at(disk, slot) {

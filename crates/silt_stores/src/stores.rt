@@ -1,5 +1,6 @@
 // The stores of a device in memory, and their calls.
-ghost use Rattle.std.specs.Prelude.{vec_capacity, ◌≡◌, ◌+◌, ◌<◌, ◌≤◌, [], ◌∷◌, ◌++◌, ◌↔◌, ℕ, length, nat_lt, true, false, None, Some, Ok, IsTrue, IfOk, IfErr, IfSome, IfNone, OnOk, OnErr, MatchResult, if◌then◌else◌};
+ghost use Rattle.std.specs.Prelude.{vec_capacity, ◌≡◌, ◌+◌, ◌<◌, ◌≤◌, [], ◌∷◌, ◌++◌, ◌↔◌, ℕ, length, nat_lt, true};
+ghost use Rattle.std.specs.Prelude.{false, None, Some, Ok, IsTrue, IfOk, IfErr, IfSome, IfNone, OnOk, OnErr, MatchResult, if◌then◌else◌};
 ghost use Rattle.silt_device.specs.Disk.{Content, CountsFault, GaveAny, LeavesOnly, size};
 ghost use Rattle.silt_device.specs.Layout.{device_size};
 ghost use Rattle.silt_frame.specs.declared.key.Kind.{Kind};
@@ -48,9 +49,29 @@ impl Model for Stores {
 
     ghost Value = { StoresState };
 
-    ghost view = { λ a. record { manifest = a.manifest; active = a.active; frozen = a.frozen.items; hashes = a.hashes.items; sorted = a.sorted.sorted; index = a.sorted.index; converting = a.converting; merging = a.merging; charge = a.charge } };
+    ghost view = { λ a. record {
+      manifest = a.manifest;
+      active = a.active;
+      frozen = a.frozen.items;
+      hashes = a.hashes.items;
+      sorted = a.sorted.sorted;
+      index = a.sorted.index;
+      converting = a.converting;
+      merging = a.merging;
+      charge = a.charge;
+    } };
 
-    ghost invariant = { λ a. AreHeld (record { manifest = a.manifest; active = a.active; frozen = a.frozen.items; hashes = a.hashes.items; sorted = a.sorted.sorted; index = a.sorted.index; converting = a.converting; merging = a.merging; charge = a.charge }) (vec_capacity a.frozen) (vec_capacity a.hashes) };
+    ghost invariant = { λ a. AreHeld (record {
+      manifest = a.manifest;
+      active = a.active;
+      frozen = a.frozen.items;
+      hashes = a.hashes.items;
+      sorted = a.sorted.sorted;
+      index = a.sorted.index;
+      converting = a.converting;
+      merging = a.merging;
+      charge = a.charge;
+    }) (vec_capacity a.frozen) (vec_capacity a.hashes) };
 }
 
 impl Stores {
@@ -72,10 +93,30 @@ impl Stores {
         sorted: SortedStore,
         charge: u32,
     ) -> Self
-        requires whole { AreWhole (record { manifest = manifest; active = active; frozen = frozen.items; hashes = hashes.items; sorted = sorted.sorted; index = sorted.index; converting = None; merging = None; charge = charge }) }
+        requires whole { AreWhole (record {
+          manifest = manifest;
+          active = active;
+          frozen = frozen.items;
+          hashes = hashes.items;
+          sorted = sorted.sorted;
+          index = sorted.index;
+          converting = None;
+          merging = None;
+          charge = charge;
+        }) }
         requires room { 7 ≤ vec_capacity frozen }
         requires hash_room { 16 ≤ vec_capacity hashes }
-        ensures { result ≡ record { manifest = manifest; active = active; frozen = frozen.items; hashes = hashes.items; sorted = sorted.sorted; index = sorted.index; converting = None; merging = None; charge = charge } }
+        ensures { result ≡ record {
+          manifest = manifest;
+          active = active;
+          frozen = frozen.items;
+          hashes = hashes.items;
+          sorted = sorted.sorted;
+          index = sorted.index;
+          converting = None;
+          merging = None;
+          charge = charge;
+        } }
     {
         Stores {
             manifest,
@@ -158,7 +199,8 @@ impl Stores {
         ensures failures { MatchResult result (λ _. D.failures disk.new ≡ D.failures disk.old) (CountsFault D.failures D.gave disk.old disk.new) }
         ensures ok { OnOk result (Advances (command_of (stored_row kind key.now value.now) ∷ []) (D.content disk.old) (D.content disk.new) self.old self.new) }
         ensures map { OnOk result (Remaps (command_of (stored_row kind key.now value.now) ∷ []) (D.content disk.old) (D.content disk.new) self.old self.new) }
-        ensures waits { IsTrue (D.content disk.old).honest → OnOk result (waiting_commands (D.content disk.new) self.new ≡ waiting_commands (D.content disk.old) self.old ++ command_of (stored_row kind key.now value.now) ∷ []) }
+        ensures waits { IsTrue (D.content disk.old).honest
+            → OnOk result (waiting_commands (D.content disk.new) self.new ≡ waiting_commands (D.content disk.old) self.old ++ command_of (stored_row kind key.now value.now) ∷ []) }
         ensures behind { OnOk result (StaysBehind self.old self.new) }
         ensures charge { OnOk result (self.new.charge ≡ self.old.charge + puts_of kind) }
         ensures err { OnErr result (Breaks (D.content disk.old) (D.content disk.new) self.old) }
