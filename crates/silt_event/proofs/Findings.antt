@@ -1,7 +1,7 @@
 -- Findings one after the other.
 use Rattle.std.proofs.Common.{◌≡◌, ◌+◌, Bool, true, false, not, List, [], ◌∷◌, ◌++◌, refl, ap, ◌∙◌}
 use Rattle.silt_event.specs.Findings.{finding_if}
-use Rattle.silt_event.specs.declared.finding.Finding.{Finding}
+use Rattle.silt_event.specs.declared.damage.Finding.{Finding}
 
 -- the parts of nothing
 pub nothing_first : {X : Type 0} (xs ys : List X) → xs ++ ys ≡ [] → xs ≡ []

@@ -11,8 +11,8 @@
 #![tactic(auto)]
 
 mod answerer;
+mod damage;
 mod event;
-mod finding;
 mod laws;
 mod place;
 mod progress;
@@ -21,8 +21,8 @@ mod reply;
 mod report;
 
 pub use answerer::Answerer;
+pub use damage::Finding;
 pub use event::Event;
-pub use finding::Finding;
 pub use laws::{count_law, map_law, newest_law};
 pub use place::Place;
 pub use progress::Progress;

@@ -3,8 +3,8 @@ use Rattle.std.specs.Prelude.{ℕ, ◌==◌, ◌&&◌, not, List, take, ◌/◌,
 use Rattle.std.specs.List.{enumerate_from, list_any}
 use Rattle.silt_device.specs.Layout.{Shape}
 use Rattle.silt_frame.specs.Rows.{StoredRow, has_known_kind}
-use Rattle.silt_event.specs.declared.finding.Finding.{Finding}
-use Rattle.silt_event.specs.declared.finding.Finding.TheVariants.{Damaged}
+use Rattle.silt_event.specs.declared.damage.Finding.{Finding}
+use Rattle.silt_event.specs.declared.damage.Finding.TheVariants.{Damaged}
 use Rattle.silt_event.specs.declared.place.Place.TheVariants.{Hash}
 use Rattle.std.specs.Str.{bytes_eq}
 use Rattle.silt_cuckoo.specs.Keys.{first_bucket, second_bucket}

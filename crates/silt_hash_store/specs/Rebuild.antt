@@ -10,7 +10,7 @@ use Rattle.silt_hash_store.specs.Findings.{hash_findings, is_in_bucket}
 use Rattle.silt_log_store.specs.Parts.{known_rows}
 use Rattle.silt_frame.specs.Rows.{put_count, has_known_kind, StoredRow, puts_of}
 use Rattle.silt_hash_store.specs.Slots.{hash_part, is_sound_slot, rows_before, slot_row, tag_of}
-use Rattle.silt_event.specs.declared.finding.Finding.TheVariants as finding
+use Rattle.silt_event.specs.declared.damage.Finding.TheVariants as finding
 use Rattle.silt_event.specs.declared.place.Place.TheVariants.{Hash}
 use Rattle.silt_hash_store.specs.State.{HashState, IsHashStore, IsTagged}
 use Rattle.silt_hash_store.specs.declared.rebuild.Rebuilt.{Rebuilt}

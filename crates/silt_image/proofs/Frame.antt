@@ -27,7 +27,7 @@ use Rattle.silt_sorted_store.specs.State.{sorted_rows}
 use Rattle.silt_image.specs.Meaning.{image_charge, image_fits, image_map, image_rows, image_stands, image_verdict, findings_of, map_where_sound, all_logs_fit, rows_found, with_log_rows, with_new_log, with_part_rows}
 use Rattle.silt_event.specs.Rows.{map_of_rows}
 use Rattle.silt_image.specs.Laws.{Agree, FrameLaw, FreeHashLaw, FreeSortedLaw, FreezeLaw, FreezesActive, HasStores, LogRegionLaw, ManifestLaw, MeaningLaw, SameRegions, SameWithin}
-use Rattle.silt_event.specs.declared.finding.Finding.{Finding}
+use Rattle.silt_event.specs.declared.damage.Finding.{Finding}
 use Rattle.silt_image.proofs.Named.{stores_law, ruling_sound, shape_parts}
 use Rattle.silt_image.proofs.Rows.{keeps_rows, takes_rows}
 

@@ -4,7 +4,7 @@ use Rattle.std.proofs.lemmas.Bool.{and_from, and_left, and_right, eq-eqb, ne_eqb
 use Rattle.silt_device.specs.Layout.{Shape, InLimits, device_size}
 use Rattle.silt_image.specs.Header.{header_shape, is_formatted, is_in_limits}
 use Rattle.silt_image.specs.Stores.{shape_found}
-use Rattle.silt_event.specs.declared.finding.Finding.TheVariants.{NotFormatted, Damaged}
+use Rattle.silt_event.specs.declared.damage.Finding.TheVariants.{NotFormatted, Damaged}
 use Rattle.silt_event.specs.declared.place.Place.TheVariants.{Header, Length}
 use Rattle.silt_image.proofs.Named.{limits_law, test_at_most, tested}
 

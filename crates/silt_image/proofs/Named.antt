@@ -16,8 +16,8 @@ use Rattle.silt_image.specs.Header.{IsHeader, header_of, header_shape, is_format
 use Rattle.silt_log_store.specs.Parts.{Part, log_part}
 use Rattle.silt_image.specs.Stores.{Stores, image_stores, shape_found, stores_named, stores_ruled, stores_shaped}
 use Rattle.silt_image.specs.Laws.{LimitsLaw, StoresLaw, WholeLaw, HasStores}
-use Rattle.silt_event.specs.declared.finding.Finding.{Finding}
-use Rattle.silt_event.specs.declared.finding.Finding.TheVariants.{NotFormatted, Damaged}
+use Rattle.silt_event.specs.declared.damage.Finding.{Finding}
+use Rattle.silt_event.specs.declared.damage.Finding.TheVariants.{NotFormatted, Damaged}
 use Rattle.silt_event.specs.declared.place.Place.TheVariants.{Header, Length}
 
 -- ---- the header

@@ -16,8 +16,8 @@ use Rattle.silt_log_store.specs.Findings.{fits_table, log_findings, row_findings
 use Rattle.silt_hash_store.specs.Findings.{hash_findings, is_sound_hash_slot, slot_findings}
 use Rattle.silt_event.specs.Rows.{map_of_rows}
 use Rattle.silt_image.specs.Laws.{EmptyLaw, NoStoresLaw, RowsLaw, SoundLaw, StandsLaw, VerdictLaw}
-use Rattle.silt_event.specs.declared.finding.Finding.{Finding}
-use Rattle.silt_event.specs.declared.finding.Finding.TheVariants.{Damaged, Crowded}
+use Rattle.silt_event.specs.declared.damage.Finding.{Finding}
+use Rattle.silt_event.specs.declared.damage.Finding.TheVariants.{Damaged, Crowded}
 use Rattle.silt_event.specs.declared.place.Place.TheVariants.{Log, Hash, Sorted, Charge}
 use Rattle.silt_image.proofs.Named.{whole_law}
 use Rattle.silt_log_store.proofs.Findings.{fine_of, fits_none, fits_take, of_fine}

@@ -17,8 +17,8 @@ use Rattle.silt_hash_store.specs.Findings.{hash_findings}
 use Rattle.silt_image.specs.Meaning.{image_rows, image_verdict, report_of, rows_of, store_findings}
 use Rattle.silt_sorted_store.specs.Findings.{sorted_findings}
 use Rattle.silt_event.specs.Rows.{newest_row}
-use Rattle.silt_event.specs.declared.finding.Finding.{Finding}
-use Rattle.silt_event.specs.declared.finding.Finding.TheVariants.{NotFormatted, Damaged, Crowded}
+use Rattle.silt_event.specs.declared.damage.Finding.{Finding}
+use Rattle.silt_event.specs.declared.damage.Finding.TheVariants.{NotFormatted, Damaged, Crowded}
 use Rattle.silt_event.specs.declared.place.Place.TheVariants.{Hash, Length, Log, Slot, Sorted}
 use Rattle.silt_event.specs.declared.report.Report.{Report}
 

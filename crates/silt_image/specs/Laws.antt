@@ -18,8 +18,8 @@ use Rattle.silt_event.specs.Rows.{map_of_rows}
 use Rattle.silt_log_store.specs.Findings.{fits_table, log_findings, row_findings}
 use Rattle.silt_hash_store.specs.Findings.{hash_findings}
 use Rattle.silt_sorted_store.specs.Findings.{sorted_findings}
-use Rattle.silt_event.specs.declared.finding.Finding.{Finding}
-use Rattle.silt_event.specs.declared.finding.Finding.TheVariants.{Damaged}
+use Rattle.silt_event.specs.declared.damage.Finding.{Finding}
+use Rattle.silt_event.specs.declared.damage.Finding.TheVariants.{Damaged}
 use Rattle.silt_event.specs.declared.place.Place.TheVariants.{Charge}
 use Rattle.silt_frame.specs.Gate.{gate_open}
 

@@ -9,8 +9,8 @@ use Rattle.silt_event.specs.Commands.{Map}
 use Rattle.silt_image.specs.Header.{shape_of}
 use Rattle.silt_log_store.specs.Parts.{Part, part_rows, known_rows, oldest_first}
 use Rattle.silt_image.specs.Stores.{Stores, image_stores}
-use Rattle.silt_event.specs.declared.finding.Finding.{Finding}
-use Rattle.silt_event.specs.declared.finding.Finding.TheVariants.{Damaged, Crowded}
+use Rattle.silt_event.specs.declared.damage.Finding.{Finding}
+use Rattle.silt_event.specs.declared.damage.Finding.TheVariants.{Damaged, Crowded}
 use Rattle.silt_event.specs.declared.place.Place.TheVariants.{Charge}
 use Rattle.silt_event.specs.declared.report.Report.{Report}
 use Rattle.silt_event.specs.Findings.{finding_if}

@@ -7,8 +7,8 @@ use Rattle.silt_manifest.specs.declared.body.Body.{Body}
 use Rattle.silt_manifest.specs.declared.slot.Damage.{Damage}
 use Rattle.silt_manifest.specs.declared.slot.Damage.TheVariants as damage
 use Rattle.silt_image.specs.Header.{header_of, header_shape, is_formatted, is_in_limits}
-use Rattle.silt_event.specs.declared.finding.Finding.{Finding}
-use Rattle.silt_event.specs.declared.finding.Finding.TheVariants.{NotFormatted, Damaged}
+use Rattle.silt_event.specs.declared.damage.Finding.{Finding}
+use Rattle.silt_event.specs.declared.damage.Finding.TheVariants.{NotFormatted, Damaged}
 use Rattle.silt_event.specs.declared.place.Place.TheVariants.{Header, Length, Slot, NoSlot}
 use Rattle.silt_log_store.specs.Parts.{Part, log_part}
 use Rattle.silt_hash_store.specs.Slots.{hash_part}

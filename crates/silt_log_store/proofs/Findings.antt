@@ -11,7 +11,7 @@ use Rattle.silt_cuckoo.proofs.KeyIndex.{indexed_append, stays_none, next_index}
 use Rattle.silt_log_store.specs.Parts.{Part}
 use Rattle.silt_event.specs.Findings.{finding_if}
 use Rattle.silt_log_store.specs.Findings.{fits_table, log_findings, row_findings, LogSoundLaw}
-use Rattle.silt_event.specs.declared.finding.Finding.TheVariants.{Damaged, Crowded}
+use Rattle.silt_event.specs.declared.damage.Finding.TheVariants.{Damaged, Crowded}
 use Rattle.silt_event.specs.declared.place.Place.TheVariants.{Log}
 use Rattle.silt_event.proofs.Findings.{nothing_first, nothing_second, nothing_both, passes_where_nothing, nothing_where_passes}
 

@@ -3,8 +3,8 @@ use Rattle.std.specs.Prelude.{ℕ, ◌+◌, not, List, take, ◌≡◌, Bool, tr
 use Rattle.std.specs.List.{enumerate_from, list_all}
 use Rattle.silt_device.specs.Layout.{Shape}
 use Rattle.silt_frame.specs.Rows.{StoredRow, has_known_kind, keys_of}
-use Rattle.silt_event.specs.declared.finding.Finding.{Finding}
-use Rattle.silt_event.specs.declared.finding.Finding.TheVariants.{Damaged, Crowded}
+use Rattle.silt_event.specs.declared.damage.Finding.{Finding}
+use Rattle.silt_event.specs.declared.damage.Finding.TheVariants.{Damaged, Crowded}
 use Rattle.silt_event.specs.declared.place.Place.TheVariants.{Log}
 use Rattle.silt_cuckoo.specs.Index.{index_of_keys}
 use Rattle.silt_log_store.specs.Parts.{Part}

@@ -6,7 +6,7 @@ use Rattle.silt_frame.specs.Rows.{StoredRow, put_count}
 use Rattle.silt_image.specs.Meaning.{image_verdict}
 use Rattle.silt_image.specs.Stores.{image_stores, stores_named}
 use Rattle.silt_sorted_store.specs.State.{sorted_rows}
-use Rattle.silt_event.specs.declared.finding.Finding.{Finding}
+use Rattle.silt_event.specs.declared.damage.Finding.{Finding}
 use Rattle.silt_image.proofs.Search.{first_entry_law}
 use Rattle.silt_manifest.specs.declared.body.Body.{Body}
 use Rattle.silt_sorted_store.proofs.Entries.{entries_law}

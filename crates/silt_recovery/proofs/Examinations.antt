@@ -11,8 +11,8 @@ use Rattle.silt_hash_store.specs.State.{HashState, IsHashStore}
 use Rattle.silt_image.specs.Meaning.{IsSound, charge_of}
 use Rattle.silt_frame.specs.Rows.{put_count}
 use Rattle.silt_image.specs.Stores.{Stores, image_stores, stores_named}
-use Rattle.silt_event.specs.declared.finding.Finding.{Finding}
-use Rattle.silt_event.specs.declared.finding.Finding.TheVariants.{Damaged}
+use Rattle.silt_event.specs.declared.damage.Finding.{Finding}
+use Rattle.silt_event.specs.declared.damage.Finding.TheVariants.{Damaged}
 use Rattle.silt_event.specs.declared.place.Place.TheVariants.{Charge}
 use Rattle.silt_image.proofs.Search.{charge_found_law}
 use Rattle.silt_image.proofs.Sound.{parts_law}

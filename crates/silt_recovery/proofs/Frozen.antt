@@ -6,7 +6,7 @@ use Rattle.std.proofs.lemmas.List.Sums.{sum_by_push}
 use Rattle.silt_device.specs.Disk.{Content}
 use Rattle.silt_device.specs.Layout.{Shape}
 use Rattle.silt_frame.specs.Rows.{put_count}
-use Rattle.silt_event.specs.declared.finding.Finding.{Finding}
+use Rattle.silt_event.specs.declared.damage.Finding.{Finding}
 use Rattle.silt_log.specs.Rows.{log_rows}
 use Rattle.silt_log_store.specs.State.{LogStoreState}
 use Rattle.silt_stores.specs.State.{region_of}

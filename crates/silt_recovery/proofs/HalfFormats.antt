@@ -13,7 +13,7 @@ use Rattle.silt_image.specs.Header.{header_bytes, header_of, is_formatted, magic
 use Rattle.silt_manifest.specs.Numbers.{number_at}
 use Rattle.silt_image.specs.Meaning.{image_verdict}
 use Rattle.silt_image.specs.Stores.{image_stores, stores_shaped}
-use Rattle.silt_event.specs.declared.finding.Finding.TheVariants.{NotFormatted}
+use Rattle.silt_event.specs.declared.damage.Finding.TheVariants.{NotFormatted}
 use Rattle.silt_image.proofs.Verdict.{no_stores_law}
 use Rattle.silt_log.specs.Rows.{log_rows}
 use Rattle.silt_log.proofs.Elsewhere.{log_rows_elsewhere}

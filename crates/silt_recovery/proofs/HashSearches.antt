@@ -15,8 +15,8 @@ use Rattle.silt_frame.specs.Rows.{put_count, StoredRow}
 use Rattle.silt_hash_store.specs.Slots.{hash_part}
 use Rattle.silt_image.specs.Stores.{image_stores, stores_named}
 use Rattle.silt_sorted_store.specs.State.{sorted_rows}
-use Rattle.silt_event.specs.declared.finding.Finding.{Finding}
-use Rattle.silt_event.specs.declared.finding.Finding.TheVariants.{Damaged}
+use Rattle.silt_event.specs.declared.damage.Finding.{Finding}
+use Rattle.silt_event.specs.declared.damage.Finding.TheVariants.{Damaged}
 use Rattle.silt_event.specs.declared.place.Place.TheVariants.{Hash}
 use Rattle.silt_event.proofs.Rows.{count_law}
 use Rattle.silt_image.proofs.Search.{first_slot_law}

@@ -5,7 +5,7 @@ use Rattle.silt_image.specs.Header.{header_of}
 use Rattle.silt_image.specs.Stores.{damage_finding, image_stores, shape_found, stores_named, stores_ruled, stores_shaped}
 use Rattle.silt_image.proofs.Named.{stores_law}
 use Rattle.silt_image.proofs.Verdict.{no_stores_law}
-use Rattle.silt_event.specs.declared.finding.Finding.{Finding}
+use Rattle.silt_event.specs.declared.damage.Finding.{Finding}
 use Rattle.silt_manifest.specs.Faults.{IsDamaged}
 use Rattle.silt_manifest.specs.Ruling.{manifest_found, where_found}
 use Rattle.silt_manifest.specs.Standing.{IsRuled, ManifestState}

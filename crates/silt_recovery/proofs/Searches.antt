@@ -16,8 +16,8 @@ use Rattle.silt_image.specs.Meaning.{image_verdict}
 use Rattle.silt_log_store.specs.Parts.{oldest_first, part_rows, log_part}
 use Rattle.silt_frame.specs.Rows.{put_count, keys_of, has_known_kind, StoredRow}
 use Rattle.silt_image.specs.Stores.{image_stores, stores_named}
-use Rattle.silt_event.specs.declared.finding.Finding.{Finding}
-use Rattle.silt_event.specs.declared.finding.Finding.TheVariants.{Damaged, Crowded}
+use Rattle.silt_event.specs.declared.damage.Finding.{Finding}
+use Rattle.silt_event.specs.declared.damage.Finding.TheVariants.{Damaged, Crowded}
 use Rattle.silt_event.specs.declared.place.Place.TheVariants.{Log}
 use Rattle.silt_event.proofs.Rows.{count_law}
 use Rattle.silt_image.proofs.Search.{first_finding_law}

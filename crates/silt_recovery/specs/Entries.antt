@@ -3,7 +3,7 @@ use Rattle.std.specs.Prelude.{◌≡◌, ℕ, List, [], slice_get, Some}
 use Rattle.silt_device.specs.Layout.{Shape}
 use Rattle.silt_sorted_store.specs.Findings.{sorted_findings}
 use Rattle.silt_sorted_store.specs.State.{sorted_rows}
-use Rattle.silt_event.specs.declared.finding.Finding.{Finding}
+use Rattle.silt_event.specs.declared.damage.Finding.{Finding}
 
 -- nothing is found in so many entries of this sorted region of an image
 abbrev pub AreSoundEntries : Shape → List ℕ → ℕ → ℕ → Type 0

@@ -6,7 +6,7 @@ use Rattle.silt_device.specs.Layout.{Shape, device_size}
 use Rattle.silt_frame.specs.Gate.{gate_open}
 use Rattle.silt_image.specs.Header.{header_bytes, header_of}
 use Rattle.silt_image.specs.Meaning.{StandsFor, image_verdict}
-use Rattle.silt_event.specs.declared.finding.Finding.TheVariants.{NotFormatted}
+use Rattle.silt_event.specs.declared.damage.Finding.TheVariants.{NotFormatted}
 use Rattle.silt_recovery.specs.declared.fault.FormatError.{FormatError}
 use Rattle.silt_recovery.specs.declared.fault.FormatError.TheVariants.{BadGeometry, Device, NoMemory}
 

@@ -6,8 +6,8 @@ use Rattle.silt_frame.specs.Rows.{StoredRow, keys_of}
 use Rattle.silt_frame.specs.declared.key.Key.{Key}
 use Rattle.silt_sorted_store.specs.Findings.{entry_findings, is_key_below, sorted_findings}
 use Rattle.silt_event.specs.Findings.{finding_if}
-use Rattle.silt_event.specs.declared.finding.Finding.{Finding}
-use Rattle.silt_event.specs.declared.finding.Finding.TheVariants.{Damaged}
+use Rattle.silt_event.specs.declared.damage.Finding.{Finding}
+use Rattle.silt_event.specs.declared.damage.Finding.TheVariants.{Damaged}
 use Rattle.silt_event.specs.declared.place.Place.TheVariants.{Sorted}
 use Rattle.silt_event.proofs.Findings.{nothing_where_passes}
 use Rattle.silt_sorted_store.specs.Rebuild.{IsFirstOutOfOrder}

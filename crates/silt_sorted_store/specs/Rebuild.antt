@@ -2,7 +2,7 @@
 use Rattle.std.specs.Prelude.{◌≡◌, ℕ, ⊤, List, slice_get, Some}
 use Rattle.silt_frame.specs.Rows.{StoredRow}
 use Rattle.silt_sorted_store.specs.Findings.{sorted_findings}
-use Rattle.silt_event.specs.declared.finding.Finding.TheVariants as finding
+use Rattle.silt_event.specs.declared.damage.Finding.TheVariants as finding
 use Rattle.silt_event.specs.declared.place.Place.TheVariants.{Sorted}
 use Rattle.silt_sorted_store.specs.declared.rebuild.RebuildError.{RebuildError}
 use Rattle.silt_sorted_store.specs.declared.rebuild.RebuildError.TheVariants.{Damaged, Device, NoMemory}

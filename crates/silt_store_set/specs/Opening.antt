@@ -1,8 +1,8 @@
 -- Why an opening is refused, and what it leaves.
 use Rattle.std.specs.Prelude.{IsTrue}
 use Rattle.silt_device.specs.Disk.{Content}
-use Rattle.silt_event.specs.declared.finding.Finding.{Finding}
-use Rattle.silt_event.specs.declared.finding.Finding.TheVariants as finding
+use Rattle.silt_event.specs.declared.damage.Finding.{Finding}
+use Rattle.silt_event.specs.declared.damage.Finding.TheVariants as finding
 use Rattle.silt_recovery.specs.Opening.{IsUnwritten}
 use Rattle.silt_recovery.specs.Refusals.{IsFound}
 use Rattle.silt_event.specs.declared.refusal.Refusal.{Refusal}
