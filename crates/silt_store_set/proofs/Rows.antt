@@ -15,7 +15,7 @@ use Rattle.silt_stores.specs.Calls.{Advances, HasNoFreeLog as AllInUse, Breaks, 
 use Rattle.silt_stores.specs.NextLog.{IsLowestFree, next_body}
 use Rattle.silt_stores.specs.Standing.{Stands, full_image, waiting_commands}
 use Rattle.silt_stores.specs.State.{StoresState, region_of}
-use Rattle.silt_stores.specs.RowWrite.{NeedsNext, TakesKey}
+use Rattle.silt_stores.specs.RowWrite.{NeedsNext, WritesKey}
 use Rattle.silt_stores.proofs.Meaning.{meaning}
 use Rattle.silt_event.specs.declared.event.Event.TheVariants.{Put, Delete}
 use Rattle.silt_event.specs.declared.refusal.Refusal.{Refusal}
@@ -59,7 +59,7 @@ module _ {D F : Type 0} (content : D → Content) (failures : D → ℕ) (gave :
   has_free free = λ all. free (ap (λ (n : ℕ). n + 1) frozen_count ∙ all)
 
   takes : (new : D) (after : StoresState) (next : ℕ) (key : List ℕ) (command : Command) → SameDisk (content disk) (content new) → Stands (content new) after
-      → TakesKey (content disk) (content new) stores after key command → Takes content failures gave before (seen content new after next false) key command
+      → WritesKey (content disk) (content new) stores after key command → Takes content failures gave before (seen content new after next false) key command
   takes new after next key command same stood (inl stays) = inl (
     (stays.ruling, λ h cannot. stays.has_place h (subst (λ (rows : List StoredRow). CannotTake stores.manifest.shape rows key) (sym (rows_are h)) cannot)),
     λ h. record {
@@ -83,7 +83,7 @@ module _ {D F : Type 0} (content : D → Content) (failures : D → ℕ) (gave :
   -- ---- the row was taken
 
   pub row_taken : (new : D) (after : StoresState) (k : Kind) (key : Key) (value : List ℕ) → MayWrite k before → SameDisk (content disk) (content new)
-      → Advances (command_of (stored_row k key value) ∷ []) (content disk) (content new) stores after → TakesKey (content disk) (content new) stores after key.0 (command_of (stored_row k key value)) → after.converting ≡ stores.converting → after.merging ≡ stores.merging → failures new ≡ failures disk
+      → Advances (command_of (stored_row k key value) ∷ []) (content disk) (content new) stores after → WritesKey (content disk) (content new) stores after key.0 (command_of (stored_row k key value)) → after.converting ≡ stores.converting → after.merging ≡ stores.merging → failures new ≡ failures disk
       → Does content failures gave before (seen content new after (count + 1) false) (row_event k key value) (Accepted (count + 1))
   row_taken new after kind.Put key value may same goes taken converting merging counted =
       advanced content failures gave disk new stores after same stands (command_of (stored_row kind.Put key value) ∷ []) count (count + 1) (Put key value) (Accepted (count + 1)) goes (refl, refl) refl refl refl

@@ -7,7 +7,7 @@ use crate::replies::{accepted, copied, is_work, progressed, zeros};
 use crate::{Event, Progress, Refusal, Reply};
 use silt_device::{Disk, Geometry};
 use silt_frame::{Key, Kind, Value};
-use silt_stores::{ConvertError, EntriesError, MergeError, Stores, TakeError};
+use silt_stores::{ConvertError, EntriesError, MergeError, Stores, WriteError};
 use std::alloc::{AllocError, Global};
 use std::collections::BTreeMap;
 use std::marker::Model;
@@ -180,19 +180,19 @@ impl<D: Disk> Core<D> {
         requires zeros { IsValueOf kind value.now }
         ensures { Does D.content D.failures (GaveAny D.gave) self.old self.new (row_event kind key.now value.now) (change_reply result) }
     {
-        match self.stores.take(alloc, &mut self.disk, kind, key, value) {
+        match self.stores.write(alloc, &mut self.disk, kind, key, value) {
             Ok(()) => {
                 self.count += 1;
                 Ok(self.count)
             }
-            Err(TakeError::Write(fault)) => {
+            Err(WriteError::Write(fault)) => {
                 self.failed = true; // the row or the manifest may stand in part
                 Err(Refusal::Device(fault))
             }
-            Err(TakeError::Read(fault)) => Err(Refusal::Device(fault)),
-            Err(TakeError::NoRoom) => Err(Refusal::NoRoom),
-            Err(TakeError::Spent) => Err(Refusal::Spent),
-            Err(TakeError::NoMemory) => Err(Refusal::NoMemory),
+            Err(WriteError::Read(fault)) => Err(Refusal::Device(fault)),
+            Err(WriteError::NoRoom) => Err(Refusal::NoRoom),
+            Err(WriteError::Spent) => Err(Refusal::Spent),
+            Err(WriteError::NoMemory) => Err(Refusal::NoMemory),
         }
     }
 

@@ -3,8 +3,8 @@ use Rattle.std.specs.Prelude.{◌≡◌, ◌⊎◌, ℕ, IsTrue, List, [], ◌�
 use Rattle.silt_device.specs.Disk.{Content}
 use Rattle.silt_event.specs.Commands.{Command, WaitsAlone, WaitsBehind}
 use Rattle.silt_log.specs.State.{all_rows}
-use Rattle.silt_stores.specs.declared.row_write.TakeError.{TakeError}
-use Rattle.silt_stores.specs.declared.row_write.TakeError.TheVariants.{Read, Write, NoRoom, Spent, NoMemory}
+use Rattle.silt_stores.specs.declared.row_write.WriteError.{WriteError}
+use Rattle.silt_stores.specs.declared.row_write.WriteError.TheVariants.{Read, Write, NoRoom, Spent, NoMemory}
 use Rattle.silt_stores.specs.State.{StoresState}
 use Rattle.silt_stores.specs.Standing.{base_map, waiting_commands}
 use Rattle.silt_stores.specs.Calls.{HasNoFreeLog, Breaks, CannotTake, IsLastGeneration, Remaps}
@@ -33,8 +33,8 @@ pub record TurnsFor (old new : Content) (before after : StoresState) (key : List
   pub waits : IsTrue old.honest → WaitsAlone command (base_map old before) (base_map new after) (waiting_commands old before) (waiting_commands new after)
 
 -- a row of this key, which does this command, was taken: by the log that was active or by the next one
-abbrev pub TakesKey : Content → Content → StoresState → StoresState → List ℕ → Command → Type 0
-TakesKey old new before after key command = StaysFor old new before after key command ⊎ TurnsFor old new before after key command
+abbrev pub WritesKey : Content → Content → StoresState → StoresState → List ℕ → Command → Type 0
+WritesKey old new before after key command = StaysFor old new before after key command ⊎ TurnsFor old new before after key command
 
 module _ {D F : Type 0} (content : D → Content) (gave : D → F → Type 0) (counted : D → D → F → Type 0) (old new : D) (before after : StoresState) (key : List ℕ) where
   -- nothing was changed
@@ -42,9 +42,9 @@ module _ {D F : Type 0} (content : D → Content) (gave : D → F → Type 0) (c
   Unchanged = (after ≡ before) × (new ≡ old)
 
   -- why a row of this key was not taken, and what was changed
-  abbrev pub TakeCause : TakeError F → Type 0
-  TakeCause (Read fault) = Unchanged × gave old fault
-  TakeCause (Write fault) = counted old new fault × Breaks (content old) (content new) before × Remaps [] (content old) (content new) before after
-  TakeCause NoRoom = Unchanged × NeedsNext (content old) before key × HasNoFreeLog before
-  TakeCause Spent = Unchanged × NeedsNext (content old) before key × (HasNoFreeLog before → ⊥) × IsLastGeneration before
-  TakeCause NoMemory = Unchanged × NeedsNext (content old) before key × (HasNoFreeLog before → ⊥) × (IsLastGeneration before → ⊥)
+  abbrev pub WriteCause : WriteError F → Type 0
+  WriteCause (Read fault) = Unchanged × gave old fault
+  WriteCause (Write fault) = counted old new fault × Breaks (content old) (content new) before × Remaps [] (content old) (content new) before after
+  WriteCause NoRoom = Unchanged × NeedsNext (content old) before key × HasNoFreeLog before
+  WriteCause Spent = Unchanged × NeedsNext (content old) before key × (HasNoFreeLog before → ⊥) × IsLastGeneration before
+  WriteCause NoMemory = Unchanged × NeedsNext (content old) before key × (HasNoFreeLog before → ⊥) × (IsLastGeneration before → ⊥)

@@ -38,4 +38,4 @@ pub use laws::{converts_law, merges_law, standing_law};
 pub use location::Location;
 pub use merge::MergeError;
 pub use next_log::{NextLog, NoNextLog};
-pub use row_write::TakeError;
+pub use row_write::WriteError;

@@ -6,7 +6,7 @@ ghost use Rattle.silt_log.specs.Rows.{IsValueOf};
 ghost use Rattle.silt_frame.specs.Rows.{stored_row, puts_of};
 ghost use Rattle.silt_stores.specs.Standing.{Stands};
 ghost use Rattle.silt_stores.specs.Calls.{Advances, Remaps, SameDisk};
-ghost use Rattle.silt_stores.specs.RowWrite.{NeedsNext, TakeCause, TakesKey, TurnsFor};
+ghost use Rattle.silt_stores.specs.RowWrite.{NeedsNext, WriteCause, WritesKey, TurnsFor};
 
 use crate::next_log::NoNextLog;
 use crate::stores::Stores;
@@ -16,7 +16,7 @@ use std::alloc::Global;
 
 /// Why a row was not taken.
 #[derive(Debug, Drop)]
-pub enum TakeError<F> {
+pub enum WriteError<F> {
     /// A read failed. Nothing was changed.
     Read(F),
     /// A write or a sync failed.
@@ -37,14 +37,14 @@ impl Stores {
     ///
     /// It is decided in this order: `Read`, and where the active log cannot take the row `NoRoom`, `Spent`, `NoMemory`; then
     /// `Write` with the fault of a write or of a sync.
-    pub fn take<D: Disk>(
+    pub fn write<D: Disk>(
         &mut self,
         alloc: Global,
         disk: &mut D,
         kind: Kind,
         key: &Key,
         value: &[u8],
-    ) -> Result<(), TakeError<D::Fault>>
+    ) -> Result<(), WriteError<D::Fault>>
         requires stands { Stands (D.content disk.old) self.old }
         requires value { length value.now ≡ self.old.manifest.shape.value_len }
         requires zeros { IsValueOf kind value.now }
@@ -57,28 +57,28 @@ impl Stores {
         ensures charge { OnOk result (self.new.charge ≡ self.old.charge + puts_of kind) }
         ensures converting { OnOk result (self.new.converting ≡ self.old.converting) }
         ensures merging { OnOk result (self.new.merging ≡ self.old.merging) }
-        ensures ruling { OnOk result (TakesKey (D.content disk.old) (D.content disk.new) self.old self.new key.now.0 (command_of (stored_row kind key.now value.now))) }
-        ensures err { IfErr result (TakeCause D.content (GaveAny D.gave) (CountsFault D.failures D.gave) disk.old disk.new self.old self.new key.now.0) }
+        ensures ruling { OnOk result (WritesKey (D.content disk.old) (D.content disk.new) self.old self.new key.now.0 (command_of (stored_row kind key.now value.now))) }
+        ensures err { IfErr result (WriteCause D.content (GaveAny D.gave) (CountsFault D.failures D.gave) disk.old disk.new self.old self.new key.now.0) }
     {
         match self.placing(disk, key) {
-            Ok(Some(placing)) => match self.append(disk, kind, key, value, placing) {
+            Ok(Some(placing)) => match self.write_active(disk, kind, key, value, placing) {
                 Ok(()) => Ok(()),
-                Err(fault) => Err(TakeError::Write(fault)),
+                Err(fault) => Err(WriteError::Write(fault)),
             },
-            Ok(None) => self.take_in_next(alloc, disk, kind, key, value),
-            Err(fault) => Err(TakeError::Read(fault)),
+            Ok(None) => self.write_in_next(alloc, disk, kind, key, value),
+            Err(fault) => Err(WriteError::Read(fault)),
         }
     }
 
     // Freezes the active log, which cannot take a row of this key, and writes the row into the next log.
-    fn take_in_next<D: Disk>(
+    fn write_in_next<D: Disk>(
         &mut self,
         alloc: Global,
         disk: &mut D,
         kind: Kind,
         key: &Key,
         value: &[u8],
-    ) -> Result<(), TakeError<D::Fault>>
+    ) -> Result<(), WriteError<D::Fault>>
         requires stands { Stands (D.content disk.old) self.old }
         requires value { length value.now ≡ self.old.manifest.shape.value_len }
         requires zeros { IsValueOf kind value.now }
@@ -93,21 +93,21 @@ impl Stores {
         ensures converting { OnOk result (self.new.converting ≡ self.old.converting) }
         ensures merging { OnOk result (self.new.merging ≡ self.old.merging) }
         ensures ruling { OnOk result (TurnsFor (D.content disk.old) (D.content disk.new) self.old self.new key.now.0 (command_of (stored_row kind key.now value.now))) }
-        ensures err { IfErr result (TakeCause D.content (GaveAny D.gave) (CountsFault D.failures D.gave) disk.old disk.new self.old self.new key.now.0) }
+        ensures err { IfErr result (WriteCause D.content (GaveAny D.gave) (CountsFault D.failures D.gave) disk.old disk.new self.old self.new key.now.0) }
     {
         let next = match self.next_log(alloc) {
             Ok(next) => next,
-            Err(NoNextLog::NoRoom) => return Err(TakeError::NoRoom),
-            Err(NoNextLog::Spent) => return Err(TakeError::Spent),
-            Err(NoNextLog::NoMemory) => return Err(TakeError::NoMemory),
+            Err(NoNextLog::NoRoom) => return Err(WriteError::NoRoom),
+            Err(NoNextLog::Spent) => return Err(WriteError::Spent),
+            Err(NoNextLog::NoMemory) => return Err(WriteError::NoMemory),
         };
         if let Err(fault) = self.freeze(disk, next) {
-            return Err(TakeError::Write(fault));
+            return Err(WriteError::Write(fault));
         }
         let placing = self.placing_in_empty(key);
-        match self.append(disk, kind, key, value, placing) {
+        match self.write_active(disk, kind, key, value, placing) {
             Ok(()) => Ok(()),
-            Err(fault) => Err(TakeError::Write(fault)),
+            Err(fault) => Err(WriteError::Write(fault)),
         }
     }
 }

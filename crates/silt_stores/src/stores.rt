@@ -182,7 +182,7 @@ impl Stores {
     /// # Errors
     ///
     /// The fault of a write.
-    pub fn append<D: Disk>(
+    pub fn write_active<D: Disk>(
         &mut self,
         disk: &mut D,
         kind: Kind,

@@ -5,7 +5,7 @@ use Rattle.silt_frame.specs.Rows.{puts_of}
 use Rattle.silt_stores.proofs.Appends.{appended, appended_map, appended_waits, not_appended_breaks, not_appended_map}
 use Rattle.silt_stores.proofs.Exits.{on_err}
 use Rattle.silt_stores.proofs.Viewing.{state_of}
-use Rattle.silt_stores.proofs.stores.Stores.append.Goals as goal
+use Rattle.silt_stores.proofs.stores.Stores.write_active.Goals as goal
 
 pub invariant_of-self-2 : goal.invariant_of-self-2
 invariant_of-self-2 g c =
