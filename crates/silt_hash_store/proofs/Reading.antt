@@ -1,5 +1,5 @@
 -- What reads and writes of a slot give, and which slots a write leaves.
-use Rattle.std.proofs.Common.{◌≡◌, ◌≢◌, ℕ, ◌+◌, ◌*◌, ◌≤◌, ◌<◌, inl, inr, IsTrue, List, length, drop, get_or, slice_range, sym, subst, ap, ◌∙◌, arith}
+use Rattle.std.proofs.Common.{◌≡◌, ◌≢◌, ℕ, ◌+◌, ◌*◌, ◌≤◌, ◌<◌, inl, inr, IsTrue, List, length, take, drop, get_or, slice_range, sym, subst, ap, ◌∙◌, arith}
 use Rattle.std.proofs.lemmas.Bool.{cases_lt}
 use Rattle.std.proofs.lemmas.List.Edits.{get_or-between}
 use Rattle.silt_device.specs.Disk.{Content, ChangesWithin, Tears, Torn, Writes, size}
@@ -29,6 +29,19 @@ head_read s region slot at image head said same fits read says =
     let first : HeadSays (get_or body 0 0) (drop 1 head) said = subst (λ (n : ℕ). HeadSays n (drop 1 head) said) byte says in
     let both : HeadSays (get_or body 0 0) (slice_range body 1 21) said = subst (λ (l : List ℕ). HeadSays (get_or body 0 0) l said) bytes first in
     subst (λ (n : ℕ). HeadSays (row_of (slice_range image n (n + len))).kind (row_of (slice_range image n (n + len))).key said) same both
+
+-- the head of a front that was read is that of the row in the slot
+pub front_read : (s : Shape) (region slot at count : ℕ) (image bytes head : List ℕ) (said : Head) → at ≡ hash_slot_at s region slot → at + row_len s ≤ length image → 21 ≤ count → count ≤ row_len s
+    → bytes ≡ slice_range image at (at + count) → head ≡ take 21 bytes → HeadSays (get_or head 0 0) (drop 1 head) said → HeadSays (slot_row s region image slot).kind (slot_row s region image slot).key said
+front_read s region slot at count image bytes head said same fits least most read front says =
+    let part : slice_range image at (at + 21) ≡ take 21 (slice_range image at (at + count)) = ap (λ n. slice_range image n (n + 21)) (omega arith) ∙ slice_of_slice image at count 0 21 least (omega (arith, most, fits)) in
+    head_read s region slot at image head said same fits (front ∙ ap (take 21) read ∙ sym part) says
+
+-- and behind the head of a whole row stands the value
+pub front_value : (s : Shape) (region slot at count : ℕ) (image bytes : List ℕ) → at ≡ hash_slot_at s region slot → count ≡ row_len s → bytes ≡ slice_range image at (at + count) → drop 21 bytes ≡ (slot_row s region image slot).value
+unfolding slot_row
+front_value s region slot at count image bytes same whole read =
+    ap (drop 21) read ∙ ap (λ n. drop 21 (slice_range image at (at + n))) whole ∙ ap (λ n. drop 21 (slice_range image n (n + row_len s))) same
 
 -- a value that was read is that of the row in the slot
 pub value_read : (s : Shape) (region slot at count : ℕ) (image bytes : List ℕ) → at ≡ hash_slot_at s region slot → at + row_len s ≤ length image → count ≡ s.value_len

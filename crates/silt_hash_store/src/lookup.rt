@@ -1,7 +1,7 @@
 // Look-ups of a key among the slots of its two buckets.
-ghost use Rattle.std.specs.Prelude.{◌+◌, ◌*◌, ◌<◌, ◌≤◌, IsTrue, IfOk, IfErr, IfSome};
+ghost use Rattle.std.specs.Prelude.{◌≡◌, ◌+◌, ◌*◌, ◌<◌, ◌≤◌, IsTrue, IfOk, IfErr, IfSome, drop, length};
 ghost use Rattle.silt_device.specs.Disk.{GaveAny, size};
-ghost use Rattle.silt_device.specs.Layout.{device_size};
+ghost use Rattle.silt_device.specs.Layout.{device_size, row_len};
 ghost use Rattle.silt_hash_store.specs.Lookup.{FindsIn, MatchesKey, MatchesTag};
 ghost use Rattle.silt_hash_store.specs.Slots.{HeadSays, slot_row, slot_tag};
 ghost use Rattle.silt_frame.specs.Rows.{StoredRow};
@@ -22,7 +22,8 @@ fn kind_with_key(head: Head, key: &Key) -> Option<Kind>
     }
 }
 
-// The kind of the row in a slot, where the slot has this tag and the row has the key. A slot with another tag is not read.
+// The kind of the row in a slot, where the slot has this tag and the row has the key. A slot with another tag is not read, and of one
+// with the tag the front, as many bytes as `front` has.
 fn match_at<D: Disk>(
     region: &HashRegion,
     tags: &Tags,
@@ -30,21 +31,27 @@ fn match_at<D: Disk>(
     slot: u32,
     tag: u32,
     key: &Key,
+    front: &mut [u8],
 ) -> Result<Option<Kind>, D::Fault>
     requires slot { slot < 4 * region.now.geometry.buckets }
+    requires least { 21 ≤ length front.old }
+    requires most { length front.old ≤ row_len region.now.geometry }
     requires size { device_size region.now.geometry ≤ size (D.content disk.now) }
     ensures matches { IsTrue (D.content disk.now).honest → IfOk result (MatchesTag (slot_tag tags.now slot) tag
         (slot_row region.now.geometry region.now.number (D.content disk.now).shown slot) key.now.0) }
+    ensures value { IsTrue (D.content disk.now).honest → length front.old ≡ row_len region.now.geometry
+        → IfOk result (λ kind. IfSome kind (λ _. drop 21 front.new ≡ (slot_row region.now.geometry region.now.number (D.content disk.now).shown slot).value)) }
     ensures fault { IfErr result (GaveAny D.gave disk.now) }
 {
     if tags.get(slot) != Some(tag) {
         return Ok(None);
     }
-    let head = region.read_head(disk, slot)?;
+    let head = region.read_front(disk, slot, front)?;
     Ok(kind_with_key(head, key))
 }
 
-/// The row of a key among the slots of a bucket that have this tag: a head is read for each up to it.
+/// The row of a key among the slots of a bucket that have this tag: the front is read of each up to it, as many bytes as `front` has.
+/// Where that is room for a whole row, the value of the row that has the key then stands in it.
 pub fn find_in<D: Disk>(
     region: &HashRegion,
     tags: &Tags,
@@ -52,18 +59,23 @@ pub fn find_in<D: Disk>(
     bucket: u32,
     tag: u32,
     key: &Key,
+    front: &mut [u8],
 ) -> Result<Option<Found>, D::Fault>
     requires bucket { bucket < region.now.geometry.buckets }
+    requires least { 21 ≤ length front.old }
+    requires most { length front.old ≤ row_len region.now.geometry }
     requires size { device_size region.now.geometry ≤ size (D.content disk.now) }
     ensures finds { IsTrue (D.content disk.now).honest
         → IfOk result (FindsIn region.now.geometry region.now.number tags.now (D.content disk.now).shown bucket tag key.now.0) }
     ensures place { IfOk result (λ found. IfSome found (λ row. row.place < 4 * region.now.geometry.buckets)) }
+    ensures value { IsTrue (D.content disk.now).honest → length front.old ≡ row_len region.now.geometry
+        → IfOk result (λ found. IfSome found (λ row. drop 21 front.new ≡ (slot_row region.now.geometry region.now.number (D.content disk.now).shown row.place).value)) }
     ensures fault { IfErr result (GaveAny D.gave disk.now) }
 {
     let _slots = region.slot_count(); // so the numbers of the slots fit their word
     let start = 4 * bucket;
     for slot in start..start + 4 {
-        if let Some(kind) = match_at(region, tags, disk, slot, tag, key)? {
+        if let Some(kind) = match_at(region, tags, disk, slot, tag, key, front)? {
             return Ok(Some(Found { kind, place: slot }));
         }
     }

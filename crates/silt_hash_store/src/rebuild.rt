@@ -12,7 +12,7 @@ use crate::store::HashStore;
 use crate::tags::Tags;
 use silt_cuckoo::key_buckets;
 use silt_device::Disk;
-use silt_frame::{Key, Kind};
+use silt_frame::{HEAD_LEN, Key, Kind};
 use std::alloc::Global;
 
 /// Why a hash store was not rebuilt.
@@ -73,7 +73,7 @@ impl HashStore {
         let Some(tag) = tag_for(&self.region, slot, key) else {
             return Err(RebuildError::Damaged(slot));
         };
-        match self.look_up(disk, key) {
+        match self.look_up(disk, key, &mut [0; HEAD_LEN]) {
             Ok(None) => Ok(Some((kind, tag))),
             Ok(Some(_)) => Err(RebuildError::Damaged(slot)),
             Err(fault) => Err(RebuildError::Device(fault)),

@@ -77,6 +77,35 @@ impl HashRegion {
         Ok(head_said(&head))
     }
 
+    /// Reads the first bytes of a slot, as many as `out` has: what the head that stands there says. Where `out` has room for a whole
+    /// row, the value of the row stands behind the head.
+    ///
+    /// # Errors
+    ///
+    /// The fault of the read. The bytes of `out` are then open.
+    pub fn read_front<D: Disk>(
+        &self,
+        disk: &D,
+        slot: u32,
+        out: &mut [u8],
+    ) -> Result<Head, D::Fault>
+        requires slot { slot < 4 * self.now.geometry.buckets }
+        requires least { 21 ≤ length out.old }
+        requires most { length out.old ≤ row_len self.now.geometry }
+        requires size { device_size self.now.geometry ≤ size (D.content disk.now) }
+        ensures head { IsTrue (D.content disk.now).honest → IfOk result (HeadSays
+            (slot_row self.now.geometry self.now.number (D.content disk.now).shown slot).kind
+            (slot_row self.now.geometry self.now.number (D.content disk.now).shown slot).key) }
+        ensures value { IsTrue (D.content disk.now).honest → length out.old ≡ row_len self.now.geometry
+            → OnOk result (drop 21 out.new ≡ (slot_row self.now.geometry self.now.number (D.content disk.now).shown slot).value) }
+        ensures fault { IfErr result (GaveAny D.gave disk.now) }
+    {
+        disk.read(self.slot_at(slot), out)?;
+        let mut head = [0; HEAD_LEN];
+        head.copy_from_slice(&out[..HEAD_LEN]);
+        Ok(head_said(&head))
+    }
+
     /// Reads the value of the row in a slot.
     ///
     /// # Errors

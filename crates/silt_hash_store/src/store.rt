@@ -1,8 +1,9 @@
 // A hash store and its look-ups.
-ghost use Rattle.std.specs.Prelude.{◌≡◌, ◌*◌, ◌<◌, ◌≤◌, ℕ, length, IsTrue, IfOk, IfErr, IfSome, OnOk};
+ghost use Rattle.std.specs.Prelude.{◌≡◌, ◌*◌, ◌<◌, ◌≤◌, ℕ, None, drop, length, IsTrue, IfOk, IfErr, IfSome, OnOk};
 ghost use Rattle.silt_device.specs.Disk.{GaveAny, size};
-ghost use Rattle.silt_device.specs.Layout.{device_size};
+ghost use Rattle.silt_device.specs.Layout.{device_size, row_len};
 ghost use Rattle.silt_hash_store.specs.Slots.{hash_rows};
+ghost use Rattle.silt_log_store.specs.LastRow.{put_place};
 
 use crate::lookup::find_in;
 use crate::rebuild::{RebuildError, Rebuilt, rebuild_region};
@@ -10,10 +11,13 @@ use crate::region::{HashRegion, Head};
 use crate::tags::Tags;
 use silt_cuckoo::key_buckets;
 use silt_device::{Disk, Geometry};
-use silt_frame::{Key, Row};
+use silt_frame::{HEAD_LEN, Key, Kind, Row};
 use silt_log_store::Found;
 use std::alloc::Global;
 use std::marker::Model;
+
+/// How many bytes a row has at most that is read whole for its value.
+const WHOLE_LEN: usize = 512;
 
 /// A hash region with the tag of each of its slots and the number of its puts.
 ///
@@ -65,22 +69,49 @@ impl HashStore {
         self.puts
     }
 
-    // The row of a key among the slots that have tags: first those of its first bucket, then, where it differs, of its second.
-    pub(crate) fn look_up<D: Disk>(&self, disk: &D, key: &Key) -> Result<Option<Found>, D::Fault>
+    // The row of a key among the slots that have tags: first those of its first bucket, then, where it differs, of its second. Of each
+    // slot with a tag that fits the front is read, as many bytes as `front` has. Where that is room for a whole row, the value of the
+    // row that has the key then stands in it.
+    pub(crate) fn look_up<D: Disk>(
+        &self,
+        disk: &D,
+        key: &Key,
+        front: &mut [u8],
+    ) -> Result<Option<Found>, D::Fault>
+        requires least { 21 ≤ length front.old }
+        requires most { length front.old ≤ row_len self.now.shape }
         requires size { device_size self.now.shape ≤ size (D.content disk.now) }
         ensures finds { IsTrue (D.content disk.now).honest → (count : ℕ) → IsTagged self.now (D.content disk.now).shown count
             → IfOk result (FindsRow (rows_before self.now.shape self.now.region (D.content disk.now).shown count) key.now.0) }
         ensures place { IfOk result (λ found. IfSome found (λ row. row.place < 4 * self.now.shape.buckets)) }
+        ensures value { IsTrue (D.content disk.now).honest → length front.old ≡ row_len self.now.shape
+            → IfOk result (λ found. IfSome found (λ row. drop 21 front.new ≡ (slot_row self.now.shape self.now.region (D.content disk.now).shown row.place).value)) }
         ensures fault { IfErr result (GaveAny D.gave disk.now) }
     {
         let (first, second) = key_buckets(&key.0, self.region.geometry.buckets());
-        if let Some(found) = find_in(&self.region, &self.tags, disk, first, second, key)? {
+        if let Some(found) = find_in(
+            &self.region,
+            &self.tags,
+            disk,
+            first,
+            second,
+            key,
+            front,
+        )? {
             return Ok(Some(found));
         }
         if first == second {
             return Ok(None);
         }
-        find_in(&self.region, &self.tags, disk, second, first, key)
+        find_in(
+            &self.region,
+            &self.tags,
+            disk,
+            second,
+            first,
+            key,
+            front,
+        )
     }
 
     /// The row of a key: its kind and its slot. The head of each slot of the key's buckets with a tag that fits is read, at most
@@ -97,7 +128,101 @@ impl HashStore {
         ensures fault { IfErr result (GaveAny D.gave disk.now) }
     {
         let _region = &self.region; // so each slot has a tag
-        self.look_up(disk, key)
+        let mut head = [0; HEAD_LEN];
+        self.look_up(disk, key, &mut head)
+    }
+
+    /// The row of a key, as `find` tells it, and its value in `out` where it is a put. Where no put is found `out` stays as it was. A
+    /// row of at most 512 bytes is read whole, so that each slot with a tag that fits takes at most one read; of a longer one the head
+    /// is read, and then the value of the put that is found. It takes no memory.
+    ///
+    /// # Errors
+    ///
+    /// The fault of a read. The bytes of `out` are then open.
+    pub fn get<D: Disk>(
+        &self,
+        disk: &D,
+        key: &Key,
+        out: &mut [u8],
+    ) -> Result<Option<Found>, D::Fault>
+        requires out { length out.old ≡ self.now.shape.value_len }
+        requires size { device_size self.now.shape ≤ size (D.content disk.now) }
+        ensures finds { IsTrue (D.content disk.now).honest → IsHashStore (D.content disk.now) self.now
+            → IfOk result (FindsRow (hash_rows self.now.shape self.now.region (D.content disk.now).shown) key.now.0) }
+        ensures place { IfOk result (λ found. IfSome found (λ row. row.place < 4 * self.now.shape.buckets)) }
+        ensures value { IsTrue (D.content disk.now).honest
+            → IfOk result (λ found. IfSome (put_place found) (λ place. out.new ≡ (slot_row self.now.shape self.now.region (D.content disk.now).shown place).value)) }
+        ensures kept { IfOk result (λ found. put_place found ≡ None → out.new ≡ out.old) }
+        ensures fault { IfErr result (GaveAny D.gave disk.now) }
+    {
+        let len = self.region.geometry.row_len();
+        if len <= WHOLE_LEN {
+            let mut row = [0; WHOLE_LEN];
+            self.get_whole(disk, key, &mut row[..len], out)
+        } else {
+            self.get_by_parts(disk, key, out)
+        }
+    }
+
+    // As `get`, by reads of whole rows into a buffer of their length.
+    fn get_whole<D: Disk>(
+        &self,
+        disk: &D,
+        key: &Key,
+        row: &mut [u8],
+        out: &mut [u8],
+    ) -> Result<Option<Found>, D::Fault>
+        requires row { length row.old ≡ row_len self.now.shape }
+        requires out { length out.old ≡ self.now.shape.value_len }
+        requires size { device_size self.now.shape ≤ size (D.content disk.now) }
+        ensures finds { IsTrue (D.content disk.now).honest → IsHashStore (D.content disk.now) self.now
+            → IfOk result (FindsRow (hash_rows self.now.shape self.now.region (D.content disk.now).shown) key.now.0) }
+        ensures place { IfOk result (λ found. IfSome found (λ row. row.place < 4 * self.now.shape.buckets)) }
+        ensures value { IsTrue (D.content disk.now).honest
+            → IfOk result (λ found. IfSome (put_place found) (λ place. out.new ≡ (slot_row self.now.shape self.now.region (D.content disk.now).shown place).value)) }
+        ensures kept { IfOk result (λ found. put_place found ≡ None → out.new ≡ out.old) }
+        ensures fault { IfErr result (GaveAny D.gave disk.now) }
+    {
+        let _region = &self.region; // so each slot has a tag
+        let Some(found) = self.look_up(disk, key, row)? else {
+            return Ok(None);
+        };
+        match found.kind {
+            Kind::Put => {
+                out.copy_from_slice(&row[HEAD_LEN..]);
+                Ok(Some(found))
+            }
+            Kind::Delete => Ok(Some(found)),
+        }
+    }
+
+    // As `get`, by reads of heads and one of the value.
+    fn get_by_parts<D: Disk>(
+        &self,
+        disk: &D,
+        key: &Key,
+        out: &mut [u8],
+    ) -> Result<Option<Found>, D::Fault>
+        requires out { length out.old ≡ self.now.shape.value_len }
+        requires size { device_size self.now.shape ≤ size (D.content disk.now) }
+        ensures finds { IsTrue (D.content disk.now).honest → IsHashStore (D.content disk.now) self.now
+            → IfOk result (FindsRow (hash_rows self.now.shape self.now.region (D.content disk.now).shown) key.now.0) }
+        ensures place { IfOk result (λ found. IfSome found (λ row. row.place < 4 * self.now.shape.buckets)) }
+        ensures value { IsTrue (D.content disk.now).honest
+            → IfOk result (λ found. IfSome (put_place found) (λ place. out.new ≡ (slot_row self.now.shape self.now.region (D.content disk.now).shown place).value)) }
+        ensures kept { IfOk result (λ found. put_place found ≡ None → out.new ≡ out.old) }
+        ensures fault { IfErr result (GaveAny D.gave disk.now) }
+    {
+        let Some(found) = self.find(disk, key)? else {
+            return Ok(None);
+        };
+        match found.kind {
+            Kind::Put => {
+                self.read_value(disk, found.place, out)?;
+                Ok(Some(found))
+            }
+            Kind::Delete => Ok(Some(found)),
+        }
     }
 
     /// Reads the value of the row in a slot.

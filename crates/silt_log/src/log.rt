@@ -1,5 +1,5 @@
 // A log region as the store holds it in memory, and the calls that change it.
-ghost use Rattle.std.specs.Prelude.{vec_len, ◌≡◌, ◌==◌, ◌+◌, ◌-◌, ◌<◌, ◌≤◌, ◌++◌, length, replicate, nat_lt, false, IsTrue, IfOk, IfErr, OnOk, OnErr, MatchResult};
+ghost use Rattle.std.specs.Prelude.{vec_len, ◌≡◌, ◌==◌, ◌+◌, ◌-◌, ◌<◌, ◌≤◌, ◌++◌, length, drop, replicate, nat_lt, false, IsTrue, IfOk, IfErr, OnOk, OnErr, MatchResult};
 ghost use Rattle.silt_device.specs.Disk.{ChangesWithin, CountsFault, GaveAny, LeavesOnly, Rests, Writes, size};
 ghost use Rattle.silt_device.specs.Layout.{device_size, gates_at, row_len};
 ghost use Rattle.silt_frame.specs.Gate.{gate_open};
@@ -357,6 +357,34 @@ impl Log {
     {
         let mut head = [0; HEAD_LEN];
         disk.read(self.body_at(place), &mut head)?;
+        Ok(head_of(&head))
+    }
+
+    /// Reads the first bytes of the body of this number, behind whatever gate, as many as `out` has: the kind and the key that stand
+    /// there, `None` for a kind byte other than 1 and 2. Where `out` has room for the whole body, the value stands behind them.
+    ///
+    /// # Errors
+    ///
+    /// The fault of the read. The bytes of `out` are then open.
+    pub fn read_front<D: Disk>(
+        &self,
+        disk: &D,
+        place: u32,
+        out: &mut [u8],
+    ) -> Result<Option<(Kind, Key)>, D::Fault>
+        requires place { place < self.now.shape.log_capacity }
+        requires least { 21 ≤ length out.old }
+        requires most { length out.old ≤ row_len self.now.shape }
+        requires size { device_size self.now.shape ≤ size (D.content disk.now) }
+        ensures head { IsTrue (D.content disk.now).honest → IfOk result (λ head. head ≡ row_head (row_at self.now.shape self.now.region (D.content disk.now).shown place)) }
+        ensures value { IsTrue (D.content disk.now).honest → length out.old ≡ row_len self.now.shape
+            → OnOk result (drop 21 out.new ≡ (row_at self.now.shape self.now.region (D.content disk.now).shown place).value) }
+        ensures fault { IfErr result (GaveAny D.gave disk.now) }
+    {
+        let at = self.body_at(place);
+        disk.read(at, out)?;
+        let mut head = [0; HEAD_LEN];
+        head.copy_from_slice(&out[..HEAD_LEN]);
         Ok(head_of(&head))
     }
 

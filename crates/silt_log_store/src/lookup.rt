@@ -1,12 +1,12 @@
 // Look-ups of a key among the candidates of its two buckets.
-ghost use Rattle.std.specs.Prelude.{◌≡◌, ◌<◌, ◌≤◌, true, IsTrue, IfOk, IfErr, IfSome, All, Contains, option_map};
+ghost use Rattle.std.specs.Prelude.{◌≡◌, ◌<◌, ◌≤◌, true, IsTrue, IfOk, IfErr, IfSome, OnOk, All, Contains, drop, length, option_map};
 ghost use Rattle.std.specs.List.{list_all};
 ghost use Rattle.silt_cuckoo.specs.Index.{candidate_of_key};
 ghost use Rattle.silt_cuckoo.specs.Lookup.{candidates_of};
 ghost use Rattle.silt_cuckoo.specs.Keys.{first_bucket, second_bucket};
 ghost use Rattle.silt_cuckoo.specs.Slots.{PlacesBelow, bucket_count, place_at};
 ghost use Rattle.silt_device.specs.Disk.{GaveAny, size};
-ghost use Rattle.silt_device.specs.Layout.{device_size};
+ghost use Rattle.silt_device.specs.Layout.{device_size, row_len};
 ghost use Rattle.silt_log.specs.Rows.{row_at};
 ghost use Rattle.silt_frame.specs.Rows.{has_known_kind};
 ghost use Rattle.silt_log.specs.State.{all_rows};
@@ -42,34 +42,50 @@ fn kind_with_key(head: Option<(Kind, Key)>, key: &Key) -> Option<Kind>
     if its_key == *key { Some(kind) } else { None }
 }
 
-// Reads the head of the row at a place: its kind, where that is known and the row has the key.
-fn kind_at<D: Disk>(log: &Log, disk: &D, place: u32, key: &Key) -> Result<Option<Kind>, D::Fault>
+// Reads the front of the row at a place, as many bytes as `front` has: the row's kind, where that is known and the row has the key.
+fn kind_at<D: Disk>(
+    log: &Log,
+    disk: &D,
+    place: u32,
+    key: &Key,
+    front: &mut [u8],
+) -> Result<Option<Kind>, D::Fault>
     requires place { place < log.now.shape.log_capacity }
+    requires least { 21 ≤ length front.old }
+    requires most { length front.old ≤ row_len log.now.shape }
     requires size { device_size log.now.shape ≤ size (D.content disk.now) }
     ensures kind { IsTrue (D.content disk.now).honest → IfOk result (λ kind. kind ≡ kind_for (row_at log.now.shape log.now.region (D.content disk.now).shown place) key.now.0) }
+    ensures value { IsTrue (D.content disk.now).honest → length front.old ≡ row_len log.now.shape
+        → OnOk result (drop 21 front.new ≡ (row_at log.now.shape log.now.region (D.content disk.now).shown place).value) }
     ensures fault { IfErr result (GaveAny D.gave disk.now) }
 {
-    let head = log.read_head(disk, place)?;
+    let head = log.read_front(disk, place, front)?;
     Ok(kind_with_key(head, key))
 }
 
-// The first of some candidates whose row is of a known kind and has the key: one head is read for each up to it.
+// The first of some candidates whose row is of a known kind and has the key: the front of the row is read for each up to it, one
+// after the other into the same bytes.
 fn first_match<D: Disk>(
     log: &Log,
     disk: &D,
     candidates: &[Candidate],
     key: &Key,
+    front: &mut [u8],
 ) -> Result<Option<Match>, D::Fault>
     requires size { device_size log.now.shape ≤ size (D.content disk.now) }
     requires places { All (λ c. c.place < log.now.used) candidates.now }
     requires room { log.now.used ≤ log.now.shape.log_capacity }
+    requires least { 21 ≤ length front.old }
+    requires most { length front.old ≤ row_len log.now.shape }
     ensures among { IfOk result (λ found. IfSome found (λ m. Contains candidates.now (candidate_of m))) }
     ensures first { IsTrue (D.content disk.now).honest → list_all has_known_kind (all_rows (D.content disk.now) log.now) ≡ true
         → IfOk result (IsFirstMatch (all_rows (D.content disk.now) log.now) candidates.now key.now.0) }
+    ensures value { IsTrue (D.content disk.now).honest → length front.old ≡ row_len log.now.shape
+        → IfOk result (λ found. IfSome found (λ m. drop 21 front.new ≡ (row_at log.now.shape log.now.region (D.content disk.now).shown m.found.place).value)) }
     ensures fault { IfErr result (GaveAny D.gave disk.now) }
 {
     for candidate in candidates {
-        if let Some(kind) = kind_at(log, disk, candidate.place, key)? {
+        if let Some(kind) = kind_at(log, disk, candidate.place, key, front)? {
             return Ok(Some(Match {
                 slot: candidate.slot,
                 found: Found {
@@ -82,23 +98,29 @@ fn first_match<D: Disk>(
     Ok(None)
 }
 
-// The row of a key in a log with this table of its keys: at most one head is read for each candidate of the key's buckets.
+// The row of a key in a log with this table of its keys: for each candidate of the key's buckets at most the front of its row is
+// read, as many bytes as `front` has. Where that is room for a whole row, the value of the row that has the key then stands in it.
 pub fn look_up<D: Disk>(
     log: &Log,
     table: &Table,
     disk: &D,
     key: &Key,
+    front: &mut [u8],
 ) -> Result<Option<Match>, D::Fault>
     requires size { device_size log.now.shape ≤ size (D.content disk.now) }
     requires below { PlacesBelow table.now log.now.used }
     requires room { log.now.used ≤ log.now.shape.log_capacity }
+    requires least { 21 ≤ length front.old }
+    requires most { length front.old ≤ row_len log.now.shape }
     ensures standing { IfOk result (λ found. IfSome found (λ m. place_at table.now m.slot ≡ Some m.found.place)) }
     ensures first { IsTrue (D.content disk.now).honest → list_all has_known_kind (all_rows (D.content disk.now) log.now) ≡ true
         → IfOk result (IsFirstMatch (all_rows (D.content disk.now) log.now) (candidates_of table.now (first_bucket (bucket_count table.now) key.now.0)
         (second_bucket (bucket_count table.now) key.now.0)) key.now.0) }
+    ensures value { IsTrue (D.content disk.now).honest → length front.old ≡ row_len log.now.shape
+        → IfOk result (λ found. IfSome found (λ m. drop 21 front.new ≡ (row_at log.now.shape log.now.region (D.content disk.now).shown m.found.place).value)) }
     ensures fault { IfErr result (GaveAny D.gave disk.now) }
 {
     let (first, second) = key_buckets(&key.0, table.bucket_count());
     let candidates = table.candidates(first, second);
-    first_match(log, disk, candidates.as_slice(), key)
+    first_match(log, disk, candidates.as_slice(), key, front)
 }

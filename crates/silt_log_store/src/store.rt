@@ -19,10 +19,13 @@ use crate::placement::{Placing, has_place, place_key};
 use crate::rebuild::{RebuildError, index_rows};
 use silt_cuckoo::Table;
 use silt_device::{Disk, Geometry};
-use silt_frame::{Key, Kind};
+use silt_frame::{HEAD_LEN, Key, Kind};
 use silt_log::Log;
 use std::alloc::{AllocError, Global};
 use std::marker::Model;
+
+/// How many bytes a row has at most that is read whole for its value.
+const WHOLE_LEN: usize = 512;
 
 /// A key that was found: the kind of its last row, and the row's place.
 #[derive(Clone, Copy, Debug, PartialEq, Eq)]
@@ -56,7 +59,7 @@ impl LogStore {
     ghost use Rattle.silt_log.specs.State.{InBounds};
     ghost use Rattle.silt_log_store.specs.State.{LogStoreState, IsHeldStore, IsIndexed, IsLogStore, IsFrozenStore};
     ghost use Rattle.silt_frame.specs.Rows.{keys_of};
-    ghost use Rattle.silt_log_store.specs.LastRow.{FindsLast};
+    ghost use Rattle.silt_log_store.specs.LastRow.{FindsLast, put_place};
     ghost use Rattle.silt_log_store.specs.Calls.{IsPlacingFor, EmptiesStore, TakesRow, KeepsStore, OpensStore, OpensSomeOfStore, SealsStore};
     ghost use Rattle.silt_log_store.specs.Rebuild.{IsRebuilt, IsFirstDamaged, IsFirstCrowded, IsRefusedRebuild};
 
@@ -246,9 +249,100 @@ impl LogStore {
         ensures bounds { InBounds self.now.log }
         ensures fault { IfErr result (GaveAny D.gave disk.now) }
     {
-        match look_up(&self.log, &self.table, disk, key)? {
+        let mut head = [0; HEAD_LEN];
+        match look_up(&self.log, &self.table, disk, key, &mut head)? {
             Some(row) => Ok(Some(row.found)),
             None => Ok(None),
+        }
+    }
+
+    /// The last row of a key, as `find` tells it, and its value in `out` where it is a put. Where no put is found `out` stays as it
+    /// was. A row of at most 512 bytes is read whole, so that each candidate takes at most one read; of a longer one the head is read,
+    /// and then the value of the put that is found. It takes no memory.
+    ///
+    /// # Errors
+    ///
+    /// The fault of a read. The bytes of `out` are then open.
+    pub fn get<D: Disk>(
+        &self,
+        disk: &D,
+        key: &Key,
+        out: &mut [u8],
+    ) -> Result<Option<Found>, D::Fault>
+        requires out { length out.old ≡ self.now.log.shape.value_len }
+        requires size { device_size self.now.log.shape ≤ size (D.content disk.now) }
+        ensures last { IsTrue (D.content disk.now).honest → IsIndexed (D.content disk.now) self.now → IfOk result (FindsLast (all_rows (D.content disk.now) self.now.log) key.now.0) }
+        ensures place { IfOk result (λ found. IfSome found (λ row. row.place < self.now.log.used)) }
+        ensures value { IsTrue (D.content disk.now).honest
+            → IfOk result (λ found. IfSome (put_place found) (λ place. out.new ≡ (row_at self.now.log.shape self.now.log.region (D.content disk.now).shown place).value)) }
+        ensures kept { IfOk result (λ found. put_place found ≡ None → out.new ≡ out.old) }
+        ensures bounds { InBounds self.now.log }
+        ensures fault { IfErr result (GaveAny D.gave disk.now) }
+    {
+        let len = self.log.geometry().row_len();
+        if len <= WHOLE_LEN {
+            let mut row = [0; WHOLE_LEN];
+            self.get_whole(disk, key, &mut row[..len], out)
+        } else {
+            self.get_by_parts(disk, key, out)
+        }
+    }
+
+    // As `get`, by reads of whole rows into a buffer of their length.
+    fn get_whole<D: Disk>(
+        &self,
+        disk: &D,
+        key: &Key,
+        row: &mut [u8],
+        out: &mut [u8],
+    ) -> Result<Option<Found>, D::Fault>
+        requires row { length row.old ≡ row_len self.now.log.shape }
+        requires out { length out.old ≡ self.now.log.shape.value_len }
+        requires size { device_size self.now.log.shape ≤ size (D.content disk.now) }
+        ensures last { IsTrue (D.content disk.now).honest → IsIndexed (D.content disk.now) self.now → IfOk result (FindsLast (all_rows (D.content disk.now) self.now.log) key.now.0) }
+        ensures place { IfOk result (λ found. IfSome found (λ row. row.place < self.now.log.used)) }
+        ensures value { IsTrue (D.content disk.now).honest
+            → IfOk result (λ found. IfSome (put_place found) (λ place. out.new ≡ (row_at self.now.log.shape self.now.log.region (D.content disk.now).shown place).value)) }
+        ensures kept { IfOk result (λ found. put_place found ≡ None → out.new ≡ out.old) }
+        ensures fault { IfErr result (GaveAny D.gave disk.now) }
+    {
+        let Some(its_row) = look_up(&self.log, &self.table, disk, key, row)? else {
+            return Ok(None);
+        };
+        match its_row.found.kind {
+            Kind::Put => {
+                out.copy_from_slice(&row[HEAD_LEN..]);
+                Ok(Some(its_row.found))
+            }
+            Kind::Delete => Ok(Some(its_row.found)),
+        }
+    }
+
+    // As `get`, by reads of heads and one of the value.
+    fn get_by_parts<D: Disk>(
+        &self,
+        disk: &D,
+        key: &Key,
+        out: &mut [u8],
+    ) -> Result<Option<Found>, D::Fault>
+        requires out { length out.old ≡ self.now.log.shape.value_len }
+        requires size { device_size self.now.log.shape ≤ size (D.content disk.now) }
+        ensures last { IsTrue (D.content disk.now).honest → IsIndexed (D.content disk.now) self.now → IfOk result (FindsLast (all_rows (D.content disk.now) self.now.log) key.now.0) }
+        ensures place { IfOk result (λ found. IfSome found (λ row. row.place < self.now.log.used)) }
+        ensures value { IsTrue (D.content disk.now).honest
+            → IfOk result (λ found. IfSome (put_place found) (λ place. out.new ≡ (row_at self.now.log.shape self.now.log.region (D.content disk.now).shown place).value)) }
+        ensures kept { IfOk result (λ found. put_place found ≡ None → out.new ≡ out.old) }
+        ensures fault { IfErr result (GaveAny D.gave disk.now) }
+    {
+        let Some(found) = self.find(disk, key)? else {
+            return Ok(None);
+        };
+        match found.kind {
+            Kind::Put => {
+                self.read_value(disk, found.place, out)?;
+                Ok(Some(found))
+            }
+            Kind::Delete => Ok(Some(found)),
         }
     }
 
@@ -287,7 +381,8 @@ impl LogStore {
         if self.log.is_full() {
             return Ok(None);
         }
-        let standing = slot_of(look_up(&self.log, &self.table, disk, key)?);
+        let mut head = [0; HEAD_LEN];
+        let standing = slot_of(look_up(&self.log, &self.table, disk, key, &mut head)?);
         if !has_place(&self.table, key, standing) {
             return Ok(None);
         }

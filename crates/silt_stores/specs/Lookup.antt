@@ -1,5 +1,5 @@
 -- Where the rows of the stores stand, and what lookups answer.
-use Rattle.std.specs.Prelude.{◌≡◌, ◌<◌, ◌*◌, ℕ, false, if◌then◌else◌, IsTrue, List, [], length, get_or, Option, Some, None}
+use Rattle.std.specs.Prelude.{◌≡◌, ◌<◌, ◌*◌, ℕ, false, if◌then◌else◌, IsTrue, List, [], length, get_or, Option, Some, None, IfSome}
 use Rattle.std.specs.Option.{option_and_then, option_map}
 use Rattle.std.specs.BTreeMap.{BTreeMap}
 use Rattle.std.specs.BTreeMap as tree
@@ -102,3 +102,7 @@ AreEntriesOf map entries = (key : Key) → tree.get key_cmp entries key ≡ get 
 abbrev pub EntriesErrorCause : {F : Type 0} → (F → Type 0) → EntriesError F → Type 0
 EntriesErrorCause WasGiven (Device fault) = WasGiven fault
 EntriesErrorCause WasGiven NoMemory = Unit {0}
+
+-- where a put was found in a store, this is the value of its row
+abbrev pub IsItsValue : Content → StoresState → Holder → Found → List ℕ → Type 0
+IsItsValue content s holder found value = IfSome (located holder found) (λ location. value ≡ value_at content s location)

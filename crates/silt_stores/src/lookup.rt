@@ -1,10 +1,14 @@
 // The lookup of a key: the active log, then the frozen ones, then the hash stores, then the sorted store.
-ghost use Rattle.std.specs.Prelude.{◌≡◌, ◌<◌, ◌≤◌, ◌*◌, ℕ, length, true, false, Ok, IsTrue, IfOk, IfErr, IfSome, OnOk};
+ghost use Rattle.std.specs.Prelude.{◌≡◌, ◌<◌, ◌≤◌, ◌*◌, ℕ, None, option_map, length, true, false, Ok, IsTrue, IfOk, IfErr, IfSome, OnOk};
 ghost use Rattle.silt_device.specs.Disk.{GaveAny, size};
 ghost use Rattle.silt_device.specs.Layout.{device_size};
 ghost use Rattle.silt_log.specs.Rows.{row_at};
+ghost use Rattle.silt_log_store.specs.LastRow.{put_place};
+ghost use Rattle.silt_log_store.specs.declared.store.Found.{Found};
 ghost use Rattle.silt_stores.specs.Calls.{Finds, FindsNone};
-ghost use Rattle.silt_stores.specs.Lookup.{FindsFrozen, FindsHashed, FindsNewest, IsLocation, IsPlace, Locates, frozen_at, value_at};
+ghost use Rattle.silt_stores.specs.declared.location.Holder.{Holder as HolderOf};
+ghost use Rattle.silt_stores.specs.declared.location.Holder.TheVariants.{Frozen, Hashed};
+ghost use Rattle.silt_stores.specs.Lookup.{FindsFrozen, FindsHashed, FindsNewest, IsItsValue, IsLocation, IsPlace, Locates, frozen_at, value_at};
 ghost use Rattle.silt_stores.specs.Standing.{Stands};
 
 use crate::location::{Holder, Location, located};
@@ -131,8 +135,80 @@ impl Stores {
         }
     }
 
-    /// Writes a key's value over `out`, and answers whether there is one. Where there is none `out` stays as it was. An
-    /// entry of the sorted store is read whole, so that its key and its value take one read. It takes no memory.
+    // As `find_frozen`, and where the row is a put its value stands in `out`.
+    fn get_frozen<D: Disk>(
+        &self,
+        disk: &D,
+        key: &Key,
+        out: &mut [u8],
+    ) -> Result<Option<(usize, Found)>, D::Fault>
+        requires out { length out.old ≡ self.now.manifest.shape.value_len }
+        requires size { device_size self.now.manifest.shape ≤ size (D.content disk.now) }
+        ensures found { Stands (D.content disk.now) self.now → IsTrue (D.content disk.now).honest → IfOk result (FindsFrozen (D.content disk.now) self.now key.now.0) }
+        ensures there { IfOk result (λ found. IfSome found (λ row. (row.0 < length self.now.frozen) × (row.1.place < (frozen_at self.now row.0).log.used))) }
+        ensures value { IsTrue (D.content disk.now).honest → IfOk result (λ found. IfSome found (λ row. IsItsValue (D.content disk.now) self.now (Frozen row.0) row.1 out.new)) }
+        ensures kept { IfOk result (λ found. put_place (option_map (λ (row : ℕ × Found). row.1) found) ≡ None → out.new ≡ out.old) }
+        ensures fault { IfErr result (GaveAny D.gave disk.now) }
+    {
+        for (index, log) in self.frozen.iter().enumerate() {
+            if let Some(found) = log.get(disk, key, out)? {
+                return Ok(Some((index, found)));
+            }
+        }
+        Ok(None)
+    }
+
+    // As `find_hashed`, and where the row is a put its value stands in `out`.
+    fn get_hashed<D: Disk>(
+        &self,
+        disk: &D,
+        key: &Key,
+        out: &mut [u8],
+    ) -> Result<Option<(usize, Found)>, D::Fault>
+        requires out { length out.old ≡ self.now.manifest.shape.value_len }
+        requires size { device_size self.now.manifest.shape ≤ size (D.content disk.now) }
+        ensures found { Stands (D.content disk.now) self.now → IsTrue (D.content disk.now).honest → IfOk result (FindsHashed (D.content disk.now) self.now key.now.0) }
+        ensures there { IfOk result (λ found. IfSome found (λ row. (row.0 < length self.now.hashes) × (row.1.place < 4 * self.now.manifest.shape.buckets))) }
+        ensures value { IsTrue (D.content disk.now).honest → IfOk result (λ found. IfSome found (λ row. IsItsValue (D.content disk.now) self.now (Hashed row.0) row.1 out.new)) }
+        ensures kept { IfOk result (λ found. put_place (option_map (λ (row : ℕ × Found). row.1) found) ≡ None → out.new ≡ out.old) }
+        ensures fault { IfErr result (GaveAny D.gave disk.now) }
+    {
+        for (index, store) in self.hashes.iter().enumerate() {
+            if let Some(found) = store.get(disk, key, out)? {
+                return Ok(Some((index, found)));
+            }
+        }
+        Ok(None)
+    }
+
+    // As `find_newest`, and where the row is a put its value stands in `out`. Where no put is found `out` stays as it was.
+    fn get_newest<D: Disk>(
+        &self,
+        disk: &D,
+        key: &Key,
+        out: &mut [u8],
+    ) -> Result<Option<(Holder, Found)>, D::Fault>
+        requires out { length out.old ≡ self.now.manifest.shape.value_len }
+        requires size { device_size self.now.manifest.shape ≤ size (D.content disk.now) }
+        ensures found { Stands (D.content disk.now) self.now → IsTrue (D.content disk.now).honest → IfOk result (FindsNewest (D.content disk.now) self.now key.now.0) }
+        ensures value { IsTrue (D.content disk.now).honest → IfOk result (λ found. IfSome found (λ row. IsItsValue (D.content disk.now) self.now row.0 row.1 out.new)) }
+        ensures kept { IfOk result (λ found. put_place (option_map (λ (row : HolderOf × Found). row.1) found) ≡ None → out.new ≡ out.old) }
+        ensures fault { IfErr result (GaveAny D.gave disk.now) }
+    {
+        if let Some(found) = self.active.get(disk, key, out)? {
+            return Ok(Some((Holder::Active, found)));
+        }
+        if let Some((index, found)) = self.get_frozen(disk, key, out)? {
+            return Ok(Some((Holder::Frozen(index), found)));
+        }
+        let Some((number, found)) = self.get_hashed(disk, key, out)? else {
+            return Ok(None);
+        };
+        Ok(Some((Holder::Hashed(number), found)))
+    }
+
+    /// Writes a key's value over `out`, and answers whether there is one. Where there is none `out` stays as it was. A row or an
+    /// entry of at most 512 bytes is read whole, so that its key and its value take one read. It takes no memory.
     ///
     /// # Errors
     ///
@@ -145,14 +221,8 @@ impl Stores {
         ensures absent { result ≡ Ok false → out.new ≡ out.old }
         ensures fault { IfErr result (GaveAny D.gave disk.now) }
     {
-        match self.find_newest(disk, key)? {
-            Some((holder, found)) => match located(holder, found) {
-                Some(location) => {
-                    self.read_value(disk, location, out)?;
-                    Ok(true)
-                }
-                None => Ok(false),
-            },
+        match self.get_newest(disk, key, out)? {
+            Some((_, found)) => Ok(found.kind.is_put()),
             None => self.sorted.get(disk, key, out),
         }
     }
