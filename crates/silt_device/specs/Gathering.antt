@@ -1,11 +1,11 @@
 -- What a disk that gathers adjacent writes stands for.
-use Rattle.std.specs.Prelude.{◌≡◌, ℕ, ◌+◌, ◌-◌, ◌≤◌, ◌==◌, ◌&&◌, ◌||◌, leb, Bool, true, false, cond, List, [], ◌++◌, length, get_or, map, refl}
+use Rattle.std.specs.Prelude.{◌≡◌, ℕ, ◌+◌, ◌-◌, ◌≤◌, ◌<◌, ◌==◌, ◌&&◌, ◌||◌, leb, Bool, true, false, cond, List, [], ◌++◌, length, get_or, map, refl}
 use Rattle.std.specs.List.{range_with_len}
 use Rattle.std.proofs.Common.{sym, ◌∙◌, inl, inr, arith}
-use Rattle.std.proofs.lemmas.Bool.{cases_lt, cond-false}
+use Rattle.std.proofs.lemmas.Bool.{cases_lt, cond-true, cond-false}
 use Rattle.std.proofs.lemmas.List.{get_or_past}
 use Rattle.std.proofs.lemmas.List.FromFn.{length-map-range_with_len, get_or-map-range_with_len}
-use Rattle.silt_device.specs.Disk.{Content, GaveAny, within}
+use Rattle.silt_device.specs.Disk.{Content, GaveAny, size, within}
 use Rattle.silt_device.specs.declared.disk.Call.{Call}
 use Rattle.silt_device.specs.declared.gathering.GatherFault.{GatherFault}
 
@@ -20,6 +20,10 @@ pub record GatheringState (D : Type 0) : Type 0 where
   pub inner : D
   pub gathered : GatheredBytes
   pub failures : ℕ
+
+-- the bytes that wait have their places on the inner disk
+abbrev pub HasPlaces : {D : Type 0} → (D → Content) → D → GatheredBytes → Type 0
+HasPlaces content inner g = g.at + length g.bytes ≤ size (content inner)
 
 -- whether this many bytes from this place on continue those that wait, and find room
 abbrev pub takes : GatheredBytes → ℕ → ℕ → Bool
@@ -57,6 +61,11 @@ byte_elsewhere g image place none = elim (cases_lt place (length image)) [
   | inl inside ↦ get_or-map-range_with_len (byte_over g image) 0 (length image) place place 0 inside (omega arith) ∙ cond-false _ _ _ none
   | inr past ↦ get_or_past _ place 0 (omega (arith, length-image_over g image)) ∙ sym (get_or_past image place 0 past)
 ]
+
+-- a byte that waits stands in its place
+pub byte_there : (g : GatheredBytes) (image : List ℕ) (place : ℕ) → waits g place ≡ true → place < length image → get_or (image_over g image) place 0 ≡ get_or g.bytes (place - g.at) 0
+unfolding image_over
+byte_there g image place there inside = get_or-map-range_with_len (byte_over g image) 0 (length image) place place 0 inside (omega arith) ∙ cond-true _ _ _ there
 
 -- neither of two facts of which none holds
 pub neither : (a b : Bool) → (a || b) ≡ false → (a ≡ false) × (b ≡ false)

@@ -46,15 +46,13 @@ pub struct GatheringDisk<D: Disk> {
 }
 
 impl<D: Disk> Model for GatheringDisk<D> {
-    ghost use Rattle.std.specs.Prelude.{◌+◌, ◌≤◌, length};
-    ghost use Rattle.silt_device.specs.Disk.{size};
-    ghost use Rattle.silt_device.specs.Gathering.{GatheringState};
+    ghost use Rattle.silt_device.specs.Gathering.{GatheringState, HasPlaces};
 
     ghost Value = { GatheringState D };
 
     ghost view = { λ a. record { inner = a.inner; gathered = a.gathered; failures = a.failures } };
 
-    ghost invariant = { λ a. a.gathered.at + length a.gathered.bytes ≤ size (D.content a.inner) };
+    ghost invariant = { λ a. HasPlaces D.content a.inner a.gathered };
 }
 
 impl<D: Disk> GatheringDisk<D> {
@@ -117,12 +115,13 @@ impl<D: Disk> GatheringDisk<D> {
         self.fault(call, at, count, inner)
     }
 
+    #[tactic(auto, using(crate::proofs::Waiting::written_out, crate::proofs::Waiting::not_written_out))]
     // Writes what is gathered to the inner disk. Where that fails it stays gathered.
     fn write_out(&mut self) -> Result<(), D::Fault>
         ensures size { size (D.content self.new.inner) ≡ size (D.content self.old.inner) }
         ensures stays { Stays (gathering_content D.content self.old) (gathering_content D.content self.new) }
         ensures failures { self.new.failures ≡ self.old.failures }
-        ensures empty { OnOk result (self.new.gathered.bytes ≡ []) }
+        ensures empty { OnOk result (length self.new.gathered.bytes ≡ 0) }
         ensures gave { IfErr result (λ fault. GaveAny D.gave self.new.inner fault) }
     {
         if self.gathered.is_empty() {
