@@ -2,10 +2,10 @@
 use Rattle.std.proofs.Common.{◌≡◌, ℕ, ◌+◌, ◌-◌, ◌≤◌, ◌<◌, ◌||◌, Bool, true, false, cond, List, [], ◌++◌, length, get_or, slice_range, IsTrue, refl, sym, ap, ◌∙◌, subst, inl, inr, arith}
 use Rattle.std.proofs.lemmas.List.{ext_get_or, get_or_past, get_or_append_left, get_or-append_right, length-append}
 use Rattle.std.proofs.lemmas.List.Edits.{length-between, get_or-between}
-use Rattle.std.proofs.lemmas.Bool.{cases_lt, cases_Bool}
+use Rattle.std.proofs.lemmas.Bool.{cases_lt, cases_Bool, cond-true, cond-false}
 use Rattle.std.proofs.lemmas.Bool.Decides.{nat_tests}
 use Rattle.silt_device.specs.Disk.{Content, Torn, Left, Tears, Writes, Settles, Stays, Rests, Restarts, size, splice, within}
-use Rattle.silt_device.specs.Gathering.{GatheredBytes, takes, grown, emptied, waits, image_over, length-image_over, byte_elsewhere, byte_there, content_over, neither}
+use Rattle.silt_device.specs.Gathering.{GatheredBytes, takes, grown, emptied, waits, image_over, length-image_over, byte_elsewhere, byte_there, content_over, neither, holds, LaidOver}
 use Rattle.silt_device.proofs.Images.{torn_splice, splice_byte, length-splice}
 
 -- ---- one call after another
@@ -292,3 +292,77 @@ grown_writes g from bytes inner room fits = record {
   honest = refl;
   shown = λ honest. written_grown g from bytes inner.shown room fits;
 }
+
+-- ---- reads
+
+-- the bytes of an image, with those that wait in their places, are the bytes of the image with those that wait
+pub laid_shows : (g : GatheredBytes) (at : ℕ) (image old new : List ℕ) → LaidOver g at old new → at + length old ≤ length image → old ≡ slice_range image at (at + length old) → new ≡ slice_range (image_over g image) at (at + length old)
+laid_shows g at image old new laid fits is =
+    let in_over : at + length old ≤ length (image_over g image) = omega (arith, length-image_over g image) in
+    ext_get_or 0 _ _ (laid.size ∙ sym (omega (arith, length-between (image_over g image) at (at + length old) in_over))) (λ place inside.
+    let near : place < length old = omega (arith, laid.size) in
+    let ahead : at + place < at + length old = omega arith in
+    let shown = get_or-between (image_over g image) at (at + length old) place 0 ahead in
+    laid.byte place near ∙ sym (shown ∙ elim (cases_Bool (waits g (at + place))) [
+      | inl there ↦ byte_there g image (at + place) there (omega arith) ∙ sym (cond-true _ _ _ there)
+      | inr elsewhere ↦
+          byte_elsewhere g image (at + place) elsewhere
+          ∙ sym (cond-false _ _ _ elsewhere ∙ ap (λ (l : List ℕ). get_or l place 0) is ∙ get_or-between image at (at + length old) place 0 ahead)
+    ]))
+
+-- whatever the image, where all of them wait
+pub laid_whole : (g : GatheredBytes) (at : ℕ) (image old new : List ℕ) → LaidOver g at old new → at + length old ≤ length image → IsTrue (holds g at (length old)) → new ≡ slice_range (image_over g image) at (at + length old)
+laid_whole g at image old new laid fits all =
+    let in_over : at + length old ≤ length (image_over g image) = omega (arith, length-image_over g image) in
+    ext_get_or 0 _ _ (laid.size ∙ sym (omega (arith, length-between (image_over g image) at (at + length old) in_over))) (λ place inside.
+    let near : place < length old = omega (arith, laid.size) in
+    let there : waits g (at + place) ≡ true = grind (arith, nat_tests) in
+    laid.byte place near ∙ cond-true _ _ _ there
+    ∙ sym (get_or-between (image_over g image) at (at + length old) place 0 (omega arith) ∙ byte_there g image (at + place) there (omega arith)))
+
+-- those that wait lie apart from the bytes
+pub laid_nowhere : (g : GatheredBytes) (at : ℕ) (old : List ℕ) → ((place : ℕ) → place < length old → waits g (at + place) ≡ false) → LaidOver g at old old
+laid_nowhere g at old none = record {
+  size = refl;
+  byte = λ place inside. sym (cond-false _ _ _ (none place inside));
+}
+
+-- or some of them stand there
+module _ (g : GatheredBytes) (at start end : ℕ) (old part : List ℕ) (a : g.at ≤ start) (b : at ≤ start) (c : start ≤ end) (d : end ≤ g.at + length g.bytes) (e : end ≤ at + length old)
+    (first : g.at < start → start ≡ at) (last : end < g.at + length g.bytes → end ≡ at + length old) (is : part ≡ slice_range g.bytes (start - g.at) (end - g.at)) where
+  part_size : length part ≡ end - start
+  part_size = ap length is ∙ omega (arith, length-between g.bytes (start - g.at) (end - g.at) (omega arith))
+
+  part_fits : (start - at) + length part ≤ length old
+  part_fits = omega (arith, part_size)
+
+  part_torn : Torn (start - at) (length part) old (splice (start - at) part old)
+  part_torn = torn_splice (start - at) part old part_fits
+
+  none_before : (place : ℕ) → at + place < start → waits g (at + place) ≡ false
+  none_before place low = elim (cases_lt g.at start) [ | inl later ↦ absurd (omega (arith, first later)) | inr is ↦ grind (arith, nat_tests) ]
+
+  none_behind : (place : ℕ) → place < length old → end ≤ at + place → waits g (at + place) ≡ false
+  none_behind place inside behind = elim (cases_lt end (g.at + length g.bytes)) [ | inl earlier ↦ absurd (omega (arith, last earlier)) | inr is ↦ grind (arith, nat_tests) ]
+
+  waits_between : (place : ℕ) → start ≤ at + place → at + place < end → waits g (at + place) ≡ true
+  waits_between place high low = grind (arith, nat_tests)
+
+  pub laid_there : LaidOver g at old (splice (start - at) part old)
+  laid_there = record {
+    size = part_torn.size;
+    byte = λ place inside. elim (cases_lt (at + place) start) [
+      | inl low ↦ part_torn.before place (omega arith) ∙ sym (cond-false _ _ _ (none_before place low))
+      | inr high ↦ elim (cases_lt (at + place) end) [
+        | inl there ↦
+            let same : (start - g.at) + (at + place - start) ≡ at + place - g.at = omega arith in
+            ap (λ (n : ℕ). get_or (splice (start - at) part old) n 0) (omega arith)
+            ∙ splice_byte (start - at) part old (at + place - start) part_fits (omega (arith, part_size))
+            ∙ ap (λ (l : List ℕ). get_or l (at + place - start) 0) is
+            ∙ get_or-between g.bytes (start - g.at) (end - g.at) (at + place - start) 0 (omega arith)
+            ∙ ap (λ (n : ℕ). get_or g.bytes n 0) same
+            ∙ sym (cond-true _ _ _ (waits_between place high there))
+        | inr behind ↦ part_torn.after place (omega (arith, part_size)) ∙ sym (cond-false _ _ _ (none_behind place inside behind))
+      ]
+    ];
+  }

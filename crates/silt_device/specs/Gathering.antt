@@ -93,3 +93,12 @@ gathering_content content disk = content_over disk.gathered (content disk.inner)
 abbrev pub gathering_gave : {D F : Type 0} → (D → F → Call → ℕ → ℕ → Type 0) → GatheringState D → GatherFault F → Call → ℕ → ℕ → Type 0
 gathering_gave {D} gave disk fault call at count =
     (fault.call ≡ call) × (fault.at ≡ at) × (fault.count ≡ count) × (fault.failures ≡ disk.failures) × ((inner : D) × GaveAny gave inner fault.inner)
+
+-- whether all of this many bytes from this place on wait
+abbrev pub holds : GatheredBytes → ℕ → ℕ → Bool
+holds g at count = leb g.at at && leb (at + count) (g.at + length g.bytes)
+
+-- bytes of an image from this place on, with those that wait in their places
+pub record LaidOver (g : GatheredBytes) (at : ℕ) (old new : List ℕ) : Type 0 where
+  pub size : length new ≡ length old
+  pub byte : (place : ℕ) → place < length old → get_or new place 0 ≡ cond (waits g (at + place)) (get_or g.bytes (at + place - g.at) 0) (get_or old place 0)

@@ -1,6 +1,7 @@
 // Adjacent bytes that wait to be written.
 ghost use Rattle.std.specs.Prelude.{◌≡◌, ◌≤◌, ◌<◌, ◌+◌, ◌^◌, ◌==◌, ℕ, List, [], length, slice_range, IsTrue, IfOk};
-ghost use Rattle.silt_device.specs.Gathering.{takes, grown, emptied};
+ghost use Rattle.silt_device.specs.Disk.{splice};
+ghost use Rattle.silt_device.specs.Gathering.{takes, grown, emptied, holds, LaidOver};
 
 use std::alloc::{AllocError, Global};
 use std::marker::Model;
@@ -22,6 +23,14 @@ impl Model for Gathered {
     ghost view = { λ g. record { at = g.at; bytes = take g.count g.bytes.items; room = length g.bytes.items } };
 
     ghost invariant = { λ g. (g.count ≤ length g.bytes.items) × (g.at + g.count < 2 ^ 64) };
+}
+
+// Puts a part into bytes, from this place on.
+fn put(bytes: &mut [u8], from: usize, part: &[u8])
+    requires { from + length part.now ≤ length bytes.old }
+    ensures { bytes.new ≡ splice from part.now bytes.old }
+{
+    bytes[from..from + part.len()].copy_from_slice(part);
 }
 
 impl Gathered {
@@ -71,7 +80,7 @@ impl Gathered {
         ensures { self.new ≡ grown self.old at bytes.now }
     {
         let end = self.count + bytes.len();
-        self.bytes[self.count..end].copy_from_slice(bytes);
+        put(&mut self.bytes, self.count, bytes);
         self.at = at - self.count as u64;
         self.count = end;
     }
@@ -81,5 +90,27 @@ impl Gathered {
         ensures { self.new ≡ emptied self.old }
     {
         self.count = 0;
+    }
+
+    // Whether all of this many bytes from this place on wait.
+    pub(crate) fn holds(&self, at: u64, count: usize) -> bool
+        requires { at + count < 2 ^ 64 }
+        ensures { result ≡ holds self.now at count }
+    {
+        self.at <= at && at + count as u64 <= self.at + self.count as u64
+    }
+
+    // Lays them over bytes from this place on.
+    #[tactic(auto, using(crate::proofs::Waiting::laid_nowhere, crate::proofs::Waiting::laid_there))]
+    pub(crate) fn lay_over(&self, at: u64, out: &mut [u8])
+        requires { at + length out.old < 2 ^ 64 }
+        ensures { LaidOver self.now at out.old out.new }
+    {
+        let start = self.at.max(at);
+        let end = (self.at + self.count as u64).min(at + out.len() as u64);
+        if start < end {
+            let part = &self.bytes()[(start - self.at) as usize..(end - self.at) as usize];
+            put(out, (start - at) as usize, part);
+        }
     }
 }
