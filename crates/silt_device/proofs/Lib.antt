@@ -4,3 +4,4 @@ mod Marked
 pub mod Products
 pub mod Regions
 mod ToCome
+mod Waiting

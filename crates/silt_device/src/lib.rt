@@ -30,6 +30,8 @@
 mod disk;
 mod fault;
 mod file;
+mod gathered;
+mod gathering;
 mod geometry;
 mod life;
 mod memory;
@@ -40,6 +42,7 @@ mod system_disk;
 pub use disk::{Call, Disk, Stoppable, ranges_outside_stay, write_synced};
 pub use fault::FaultDisk;
 pub use file::{FileFault, RandomAccessDisk};
+pub use gathering::{GatherFault, GatheringDisk};
 pub use geometry::{BadGeometry, Geometry, REGIONS_AT, SECTOR, regions_lie_apart, slot_start};
 pub use life::{Fill, Stop};
 pub use memory::{MemDisk, MemFault};

@@ -1,0 +1,368 @@
+-- What calls do to a disk with bytes that wait to be written, by what they do to its inner disk.
+use Rattle.std.proofs.Common.{◌≡◌, ℕ, ◌+◌, ◌-◌, ◌≤◌, ◌<◌, ◌||◌, Bool, true, false, cond, List, [], ◌++◌, length, get_or, slice_range, IsTrue, refl, sym, ap, ◌∙◌, subst, inl, inr, arith}
+use Rattle.std.proofs.lemmas.List.{ext_get_or, get_or_past, get_or_append_left, get_or-append_right, length-append}
+use Rattle.std.proofs.lemmas.List.Edits.{length-between, get_or-between}
+use Rattle.std.proofs.lemmas.Bool.{cases_lt, cases_Bool, cond-true, cond-false}
+use Rattle.std.proofs.lemmas.Bool.Decides.{nat_tests}
+use Rattle.silt_device.specs.Disk.{Content, Torn, Left, Tears, Writes, Settles, Stays, Rests, Restarts, size, splice, within}
+use Rattle.silt_device.specs.Gathering.{GatheredBytes, takes, grown, emptied, waits, image_over, length-image_over, byte_elsewhere, byte_there, content_over, neither, holds, LaidOver}
+use Rattle.silt_device.proofs.Images.{torn_splice, splice_byte, length-splice}
+
+-- ---- one call after another
+
+-- nothing is changed, and then nothing is
+pub stays_twice : (a b c : Content) → Stays a b → Stays b c → Stays a c
+stays_twice a b c first second = record {
+  honest = second.honest ∙ first.honest;
+  shown = λ honest. second.shown (first.honest ∙ honest) ∙ first.shown honest;
+  settled = λ honest. second.settled (first.honest ∙ honest) ∙ first.settled honest;
+  pending = λ honest place. second.pending (first.honest ∙ honest) place ∙ first.pending honest place;
+}
+
+-- and then a write
+pub stays_tears : (at count : ℕ) (a b c : Content) → Stays a b → Tears at count b c → Tears at count a c
+stays_tears at count a b c stays tears = record {
+  honest = tears.honest ∙ stays.honest;
+  shown = λ honest. subst (λ (image : List ℕ). Torn at count image c.shown) (stays.shown honest) (tears.shown (stays.honest ∙ honest));
+  settled = λ honest. tears.settled (stays.honest ∙ honest) ∙ stays.settled honest;
+  pending = λ honest place. tears.pending (stays.honest ∙ honest) place ∙ ap (λ (p : Bool). p || within at count place) (stays.pending honest place);
+}
+
+-- a write that is answered Ok
+pub stays_writes : (at : ℕ) (bytes : List ℕ) (a b c : Content) → Stays a b → Writes at bytes b c → Writes at bytes a c
+stays_writes at bytes a b c stays writes = record {
+  honest = writes.honest ∙ stays.honest;
+  shown = λ honest. writes.shown (stays.honest ∙ honest) ∙ ap (splice at bytes) (stays.shown honest);
+}
+
+-- and then a sync
+pub stays_settles : (a b c : Content) → Stays a b → Settles b c → Settles a c
+stays_settles a b c stays settles = record {
+  honest = settles.honest ∙ stays.honest;
+  shown = λ honest. settles.shown (stays.honest ∙ honest) ∙ stays.shown honest;
+  rests = settles.rests;
+}
+
+-- ---- images with bytes that wait
+
+-- where none waits, none waits anywhere
+none_waits : (g : GatheredBytes) (place : ℕ) → length g.bytes ≡ 0 → waits g place ≡ false
+none_waits g place none = grind (arith, nat_tests)
+
+-- and the image is as it is
+pub none_over : (g : GatheredBytes) (image : List ℕ) → length g.bytes ≡ 0 → image_over g image ≡ image
+none_over g image none = ext_get_or 0 _ _ (length-image_over g image) (λ place inside. byte_elsewhere g image place (none_waits g place none))
+
+-- the byte of a place stays where the image's does
+byte_stays : (g : GatheredBytes) (old new : List ℕ) (place : ℕ) → length new ≡ length old → get_or new place 0 ≡ get_or old place 0 → get_or (image_over g new) place 0 ≡ get_or (image_over g old) place 0
+byte_stays g old new place size same = elim (cases_Bool (waits g place)) [
+  | inl there ↦ elim (cases_lt place (length old)) [
+    | inl inside ↦ byte_there g new place there (omega arith) ∙ sym (byte_there g old place there inside)
+    | inr past ↦ get_or_past _ place 0 (omega (arith, length-image_over g new)) ∙ sym (get_or_past _ place 0 (omega (arith, length-image_over g old)))
+  ]
+  | inr elsewhere ↦ byte_elsewhere g new place elsewhere ∙ same ∙ sym (byte_elsewhere g old place elsewhere)
+]
+
+-- a place where none waits lies before or behind those that do
+apart : (g : GatheredBytes) (place : ℕ) → waits g place ≡ false → (place < g.at → ⊥) → g.at + length g.bytes ≤ place
+apart g place elsewhere high = grind (arith, nat_tests)
+
+-- a place where one waits lies in their range
+within_range : (g : GatheredBytes) (place : ℕ) → waits g place ≡ true → (g.at ≤ place) × (place < g.at + length g.bytes)
+within_range g place there = grind (arith, nat_tests)
+
+-- an image torn in their range alone shows no difference
+pub torn_under : (g : GatheredBytes) (old new : List ℕ) → Torn g.at (length g.bytes) old new → image_over g new ≡ image_over g old
+torn_under g old new torn = ext_get_or 0 _ _ (length-image_over g new ∙ torn.size ∙ sym (length-image_over g old)) (λ place inside. elim (cases_Bool (waits g place)) [
+  | inl there ↦
+      byte_there g new place there (omega (arith, length-image_over g new)) ∙ sym (byte_there g old place there (omega (arith, length-image_over g new, torn.size)))
+  | inr elsewhere ↦ byte_stays g old new place torn.size (elim (cases_lt place g.at) [
+    | inl low ↦ torn.before place low
+    | inr high ↦ torn.after place (apart g place elsewhere (λ low. absurd (omega arith)))
+  ])
+])
+
+-- once they are written the image has them
+pub written_over : (g : GatheredBytes) (image : List ℕ) → g.at + length g.bytes ≤ length image → image_over g image ≡ splice g.at g.bytes image
+written_over g image fits =
+    let torn = torn_splice g.at g.bytes image fits in
+    ext_get_or 0 _ _ (length-image_over g image ∙ sym torn.size) (λ place inside. elim (cases_Bool (waits g place)) [
+      | inl there ↦
+          let range = within_range g place there in
+          byte_there g image place there (omega (arith, length-image_over g image))
+          ∙ sym (splice_byte g.at g.bytes image (place - g.at) fits (omega (arith, range.0, range.1)))
+          ∙ ap (λ (n : ℕ). get_or (splice g.at g.bytes image) n 0) (omega (arith, range.0))
+      | inr elsewhere ↦ byte_elsewhere g image place elsewhere ∙ sym (elim (cases_lt place g.at) [
+        | inl low ↦ torn.before place low
+        | inr high ↦ torn.after place (apart g place elsewhere (λ low. absurd (omega arith)))
+      ])
+    ])
+
+-- ---- calls of the inner disk
+
+-- a call that changes nothing
+pub stays_over : (g : GatheredBytes) (old new : Content) → Stays old new → Stays (content_over g old) (content_over g new)
+stays_over g old new stays = record {
+  honest = stays.honest;
+  shown = λ honest. ap (image_over g) (stays.shown honest);
+  settled = stays.settled;
+  pending = λ honest place. ap (λ (p : Bool). p || waits g place) (stays.pending honest place);
+}
+
+-- of three, the last two in turn
+or_swap : (a b c : Bool) → ((a || b) || c) ≡ ((a || c) || b)
+or_swap true b c = refl
+or_swap false true true = refl
+or_swap false true false = refl
+or_swap false false true = refl
+or_swap false false false = refl
+
+-- of three, grouped the other way
+or_assoc : (a b c : Bool) → (a || (b || c)) ≡ ((a || b) || c)
+or_assoc true b c = refl
+or_assoc false b c = refl
+
+-- one more of what there is
+or_again : (a b : Bool) → ((a || b) || b) ≡ (a || b)
+or_again true b = refl
+or_again false true = refl
+or_again false false = refl
+
+-- or none
+or_none : (a b : Bool) → b ≡ false → (a || b) ≡ a
+or_none true b none = refl
+or_none false b none = none
+
+-- a write, Ok or Err
+pub tears_over : (g : GatheredBytes) (at count : ℕ) (old new : Content) → Tears at count old new → Tears at count (content_over g old) (content_over g new)
+tears_over g at count old new tears = record {
+  honest = tears.honest;
+  shown = λ honest.
+      let torn = tears.shown honest in
+      record {
+        size = length-image_over g new.shown ∙ torn.size ∙ sym (length-image_over g old.shown);
+        before = λ place low. byte_stays g old.shown new.shown place torn.size (torn.before place low);
+        after = λ place high. byte_stays g old.shown new.shown place torn.size (torn.after place high);
+      };
+  settled = tears.settled;
+  pending = λ honest place. ap (λ (p : Bool). p || waits g place) (tears.pending honest place) ∙ or_swap (old.pending place) (within at count place) (waits g place);
+}
+
+-- a write that is answered Ok, where none waits
+pub writes_over : (g : GatheredBytes) (at : ℕ) (bytes : List ℕ) (old new : Content) → length g.bytes ≡ 0 → Writes at bytes old new → Writes at bytes (content_over g old) (content_over g new)
+writes_over g at bytes old new none writes = record {
+  honest = writes.honest;
+  shown = λ honest. none_over g new.shown none ∙ writes.shown honest ∙ ap (splice at bytes) (sym (none_over g old.shown none));
+}
+
+-- a sync that is answered Ok, where none waits
+pub settles_over : (g : GatheredBytes) (old new : Content) → length g.bytes ≡ 0 → Settles old new → Settles (content_over g old) (content_over g new)
+settles_over g old new none settles = record {
+  honest = settles.honest;
+  shown = λ honest. none_over g new.shown none ∙ settles.shown honest ∙ sym (none_over g old.shown none);
+  rests = record {
+    settled = λ honest. settles.rests.settled honest ∙ sym (none_over g new.shown none);
+    pending = λ honest place. or_none (new.pending place) _ (none_waits g place none) ∙ settles.rests.pending honest place;
+  };
+}
+
+-- a write of those that wait, answered Ok: none waits any longer, and nothing is changed
+pub written_out : (g : GatheredBytes) (old new : Content) → g.at + length g.bytes ≤ size old → Tears g.at (length g.bytes) old new → Writes g.at g.bytes old new → Stays (content_over g old) (content_over (emptied g) new)
+written_out g old new fits tears writes = record {
+  honest = tears.honest;
+  shown = λ honest. none_over (emptied g) new.shown refl ∙ writes.shown honest ∙ sym (written_over g old.shown fits);
+  settled = tears.settled;
+  pending = λ honest place. or_none (new.pending place) (waits (emptied g) place) (none_waits (emptied g) place refl) ∙ tears.pending honest place;
+}
+
+-- answered Err: they wait still, and nothing is changed
+pub not_written_out : (g : GatheredBytes) (old new : Content) → Tears g.at (length g.bytes) old new → Stays (content_over g old) (content_over g new)
+not_written_out g old new tears = record {
+  honest = tears.honest;
+  shown = λ honest. torn_under g old.shown new.shown (tears.shown honest);
+  settled = tears.settled;
+  pending = λ honest place. ap (λ (p : Bool). p || waits g place) (tears.pending honest place) ∙ or_again (old.pending place) (waits g place);
+}
+
+-- a stop: those that wait are gone
+pub restarts_over : (g : GatheredBytes) (old new : Content) → Restarts old new → Restarts (content_over g old) (content_over (emptied g) new)
+restarts_over g old new restarts =
+    let now = none_over (emptied g) new.shown refl in
+    record {
+      honest = restarts.honest;
+      left = λ honest.
+          let left = restarts.left honest in
+          record {
+            size = ap length now ∙ left.size;
+            same = λ place none. ap (λ (l : List ℕ). get_or l place 0) now ∙ left.same place (neither _ _ none).0;
+          };
+      rests = record {
+        settled = λ honest. restarts.rests.settled honest ∙ sym now;
+        pending = λ honest place. or_none (new.pending place) _ (none_waits (emptied g) place refl) ∙ restarts.rests.pending honest place;
+      };
+    }
+
+-- ---- more bytes that wait
+
+-- they continue those that wait, where any does
+continues : (g : GatheredBytes) (from count : ℕ) → IsTrue (takes g from count) → 0 < length g.bytes → from ≡ g.at + length g.bytes
+continues g from count room some = grind (arith, nat_tests)
+
+-- the places of both
+within_both : (at n from m place : ℕ) → (0 < n → from ≡ at + n) → within (from - n) (n + m) place ≡ (within at n place || within from m place)
+within_both at n from m place next = elim (cases_lt 0 n) [
+  | inl some ↦ let is = next some in grind (arith, nat_tests)
+  | inr none ↦ grind (arith, nat_tests)
+]
+
+module _ (g : GatheredBytes) (from : ℕ) (bytes image : List ℕ) (room : IsTrue (takes g from (length bytes))) (fits : from + length bytes ≤ length image) where
+  -- a place waits that waited before, or is one of theirs
+  waits_grown : (place : ℕ) → waits (grown g from bytes) place ≡ (waits g place || within from (length bytes) place)
+  waits_grown place =
+      ap (λ (n : ℕ). within (from - length g.bytes) n place) (length-append g.bytes bytes)
+      ∙ within_both g.at (length g.bytes) from (length bytes) place (continues g from (length bytes) room)
+
+  -- outside of theirs nothing is changed
+  byte_grown : (place : ℕ) → within from (length bytes) place ≡ false → get_or (image_over (grown g from bytes) image) place 0 ≡ get_or (image_over g image) place 0
+  byte_grown place outside = elim (cases_Bool (waits g place)) [
+    | inl there ↦
+        let range = within_range g place there in
+        let next = continues g from (length bytes) room (omega (arith, range.0, range.1)) in
+        let now : waits (grown g from bytes) place ≡ true = waits_grown place ∙ ap (λ (p : Bool). p || within from (length bytes) place) there in
+        elim (cases_lt place (length image)) [
+          | inl inside ↦
+              byte_there (grown g from bytes) image place now inside
+              ∙ get_or_append_left g.bytes bytes 0 (place - (from - length g.bytes)) (omega (arith, next, range.0, range.1))
+              ∙ ap (λ (n : ℕ). get_or g.bytes n 0) (omega (arith, next, range.0, range.1))
+              ∙ sym (byte_there g image place there inside)
+          | inr past ↦ get_or_past _ place 0 (omega (arith, length-image_over (grown g from bytes) image)) ∙ sym (get_or_past _ place 0 (omega (arith, length-image_over g image)))
+        ]
+    | inr elsewhere ↦
+        byte_elsewhere (grown g from bytes) image place (waits_grown place ∙ ap (λ (p : Bool). p || within from (length bytes) place) elsewhere ∙ outside)
+        ∙ sym (byte_elsewhere g image place elsewhere)
+  ]
+
+  -- theirs are there
+  byte_new : (place : ℕ) → place < length bytes → get_or (image_over (grown g from bytes) image) (from + place) 0 ≡ get_or bytes place 0
+  byte_new place inside =
+      let begin : (0 < length g.bytes → from ≡ g.at + length g.bytes) = continues g from (length bytes) room in
+      let before : length g.bytes ≤ from = elim (cases_lt 0 (length g.bytes)) [ | inl some ↦ omega (arith, begin some) | inr none ↦ omega arith ] in
+      let now : waits (grown g from bytes) (from + place) ≡ true = grind (arith, nat_tests, length-append g.bytes bytes) in
+      byte_there (grown g from bytes) image (from + place) now (omega arith)
+      ∙ get_or-append_right g.bytes bytes (length g.bytes) (from + place - (from - length g.bytes)) 0 refl (omega (arith, before))
+      ∙ ap (λ (n : ℕ). get_or bytes n 0) (omega (arith, before))
+
+  -- the image is torn in their range
+  torn_grown : Torn from (length bytes) (image_over g image) (image_over (grown g from bytes) image)
+  torn_grown = record {
+    size = length-image_over (grown g from bytes) image ∙ sym (length-image_over g image);
+    before = λ place low. byte_grown place (grind (arith, nat_tests));
+    after = λ place high. byte_grown place (grind (arith, nat_tests));
+  }
+
+  -- it has them in their places
+  written_grown : image_over (grown g from bytes) image ≡ splice from bytes (image_over g image)
+  written_grown =
+      let in_over : from + length bytes ≤ length (image_over g image) = omega (arith, length-image_over g image) in
+      let torn = torn_splice from bytes (image_over g image) in_over in
+      ext_get_or 0 _ _ (torn_grown.size ∙ sym torn.size) (λ place inside. elim (cases_lt place from) [
+        | inl low ↦ torn_grown.before place low ∙ sym (torn.before place low)
+        | inr high ↦ elim (cases_lt place (from + length bytes)) [
+          | inl there ↦
+              ap (λ (n : ℕ). get_or (image_over (grown g from bytes) image) n 0) (omega arith)
+              ∙ byte_new (place - from) (omega arith)
+              ∙ sym (splice_byte from bytes (image_over g image) (place - from) in_over (omega arith))
+              ∙ ap (λ (n : ℕ). get_or (splice from bytes (image_over g image)) n 0) (omega arith)
+          | inr behind ↦ torn_grown.after place behind ∙ sym (torn.after place behind)
+        ]
+      ])
+
+-- more bytes wait: the disk as after a write
+pub grown_tears : (g : GatheredBytes) (from : ℕ) (bytes : List ℕ) (inner : Content) → IsTrue (takes g from (length bytes)) → from + length bytes ≤ size inner → Tears from (length bytes) (content_over g inner) (content_over (grown g from bytes) inner)
+grown_tears g from bytes inner room fits = record {
+  honest = refl;
+  shown = λ honest. torn_grown g from bytes inner.shown room fits;
+  settled = λ honest. refl;
+  pending = λ honest place. ap (λ (p : Bool). inner.pending place || p) (waits_grown g from bytes inner.shown room fits place) ∙ or_assoc (inner.pending place) (waits g place) (within from (length bytes) place);
+}
+
+-- that is answered Ok
+pub grown_writes : (g : GatheredBytes) (from : ℕ) (bytes : List ℕ) (inner : Content) → IsTrue (takes g from (length bytes)) → from + length bytes ≤ size inner → Writes from bytes (content_over g inner) (content_over (grown g from bytes) inner)
+grown_writes g from bytes inner room fits = record {
+  honest = refl;
+  shown = λ honest. written_grown g from bytes inner.shown room fits;
+}
+
+-- ---- reads
+
+-- the bytes of an image, with those that wait in their places, are the bytes of the image with those that wait
+pub laid_shows : (g : GatheredBytes) (at : ℕ) (image old new : List ℕ) → LaidOver g at old new → at + length old ≤ length image → old ≡ slice_range image at (at + length old) → new ≡ slice_range (image_over g image) at (at + length old)
+laid_shows g at image old new laid fits is =
+    let in_over : at + length old ≤ length (image_over g image) = omega (arith, length-image_over g image) in
+    ext_get_or 0 _ _ (laid.size ∙ sym (omega (arith, length-between (image_over g image) at (at + length old) in_over))) (λ place inside.
+    let near : place < length old = omega (arith, laid.size) in
+    let ahead : at + place < at + length old = omega arith in
+    let shown = get_or-between (image_over g image) at (at + length old) place 0 ahead in
+    laid.byte place near ∙ sym (shown ∙ elim (cases_Bool (waits g (at + place))) [
+      | inl there ↦ byte_there g image (at + place) there (omega arith) ∙ sym (cond-true _ _ _ there)
+      | inr elsewhere ↦
+          byte_elsewhere g image (at + place) elsewhere
+          ∙ sym (cond-false _ _ _ elsewhere ∙ ap (λ (l : List ℕ). get_or l place 0) is ∙ get_or-between image at (at + length old) place 0 ahead)
+    ]))
+
+-- whatever the image, where all of them wait
+pub laid_whole : (g : GatheredBytes) (at : ℕ) (image old new : List ℕ) → LaidOver g at old new → at + length old ≤ length image → IsTrue (holds g at (length old)) → new ≡ slice_range (image_over g image) at (at + length old)
+laid_whole g at image old new laid fits all =
+    let in_over : at + length old ≤ length (image_over g image) = omega (arith, length-image_over g image) in
+    ext_get_or 0 _ _ (laid.size ∙ sym (omega (arith, length-between (image_over g image) at (at + length old) in_over))) (λ place inside.
+    let near : place < length old = omega (arith, laid.size) in
+    let there : waits g (at + place) ≡ true = grind (arith, nat_tests) in
+    laid.byte place near ∙ cond-true _ _ _ there
+    ∙ sym (get_or-between (image_over g image) at (at + length old) place 0 (omega arith) ∙ byte_there g image (at + place) there (omega arith)))
+
+-- those that wait lie apart from the bytes
+pub laid_nowhere : (g : GatheredBytes) (at : ℕ) (old : List ℕ) → ((place : ℕ) → place < length old → waits g (at + place) ≡ false) → LaidOver g at old old
+laid_nowhere g at old none = record {
+  size = refl;
+  byte = λ place inside. sym (cond-false _ _ _ (none place inside));
+}
+
+-- or some of them stand there
+module _ (g : GatheredBytes) (at start end : ℕ) (old part : List ℕ) (a : g.at ≤ start) (b : at ≤ start) (c : start ≤ end) (d : end ≤ g.at + length g.bytes) (e : end ≤ at + length old)
+    (first : g.at < start → start ≡ at) (last : end < g.at + length g.bytes → end ≡ at + length old) (is : part ≡ slice_range g.bytes (start - g.at) (end - g.at)) where
+  part_size : length part ≡ end - start
+  part_size = ap length is ∙ omega (arith, length-between g.bytes (start - g.at) (end - g.at) (omega arith))
+
+  part_fits : (start - at) + length part ≤ length old
+  part_fits = omega (arith, part_size)
+
+  part_torn : Torn (start - at) (length part) old (splice (start - at) part old)
+  part_torn = torn_splice (start - at) part old part_fits
+
+  none_before : (place : ℕ) → at + place < start → waits g (at + place) ≡ false
+  none_before place low = elim (cases_lt g.at start) [ | inl later ↦ absurd (omega (arith, first later)) | inr is ↦ grind (arith, nat_tests) ]
+
+  none_behind : (place : ℕ) → place < length old → end ≤ at + place → waits g (at + place) ≡ false
+  none_behind place inside behind = elim (cases_lt end (g.at + length g.bytes)) [ | inl earlier ↦ absurd (omega (arith, last earlier)) | inr is ↦ grind (arith, nat_tests) ]
+
+  waits_between : (place : ℕ) → start ≤ at + place → at + place < end → waits g (at + place) ≡ true
+  waits_between place high low = grind (arith, nat_tests)
+
+  pub laid_there : LaidOver g at old (splice (start - at) part old)
+  laid_there = record {
+    size = part_torn.size;
+    byte = λ place inside. elim (cases_lt (at + place) start) [
+      | inl low ↦ part_torn.before place (omega arith) ∙ sym (cond-false _ _ _ (none_before place low))
+      | inr high ↦ elim (cases_lt (at + place) end) [
+        | inl there ↦
+            let same : (start - g.at) + (at + place - start) ≡ at + place - g.at = omega arith in
+            ap (λ (n : ℕ). get_or (splice (start - at) part old) n 0) (omega arith)
+            ∙ splice_byte (start - at) part old (at + place - start) part_fits (omega (arith, part_size))
+            ∙ ap (λ (l : List ℕ). get_or l (at + place - start) 0) is
+            ∙ get_or-between g.bytes (start - g.at) (end - g.at) (at + place - start) 0 (omega arith)
+            ∙ ap (λ (n : ℕ). get_or g.bytes n 0) same
+            ∙ sym (cond-true _ _ _ (waits_between place high there))
+        | inr behind ↦ part_torn.after place (omega (arith, part_size)) ∙ sym (cond-false _ _ _ (none_behind place inside behind))
+      ]
+    ];
+  }
