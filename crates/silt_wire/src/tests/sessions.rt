@@ -158,6 +158,48 @@ fn tells_a_failed_write(rt: HostRuntime) -> Result<(), Fail> {
     Ok(())
 }
 
+// A writer that keeps what it is given, and how much of that is flushed.
+#[derive(Drop)]
+struct Buffered {
+    taken: Vec<u8>,
+    flushed: usize,
+}
+
+impl Write for Buffered {
+    fn write(&mut self, buf: &[u8]) -> io::Result<usize> {
+        self.taken.extend_from_slice(buf)?;
+        Ok(buf.len())
+    }
+
+    fn flush(&mut self) -> io::Result<()> {
+        self.flushed = self.taken.len();
+        Ok(())
+    }
+}
+
+// What a session writes is flushed, whatever the reads were.
+#[test]
+fn flushes_what_it_writes(rt: HostRuntime) -> Result<(), Fail> {
+    for most in [1usize, 7, 100] {
+        let mut reader = Pieces {
+            text: LINES,
+            most,
+            is_interrupted: false,
+            fails: false,
+        };
+        let mut writer = Buffered {
+            taken: Vec::new(rt.alloc()),
+            flushed: 0,
+        };
+        let mut counter = Counter { count: 0 };
+        let end = session(rt.alloc(), 2, &mut reader, &mut writer, &mut counter);
+        assert_eq!(rt; end, SessionEnd::End);
+        assert_eq!(rt; writer.taken.as_slice(), ANSWERS);
+        assert_eq!(rt; writer.flushed, ANSWERS.len());
+    }
+    Ok(())
+}
+
 // Has a value of 4,096 bytes for each key.
 #[derive(Drop)]
 struct Full;
