@@ -18,7 +18,7 @@ module _ {A B : Type 0} (answers : A → A → Event → PlainReply → Type 0) 
       (part h.0, next.1, each-part h.0 b es rs next.0 h.2)
 
   pub ends-part : (end : SessionEnd) (n : ℕ) (a b : A) (r s w v : Option (List ℕ)) → Holds a → Ends answers end n a b r s w v → Ends does end n (part a) (part b) r s w v
-  ends-part End n a b r s w v first h = (h.0, h.1, h.2, (h.3, each-part a b _ h.3 first h.4, h.5))
-  ends-part ReadFault n a b r s w v first h = (h.0, h.1, (h.2, each-part a b _ h.2 first h.3, h.4))
-  ends-part WriteFault n a b r s w v first h = (h.0, h.1, (h.2, h.3, h.4, h.5, each-part a b h.2 h.3 first h.6, h.7, h.8))
-  ends-part NoMemory n a b r s w v first h = (h.0, h.1, (h.2, h.3, h.4, h.5, each-part a b h.2 h.3 first h.6, h.7, h.8))
+  ends-part End n a b r s w v first h = (h.0, h.1, h.2, (h.3.0, each-part a b _ h.3.0 first h.3.1, h.3.2))
+  ends-part ReadFault n a b r s w v first h = (h.0, h.1, (h.2.0, each-part a b _ h.2.0 first h.2.1, h.2.2))
+  ends-part WriteFault n a b r s w v first h = (h.0, h.1, (h.2.0, h.2.1, h.2.2, h.2.3, each-part a b h.2.0 h.2.1 first h.2.4, h.2.5, h.2.6))
+  ends-part NoMemory n a b r s w v first h = (h.0, h.1, (h.2.0, h.2.1, h.2.2, h.2.3, each-part a b h.2.0 h.2.1 first h.2.4, h.2.5, h.2.6))

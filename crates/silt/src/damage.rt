@@ -28,7 +28,7 @@ pub fn damage_at<D: Disk, F: Drop>(disk: &D, refusal: &Refusal<F>) -> Option<u64
 
 /// Whether a store of this format stands on a disk, whole or not. A disk that cannot be read holds none.
 pub fn holds_store<D: Disk>(disk: &D) -> bool
-    ensures { HoldsStore (D.content disk.now) → (result ≡ true) ⊎ ((fault : D.Disk.Fault) × GaveAny D.gave disk.now fault) }
+    ensures { HoldsStore (D.content disk.now) → (result ≡ true) ⊎ ((fault : D.Fault) × GaveAny D.gave disk.now fault) }
 {
     match header_on(disk) {
         None | Some(Err(Finding::NotFormatted)) => false,
@@ -40,7 +40,7 @@ pub fn holds_store<D: Disk>(disk: &D) -> bool
 fn header_on<D: Disk>(disk: &D) -> Option<Result<Geometry, Finding>>
     ensures found { IsTrue (D.content disk.now).honest → IfSome result (λ found. shape_found (size (D.content disk.now)) (header_of (D.content disk.now).shown) ≡ found) }
     ensures size { IfSome result (λ found. IfOk found (λ geometry. size (D.content disk.now) ≡ device_size geometry)) }
-    ensures unread { IfNone result ((fault : D.Disk.Fault) × GaveAny D.gave disk.now fault) }
+    ensures unread { IfNone result ((fault : D.Fault) × GaveAny D.gave disk.now fault) }
 {
     if disk.len() < HEADER_LEN as u64 {
         return Some(Err(Finding::NotFormatted));
