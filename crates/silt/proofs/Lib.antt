@@ -6,4 +6,6 @@ pub mod NewStores
 pub mod Outcomes
 pub mod Readings
 pub mod Refusals
+pub mod Services
+pub mod Sessions
 pub mod Texts

@@ -1,31 +1,33 @@
 -- What the jobs on the disk of a path do.
-use Rattle.std.specs.Prelude.{◌≡◌, ◌⊎◌, ℕ, List, IsSome, Option, Some}
+use Rattle.std.specs.Prelude.{◌≡◌, ◌⊎◌, ℕ, List, IfSome, Option, Some}
 use Rattle.std.specs.Option.{IsSomeAnd}
 use Rattle.silt_device.specs.Disk.{Content, size}
 use Rattle.silt_device.specs.Layout.{InLimits, Shape, device_size}
+use Rattle.silt_event.specs.declared.refusal.Refusal.{Refusal}
 use Rattle.silt_event.specs.declared.refusal.Refusal.TheVariants.{BadGeometry, Device}
-use Rattle.silt_server.specs.Serving.{IsServed}
+use Rattle.silt_server.specs.Serving.{IsServed, LeavesServed, ServesKept, TellsNotServed}
 use Rattle.silt_wire.specs.declared.sessions.SessionEnd.TheVariants.{End}
+use Rattle.silt.specs.Damage.{HoldsStore}
 use Rattle.silt.specs.Jobs.{BreaksRun, EndsCheck, EndsFormat, EndsRun, Tells, TellsCheck, TellsFormat, TellsOpening}
 
 -- it was written that the source gave no disk, and for a cause
 abbrev pub TellsNoDisk : {E : Type 0} → (E → Type 0) → Option (List ℕ) → Option (List ℕ) → Type 0
 TellsNoDisk {E} IsCause before after = (error : E) × IsCause error × Tells (Device (tt {0})) before after
 
-module _ {D F : Type 0} (content : D → Content) (failures : D → ℕ) (gave : D → F → Type 0) where
+module _ {D F N : Type 0} (content : D → Content) (failures : D → ℕ) (gave : D → F → Type 0) (told : N → N → Refusal F → Type 0) (notes : N) where
   -- one life on a disk that the source opened, which is given back as the store left it
   abbrev pub RunsFile : (D → Type 0) → Option D → Option (List ℕ) → Option (List ℕ) → Option (List ℕ) → Option (List ℕ) → Type 0
   RunsFile Opened given remaining left before after =
-      (old : D) × Opened old × IsSomeAnd given (λ new. EndsRun content failures gave End old new remaining left before after)
+      (old : D) × Opened old × IsSomeAnd given (λ new. EndsRun content failures gave told notes End old new remaining left before after)
 
-module _ {D F E : Type 0} (content : D → Content) (failures : D → ℕ) (gave : D → F → Type 0) (told : F → Type 0) (Opened : D → Type 0) (NotOpened : E → Type 0) where
+module _ {D F E N : Type 0} (content : D → Content) (failures : D → ℕ) (gave : D → F → Type 0) (told : N → N → Refusal F → Type 0) (notes heard : N) (Opened : D → Type 0) (NotOpened : E → Type 0) where
   -- it was written that the source opened no disk, or why the store was not taken up from the one that it opened, or the session on it broke off
   abbrev pub TellsRunFile : Option D → Option (List ℕ) → Option (List ℕ) → Option (List ℕ) → Option (List ℕ) → Type 0
   TellsRunFile given remaining left before after =
       TellsNoDisk NotOpened before after ⊎ ((old : D) × Opened old
-      × IsSomeAnd given (λ new. TellsOpening content gave told old new before after ⊎ BreaksRun content failures gave old new remaining left before after))
+      × IsSomeAnd given (λ new. TellsOpening content gave (told notes heard) old new before after ⊎ BreaksRun content failures gave told notes old new remaining left before after))
 
-module _ {D F E : Type 0} (content : D → Content) (gave : D → F → Type 0) (told : F → Type 0) (Opened : D → Type 0) (NotOpened : E → Type 0) where
+module _ {D F E : Type 0} (content : D → Content) (gave : D → F → Type 0) (told : Refusal F → Type 0) (Opened : D → Type 0) (NotOpened : E → Type 0) where
   -- it was written that the source opened no disk, or what is wrong with the one that it opened, which is given back
   abbrev pub TellsCheckFile : Option D → Option (List ℕ) → Option (List ℕ) → Type 0
   TellsCheckFile given before after =
@@ -35,20 +37,35 @@ module _ {D F E : Type 0} (content : D → Content) (gave : D → F → Type 0) 
 abbrev pub ChecksFile : {D : Type 0} → (D → Content) → (D → Type 0) → Option D → Option (List ℕ) → Option (List ℕ) → Type 0
 ChecksFile {D} content Opened given before after = (disk : D) × Opened disk × (given ≡ Some disk) × EndsCheck content disk before after
 
--- a disk that the source opened was served, and is given back
-abbrev pub ServesFile : {D : Type 0} → (D → Content) → (D → Type 0) → Option D → Option (List ℕ) → Option (List ℕ) → Type 0
-ServesFile {D} content Opened given before after = (old : D) × Opened old × IsSomeAnd given (λ new. IsServed (content new) before after)
+-- the store on a disk was served to the end; where its calls were kept, they are a history of the store that is left
+abbrev pub EndsServe : {D : Type 0} → (D → Content) → Option ℕ → D → Option (List ℕ) → Option (List ℕ) → Type 0
+EndsServe content audit new before after = IsServed (content new) before after × IfSome audit (λ most. ServesKept content (λ port. Unit {0}) new before after)
 
--- it was written that the source opened no disk, or a disk that it opened is given back; of what is then written nothing is said
-abbrev pub TellsServeFile : {D E : Type 0} → (D → Type 0) → (E → Type 0) → Option D → Option (List ℕ) → Option (List ℕ) → Type 0
-TellsServeFile {D} Opened NotOpened given before after = TellsNoDisk NotOpened before after ⊎ ((old : D) × Opened old × IsSome given)
+-- it was written why the store on a disk was not served to the end
+abbrev pub TellsServe : {D F : Type 0} → (D → Content) → (D → F → Type 0) → D → D → Option (List ℕ) → Option (List ℕ) → Type 0
+TellsServe content gave old new before after = TellsNotServed content gave (λ port. Unit {0}) old new before after
 
--- a disk that the source made at exactly the length of this shape is an empty store, and is given back
-abbrev pub FormatsFile : {D : Type 0} → (D → Content) → (ℕ → D → Type 0) → Shape → Option D → Option (List ℕ) → Option (List ℕ) → Type 0
-FormatsFile {D} content Created shape given before after =
-    (old : D) × Created (device_size shape) old × IsSomeAnd given (λ new. EndsFormat content shape new before after)
+-- a disk that the source opened was served to the end, and is given back as a server leaves it
+abbrev pub ServesFile : {D F : Type 0} → (D → Content) → (D → F → Type 0) → (D → Type 0) → Option ℕ → Option D → Option (List ℕ) → Option (List ℕ) → Type 0
+ServesFile {D} content gave Opened audit given before after =
+    (old : D) × Opened old × IsSomeAnd given (λ new. EndsServe content audit new before after × LeavesServed content gave old new)
 
-module _ {D F E : Type 0} (content : D → Content) (gave : D → F → Type 0) (told : F → Type 0) (Created : ℕ → D → Type 0) (NotCreated : ℕ → E → Type 0) (shape : Shape) where
+-- it was written that the source opened no disk, or why the one that it opened was not served to the end, which is given back as a server leaves it
+abbrev pub TellsServeFile : {D F E : Type 0} → (D → Content) → (D → F → Type 0) → (D → Type 0) → (E → Type 0) → Option D → Option (List ℕ) → Option (List ℕ) → Type 0
+TellsServeFile {D} content gave Opened NotOpened given before after =
+    TellsNoDisk NotOpened before after
+    ⊎ ((old : D) × Opened old × IsSomeAnd given (λ new. TellsServe content gave old new before after × LeavesServed content gave old new))
+
+-- where the disk held a store, people were told that it is gone, or the disk could not be read
+abbrev pub TellsStore : {D F : Type 0} → (D → Content) → (D → F → Type 0) → Type 0 → D → Type 0
+TellsStore {D} {F} content gave told_store disk = HoldsStore (content disk) → told_store ⊎ ((fault : F) × gave disk fault)
+
+-- a disk that the source made at exactly the length of this shape is an empty store, and is given back; people were told of a store that it held
+abbrev pub FormatsFile : {D F : Type 0} → (D → Content) → (D → F → Type 0) → Type 0 → (ℕ → D → Type 0) → Shape → Option D → Option (List ℕ) → Option (List ℕ) → Type 0
+FormatsFile {D} content gave told_store Created shape given before after =
+    (old : D) × Created (device_size shape) old × TellsStore content gave told_store old × IsSomeAnd given (λ new. EndsFormat content shape new before after)
+
+module _ {D F E : Type 0} (content : D → Content) (gave : D → F → Type 0) (told : Refusal F → Type 0) (Created : ℕ → D → Type 0) (NotCreated : ℕ → E → Type 0) (shape : Shape) where
   -- it was written that a number is out of its limits, that the source made no disk of the length of this shape, or why the one that it made was
   -- not formatted
   abbrev pub TellsFormatFile : Option D → Option (List ℕ) → Option (List ℕ) → Type 0

@@ -12,16 +12,18 @@ use Rattle.silt_recovery.specs.Refusals.{IsFound, IsRefusedLook}
 use Rattle.silt_recovery.specs.declared.fault.FormatError.{FormatError}
 use Rattle.silt_recovery.specs.declared.fault.OpenError.{OpenError}
 use Rattle.silt_image.specs.Meaning.{StandsFor}
-use Rattle.silt_store_set.specs.CoreState.{CoreState, Opens, DoesPlain}
+use Rattle.silt_store_set.specs.CoreState.{CoreState, Does, Opens}
 use Rattle.silt_store_set.specs.Opening.{OpeningCause}
 use Rattle.silt_recovery.specs.Errors.{refusal_of_formatting, refusal_of_opening}
+use Rattle.silt_event.specs.declared.event.Event.{Event}
 use Rattle.silt_event.specs.declared.refusal.Refusal.{Refusal}
+use Rattle.silt_event.specs.declared.reply.Reply.{Reply}
 use Rattle.silt_event.specs.declared.reply.Reply.TheVariants.{Refused}
+use Rattle.silt_event.specs.Events.{PlainReply, plain}
 use Rattle.silt_wire.specs.Reports.{report_text}
 use Rattle.silt_wire.specs.Sessions.{Ends}
 use Rattle.silt_wire.specs.declared.sessions.SessionEnd.{SessionEnd}
 use Rattle.silt_wire.specs.declared.sessions.SessionEnd.TheVariants.{End}
-use Rattle.silt.specs.Notes.{IsTold}
 use Rattle.silt.specs.Scripts.{reply_line}
 
 -- the length of a device that was formatted, in bytes
@@ -37,21 +39,31 @@ abbrev pub status_of : SessionEnd → ℕ
 status_of End = 0
 status_of end = 1
 
-module _ {D F : Type 0} (content : D → Content) (failures : D → ℕ) (gave : D → F → Type 0) where
+-- where a reply refuses, people were told of the refusal
+abbrev pub IsReplyTold : {F : Type 0} → (Refusal F → Type 0) → Reply F → Type 0
+IsReplyTold told (Refused refusal) = told refusal
+IsReplyTold told reply = Unit {0}
+
+module _ {D F N : Type 0} (content : D → Content) (failures : D → ℕ) (gave : D → F → Type 0) (told : N → N → Refusal F → Type 0) where
+  -- the store does the event, its reply is given without its fault, and people are told of a refusal: the store and the notes before and after
+  abbrev pub DoesTold : CoreState D × N → CoreState D × N → Event → PlainReply → Type 0
+  DoesTold old new event reply =
+      (full : Reply F) × Does content failures gave old.0 new.0 event full × (reply ≡ plain full) × IsReplyTold (told old.1 new.1) full
+
   -- `opened` was written, and then the store's session with the reader and the writer ended so
-  abbrev pub AnswersReader : SessionEnd → CoreState D → CoreState D → Option (List ℕ) → Option (List ℕ) → Option (List ℕ) → Option (List ℕ) → Type 0
+  abbrev pub AnswersReader : SessionEnd → CoreState D × N → CoreState D × N → Option (List ℕ) → Option (List ℕ) → Option (List ℕ) → Option (List ℕ) → Type 0
   AnswersReader end old new remaining left before after =
-      (opened : Option (List ℕ)) × Appends before opened (codes "opened\n")
-      × Ends (DoesPlain content failures gave) end old.shape.value_len old new remaining left opened after
+      (opened : Option (List ℕ)) × Appends before opened (codes "opened\n") × Ends DoesTold end old.0.shape.value_len old new remaining left opened after
 
   -- one life on a disk: the store was taken up from it, its session ended so, and the disk is as the store then left it
-  abbrev pub EndsRun : SessionEnd → D → D → Option (List ℕ) → Option (List ℕ) → Option (List ℕ) → Option (List ℕ) → Type 0
-  EndsRun end old new remaining left before after =
-      (first : CoreState D) × (last : CoreState D) × Opens content (content old) first × AnswersReader end first last remaining left before after × (new ≡ last.disk)
+  abbrev pub EndsRun : N → SessionEnd → D → D → Option (List ℕ) → Option (List ℕ) → Option (List ℕ) → Option (List ℕ) → Type 0
+  EndsRun notes end old new remaining left before after =
+      (first : CoreState D) × (last : CoreState D) × (heard : N) × Opens content (content old) first
+      × AnswersReader end (first, notes) (last, heard) remaining left before after × (new ≡ last.disk)
 
   -- one life whose session did not reach the end of the lines
-  abbrev pub BreaksRun : D → D → Option (List ℕ) → Option (List ℕ) → Option (List ℕ) → Option (List ℕ) → Type 0
-  BreaksRun old new remaining left before after = (end : SessionEnd) × (end ≢ End) × EndsRun end old new remaining left before after
+  abbrev pub BreaksRun : N → D → D → Option (List ℕ) → Option (List ℕ) → Option (List ℕ) → Option (List ℕ) → Type 0
+  BreaksRun notes old new remaining left before after = (end : SessionEnd) × (end ≢ End) × EndsRun notes end old new remaining left before after
 
 -- the report of what the disk shows was written
 abbrev pub EndsCheck : {D : Type 0} → (D → Content) → D → Option (List ℕ) → Option (List ℕ) → Type 0
@@ -63,19 +75,19 @@ abbrev pub EndsFormat : {D : Type 0} → (D → Content) → Shape → D → Opt
 EndsFormat content shape new before after =
     (size (content new) ≡ device_size shape) × LeavesOnly (content new) (StandsFor shape empty) × Appends before after (formatted_line (device_size shape))
 
-module _ {D F : Type 0} (content : D → Content) (gave : D → F → Type 0) (told : F → Type 0) where
-  -- it was written that the store was not taken up from the disk, for its cause, and a fault was told
+module _ {D F : Type 0} (content : D → Content) (gave : D → F → Type 0) (told : Refusal F → Type 0) where
+  -- it was written that the store was not taken up from the disk, for its cause, and people were told
   abbrev pub TellsOpening : D → D → Option (List ℕ) → Option (List ℕ) → Type 0
-  TellsOpening old new before after = (refusal : Refusal F) × OpeningCause content gave (content old) new refusal × Tells refusal before after × IsTold told refusal
+  TellsOpening old new before after = (refusal : Refusal F) × OpeningCause content gave (content old) new refusal × Tells refusal before after × told refusal
 
-  -- it was written what is wrong with the disk, or that it could not be looked at, for its cause, and a fault was told
+  -- it was written what is wrong with the disk, or that it could not be looked at, for its cause, and people were told
   abbrev pub TellsCheck : D → Option (List ℕ) → Option (List ℕ) → Type 0
   TellsCheck disk before after =
       (error : OpenError F) × IsRefusedLook (λ finding. IsTrue (content disk).honest → IsFound (content disk).shown finding) (gave disk) error
-      × Tells (refusal_of_opening error) before after × IsTold told (refusal_of_opening error)
+      × Tells (refusal_of_opening error) before after × told (refusal_of_opening error)
 
-  -- it was written that the disk was not formatted, for its cause, and a fault was told
+  -- it was written that the disk was not formatted, for its cause, and people were told
   abbrev pub TellsFormat : Shape → D → D → Option (List ℕ) → Option (List ℕ) → Type 0
   TellsFormat shape old new before after =
       (error : FormatError F) × FormatCause content gave shape old new error × Tells (refusal_of_formatting error) before after
-      × IsTold told (refusal_of_formatting error)
+      × told (refusal_of_formatting error)

@@ -1,3 +1,4 @@
+pub mod Damage
 pub mod Files
 pub mod Jobs
 pub mod NewStores

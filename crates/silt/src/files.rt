@@ -1,14 +1,16 @@
 // The jobs on the disk of a path.
-ghost use Rattle.std.specs.Prelude.{◌≡◌, ◌⊎◌, Ok, IfOk, codes};
+ghost use Rattle.std.specs.Prelude.{◌≡◌, ◌≢◌, ◌⊎◌, Ok, true, IfOk, codes};
 ghost use Rattle.std.specs.Io.KnownBytes.{Appends};
 ghost use Rattle.silt_device.specs.Disk.{GaveAny};
 ghost use Rattle.silt_device.specs.Layout.{InLimits};
 ghost use Rattle.silt.specs.Files.{ChecksFile, FormatsFile, RunsFile, TellsCheckFile, TellsFormatFile, TellsRunFile};
+ghost use Rattle.silt.specs.Notes.{ToldOf};
 ghost use Rattle.silt.specs.Numbers.{shape_asked};
 
+use crate::damage::holds_store;
 use crate::geometry::geometry_of;
 use crate::jobs::{check_on, format_on, run_on};
-use crate::notes::{FaultNotes, SourceNotes};
+use crate::notes::{FaultNotes, Notes, SourceNotes};
 use crate::refusal::refuse;
 use silt_device::{Disk, DiskSource};
 use silt_store_set::{Refusal, Served};
@@ -18,7 +20,7 @@ use std::io::{self, Read, Write};
 
 /// Makes the disk of a path, or takes the one that is there, at the length that the geometry of these numbers asks for, and formats
 /// it. Answers the disk and the status: 0 after the length was written, 1 where it is refused. Numbers out of their limits are
-/// refused before the source is asked.
+/// refused before the source is asked. People are told where the disk held a store.
 ///
 /// # Errors
 ///
@@ -26,7 +28,7 @@ use std::io::{self, Read, Write};
 pub fn format_file<
     S: DiskSource,
     W: Write,
-    N: SourceNotes<S::Error> + FaultNotes<<S::Disk as Disk>::Fault>,
+    N: Notes + SourceNotes<S::Error> + FaultNotes<<S::Disk as Disk>::Fault>,
 >(
     alloc: Global,
     source: S,
@@ -36,22 +38,34 @@ pub fn format_file<
     notes: &mut N,
 ) -> (Option<S::Disk>, io::Result<u8>)
     ensures refused { ¬ InLimits (shape_asked numbers.now) → IfOk result.1 (λ status. (status ≡ 1) × Appends (W.contents writer.old) (W.contents writer.new) (codes "refused 2 BadGeometry\n")) }
-    ensures told { IfOk result.1 (λ status. (status ≡ 0) ⊎ ((status ≡ 1) × TellsFormatFile S.Disk.Disk.content (GaveAny S.Disk.Disk.gave) (N.told_fault notes.old notes.new path.now) (S.created source path.now)
+    ensures told { IfOk result.1 (λ status. (status ≡ 0) ⊎ ((status ≡ 1) × TellsFormatFile S.Disk.Disk.content (GaveAny S.Disk.Disk.gave) (ToldOf N.told_fault N.told_damage path.now notes.old notes.new) (S.created source path.now)
         (λ len error. S.not_created source path.now len error × N.told_error notes.old notes.new path.now error) (shape_asked numbers.now) result.0 (W.contents writer.old) (W.contents writer.new))) }
-    ensures formatted { result.1 ≡ Ok 0 → FormatsFile S.Disk.Disk.content (S.created source path.now) (shape_asked numbers.now) result.0 (W.contents writer.old) (W.contents writer.new) }
+    ensures formatted { result.1 ≡ Ok 0 → FormatsFile S.Disk.Disk.content (GaveAny S.Disk.Disk.gave) (N.told_store notes.old notes.new path.now) (S.created source path.now) (shape_asked numbers.now) result.0 (W.contents writer.old) (W.contents writer.new) }
 {
     let Ok(geometry) = geometry_of(numbers) else {
         return (None, refuse(alloc, &Refusal::<()>::BadGeometry, writer));
     };
     match source.create(path, geometry.size()) {
         Ok(disk) => {
+            let held_store = holds_store(&disk);
             let (disk, status) = format_on(alloc, disk, geometry, path, writer, notes);
+            tell_gone(held_store, &status, path, notes);
             (Some(disk), status)
         }
         Err(error) => {
             notes.tell_error(path, &error);
             (None, refuse(alloc, &Refusal::Device(()), writer))
         }
+    }
+}
+
+// Tells that the store is gone which a file held, where it was formatted.
+fn tell_gone<N: Notes>(held_store: bool, status: &io::Result<u8>, file: &str, notes: &mut N)
+    ensures gone { status.now ≡ Ok 0 → held_store ≡ true → N.told_store notes.old notes.new file.now }
+    ensures same { status.now ≢ Ok 0 → notes.new ≡ notes.old }
+{
+    if held_store && matches!(status, Ok(0)) {
+        notes.tell_store(file);
     }
 }
 
@@ -76,9 +90,9 @@ pub fn run_file<
 ) -> (Option<S::Disk>, io::Result<u8>)
 where
     S::Disk: Served,
-    ensures told { IfOk result.1 (λ status. (status ≡ 0) ⊎ ((status ≡ 1) × TellsRunFile S.Disk.Disk.content S.Disk.Disk.failures (GaveAny S.Disk.Disk.gave) (N.told_fault notes.old notes.new path.now) (S.opened source path.now)
+    ensures told { IfOk result.1 (λ status. (status ≡ 0) ⊎ ((status ≡ 1) × TellsRunFile S.Disk.Disk.content S.Disk.Disk.failures (GaveAny S.Disk.Disk.gave) (ToldOf N.told_fault N.told_damage path.now) notes.old notes.new (S.opened source path.now)
         (λ error. S.not_opened source path.now error × N.told_error notes.old notes.new path.now error) result.0 (R.remaining reader.old) (R.remaining reader.new) (W.contents writer.old) (W.contents writer.new))) }
-    ensures answered { result.1 ≡ Ok 0 → RunsFile S.Disk.Disk.content S.Disk.Disk.failures (GaveAny S.Disk.Disk.gave) (S.opened source path.now) result.0 (R.remaining reader.old) (R.remaining reader.new) (W.contents writer.old) (W.contents writer.new) }
+    ensures answered { result.1 ≡ Ok 0 → RunsFile S.Disk.Disk.content S.Disk.Disk.failures (GaveAny S.Disk.Disk.gave) (ToldOf N.told_fault N.told_damage path.now) notes.old (S.opened source path.now) result.0 (R.remaining reader.old) (R.remaining reader.new) (W.contents writer.old) (W.contents writer.new) }
 {
     match source.open(path) {
         Ok(disk) => {
@@ -109,7 +123,7 @@ pub fn check_file<
     writer: &mut W,
     notes: &mut N,
 ) -> (Option<S::Disk>, io::Result<u8>)
-    ensures told { IfOk result.1 (λ status. (status ≡ 0) ⊎ ((status ≡ 1) × TellsCheckFile S.Disk.Disk.content (GaveAny S.Disk.Disk.gave) (N.told_fault notes.old notes.new path.now) (S.shared source path.now)
+    ensures told { IfOk result.1 (λ status. (status ≡ 0) ⊎ ((status ≡ 1) × TellsCheckFile S.Disk.Disk.content (GaveAny S.Disk.Disk.gave) (ToldOf N.told_fault N.told_damage path.now notes.old notes.new) (S.shared source path.now)
         (λ error. S.not_shared source path.now error × N.told_error notes.old notes.new path.now error) result.0 (W.contents writer.old) (W.contents writer.new))) }
     ensures reported { result.1 ≡ Ok 0 → ChecksFile S.Disk.Disk.content (S.shared source path.now) result.0 (W.contents writer.old) (W.contents writer.new) }
 {

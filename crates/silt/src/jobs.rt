@@ -6,9 +6,12 @@ ghost use Rattle.silt_device.specs.Layout.{device_size};
 ghost use Rattle.silt_wire.specs.declared.sessions.SessionEnd.{SessionEnd as SessionEndOf};
 ghost use Rattle.silt_wire.specs.declared.sessions.SessionEnd.TheVariants.{End};
 ghost use Rattle.silt.specs.Jobs.{AnswersReader, BreaksRun, EndsCheck, EndsFormat, EndsRun, TellsCheck, TellsFormat, TellsOpening, formatted_line, status_of};
+ghost use Rattle.silt.specs.Notes.{ToldOf};
 
+use crate::damage::damage_at;
 use crate::notes::{FaultNotes, tell_refusal};
 use crate::refusal::refuse;
+use crate::told_store::ToldStore;
 use silt_device::{Disk, Geometry};
 use silt_recovery::{check, format};
 use silt_store_set::{Core, Refusal, Served};
@@ -31,18 +34,21 @@ pub fn run_on<D: Served, R: Read, W: Write, N: FaultNotes<D::Fault>>(
     writer: &mut W,
     notes: &mut N,
 ) -> (D, io::Result<u8>)
-    ensures told { IfOk result.1 (λ status. (status ≡ 0) ⊎ ((status ≡ 1) × (TellsOpening D.content (GaveAny D.gave) (N.told_fault notes.old notes.new file.now) disk result.0 (W.contents writer.old) (W.contents writer.new)
-        ⊎ BreaksRun D.content D.failures (GaveAny D.gave) disk result.0 (R.remaining reader.old) (R.remaining reader.new) (W.contents writer.old) (W.contents writer.new)))) }
-    ensures answered { result.1 ≡ Ok 0 → EndsRun D.content D.failures (GaveAny D.gave) End disk result.0
+    ensures told { IfOk result.1 (λ status. (status ≡ 0) ⊎ ((status ≡ 1) × (TellsOpening D.content (GaveAny D.gave) (ToldOf N.told_fault N.told_damage file.now notes.old notes.new) disk result.0 (W.contents writer.old) (W.contents writer.new)
+        ⊎ BreaksRun D.content D.failures (GaveAny D.gave) (ToldOf N.told_fault N.told_damage file.now) notes.old disk result.0 (R.remaining reader.old) (R.remaining reader.new) (W.contents writer.old) (W.contents writer.new)))) }
+    ensures answered { result.1 ≡ Ok 0 → EndsRun D.content D.failures (GaveAny D.gave) (ToldOf N.told_fault N.told_damage file.now) notes.old End disk result.0
         (R.remaining reader.old) (R.remaining reader.new) (W.contents writer.old) (W.contents writer.new) }
 {
     match Core::open(alloc, disk) {
-        Ok(mut core) => {
-            let status = answer_reader(alloc, &mut core, reader, writer);
+        Ok(core) => {
+            let mut store = ToldStore { core, file, notes };
+            let status = answer_reader(alloc, &mut store, reader, writer);
+            let ToldStore { core, .. } = store;
             (core.close(), status)
         }
         Err(fault) => {
-            tell_refusal(file, &fault.refusal, notes);
+            let at = damage_at(&fault.disk, &fault.refusal);
+            tell_refusal(file, &fault.refusal, at, notes);
             let status = refuse(alloc, &fault.refusal, writer);
             (fault.disk, status)
         }
@@ -50,19 +56,20 @@ pub fn run_on<D: Served, R: Read, W: Write, N: FaultNotes<D::Fault>>(
 }
 
 // Writes that the store is taken up, answers the reader's lines to their end, and answers the status.
-fn answer_reader<D: Served, R: Read, W: Write>(
+fn answer_reader<D: Served, R: Read, W: Write, N: FaultNotes<D::Fault>>(
     alloc: Global,
-    core: &mut Core<D>,
+    store: &mut ToldStore<'_, D, N>,
     reader: &mut R,
     writer: &mut W,
 ) -> io::Result<u8>
-    ensures { IfOk result (λ status. (end : SessionEndOf) × (status ≡ status_of end) × AnswersReader D.content D.failures (GaveAny D.gave) end core.old core.new
+    ensures { IfOk result (λ status. (end : SessionEndOf) × (status ≡ status_of end)
+        × AnswersReader D.content D.failures (GaveAny D.gave) (ToldOf N.told_fault N.told_damage store.old.file.now) end (store.old.core, store.old.notes.now) (store.new.core, store.new.notes.now)
         (R.remaining reader.old) (R.remaining reader.new) (W.contents writer.old) (W.contents writer.new)) }
 {
-    let value_len = core.geometry().value_len() as usize;
+    let value_len = store.core.geometry().value_len() as usize;
     writer.write_all(b"opened\n")?;
     writer.flush()?;
-    let end = session(alloc, value_len, reader, writer, core);
+    let end = session(alloc, value_len, reader, writer, store);
     Ok(status_of(end))
 }
 
@@ -88,7 +95,7 @@ pub fn check_on<D: Disk, W: Write, N: FaultNotes<D::Fault>>(
     writer: &mut W,
     notes: &mut N,
 ) -> io::Result<u8>
-    ensures told { IfOk result (λ status. (status ≡ 0) ⊎ ((status ≡ 1) × TellsCheck D.content (GaveAny D.gave) (N.told_fault notes.old notes.new file.now) disk.now (W.contents writer.old) (W.contents writer.new))) }
+    ensures told { IfOk result (λ status. (status ≡ 0) ⊎ ((status ≡ 1) × TellsCheck D.content (GaveAny D.gave) (ToldOf N.told_fault N.told_damage file.now notes.old notes.new) disk.now (W.contents writer.old) (W.contents writer.new))) }
     ensures reported { result ≡ Ok 0 → EndsCheck D.content disk.now (W.contents writer.old) (W.contents writer.new) }
 {
     match check(alloc, disk) {
@@ -99,7 +106,7 @@ pub fn check_on<D: Disk, W: Write, N: FaultNotes<D::Fault>>(
         }
         Err(error) => {
             let refusal = Refusal::from(error);
-            tell_refusal(file, &refusal, notes);
+            tell_refusal(file, &refusal, damage_at(disk, &refusal), notes);
             refuse(alloc, &refusal, writer)
         }
     }
@@ -119,14 +126,14 @@ pub fn format_on<D: Disk, W: Write, N: FaultNotes<D::Fault>>(
     writer: &mut W,
     notes: &mut N,
 ) -> (D, io::Result<u8>)
-    ensures told { IfOk result.1 (λ status. (status ≡ 0) ⊎ ((status ≡ 1) × TellsFormat D.content (GaveAny D.gave) (N.told_fault notes.old notes.new file.now) geometry disk result.0 (W.contents writer.old) (W.contents writer.new))) }
+    ensures told { IfOk result.1 (λ status. (status ≡ 0) ⊎ ((status ≡ 1) × TellsFormat D.content (GaveAny D.gave) (ToldOf N.told_fault N.told_damage file.now notes.old notes.new) geometry disk result.0 (W.contents writer.old) (W.contents writer.new))) }
     ensures formatted { result.1 ≡ Ok 0 → EndsFormat D.content geometry result.0 (W.contents writer.old) (W.contents writer.new) }
 {
     match format(alloc, disk, geometry) {
         Ok(disk) => (disk, write_formatted(alloc, geometry.size(), writer)),
         Err(fault) => {
             let refusal = Refusal::from(fault.error);
-            tell_refusal(file, &refusal, notes);
+            tell_refusal(file, &refusal, None, notes);
             let status = refuse(alloc, &refusal, writer);
             (fault.disk, status)
         }

@@ -13,6 +13,7 @@
 //! the path shows. Of a disk in a file nothing is known but its length.
 #![tactic(auto)]
 
+mod damage;
 mod files;
 mod geometry;
 mod jobs;
@@ -24,6 +25,7 @@ mod script_lines;
 mod service;
 #[cfg(test)]
 mod tests;
+mod told_store;
 mod transcript;
 mod usage;
 

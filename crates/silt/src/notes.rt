@@ -1,9 +1,10 @@
 // What the program tells people, beside what it writes for programs.
-ghost use Rattle.std.specs.Prelude.{◌≡◌, ⊤, ℕ, List, map, string_bytes};
-ghost use Rattle.silt.specs.Notes.{IsTold};
+ghost use Rattle.std.specs.Prelude.{◌≡◌, ⊤, ℕ, List, Option, map, string_bytes};
+ghost use Rattle.silt_event.specs.declared.place.Place.{Place as PlaceOf};
+ghost use Rattle.silt.specs.Notes.{ToldOf};
 
 use crate::usage::{FORMS, complaint_of};
-use silt_store_set::Refusal;
+use silt_store_set::{Place, Refusal};
 use std::fmt::Display;
 use std::io::{self, Write};
 
@@ -41,22 +42,36 @@ pub trait SourceNotes<E> {
         ensures { told_error self.old self.new file.now error.now };
 }
 
-/// Where people are told why a call of a disk failed. `F` is the disk's fault.
+/// Where people are told why a call of a disk failed, and which part of a disk is damaged. `F` is the disk's fault.
 pub trait FaultNotes<F> {
     /// It was told that this fault came up on the disk of a file of this name.
     ghost told_fault: { Self → Self → List ℕ → F → Type 0 };
 
+    /// It was told that this part of the disk of a file of this name is damaged, and where it begins, if that is known.
+    ghost told_damage: { Self → Self → List ℕ → PlaceOf → Option ℕ → Type 0 };
+
     /// Tells why a call of the disk of the file of this name failed.
     fn tell_fault(&mut self, file: &str, fault: &F)
         ensures { told_fault self.old self.new file.now fault.now };
+
+    /// Tells which part of the disk of the file of this name is damaged, and where it begins, if that is known.
+    fn tell_damage(&mut self, file: &str, place: Place, at: Option<u64>)
+        ensures { told_damage self.old self.new file.now place at };
 }
 
-/// Tells the fault of a disk that a refusal has, where it has one.
-pub fn tell_refusal<F, N: FaultNotes<F>>(file: &str, refusal: &Refusal<F>, notes: &mut N)
-    ensures { IsTold (N.told_fault notes.old notes.new file.now) refusal.now }
+/// Tells the fault of a disk, or the damage that begins there, where a refusal has one of them.
+pub fn tell_refusal<F, N: FaultNotes<F>>(
+    file: &str,
+    refusal: &Refusal<F>,
+    at: Option<u64>,
+    notes: &mut N,
+)
+    ensures { ToldOf N.told_fault N.told_damage file.now notes.old notes.new refusal.now }
 {
-    if let Refusal::Device(fault) = refusal {
-        notes.tell_fault(file, fault);
+    match refusal {
+        Refusal::Device(fault) => notes.tell_fault(file, fault),
+        Refusal::Damaged(place) => notes.tell_damage(file, *place, at),
+        _ => {}
     }
 }
 
@@ -107,10 +122,34 @@ impl<W: Write, E: Display> SourceNotes<E> for NoteLines<W> {
     }
 }
 
+// What is wrong with a damaged part, in words.
+fn damage_named(place: Place) -> &'static str {
+    match place {
+        Place::Header => "a number of the header is out of its limits",
+        Place::Length => "it has another length than its header says",
+        Place::Slot(_) => "a manifest slot is damaged",
+        Place::NoSlot => "no manifest slot is open",
+        Place::Log { .. } => "a row of a log is damaged",
+        Place::Hash { .. } => "a slot of a hash store is damaged",
+        Place::Sorted(_) => "an entry of the sorted store is damaged",
+        Place::Charge => "it holds more rows than it may",
+    }
+}
+
 impl<W: Write, F: Display> FaultNotes<F> for NoteLines<W> {
     ghost told_fault = { λ _ _ _ _. ⊤ };
 
+    ghost told_damage = { λ _ _ _ _ _. ⊤ };
+
     fn tell_fault(&mut self, file: &str, fault: &F) {
         let _ = writeln!(self.writer, "silt: {file}: {fault}");
+    }
+
+    fn tell_damage(&mut self, file: &str, place: Place, at: Option<u64>) {
+        let damage = damage_named(place);
+        let _ = match at {
+            Some(at) => writeln!(self.writer, "silt: {file}: {damage}, at byte {at}"),
+            None => writeln!(self.writer, "silt: {file}: {damage}"),
+        };
     }
 }

@@ -1,11 +1,13 @@
 // The server on the disk of a path.
 ghost use Rattle.std.specs.Prelude.{◌≡◌, ◌⊎◌, Ok, IfOk};
-ghost use Rattle.silt.specs.Files.{ServesFile, TellsServeFile};
+ghost use Rattle.silt_device.specs.Disk.{GaveAny};
+ghost use Rattle.silt_server.specs.Serving.{IsStatus, LeavesServed};
+ghost use Rattle.silt.specs.Files.{EndsServe, ServesFile, TellsServe, TellsServeFile};
 
 use crate::notes::{Notes, SourceNotes};
 use crate::refusal::refuse;
 use silt_desk::{Gate, Spot};
-use silt_device::DiskSource;
+use silt_device::{Disk, DiskSource};
 use silt_server::{refuse_network, serve_on};
 use silt_store_set::Refusal;
 use silt_words::Service;
@@ -42,39 +44,48 @@ pub fn serve_file<
     writer: &mut W,
     notes: &mut N,
 ) -> (Option<S::Disk>, io::Result<u8>)
-    ensures told { IfOk result.1 (λ status. (status ≡ 0) ⊎ ((status ≡ 1) × TellsServeFile (S.opened source service.now.file.now)
+    ensures told { IfOk result.1 (IsStatus (TellsServeFile S.Disk.Disk.content (GaveAny S.Disk.Disk.gave) (S.opened source service.now.file.now)
         (λ error. S.not_opened source service.now.file.now error × N.told_error notes.old notes.new service.now.file.now error) result.0 (W.contents writer.old) (W.contents writer.new))) }
-    ensures served { result.1 ≡ Ok 0 → ServesFile S.Disk.Disk.content (S.opened source service.now.file.now) result.0 (W.contents writer.old) (W.contents writer.new) }
+    ensures served { result.1 ≡ Ok 0 → ServesFile S.Disk.Disk.content (GaveAny S.Disk.Disk.gave) (S.opened source service.now.file.now) service.now.audit result.0 (W.contents writer.old) (W.contents writer.new) }
 {
-    let disk = match source.open(service.file) {
-        Ok(disk) => disk,
+    match source.open(service.file) {
+        Ok(disk) => {
+            let (disk, status) = serve_disk(rt, alloc, disk, service, writer, notes);
+            (Some(disk), status)
+        }
         Err(error) => {
             notes.tell_error(service.file, &error);
-            return (None, refuse(alloc, &Refusal::Device(()), writer));
+            (None, refuse(alloc, &Refusal::Device(()), writer))
         }
-    };
+    }
+}
+
+// Serves the store on a disk to the connections of a port of this machine. Gives the disk back, and the status.
+fn serve_disk<
+    D: Disk,
+    H: Net<Listener = TcpListener, Stream = TcpStream> + Threads + Wait + Sync,
+    W: Write,
+    N: Notes,
+>(
+    rt: &H,
+    alloc: Global,
+    disk: D,
+    service: &Service<'_>,
+    writer: &mut W,
+    notes: &mut N,
+) -> (D, io::Result<u8>)
+    ensures served { result.1 ≡ Ok 0 → EndsServe D.content service.now.audit result.0 (W.contents writer.old) (W.contents writer.new) }
+    ensures told { IfOk result.1 (IsStatus (TellsServe D.content (GaveAny D.gave) disk result.0 (W.contents writer.old) (W.contents writer.new))) }
+    ensures left { LeavesServed D.content (GaveAny D.gave) disk result.0 }
+{
     let listener = match TcpListener::bind(rt, ("127.0.0.1", service.port)) {
         Ok(listener) => listener,
         Err(error) => {
             notes.tell_port(service.port, &error);
-            let (disk, status) = refuse_network(alloc, disk, writer);
-            return (Some(disk), status);
+            return refuse_network(alloc, disk, writer);
         }
     };
     let sessions = service.sessions.unwrap_or(0);
     let audit = service.audit.map(u64::from);
-    let (disk, ended) = serve_on(rt, alloc, &listener, disk, audit, sessions, &Open, writer);
-    (Some(disk), done_or_failed(ended))
-}
-
-// The status of a server that has ended: 0 where it is 0, else 1.
-fn done_or_failed(ended: io::Result<u8>) -> io::Result<u8>
-    ensures told { IfOk result (λ status. (status ≡ 0) ⊎ (status ≡ 1)) }
-    ensures done { result ≡ Ok 0 → ended ≡ Ok 0 }
-{
-    match ended {
-        Ok(0) => Ok(0),
-        Ok(_) => Ok(1),
-        Err(error) => Err(error),
-    }
+    serve_on(rt, alloc, &listener, disk, audit, sessions, &Open, writer)
 }

@@ -1,6 +1,7 @@
 // What no contract says: printed text and statuses, letter for letter, through the program over memory.
 
 mod conversion;
+mod damage;
 mod examples;
 mod files;
 mod freeze;
@@ -14,6 +15,7 @@ use crate::notes::{FaultNotes, Notes, SourceNotes};
 use crate::program::{program, refuse_words};
 use crate::script_lines::read_script;
 use silt_device::FileDisks;
+use silt_event::Place;
 use silt_words::WordsError;
 use std::fs::File;
 use std::io::{self, Cursor, ErrorKind, Read, Write};
@@ -130,8 +132,14 @@ impl<F> FaultNotes<F> for Counted {
 
     ghost told_fault = { λ _ _ _ _. ⊤ };
 
+    ghost told_damage = { λ _ _ _ _ _. ⊤ };
+
     fn tell_fault(&mut self, _file: &str, _fault: &F) {
         self.faults = self.faults.wrapping_add(1);
+    }
+
+    fn tell_damage(&mut self, _file: &str, _place: Place, _at: Option<u64>) {
+        self.others = self.others.wrapping_add(1);
     }
 }
 

@@ -15,7 +15,7 @@ use std::test::Fail;
 use std::thread::Threads;
 
 // Makes a folder, without what an earlier run left in it.
-fn make_folder(runtime: &HostRuntime, name: &str) -> io::Result<()> {
+pub(crate) fn make_folder(runtime: &HostRuntime, name: &str) -> io::Result<()> {
     if fs::exists(runtime, name)? {
         fs::remove_dir_all(runtime, name)?;
     }
@@ -23,7 +23,7 @@ fn make_folder(runtime: &HostRuntime, name: &str) -> io::Result<()> {
 }
 
 // Runs the program, which is to end with this status, and compares what people are told.
-fn tells<
+pub(crate) fn tells<
     S: Files<File = File>
         + AllocGlobal
         + Abort

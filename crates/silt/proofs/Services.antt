@@ -1,0 +1,31 @@
+-- How a service of a disk ends.
+use Rattle.std.proofs.Common.{◌≡◌, ◌⊎◌, ℕ, Option, Some, None, Result, Ok, Err, arith, inl, inr, refl}
+use Rattle.std.specs.Prelude.{IfOk, IfSome}
+use Rattle.std.specs.Option.{option_map}
+use Rattle.silt_server.specs.Serving.{IsStatus}
+
+-- what holds where there is a number holds where there was one before it was turned into another
+pub if-mapped : {A B : Type 0} (P : Type 0) (f : A → B) (x : Option A) → IfSome (option_map f x) (λ y. P) → IfSome x (λ y. P)
+if-mapped P f (Some x) h = h
+if-mapped P f None h = h
+
+-- status 1 alone, and what was told
+pub status_told : {E P Q : Type 0} (result : Result ℕ E) → (P → Q) → IfOk result (λ status. (status ≡ 1) × P) → IfOk result (IsStatus Q)
+status_told (Ok status) step h = inr (h.0, step h.1)
+status_told (Err error) step h = h
+
+ok-is : {E : Type 0} (result : Result ℕ E) (status : ℕ) → result ≡ Ok status → result ≡ Ok 0 → status ≡ 0
+ok-is result status known is = cc
+
+-- so it is not 0
+pub never_done : {E Q : Type 0} (P : Type 0) (result : Result ℕ E) → IfOk result (λ status. (status ≡ 1) × P) → result ≡ Ok 0 → Q
+never_done P (Ok status) h is =
+    let zero : status ≡ 0 = ok-is (Ok status) status refl is in
+    absurd (omega (arith, h.0, zero))
+never_done P (Err error) h is = absurd (cc)
+
+-- a service told of the disk of a path
+pub status_of_file : {E P Q : Type 0} (result : Result ℕ E) → (P → Q) → IfOk result (IsStatus P) → IfOk result (IsStatus Q)
+status_of_file (Ok status) step (inl done) = inl done
+status_of_file (Ok status) step (inr h) = inr (h.0, step h.1)
+status_of_file (Err error) step h = h

@@ -1,0 +1,19 @@
+use Rattle.std.proofs.Common.{inl, inr}
+use Rattle.silt.proofs.Services.{if-mapped, never_done, status_told}
+use Rattle.silt.proofs.service.serve_disk.Goals as goal
+
+pub returns-in-Err-clause-served : goal.returns-in-Err-clause-served
+returns-in-Err-clause-served g c = never_done _ c.refuse_network.result.1 c.refuse_network.ensures.told
+
+pub returns-in-Err-clause-told : goal.returns-in-Err-clause-told
+returns-in-Err-clause-told g c =
+    status_told c.refuse_network.result.1 (λ told. elim told [
+      | inl opening ↦ inl opening
+      | inr broken ↦ inr (inr (inr (inl broken)))
+    ]) c.refuse_network.ensures.told
+
+pub returns-in-Err-clause-left : goal.returns-in-Err-clause-left
+returns-in-Err-clause-left g c = inl c.refuse_network.ensures.left
+
+pub returns-clause-served : goal.returns-clause-served
+returns-clause-served g c = λ is. (c.serve_on.ensures.served is, if-mapped _ _ c.args.service.now.audit (c.serve_on.ensures.kept is))

@@ -1,0 +1,29 @@
+-- Where the parts of a disk lie.
+use Rattle.std.specs.Prelude.{◌≡◌, ◌≢◌, ◌+◌, ◌*◌, ◌&&◌, ℕ, nat_lt, if◌then◌else◌, IsTrue, Option, Some, None, Err}
+use Rattle.silt_device.specs.Disk.{Content, size}
+use Rattle.silt_device.specs.Layout.{Shape, bodies_at, entry_len, hash_at, row_len, slot_at, sorted_at}
+use Rattle.silt_event.specs.declared.place.Place.{Place}
+use Rattle.silt_event.specs.declared.place.Place.TheVariants.{Header, Length, Slot, NoSlot, Log, Hash, Sorted, Charge}
+use Rattle.silt_image.specs.Header.{header_of}
+use Rattle.silt_image.specs.Stores.{shape_found}
+use Rattle.silt_image.specs.declared.damage.Finding.TheVariants.{NotFormatted}
+
+-- a row, a slot or an entry of a region, if the region has it
+abbrev pub part_at : ℕ → ℕ → ℕ → ℕ → Option ℕ
+part_at region_at len count part = if nat_lt part count then Some (region_at + part * len) else None
+
+-- Where a part begins on a disk of this shape whose sorted store lies in this region: a row by its body. The numbers of the header follow its gate, its
+-- eight letters and its version. The length and the charge are of the whole disk.
+abbrev pub place_at : Shape → ℕ → Place → Option ℕ
+place_at s sorted Header = Some 13
+place_at s sorted Length = None
+place_at s sorted (Slot slot) = if nat_lt slot 2 then Some (slot_at slot) else None
+place_at s sorted NoSlot = Some (slot_at 0)
+place_at s sorted (Log region row) = if nat_lt region s.logs then part_at (bodies_at s region) (row_len s) s.log_capacity row else None
+place_at s sorted (Hash region slot) = if nat_lt region s.hashes then part_at (hash_at s region) (row_len s) (4 * s.buckets) slot else None
+place_at s sorted (Sorted entry) = part_at (sorted_at s sorted) (entry_len s) s.sorted_capacity entry
+place_at s sorted Charge = None
+
+-- the header of a store of this format stands on the disk, its gate open
+abbrev pub HoldsStore : Content → Type 0
+HoldsStore content = IsTrue content.honest × (shape_found (size content) (header_of content.shown) ≢ Err NotFormatted)
