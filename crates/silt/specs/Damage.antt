@@ -6,7 +6,7 @@ use Rattle.silt_event.specs.declared.place.Place.{Place}
 use Rattle.silt_event.specs.declared.place.Place.TheVariants.{Header, Length, Slot, NoSlot, Log, Hash, Sorted, Charge}
 use Rattle.silt_image.specs.Header.{header_of}
 use Rattle.silt_image.specs.Stores.{shape_found}
-use Rattle.silt_image.specs.declared.damage.Finding.TheVariants.{NotFormatted}
+use Rattle.silt_event.specs.declared.damage.Finding.TheVariants.{NotFormatted}
 
 -- a row, a slot or an entry of a region, if the region has it
 abbrev pub part_at : ℕ → ℕ → ℕ → ℕ → Option ℕ

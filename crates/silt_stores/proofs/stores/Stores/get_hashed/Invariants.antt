@@ -1,5 +1,5 @@
 use Rattle.std.proofs.Common.{◌≡◌, ◌<◌, ℕ, false, IsTrue}
-use Rattle.silt_image.specs.Meaning.{holds_key}
+use Rattle.silt_hash_store.specs.Findings.{holds_key}
 use Rattle.silt_stores.specs.Standing.{Stands}
 use Rattle.silt_stores.specs.Lookup.{hash_store_at, hash_rows_of}
 use Rattle.silt_stores.proofs.stores.Stores.get_hashed.Given as goal
