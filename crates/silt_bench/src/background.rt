@@ -2,14 +2,14 @@
 ghost use Rattle.std.specs.Prelude.{◌≡◌, false, OnOk};
 ghost use Rattle.silt_store_set.specs.CoreState.{wants_convert, wants_merge};
 
-use crate::ending::Ending;
+use crate::ending::{Call, Ending};
 use silt_device::Disk;
 use silt_event::Progress;
 use silt_store_set::Core;
 use std::alloc::Global;
 
 /// How many hash stores stand, and how many are to stand when a merge begins.
-#[derive(Clone, Copy, Debug, PartialEq, Eq)]
+#[derive(Clone, Copy)]
 pub struct Background {
     standing: u64,
     merge_at: u64,
@@ -47,7 +47,7 @@ impl Background {
             merge_all(alloc, core)?;
             self.standing = 0;
         }
-        Err(Ending::Refused("an end of its work"))
+        Err(Ending::Refused(Call::Merge))
     }
 
     // Does all conversions that are wanted, to the end.
@@ -57,7 +57,7 @@ impl Background {
                 Ok(Progress::Moved) => {}
                 Ok(Progress::Finished) => self.standing = self.standing.saturating_add(1),
                 Ok(Progress::Idle | Progress::Waiting) => break,
-                Err(_) => return Err(Ending::Refused("a convert")),
+                Err(_) => return Err(Ending::Refused(Call::Convert)),
             }
         }
         Ok(())
@@ -70,7 +70,7 @@ fn merge_all<D: Disk>(alloc: Global, core: &mut Core<D>) -> Result<(), Ending> {
         match core.merge(alloc) {
             Ok(Progress::Moved | Progress::Finished) => {}
             Ok(Progress::Idle | Progress::Waiting) => break,
-            Err(_) => return Err(Ending::Refused("a merge")),
+            Err(_) => return Err(Ending::Refused(Call::Merge)),
         }
     }
     Ok(())

@@ -28,7 +28,7 @@ pub fn a_second(count: u64, nanos: u64) -> u64
 }
 
 /// A number of thousandths, written with its point.
-#[derive(Clone, Copy, Debug, PartialEq, Eq)]
+#[derive(Clone, Copy)]
 pub struct Thousandths(pub u64);
 
 impl Thousandths {

@@ -2,7 +2,7 @@
 ghost use Rattle.std.specs.Prelude.{◌≡◌, length};
 
 use crate::background::Background;
-use crate::ending::Ending;
+use crate::ending::{Call, Ending};
 use crate::job::Plan;
 use crate::keys::{byte_of, key_of};
 use crate::pauses::{Lap, Pauses};
@@ -34,7 +34,7 @@ pub fn fill<D: Disk, R: Clock>(
     rt: &R,
     alloc: Global,
     core: &mut Core<D>,
-    plan: &Plan<'_>,
+    plan: &Plan,
     first: u64,
     end: u64,
     background: &mut Background,
@@ -55,7 +55,7 @@ pub fn fill<D: Disk, R: Clock>(
         )?;
         let mut lap = Lap::new(rt)?;
         if core.flush().is_err() {
-            return Err(Ending::Refused("a flush"));
+            return Err(Ending::Refused(Call::Flush));
         }
         pauses.flushes.note(lap.turn(rt)?);
         background.take_turn(alloc, core)?;
@@ -74,13 +74,13 @@ fn put_group<D: Disk, R: Clock>(
     pauses: &mut Pauses,
 ) -> Result<(), Ending> {
     if core.geometry().value_len() as usize != value.len() {
-        return Err(Ending::Refused("a put"));
+        return Err(Ending::Refused(Call::Put));
     }
     let mut lap = Lap::new(rt)?;
     for number in first..end {
         value.fill(byte_of(number));
         if core.put(alloc, &key_of(number), value).is_err() {
-            return Err(Ending::Refused("a put"));
+            return Err(Ending::Refused(Call::Put));
         }
         pauses.note(lap.turn(rt)?);
     }

@@ -20,7 +20,7 @@ pub fn grow<D: Disk, R: Clock + Print>(
     rt: &R,
     alloc: Global,
     disk: D,
-    plan: &Plan<'_>,
+    plan: &Plan,
 ) -> Result<(), Ending> {
     let reads = AtomicU64::new(0);
     let mut core = new_store(alloc, CountingDisk::new(disk, &reads), plan.geometry)?;

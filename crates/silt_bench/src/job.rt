@@ -1,9 +1,10 @@
 // What the bench is asked to do.
+ghost use Rattle.std.specs.Prelude.{◌<◌};
 
 use silt_device::Geometry;
 
 /// How the store's work in the background is done.
-#[derive(Clone, Copy, Debug, PartialEq, Eq)]
+#[derive(Clone, Copy)]
 pub enum Work {
     /// On the writer's thread, between its groups.
     Turns,
@@ -12,10 +13,8 @@ pub enum Work {
 }
 
 /// How a store is to be filled and read.
-#[derive(Clone, Copy, Debug)]
-pub struct Plan<'a> {
-    /// The file that is made. None: the store is in memory.
-    pub path: Option<&'a str>,
+#[derive(Clone, Copy)]
+pub struct Plan {
     pub work: Work,
     pub geometry: Geometry,
     /// How many keys are put.
@@ -29,16 +28,16 @@ pub struct Plan<'a> {
 }
 
 /// One of the bench's jobs.
-#[derive(Clone, Copy, Debug)]
-pub enum Job<'a> {
-    Store(Plan<'a>),
-    Growth(Plan<'a>),
+#[derive(Clone, Copy)]
+pub enum Job {
+    Store(Plan),
+    Growth(Plan),
     Index { keys: u64, gets: u64 },
     Counts,
 }
 
 /// The job that the words name, the first of which is the program's own. None: they name no job.
-pub fn job_of(words: &[String]) -> Option<Job<'_>> {
+pub fn job_of(words: &[String]) -> Option<Job> {
     let name = words.get(1)?.as_str();
     match (name, words.len()) {
         ("store", 14) => Some(Job::Store(plan_of(words)?)),
@@ -53,14 +52,13 @@ pub fn job_of(words: &[String]) -> Option<Job<'_>> {
 }
 
 // The plan that the words of a store name.
-fn plan_of(words: &[String]) -> Option<Plan<'_>> {
+fn plan_of(words: &[String]) -> Option<Plan> {
     let work = match words.get(3)?.as_str() {
         "turns" => Work::Turns,
         "workers" => Work::Workers,
         _ => return None,
     };
     Some(Plan {
-        path: path_at(words, 2)?,
         work,
         geometry: geometry_at(words, 4)?,
         keys: number_at(words, 10)?,
@@ -71,10 +69,9 @@ fn plan_of(words: &[String]) -> Option<Plan<'_>> {
 }
 
 // The plan that the words of a growth name.
-fn growth_of(words: &[String]) -> Option<Plan<'_>> {
+fn growth_of(words: &[String]) -> Option<Plan> {
     let geometry = geometry_at(words, 3)?;
     Some(Plan {
-        path: path_at(words, 2)?,
         work: Work::Turns,
         geometry,
         keys: number_at(words, 9)?,
@@ -84,11 +81,11 @@ fn growth_of(words: &[String]) -> Option<Plan<'_>> {
     })
 }
 
-// The path that a word names, None within where it is the word for memory.
-fn path_at(words: &[String], at: usize) -> Option<Option<&str>> {
-    match words.get(at)?.as_str() {
-        "memory" => Some(None),
-        path => Some(Some(path)),
+/// The path of the store's file, which the third word names. None: the store is to be in memory.
+pub fn path_of(words: &[String]) -> Option<&str> {
+    match words.get(2)?.as_str() {
+        "memory" => None,
+        path => Some(path),
     }
 }
 

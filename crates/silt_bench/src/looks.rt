@@ -4,7 +4,7 @@ use crate::ending::Ending;
 use crate::figures::a_second;
 use crate::keys::{byte_of, key_of, pick};
 use crate::pauses::Lap;
-use silt_desk::{Count, Naming, Shared};
+use silt_desk::{Naming, Shared, Trace};
 use silt_device::Disk;
 use std::alloc::Global;
 use std::sync::Wait;
@@ -16,7 +16,7 @@ use std::time::Clock;
 pub const ABSENT: u64 = 1 << 40;
 
 /// Which looks are made.
-#[derive(Clone, Copy, Debug)]
+#[derive(Clone, Copy)]
 pub struct Looks {
     /// The first number of the keys.
     pub first: u64,
@@ -55,10 +55,15 @@ impl Looks {
 /// # Errors
 ///
 /// `Wrong` where a look found another value than was put.
-pub fn looks_a_second<D: Disk, N: Naming + Send + Sync, R: Threads + Wait + Clock + Sync>(
+pub fn looks_a_second<
+    D: Disk,
+    T: Trace + Send + Sync,
+    N: Naming + Send + Sync,
+    R: Threads + Wait + Clock + Sync,
+>(
     rt: &R,
     alloc: Global,
-    shared: &Shared<D, Count, N>,
+    shared: &Shared<D, T, N>,
     looks: Looks,
     threads: usize,
 ) -> Result<u64, Ending> {
@@ -73,10 +78,10 @@ pub fn looks_a_second<D: Disk, N: Naming + Send + Sync, R: Threads + Wait + Cloc
 }
 
 // So many looks by each of so many threads: whether each look of a thread found what is there.
-fn look_beside<D: Disk, N: Naming + Send + Sync, R: Threads + Wait + Sync>(
+fn look_beside<D: Disk, T: Trace + Send + Sync, N: Naming + Send + Sync, R: Threads + Wait + Sync>(
     rt: &R,
     alloc: Global,
-    shared: &Shared<D, Count, N>,
+    shared: &Shared<D, T, N>,
     looks: Looks,
     each: u64,
     threads: usize,
@@ -91,9 +96,9 @@ fn look_beside<D: Disk, N: Naming + Send + Sync, R: Threads + Wait + Sync>(
 }
 
 // So many looks of one thread: whether each found what is there.
-fn look_all<D: Disk, N: Naming, R: Wait>(
+fn look_all<D: Disk, T: Trace, N: Naming, R: Wait>(
     rt: &R,
-    shared: &Shared<D, Count, N>,
+    shared: &Shared<D, T, N>,
     looks: Looks,
     count: u64,
     thread: u64,
@@ -111,9 +116,9 @@ fn look_all<D: Disk, N: Naming, R: Wait>(
 }
 
 // Whether one look finds what is there.
-fn is_right<D: Disk, N: Naming, R: Wait>(
+fn is_right<D: Disk, T: Trace, N: Naming, R: Wait>(
     rt: &R,
-    shared: &Shared<D, Count, N>,
+    shared: &Shared<D, T, N>,
     looks: Looks,
     number: u64,
     out: &mut [u8],

@@ -31,7 +31,7 @@ mod workers;
 use ending::Ending;
 use growth::grow;
 use index::{index_agrees, measure_index};
-use job::{Job, job_of};
+use job::{Job, job_of, path_of};
 use measurement::measure;
 use silt_device::{FileDisk, FileSystem, MemDisk};
 use small::count_small;
@@ -59,7 +59,7 @@ fn run<
     let alloc = rt.alloc();
     let words = env::args(rt)?.collect::<Vec<String>>(alloc)?;
     match job_of(words.as_slice()).ok_or(Ending::Words)? {
-        Job::Store(plan) => match plan.path {
+        Job::Store(plan) => match path_of(words.as_slice()) {
             Some(path) => {
                 let disk = FileDisk::create(rt, path, plan.geometry.size())?;
                 measure(rt, alloc, disk, &plan)
@@ -69,7 +69,7 @@ fn run<
                 measure(rt, alloc, disk, &plan)
             }
         },
-        Job::Growth(plan) => match plan.path {
+        Job::Growth(plan) => match path_of(words.as_slice()) {
             Some(path) => {
                 let disk = FileDisk::create(rt, path, plan.geometry.size())?;
                 grow(rt, alloc, disk, &plan)

@@ -3,7 +3,7 @@ ghost use Rattle.std.specs.Prelude.{◌≡◌};
 
 use crate::background::Background;
 use crate::counting::CountingDisk;
-use crate::ending::Ending;
+use crate::ending::{Call, Ending};
 use crate::figures::{Thousandths, a_second, resident};
 use crate::filling::{WriterPauses, fill};
 use crate::job::{Plan, Work};
@@ -32,7 +32,7 @@ pub const NAMES: &str =
 const COUNTED: u64 = 100_000;
 
 /// What was seen of a store while it was shared.
-#[derive(Clone, Copy, Debug)]
+#[derive(Clone, Copy)]
 struct Seen {
     puts: u64,
     gets_by_one: u64,
@@ -47,7 +47,7 @@ struct Seen {
 }
 
 /// What an opening took, and the reads that were counted.
-#[derive(Clone, Copy, Debug)]
+#[derive(Clone, Copy)]
 struct Counted {
     open: u64,
     opening: u64,
@@ -59,11 +59,11 @@ struct Counted {
 /// An empty store of this geometry on a disk.
 pub fn new_store<D: Disk>(alloc: Global, disk: D, geometry: Geometry) -> Result<Core<D>, Ending> {
     let Ok(disk) = format(alloc, disk, geometry) else {
-        return Err(Ending::Refused("a format"));
+        return Err(Ending::Refused(Call::Format));
     };
     Core::open(alloc, disk)
         .ok()
-        .ok_or(Ending::Refused("an open"))
+        .ok_or(Ending::Refused(Call::Open))
 }
 
 /// Fills a store on this disk as planned, reads it, takes it up again, and prints one line of numbers behind their names.
@@ -71,7 +71,7 @@ pub fn measure<D: Disk, R: Threads + Wait + Clock + Print + Files + Sync>(
     rt: &R,
     alloc: Global,
     disk: D,
-    plan: &Plan<'_>,
+    plan: &Plan,
 ) -> Result<(), Ending> {
     let core = new_store(alloc, disk, plan.geometry)?;
     let (core, seen) = at_desk::<_, Brand, _>(rt, alloc, core, plan, Blank::new(3), Blank::new(3))?;
@@ -84,7 +84,7 @@ fn at_desk<D: Disk, N: Naming + Send + Sync, R: Threads + Wait + Clock + Files +
     rt: &R,
     alloc: Global,
     mut core: Core<D>,
-    plan: &Plan<'_>,
+    plan: &Plan,
     calls: Blank,
     accepted: Blank,
 ) -> Result<(Core<D>, Seen), Ending>
@@ -116,7 +116,7 @@ fn fill_by_turns<D: Disk, R: Clock>(
     rt: &R,
     alloc: Global,
     core: &mut Core<D>,
-    plan: &Plan<'_>,
+    plan: &Plan,
 ) -> Result<WriterPauses, Ending> {
     let mut background = Background::new(plan.stores);
     let mut pauses = WriterPauses::new(alloc)?;
@@ -139,7 +139,7 @@ fn look<D: Disk, N: Naming + Send + Sync, R: Threads + Wait + Clock + Files + Sy
     rt: &R,
     alloc: Global,
     shared: &Shared<D, Count, N>,
-    plan: &Plan<'_>,
+    plan: &Plan,
     pauses: &WriterPauses,
     nanos: u64,
 ) -> Result<Seen, Ending> {
@@ -164,16 +164,16 @@ fn take_up<D: Disk, R: Clock>(
     rt: &R,
     alloc: Global,
     disk: D,
-    plan: &Plan<'_>,
+    plan: &Plan,
 ) -> Result<Counted, Ending> {
     let mut lap = Lap::new(rt)?;
     let Ok(core) = Core::open(alloc, disk) else {
-        return Err(Ending::Refused("an open"));
+        return Err(Ending::Refused(Call::Open));
     };
     let open = lap.turn(rt)?;
     let reads = AtomicU64::new(0);
     let Ok(core) = Core::open(alloc, CountingDisk::new(core.close(), &reads)) else {
-        return Err(Ending::Refused("an open"));
+        return Err(Ending::Refused(Call::Open));
     };
     let opening = reads.load(Ordering::SeqCst);
     let looks = plan.gets.min(COUNTED);
@@ -215,7 +215,7 @@ pub fn count_reads<D: Disk>(
 }
 
 // Prints the numbers.
-fn tell<R: Print>(rt: &R, plan: &Plan<'_>, seen: &Seen, counted: &Counted) -> Result<(), Ending> {
+fn tell<R: Print>(rt: &R, plan: &Plan, seen: &Seen, counted: &Counted) -> Result<(), Ending> {
     let keys = plan.keys;
     let value_len = plan.geometry.value_len();
     let open = Thousandths(counted.open / 1000);

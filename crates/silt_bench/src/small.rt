@@ -2,7 +2,7 @@
 
 use crate::background::Background;
 use crate::counting::CountingDisk;
-use crate::ending::Ending;
+use crate::ending::{Call, Ending};
 use crate::filling::{WriterPauses, fill};
 use crate::job::{Plan, Work};
 use crate::keys::{byte_of, key_of};
@@ -27,7 +27,6 @@ pub fn count_small<R: Clock + Print>(rt: &R, alloc: Global) -> Result<(), Ending
         .ok()
         .ok_or(Ending::Words)?;
     let plan = Plan {
-        path: None,
         work: Work::Turns,
         geometry,
         keys: KEYS,
@@ -77,7 +76,7 @@ fn count_values<D: Disk>(
     let mut found = 0u64;
     for number in 0..count {
         let answer = core.get(&key_of(first.wrapping_add(number)), out);
-        let has_value = answer.ok().ok_or(Ending::Refused("a get"))?;
+        let has_value = answer.ok().ok_or(Ending::Refused(Call::Get))?;
         if has_value && out.iter().all(|&byte| byte == byte_of(number)) {
             found = found.wrapping_add(1);
         }

@@ -1,12 +1,12 @@
 // A store is filled while two workers do its work in the background.
 
-use crate::ending::Ending;
+use crate::ending::{Call, Ending};
 use crate::filling::WriterPauses;
 use crate::job::Plan;
 use crate::keys::{byte_of, key_of};
 use crate::pauses::{Lap, Pauses};
 use crossbeam_channel::{Receiver, Sender};
-use silt_desk::{Count, Gate, Naming, Seat, Shared, Spot, Wake, converter, merger};
+use silt_desk::{Gate, Naming, Seat, Shared, Spot, Trace, Wake, converter, merger};
 use silt_device::Disk;
 use silt_event::Refusal;
 use silt_frame::Key;
@@ -49,12 +49,17 @@ impl<N: Naming> Writer<N> {
 }
 
 /// Puts the plan's keys, in groups with a flush behind each, beside a converter and a merger, and ends when nothing is left to be done.
-pub fn fill_beside<D: Disk, N: Naming + Send + Sync, R: Threads + Wait + Clock + Sync>(
+pub fn fill_beside<
+    D: Disk,
+    T: Trace + Send + Sync,
+    N: Naming + Send + Sync,
+    R: Threads + Wait + Clock + Sync,
+>(
     rt: &R,
     alloc: Global,
-    shared: &Shared<D, Count, N>,
+    shared: &Shared<D, T, N>,
     mut seats: Vec<Seat<N>>,
-    plan: &Plan<'_>,
+    plan: &Plan,
 ) -> Result<WriterPauses, Ending> {
     let pauses = WriterPauses::new(alloc)?;
     let (to_converter, converter_wakes) = crossbeam_channel::unbounded(alloc)?;
@@ -99,20 +104,20 @@ fn join_over<S: Sync, X: Send, Y, A: FnOnce(&S) -> X + Send, B: FnOnce(&S) -> Y,
 }
 
 // The two workers, each until it is stopped.
-fn both_workers<D: Disk, N: Naming + Send + Sync, R: Threads + Wait + Sync>(
+fn both_workers<D: Disk, T: Trace + Send + Sync, N: Naming + Send + Sync, R: Threads + Wait + Sync>(
     rt: &R,
     alloc: Global,
-    shared: &Shared<D, Count, N>,
+    shared: &Shared<D, T, N>,
     first: Worker<N>,
     second: Worker<N>,
 ) -> (Seat<N>, Seat<N>) {
     join_over(
         rt,
         shared,
-        move |desk: &Shared<D, Count, N>| {
+        move |desk: &Shared<D, T, N>| {
             converter(rt, alloc, desk, first.seat, &Open, first.wakes, first.other)
         },
-        move |desk: &Shared<D, Count, N>| {
+        move |desk: &Shared<D, T, N>| {
             merger(
                 rt,
                 alloc,
@@ -127,32 +132,37 @@ fn both_workers<D: Disk, N: Naming + Send + Sync, R: Threads + Wait + Sync>(
 }
 
 // The workers in two threads, and the writer in this one.
-fn run_threads<D: Disk, N: Naming + Send + Sync, R: Threads + Wait + Clock + Sync>(
+fn run_threads<
+    D: Disk,
+    T: Trace + Send + Sync,
+    N: Naming + Send + Sync,
+    R: Threads + Wait + Clock + Sync,
+>(
     rt: &R,
     alloc: Global,
-    shared: &Shared<D, Count, N>,
+    shared: &Shared<D, T, N>,
     first: Worker<N>,
     second: Worker<N>,
     writer: Writer<N>,
-    plan: &Plan<'_>,
+    plan: &Plan,
     pauses: WriterPauses,
 ) -> Result<WriterPauses, Ending> {
     let (_seats, written) = join_over(
         rt,
         shared,
-        move |desk: &Shared<D, Count, N>| both_workers(rt, alloc, desk, first, second),
-        move |desk: &Shared<D, Count, N>| write(rt, alloc, desk, writer, plan, pauses),
+        move |desk: &Shared<D, T, N>| both_workers(rt, alloc, desk, first, second),
+        move |desk: &Shared<D, T, N>| write(rt, alloc, desk, writer, plan, pauses),
     );
     written
 }
 
 // Puts all keys, waits until nothing is left to be done, and stops the workers.
-fn write<D: Disk, N: Naming, R: Wait + Clock>(
+fn write<D: Disk, T: Trace, N: Naming, R: Wait + Clock>(
     rt: &R,
     alloc: Global,
-    shared: &Shared<D, Count, N>,
+    shared: &Shared<D, T, N>,
     mut writer: Writer<N>,
-    plan: &Plan<'_>,
+    plan: &Plan,
     mut pauses: WriterPauses,
 ) -> Result<WriterPauses, Ending> {
     let written = write_groups(rt, alloc, shared, &mut writer, plan, &mut pauses);
@@ -165,9 +175,9 @@ fn write<D: Disk, N: Naming, R: Wait + Clock>(
 }
 
 // Waits until the store wants no work.
-fn await_background<D: Disk, N: Naming, R: Wait + Clock>(
+fn await_background<D: Disk, T: Trace, N: Naming, R: Wait + Clock>(
     rt: &R,
-    shared: &Shared<D, Count, N>,
+    shared: &Shared<D, T, N>,
     writer: &Writer<N>,
 ) {
     for _ in rt.forever() {
@@ -180,18 +190,18 @@ fn await_background<D: Disk, N: Naming, R: Wait + Clock>(
 }
 
 // Whether the store wants work in the background.
-fn wants_work<D: Disk, N: Naming, R: Wait>(rt: &R, shared: &Shared<D, Count, N>) -> bool {
+fn wants_work<D: Disk, T: Trace, N: Naming, R: Wait>(rt: &R, shared: &Shared<D, T, N>) -> bool {
     let desk = shared.read(rt);
     desk.wants_convert() || desk.wants_merge()
 }
 
 // Puts all keys, with a flush behind each group.
-fn write_groups<D: Disk, N: Naming, R: Wait + Clock>(
+fn write_groups<D: Disk, T: Trace, N: Naming, R: Wait + Clock>(
     rt: &R,
     alloc: Global,
-    shared: &Shared<D, Count, N>,
+    shared: &Shared<D, T, N>,
     writer: &mut Writer<N>,
-    plan: &Plan<'_>,
+    plan: &Plan,
     pauses: &mut WriterPauses,
 ) -> Result<(), Ending> {
     let value_len = plan.geometry.value_len() as usize;
@@ -210,7 +220,7 @@ fn write_groups<D: Disk, N: Naming, R: Wait + Clock>(
         )?;
         let mut lap = Lap::new(rt)?;
         if shared.write(rt).flush(alloc, &mut writer.seat).is_err() {
-            return Err(Ending::Refused("a flush"));
+            return Err(Ending::Refused(Call::Flush));
         }
         pauses.flushes.note(lap.turn(rt)?);
         writer.tell(rt, Wake::Go);
@@ -219,10 +229,10 @@ fn write_groups<D: Disk, N: Naming, R: Wait + Clock>(
 }
 
 // Puts the keys of the numbers from `first` up to `end`.
-fn put_group<D: Disk, N: Naming, R: Wait + Clock>(
+fn put_group<D: Disk, T: Trace, N: Naming, R: Wait + Clock>(
     rt: &R,
     alloc: Global,
-    shared: &Shared<D, Count, N>,
+    shared: &Shared<D, T, N>,
     writer: &mut Writer<N>,
     first: u64,
     end: u64,
@@ -239,10 +249,10 @@ fn put_group<D: Disk, N: Naming, R: Wait + Clock>(
 }
 
 // Puts a value, and waits for the workers where the store has no room for it.
-fn put_patiently<D: Disk, N: Naming, R: Wait + Clock>(
+fn put_patiently<D: Disk, T: Trace, N: Naming, R: Wait + Clock>(
     rt: &R,
     alloc: Global,
-    shared: &Shared<D, Count, N>,
+    shared: &Shared<D, T, N>,
     writer: &mut Writer<N>,
     key: &Key,
     value: &[u8],
@@ -258,21 +268,21 @@ fn put_patiently<D: Disk, N: Naming, R: Wait + Clock>(
 }
 
 // Puts a value. False where the store has no room for it.
-fn put_once<D: Disk, N: Naming, R: Wait>(
+fn put_once<D: Disk, T: Trace, N: Naming, R: Wait>(
     rt: &R,
     alloc: Global,
-    shared: &Shared<D, Count, N>,
+    shared: &Shared<D, T, N>,
     seat: &mut Seat<N>,
     key: &Key,
     value: &[u8],
 ) -> Result<bool, Ending> {
     let mut desk = shared.write(rt);
     if desk.geometry().value_len() as usize != value.len() {
-        return Err(Ending::Refused("a put"));
+        return Err(Ending::Refused(Call::Put));
     }
     match desk.put(alloc, seat, key, value) {
         Ok(_) => Ok(true),
         Err(Refusal::NoRoom | Refusal::StoreFull) => Ok(false),
-        Err(_) => Err(Ending::Refused("a put")),
+        Err(_) => Err(Ending::Refused(Call::Put)),
     }
 }
