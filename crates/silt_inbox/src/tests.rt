@@ -175,6 +175,24 @@ fn answers_five_jobs(rt: HostRuntime) -> Result<(), Fail> {
     five_jobs::<Brand, _>(&rt, rt.alloc(), Blank::new(1), Blank::new(1))
 }
 
+/// Puts a job, once more where it is handed back for want of memory.
+fn put_again<P: Post, R: Wait + Abort>(
+    rt: &R,
+    inbox: &Inbox<u64, P>,
+    feeder: &mut Feeder<P>,
+    job: u64,
+) -> Result<(), Fail> {
+    let Err(refused) = inbox.put(rt, feeder, job) else {
+        return Ok(());
+    };
+    assert_eq!(rt;
+        (refused.reason, refused.job),
+        (NotPutReason::NoMemory, job)
+    );
+    inbox.put(rt, feeder, refused.job).ok().ok_or("memory")?;
+    Ok(())
+}
+
 /// A closed inbox hands a job back, and gives those that wait.
 fn closed_inbox<P: Post, R: Wait + Abort>(
     rt: &R,
@@ -188,10 +206,7 @@ fn closed_inbox<P: Post, R: Wait + Abort>(
 {
     let (inbox, mut feeders, mut taker) = Inbox::<u64, P>::new(alloc, 1, put, taken)?;
     let mut feeder = feeders.pop().ok_or("a feeder")?;
-    if let Err(refused) = inbox.put(rt, &mut feeder, 7) {
-        assert_eq!(rt; (refused.reason, refused.job), (NotPutReason::NoMemory, 7));
-        inbox.put(rt, &mut feeder, 7).ok().ok_or("memory")?;
-    }
+    put_again(rt, &inbox, &mut feeder, 7)?;
     inbox.close(rt);
     let refused = inbox.put(rt, &mut feeder, 8).err().ok_or("is closed")?;
     assert_eq!(rt; (refused.reason, refused.job), (NotPutReason::Closed, 8));

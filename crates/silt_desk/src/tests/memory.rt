@@ -14,13 +14,18 @@ use std::process::Abort;
 use std::sync::ledger::Blank;
 use std::test::Fail;
 
-// Room for so many calls of this store. A store that was refused it stands as it was.
+// Room for so many calls of this store.
+fn room<D: Disk>(alloc: Global, core: &Core<D>, most: u64) -> Result<Kept, Fail> {
+    match Kept::new(alloc, core, most) {
+        Ok(trace) => Ok(trace),
+        Err(Refusal::NoMemory) => Ok(Kept::new(alloc, core, most).ok().ok_or("a trace")?),
+        Err(_) => Err("another refusal".into()),
+    }
+}
+
+// The same, in which nothing stands yet.
 fn kept<D: Disk>(rt: &impl Abort, alloc: Global, core: &Core<D>, most: u64) -> Result<Kept, Fail> {
-    let trace = match Kept::new(alloc, core, most) {
-        Ok(trace) => trace,
-        Err(Refusal::NoMemory) => Kept::new(alloc, core, most).ok().ok_or("a trace")?,
-        Err(_) => return Err("another refusal".into()),
-    };
+    let trace = room(alloc, core, most)?;
     assert_eq!(rt;
         (trace.count(), trace.opening().len(), trace.calls().len()),
         (0, 0, 0)
@@ -37,16 +42,32 @@ fn put_again<D: Disk, N: Naming>(
     seat: &mut Seat<N>,
     number: u8,
 ) -> Result<(), Fail> {
-    let mut answer = put(desk, alloc, seat, &key(number), &[0, number]);
-    if matches!(answer, Some(Err(Refusal::NoMemory))) {
-        let mut out = [7; 2];
-        let found = look(desk, &key(number), &mut out);
-        assert_eq!(rt; found, Some(((number as u64).saturating_sub(1), false)));
-        answer = put(desk, alloc, seat, &key(number), &[0, number]);
+    if put_once(rt, alloc, desk, seat, number)? {
+        return Ok(());
     }
-    let count = answer.ok_or("two bytes")?.ok();
-    assert_eq!(rt; count, Some(number as u64));
+    let mut out = [7; 2];
+    let found = look(desk, &key(number), &mut out);
+    assert_eq!(rt; found, Some(((number as u64).saturating_sub(1), false)));
+    assert!(rt; put_once(rt, alloc, desk, seat, number)?);
     Ok(())
+}
+
+// Puts that value. Says whether it was accepted, or memory was refused.
+fn put_once<D: Disk, N: Naming>(
+    rt: &impl Abort,
+    alloc: Global,
+    desk: &mut Desk<D, Kept, N>,
+    seat: &mut Seat<N>,
+    number: u8,
+) -> Result<bool, Fail> {
+    match put(desk, alloc, seat, &key(number), &[0, number]) {
+        Some(Ok(count)) => {
+            assert_eq!(rt; count, number as u64);
+            Ok(true)
+        }
+        Some(Err(Refusal::NoMemory)) => Ok(false),
+        _ => Err("another answer".into()),
+    }
 }
 
 // Gets the value of a key of this number.
@@ -57,14 +78,29 @@ fn get_again<D: Disk, N: Naming>(
     seat: &mut Seat<N>,
     number: u8,
 ) -> Result<(), Fail> {
-    let mut out = [7; 2];
-    let mut answer = get(desk, alloc, seat, &key(number), &mut out);
-    if matches!(answer, Some(Err(Refusal::NoMemory))) {
-        answer = get(desk, alloc, seat, &key(number), &mut out);
+    if !get_once(rt, alloc, desk, seat, number)? {
+        assert!(rt; get_once(rt, alloc, desk, seat, number)?);
     }
-    assert_eq!(rt; answer.ok_or("two bytes")?.ok(), Some(true));
-    assert_eq!(rt; out, [0, number]);
     Ok(())
+}
+
+// Gets that value. Says whether it was found, or memory was refused.
+fn get_once<D: Disk, N: Naming>(
+    rt: &impl Abort,
+    alloc: Global,
+    desk: &mut Desk<D, Kept, N>,
+    seat: &mut Seat<N>,
+    number: u8,
+) -> Result<bool, Fail> {
+    let mut out = [7; 2];
+    match get(desk, alloc, seat, &key(number), &mut out) {
+        Some(Ok(found)) => {
+            assert_eq!(rt; (found, out), (true, [0, number]));
+            Ok(true)
+        }
+        Some(Err(Refusal::NoMemory)) => Ok(false),
+        _ => Err("another answer".into()),
+    }
 }
 
 fn flush_again<D: Disk, N: Naming>(
@@ -100,8 +136,42 @@ fn merge_again<D: Disk, N: Naming>(
     }
 }
 
-// Five puts, of which the last freezes the full log, a flush, a conversion of nine steps, a merge of thirteen, and five gets.
-fn calls_again<D: Disk, N: Naming>(
+// What the step of this number is answered, where the work has so many.
+fn step_due(number: u32, steps: u32) -> Progress {
+    if number == steps {
+        return Progress::Finished;
+    }
+    Progress::Moved
+}
+
+// A conversion of nine steps.
+fn convert_all<D: Disk, N: Naming>(
+    rt: &impl Abort,
+    alloc: Global,
+    desk: &mut Desk<D, Kept, N>,
+    seat: &mut Seat<N>,
+) {
+    for number in 1..10u32 {
+        let step = convert_again(desk, alloc, seat);
+        assert_eq!(rt; step, Some(step_due(number, 9)));
+    }
+}
+
+// A merge of thirteen steps.
+fn merge_all<D: Disk, N: Naming>(
+    rt: &impl Abort,
+    alloc: Global,
+    desk: &mut Desk<D, Kept, N>,
+    seat: &mut Seat<N>,
+) {
+    for number in 1..14u32 {
+        let step = merge_again(desk, alloc, seat);
+        assert_eq!(rt; step, Some(step_due(number, 13)));
+    }
+}
+
+// Five puts, of which the last freezes the full log, and a flush.
+fn put_all<D: Disk, N: Naming>(
     rt: &impl Abort,
     alloc: Global,
     desk: &mut Desk<D, Kept, N>,
@@ -111,26 +181,33 @@ fn calls_again<D: Disk, N: Naming>(
         put_again(rt, alloc, desk, seat, number)?;
     }
     assert_eq!(rt; flush_again(desk, alloc, seat), Some(5));
-    for left in 0..9u32 {
-        let expected = if left == 8 {
-            Progress::Finished
-        } else {
-            Progress::Moved
-        };
-        assert_eq!(rt; convert_again(desk, alloc, seat), Some(expected));
-    }
-    for left in 0..13u32 {
-        let expected = if left == 12 {
-            Progress::Finished
-        } else {
-            Progress::Moved
-        };
-        assert_eq!(rt; merge_again(desk, alloc, seat), Some(expected));
-    }
+    Ok(())
+}
+
+// Five gets.
+fn get_all<D: Disk, N: Naming>(
+    rt: &impl Abort,
+    alloc: Global,
+    desk: &mut Desk<D, Kept, N>,
+    seat: &mut Seat<N>,
+) -> Result<(), Fail> {
     for number in 1..6u8 {
         get_again(rt, alloc, desk, seat, number)?;
     }
     Ok(())
+}
+
+// Thirty-three calls: the puts and the flush, the conversion, the merge and the gets.
+fn all_calls<D: Disk, N: Naming>(
+    rt: &impl Abort,
+    alloc: Global,
+    desk: &mut Desk<D, Kept, N>,
+    seat: &mut Seat<N>,
+) -> Result<(), Fail> {
+    put_all(rt, alloc, desk, seat)?;
+    convert_all(rt, alloc, desk, seat);
+    merge_all(rt, alloc, desk, seat);
+    get_all(rt, alloc, desk, seat)
 }
 
 // A store that gets no desk is handed back. At a desk all calls that were done are recorded, each once.
@@ -156,7 +233,7 @@ fn records_what_is_done<D: Disk, N: Naming, R: Abort>(
         }
     };
     let mut seat = seats.pop().ok_or("a seat")?;
-    calls_again(rt, alloc, &mut desk, &mut seat)?;
+    all_calls(rt, alloc, &mut desk, &mut seat)?;
     seats.push(seat)?;
     assert_eq!(rt; desk.settle(seats).ok(), Some((33, 5)));
     Ok(())

@@ -384,6 +384,22 @@ fn find_both(
     find_damage(rt, alloc, &bytes)
 }
 
+// What is found of this plant, the one at this place of the list, where no slot is open.
+fn left_of(plant: Plant, index: usize) -> Finding {
+    if index < 7 || plant.1 == Finding::Damaged(Place::Slot(1)) {
+        return plant.1;
+    }
+    NO_SLOT.1
+}
+
+// What is found of this plant, the one at this place of the list, on a device that is one byte short.
+fn found_short(plant: Plant, index: usize) -> Finding {
+    if index < 6 {
+        return plant.1;
+    }
+    Finding::Damaged(Place::Length)
+}
+
 // Each finding alone, and of each two the one that is looked for first. With no slot open, what the slots name is not looked at, nor is slot 0.
 #[test]
 fn finds_the_first_of_each_two(rt: HostRuntime) -> Result<(), Fail> {
@@ -395,10 +411,8 @@ fn finds_the_first_of_each_two(rt: HostRuntime) -> Result<(), Fail> {
             let found = find_both(&rt, alloc, &whole, *first, *second)?;
             assert_eq!(rt; found, first.1, "{first:?} {second:?}");
         }
-        let is_open = index < 7 || first.1 == Finding::Damaged(Place::Slot(1));
-        let expected = if is_open { first.1 } else { NO_SLOT.1 };
         let found = find_both(&rt, alloc, &whole, *first, NO_SLOT)?;
-        assert_eq!(rt; found, expected, "{first:?}");
+        assert_eq!(rt; found, left_of(*first, index), "{first:?}");
     }
     Ok(())
 }
@@ -409,14 +423,10 @@ fn finds_a_short_device_behind_its_header(rt: HostRuntime) -> Result<(), Fail> {
     let alloc = rt.alloc();
     let mut whole = planted(&rt, alloc)?;
     let _last = whole.pop();
-    for (index, (changes, finding)) in PLANTS.iter().enumerate() {
-        let bytes = changed(&rt, alloc, &whole, changes)?;
-        let expected = if index < 6 {
-            *finding
-        } else {
-            Finding::Damaged(Place::Length)
-        };
-        assert_eq!(rt; find_damage(&rt, alloc, &bytes)?, expected, "{changes:?}");
+    for (index, plant) in PLANTS.iter().enumerate() {
+        let bytes = changed(&rt, alloc, &whole, plant.0)?;
+        let found = find_damage(&rt, alloc, &bytes)?;
+        assert_eq!(rt; found, found_short(*plant, index), "{plant:?}");
     }
     Ok(())
 }

@@ -19,7 +19,22 @@ const FORMAT_CALLS: u32 = 15;
 // Whether the header's gate may have been opened.
 fn is_opened(stop: Stop) -> bool {
     let is_shown = matches!(stop.fill, Fill::New | Fill::Mix);
-    stop.k == 0 || stop.k > FORMAT_CALLS || FORMAT_CALLS - 1 <= stop.k && is_shown
+    is_answered(stop) || FORMAT_CALLS - 1 <= stop.k && is_shown
+}
+
+// Whether the formatting comes to its end before this stop.
+fn is_answered(stop: Stop) -> bool {
+    stop.k == 0 || stop.k > FORMAT_CALLS
+}
+
+// Whether the header's gate was not yet closed for good: call 1 is its write, and call 2 its sync.
+fn is_old(stop: Stop) -> bool {
+    0 < stop.k && stop.k < 3 && stop.fill == Fill::Old
+}
+
+// What an opening finds on a device of zeros after this stop: an empty store, or that there is none.
+fn left_on_zeros(stop: Stop) -> Result<[u16; 8], u32> {
+    if is_opened(stop) { Ok([0; 8]) } else { Err(1) }
 }
 
 // Formats a disk as a small store, stopped so: the disk after the stop, which ends the further lives with the same fill, and whether
@@ -66,10 +81,9 @@ fn formatting_stopped_anywhere(rt: HostRuntime) -> Result<(), Fail> {
     for stop in every_stop(alloc, FORMAT_CALLS)? {
         let disk = MemDisk::new(alloc, SMALL_LEN)?;
         let (disk, answered) = formatted_until(alloc, disk, stop)?;
-        assert_eq!(rt; answered, stop.k == 0 || stop.k > FORMAT_CALLS, "{stop:?}");
-        let expected = if is_opened(stop) { Ok([0; 8]) } else { Err(1) };
+        assert_eq!(rt; answered, is_answered(stop), "{stop:?}");
         let (_, found) = found_on(&rt, alloc, disk)?;
-        assert_eq!(rt; found, expected, "{stop:?}");
+        assert_eq!(rt; found, left_on_zeros(stop), "{stop:?}");
     }
     Ok(())
 }
@@ -87,19 +101,17 @@ fn formatted_over(rt: &impl Abort, alloc: Global, old: &[u8], stop: Stop) -> Res
         assert_eq!(rt; found, Ok([0; 8]), "{stop:?}");
         return goes_on(rt, alloc, disk, small()?, [0; 8]);
     }
-    if 0 < stop.k && stop.k < 3 && stop.fill == Fill::Old {
+    if is_old(stop) {
         assert_eq!(rt; found, Ok(OLD_VALUES), "{stop:?}");
         return goes_on(rt, alloc, disk, of_two_hash_stores()?, OLD_VALUES);
     }
     assert_eq!(rt; found, Err(1), "{stop:?}");
-    let (disk, answered) = formatted_until(
-        alloc,
-        disk,
-        Stop {
-            k: 0,
-            fill: stop.fill,
-        },
-    )?;
+    formatted_again(rt, alloc, disk, stop.fill)
+}
+
+// A device that holds no store is formatted, and the store goes on from there.
+fn formatted_again(rt: &impl Abort, alloc: Global, disk: MemDisk, fill: Fill) -> Result<(), Fail> {
+    let (disk, answered) = formatted_until(alloc, disk, Stop { k: 0, fill })?;
     assert!(rt; answered);
     goes_on(rt, alloc, disk, small()?, [0; 8])
 }

@@ -1,5 +1,7 @@
 // Calls that are refused a request for memory: each tells so and leaves the store as it is, and asked again has its own answer. These
 // tests pass whichever one request of theirs is refused, and where none is; docs/contributing.md says how each is refused in turn.
+ghost use Rattle.std.specs.Prelude.{All};
+ghost use Rattle.silt_event.specs.Events.{HasValueOf};
 
 use crate::tests::kept::after;
 use crate::tests::lines::{CONVERTED_MEANWHILE, CONVERTED_MEANWHILE_TOLD, of_three_hash_stores};
@@ -7,8 +9,8 @@ use crate::tests::script::{
     Line, Told, all_events_twice, ask, events_twice, repeated, run, tell_reply,
 };
 use crate::tests::support::{small, values_of};
-use crate::{Core, LifeReply, OpenFault, Refusal, lives};
-use silt_device::{Geometry, MemDisk};
+use crate::{Core, Event, LifeReply, OpenFault, Refusal, Reply, lives};
+use silt_device::{Geometry, MemDisk, MemFault};
 use silt_event::Report;
 use silt_recovery::{FormatError, FormatFault, OpenError, check, format};
 use std::alloc::Global;
@@ -91,17 +93,13 @@ fn asked(
     line: Line,
     values: [u16; 8],
 ) -> Result<Told, Fail> {
+    let count = core.count();
     let told = ask(alloc, core, line)?;
     if told != Told::Refused(6) {
         return Ok(told);
     }
-    let count = core.count();
-    assert_eq!(rt; listed(alloc, core)?, values);
-    let told = ask(alloc, core, line)?;
-    if let Told::Accepted(number) = told {
-        assert_eq!(rt; Some(number), count.checked_add(1));
-    }
-    Ok(told)
+    assert_eq!(rt; (core.count(), listed(alloc, core)?), (count, values));
+    Ok(ask(alloc, core, line)?)
 }
 
 // A life in which logs are frozen, converted and merged: format, opening, each call, check, and the list of the entries.
@@ -112,19 +110,39 @@ fn each_call_lacks_memory(rt: HostRuntime) -> Result<(), Fail> {
     let replies = repeated_twice(alloc, &CONVERTED_MEANWHILE_TOLD)?;
     let disk = formatted(&rt, alloc, of_three_hash_stores()?)?;
     let mut core = opened(alloc, disk)?;
+    all_asked(&rt, alloc, &mut core, &lines, &replies)?;
+    assert_eq!(rt; core.flush().ok(), Some(4));
+    assert_eq!(rt; listed(alloc, &core)?, after(&lines, u64::MAX));
+    is_found_again(&rt, alloc, core.close(), after(&lines, u64::MAX))
+}
+
+// All lines of a life are told what is due.
+fn all_asked(
+    rt: &impl Abort,
+    alloc: Global,
+    core: &mut Core<MemDisk>,
+    lines: &[Line],
+    due: &[Told],
+) -> Result<(), Fail> {
     for (index, line) in lines.iter().enumerate() {
         let values = after(&lines[..lines.len().min(index)], u64::MAX);
-        let told = asked(&rt, alloc, &mut core, *line, values)?;
-        assert_eq!(rt; Some(&told), replies.get(index), "line {index}");
+        let told = asked(rt, alloc, core, *line, values)?;
+        assert_eq!(rt; Some(&told), due.get(index), "line {index}");
     }
-    assert_eq!(rt; core.flush().ok(), Some(4));
-    let stands = after(&lines, u64::MAX);
-    assert_eq!(rt; listed(alloc, &core)?, stands);
-    let disk = core.close();
+    Ok(())
+}
+
+// The disk has two hash stores and a sorted entry, and these values.
+fn is_found_again(
+    rt: &impl Abort,
+    alloc: Global,
+    disk: MemDisk,
+    values: [u16; 8],
+) -> Result<(), Fail> {
     let report = checked(alloc, &disk)?;
     assert_eq!(rt; (report.hashes, report.entries), (2, 1));
     let core = opened(alloc, disk)?;
-    assert_eq!(rt; listed(alloc, &core)?, stands);
+    assert_eq!(rt; listed(alloc, &core)?, values);
     Ok(())
 }
 
@@ -154,27 +172,46 @@ fn a_run_lacks_memory(rt: HostRuntime) -> Result<(), Fail> {
     let events = events_twice(alloc, &repeated_twice(alloc, &PLAIN)?)?;
     let replies = repeated_twice(alloc, &PLAIN_TOLD)?;
     let mut core = opened(alloc, formatted(&rt, alloc, small()?)?)?;
-    let answers = match run(alloc, &mut core, 2, &events) {
-        Ok(answers) => answers,
-        Err(_) => {
-            assert_eq!(rt; (core.count(), listed(alloc, &core)?), (0, [0; 8]));
-            run(alloc, &mut core, 2, &events)?
-        }
-    };
+    let answers = run_again(&rt, alloc, &mut core, &events)?;
     assert_eq!(rt; answers.len(), replies.len());
-    let mut lacking = 0u32;
-    for (answer, expected) in answers.iter().zip(replies.iter()) {
-        let told = tell_reply(answer);
-        if told == Told::Refused(6) {
-            assert!(rt; matches!(expected, Told::Value(..)));
-            lacking = lacking.saturating_add(1);
-        } else {
-            assert_eq!(rt; told, *expected);
-        }
-    }
-    assert!(rt; lacking < 2);
+    assert!(rt; gets_lacking(&rt, &answers, &replies) < 2);
     assert_eq!(rt; listed(alloc, &core)?, [0, 0, 2, 0, 0, 0, 0, 0]);
     Ok(())
+}
+
+// The replies to these events. A run that was refused memory has done none of them.
+fn run_again(
+    rt: &impl Abort,
+    alloc: Global,
+    core: &mut Core<MemDisk>,
+    events: &[Event],
+) -> Result<Vec<Reply<MemFault>>, Fail>
+    requires { All (HasValueOf 2) events.now }
+{
+    if let Ok(answers) = run(alloc, core, 2, events) {
+        return Ok(answers);
+    }
+    assert_eq!(rt; (core.count(), listed(alloc, core)?), (0, [0; 8]));
+    Ok(run(alloc, core, 2, events)?)
+}
+
+// Whether this is the answer that is due, or that of a get which was refused memory, and how often that was.
+fn lacks(rt: &impl Abort, told: Told, expected: Told) -> u32 {
+    if told != Told::Refused(6) {
+        assert_eq!(rt; told, expected);
+        return 0;
+    }
+    assert!(rt; matches!(expected, Told::Value(..)));
+    1
+}
+
+// How many gets were refused memory. All other answers are those that are due.
+fn gets_lacking(rt: &impl Abort, answers: &[Reply<MemFault>], due: &[Told]) -> u32 {
+    let mut lacking = 0u32;
+    for (answer, expected) in answers.iter().zip(due.iter()) {
+        lacking = lacking.saturating_add(lacks(rt, tell_reply(answer), *expected));
+    }
+    lacking
 }
 
 // What is told of the last reply of a life, or of its opening.

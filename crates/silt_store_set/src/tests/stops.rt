@@ -53,6 +53,11 @@ fn stopped_at(
     Ok(was_stopped(told.as_slice()))
 }
 
+// Whether a life of so many calls is stopped at one of them.
+fn is_within(stop: Stop, calls: u32) -> bool {
+    0 < stop.k && stop.k <= calls
+}
+
 // Stops the life on a new disk of this geometry at each of its calls, of which there are this many, and at its end.
 fn sweep(
     rt: &impl Abort,
@@ -63,7 +68,7 @@ fn sweep(
 ) -> Result<(), Fail> {
     for stop in every_stop(alloc, calls)? {
         let stopped = stopped_at(rt, alloc, geometry, lines, stop)?;
-        assert_eq!(rt; stopped, 0 < stop.k && stop.k <= calls, "{stop:?}");
+        assert_eq!(rt; stopped, is_within(stop, calls), "{stop:?}");
     }
     Ok(())
 }

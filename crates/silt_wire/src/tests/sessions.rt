@@ -6,7 +6,7 @@ ghost use Rattle.silt_event.specs.Events.{PlainReply};
 use crate::sessions::{SessionEnd, session};
 use silt_event::{Answerer, Event, Refusal, Reply};
 use silt_frame::Value;
-use std::alloc::Global;
+use std::alloc::{AllocError, Global};
 use std::io::{self, Cursor, ErrorKind, Read, Write};
 use std::process::Abort;
 use std::test::Fail;
@@ -87,16 +87,17 @@ const LINES: &[u8] = b"get =a\nput =b 0102\r\n\nput =b 01\nflush\nmerge";
 
 const ANSWERS: &[u8] = b"accepted 1\naccepted 2\nrefused 22 BadValue\naccepted 3\n";
 
-// How a session over these lines ends, and what it writes. Reads and writes are of so many bytes at most.
+// How a session over a text ends, and what it writes. Reads and writes are of so many bytes at most.
 fn serve(
     alloc: Global,
+    text: &[u8],
     most_read: usize,
     fails: bool,
     most_written: usize,
     room: usize,
 ) -> (SessionEnd, Vec<u8>) {
     let mut reader = Pieces {
-        text: LINES,
+        text,
         most: most_read,
         is_interrupted: false,
         fails,
@@ -121,7 +122,7 @@ fn serve(
 #[test]
 fn answers_whatever_the_reads(rt: HostRuntime) -> Result<(), Fail> {
     for most in [1usize, 2, 7, 100] {
-        let (end, taken) = serve(rt.alloc(), most, false, 100, 1000);
+        let (end, taken) = serve(rt.alloc(), LINES, most, false, 100, 1000);
         assert_eq!(rt; end, SessionEnd::End);
         assert_eq!(rt; taken.as_slice(), ANSWERS);
     }
@@ -131,19 +132,34 @@ fn answers_whatever_the_reads(rt: HostRuntime) -> Result<(), Fail> {
 #[test]
 fn answers_whatever_the_writes(rt: HostRuntime) -> Result<(), Fail> {
     for most in [1usize, 3, 20] {
-        let (end, taken) = serve(rt.alloc(), 100, false, most, 1000);
+        let (end, taken) = serve(rt.alloc(), LINES, 100, false, most, 1000);
         assert_eq!(rt; end, SessionEnd::End);
         assert_eq!(rt; taken.as_slice(), ANSWERS);
     }
     Ok(())
 }
 
-// The lines before a read that fails are answered, and the one that it cuts is not.
+// How many bytes of answers the lines have that end within so many bytes.
+fn answered_within(count: usize) -> usize {
+    match count {
+        0..7 => 0,
+        7..20 => 11,
+        20..31 => 22,
+        31..37 => 42,
+        _ => 53,
+    }
+}
+
+// The lines before a read that fails are answered, and the one that it cuts is not, wherever it is cut.
 #[test]
 fn tells_a_failed_read(rt: HostRuntime) -> Result<(), Fail> {
-    let (end, taken) = serve(rt.alloc(), 5, true, 3, 1000);
-    assert_eq!(rt; end, SessionEnd::ReadFault);
-    assert_eq!(rt; taken.as_slice(), ANSWERS);
+    for count in 0..43usize {
+        let text = &LINES[..LINES.len().min(count)];
+        let (end, taken) = serve(rt.alloc(), text, 5, true, 3, 1000);
+        assert_eq!(rt; end, SessionEnd::ReadFault);
+        let due = &ANSWERS[..ANSWERS.len().min(answered_within(count))];
+        assert_eq!(rt; taken.as_slice(), due, "{count}");
+    }
     Ok(())
 }
 
@@ -151,7 +167,7 @@ fn tells_a_failed_read(rt: HostRuntime) -> Result<(), Fail> {
 #[test]
 fn tells_a_failed_write(rt: HostRuntime) -> Result<(), Fail> {
     for room in 0..ANSWERS.len() {
-        let (end, taken) = serve(rt.alloc(), 100, false, 3, room);
+        let (end, taken) = serve(rt.alloc(), LINES, 100, false, 3, room);
         assert_eq!(rt; end, SessionEnd::WriteFault);
         assert_eq!(rt; taken.as_slice(), &ANSWERS[..room]);
     }
@@ -197,6 +213,85 @@ fn flushes_what_it_writes(rt: HostRuntime) -> Result<(), Fail> {
         assert_eq!(rt; writer.taken.as_slice(), ANSWERS);
         assert_eq!(rt; writer.flushed, ANSWERS.len());
     }
+    Ok(())
+}
+
+// Accepts each event. Its values have 147 bytes.
+#[derive(Drop)]
+struct Wide;
+
+impl Answerer for Wide {
+    ghost value_len = { λ _. 147 };
+
+    ghost answers = { λ old new event reply. Unit {0} };
+
+    fn answer(&mut self, _alloc: Global, _event: Event) -> Reply<()> {
+        Reply::Accepted(1)
+    }
+}
+
+// A put under a name of so many letters, with a value of 147 bytes, and what stands between it and the line feed. The line has 300 bytes
+// and that many more. A get is behind it.
+fn long_put(alloc: Global, letters: usize, end: &[u8]) -> Result<Vec<u8>, AllocError> {
+    let name = &NAME[..NAME.len().min(letters)];
+    joined(
+        alloc,
+        &[b"put =", name, b" ", &[b'0'; 294], end, b"\nget =a\n"],
+    )
+}
+
+// One text of these parts.
+fn joined(alloc: Global, parts: &[&[u8]]) -> Result<Vec<u8>, AllocError> {
+    let mut text = Vec::new(alloc);
+    for part in parts {
+        text.extend_from_slice(part)?;
+    }
+    Ok(text)
+}
+
+// The letters of the longest name, and one more.
+const NAME: [u8; 8001] = [b'x'; 8001];
+
+// A line of 8,300 bytes is answered, its carriage return counted. One of 8,301 is not looked at, and the next one is answered.
+#[test]
+fn answers_lines_up_to_the_longest(rt: HostRuntime) -> Result<(), Fail> {
+    let accepted: &[u8] = b"accepted 1\naccepted 1\n";
+    let skipped: &[u8] = b"refused 23 LineTooLong\naccepted 1\n";
+    let cases: [(usize, &[u8], &[u8]); 5] = [
+        (8_000, b"", accepted),
+        (7_999, b"\r", accepted),
+        (8_000, b"\r", skipped),
+        (8_000, b"0", skipped),
+        (8_001, b"", skipped),
+    ];
+    for (letters, end, due) in cases {
+        let line = long_put(rt.alloc(), letters, end)?;
+        let mut out = Vec::new(rt.alloc());
+        let mut reader = Cursor::new(line.as_slice());
+        let end = session(rt.alloc(), 147, &mut reader, &mut out, &mut Wide);
+        assert_eq!(rt; end, SessionEnd::End);
+        assert_eq!(rt; out.as_slice(), due, "{letters}");
+    }
+    Ok(())
+}
+
+// Whether these bytes are a beginning of the answers that is not cut within a line.
+fn are_whole_answers(taken: &[u8]) -> bool {
+    [0, 11, 22, 42, 53].contains(&taken.len()) && ANSWERS.starts_with(taken)
+}
+
+// A session that is refused a request for memory ends with it, or its writer is refused one and fails. What went out are the answers of a
+// beginning of the lines. This passes whichever one request is refused, and where none is.
+#[test]
+fn ends_where_memory_is_refused(rt: HostRuntime) -> Result<(), Fail> {
+    let (end, taken) = serve(rt.alloc(), LINES, 9, false, 100, 1000);
+    if end == SessionEnd::End {
+        assert_eq!(rt; taken.as_slice(), ANSWERS);
+        return Ok(());
+    }
+    let ends = [SessionEnd::NoMemory, SessionEnd::WriteFault];
+    assert!(rt; ends.contains(&end));
+    assert!(rt; are_whole_answers(&taken));
     Ok(())
 }
 
