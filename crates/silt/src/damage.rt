@@ -7,8 +7,8 @@ ghost use Rattle.silt_image.specs.Stores.{shape_found};
 ghost use Rattle.silt.specs.Damage.{HoldsStore, part_at, place_at};
 
 use silt_device::{Disk, Geometry, slot_start};
-use silt_event::{Place, Refusal};
-use silt_image::{Finding, HEADER_LEN, read_header};
+use silt_event::{Finding, Place, Refusal};
+use silt_image::{HEADER_LEN, read_header};
 use silt_manifest::read_current;
 
 /// Where the six numbers of a header begin.
