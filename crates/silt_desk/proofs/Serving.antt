@@ -3,6 +3,7 @@ use Rattle.std.proofs.Common.{◌≡◌, ℕ, ◌+◌, ◌++◌, Bool, true, fal
 use Rattle.silt_device.specs.Disk.{Content}
 use Rattle.silt_event.specs.Commands.{Command, Map}
 use Rattle.silt_event.specs.declared.progress.Progress.{Progress as ProgressOf}
+use Rattle.silt_store_set.proofs.Runs.{does_step}
 use Rattle.silt_store_set.specs.CoreState.{CoreState, Cause, Does, LeavesNoneWaiting, map_of}
 use Rattle.silt_event.specs.Events.{Counts, Step, accepted_command, is_fault, plain}
 use Rattle.silt_store_set.specs.Replies.{change_reply, flush_reply, get_reply, progress_reply}
@@ -12,7 +13,6 @@ use Rattle.silt_event.specs.declared.refusal.Refusal.{Refusal}
 use Rattle.silt_event.specs.declared.refusal.Refusal.TheVariants.{NotFormatted, BadGeometry, Damaged, Crowded, Device, NoMemory, StoreFull, NoRoom, Failed, Spent, HistoryFull}
 use Rattle.silt_event.specs.declared.reply.Reply.{Reply}
 use Rattle.silt_event.specs.declared.reply.Reply.TheVariants.{Accepted, Acknowledged, Found, Absent, Progress, Refused, Unsettled, NotServed}
-use Rattle.silt_store_set.proofs.Calls.{step_refused}
 use Rattle.silt_store_set.proofs.Keeps.{own_counts}
 use Rattle.silt_desk.specs.declared.call.RecordedCall.{RecordedCall}
 use Rattle.silt_desk.specs.DeskState.{DeskState, Notes, Serves}
@@ -157,24 +157,12 @@ module _ {D F : Type 0} (content : D → Content) (failures : D → ℕ) (gave :
   none_plain core (Unsettled n) none = tt
   none_plain core NotServed none = tt
 
-  -- the reply is that of a map, of a failed store too
-  does_step : (old new : CoreState D) (event : Event) (reply : Reply F) → IsTrue (content old.disk).honest → Does content failures gave old new event reply → Step (map_of old) event reply (map_of new)
-  does_step old new event reply h does =
-      let go : (b : Bool) → old.failed ≡ b → Step (map_of old) event reply (map_of new) = elim [
-        | false ↦ λ working. does.step working h
-        | true ↦ λ failed.
-            let is = does.failed failed in
-            subst (λ (c : CoreState D). Step (map_of old) event reply (map_of c)) (sym is.0)
-            (subst (λ (r : Reply F). Step (map_of old) event r (map_of old)) (sym is.1) (step_refused (map_of old) event Failed))
-      ] in
-      go old.failed refl
-
   -- what a trace is told of a call
   pub seen_step : (old new : CoreState D) (event : Event) (reply : Reply F) → Does content failures gave old new event reply → SeenStep (seen content old) (seen content new) event (plain reply)
   seen_step old new event reply does = record {
     honest = does.disk.honest;
     counts = counts_plain old.count new.count reply does.counts;
-    step = λ h. step_plain (map_of old) event reply (map_of new) (does_step old new event reply h does);
+    step = λ h. step_plain (map_of old) event reply (map_of new) (does_step content failures gave old new event reply h does);
     shape = does.shape;
     adds = own_counts content failures gave old new event reply old.count new.count does.cause does.counts ∙ ap (λ (cs : List Command). old.count + length cs) (sym (adds_plain event reply));
     failed = λ failed.

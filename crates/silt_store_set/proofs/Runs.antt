@@ -18,7 +18,7 @@ module _ {D F : Type 0} (content : D → Content) (failures : D → ℕ) (gave :
   runs_more old mid new (e ∷ events) [] event reply runs does = absurd runs
 
   -- of a failed store, and of one that is not, the reply is that of a map
-  does_step : (old new : CoreState D) (event : Event) (reply : Reply F) → IsTrue (content old.disk).honest → Does content failures gave old new event reply → Step (map_of old) event reply (map_of new)
+  pub does_step : (old new : CoreState D) (event : Event) (reply : Reply F) → IsTrue (content old.disk).honest → Does content failures gave old new event reply → Step (map_of old) event reply (map_of new)
   does_step old new event reply h does =
       let go : (b : Bool) → old.failed ≡ b → Step (map_of old) event reply (map_of new) = elim [
         | false ↦ λ working. does.step working h
