@@ -83,12 +83,7 @@ impl HashRegion {
     /// # Errors
     ///
     /// The fault of the read. The bytes of `out` are then open.
-    pub fn read_front<D: Disk>(
-        &self,
-        disk: &D,
-        slot: u32,
-        out: &mut [u8],
-    ) -> Result<Head, D::Fault>
+    pub fn read_front<D: Disk>(&self, disk: &D, slot: u32, out: &mut [u8]) -> Result<Head, D::Fault>
         requires slot { slot < 4 * self.now.geometry.buckets }
         requires least { 21 ≤ length out.old }
         requires most { length out.old ≤ row_len self.now.geometry }

@@ -89,29 +89,13 @@ impl HashStore {
         ensures fault { IfErr result (GaveAny D.gave disk.now) }
     {
         let (first, second) = key_buckets(&key.0, self.region.geometry.buckets());
-        if let Some(found) = find_in(
-            &self.region,
-            &self.tags,
-            disk,
-            first,
-            second,
-            key,
-            front,
-        )? {
+        if let Some(found) = find_in(&self.region, &self.tags, disk, first, second, key, front)? {
             return Ok(Some(found));
         }
         if first == second {
             return Ok(None);
         }
-        find_in(
-            &self.region,
-            &self.tags,
-            disk,
-            second,
-            first,
-            key,
-            front,
-        )
+        find_in(&self.region, &self.tags, disk, second, first, key, front)
     }
 
     /// The row of a key: its kind and its slot. The head of each slot of the key's buckets with a tag that fits is read, at most

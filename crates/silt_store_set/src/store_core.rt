@@ -12,6 +12,9 @@ use std::alloc::{AllocError, Global};
 use std::collections::BTreeMap;
 use std::marker::Model;
 
+// How many bytes a value has at most.
+const MOST_VALUE_LEN: usize = 4096;
+
 /// The greatest number of commands that one life of a store may accept.
 pub const MOST_COMMANDS: u64 = (1 << 63) - 1;
 
@@ -231,19 +234,22 @@ impl<D: Disk> Core<D> {
         }
     }
 
-    // A key's value, copied.
+    // A key's value: it is read into a buffer that has room for the longest, so that a row takes one read, and memory is asked for
+    // where there is a value alone.
     fn read(&self, alloc: Global, key: &Key) -> Result<Option<Value>, Refusal<D::Fault>>
         ensures { Does D.content D.failures (GaveAny D.gave) self.now self.now (Get key.now) (read_reply result) }
     {
         if self.failed {
             return Err(Refusal::Failed);
         }
-        match self.stores.find(&self.disk, key) {
-            Ok(None) => Ok(None),
-            Ok(Some(location)) => match copied(alloc, &self.stores, &self.disk, location) {
+        let mut longest = [0; MOST_VALUE_LEN];
+        let out = &mut longest[..self.stores.geometry().value_len() as usize];
+        match self.stores.get(&self.disk, key, out) {
+            Ok(true) => match copied(alloc, out) {
                 Ok(value) => Ok(Some(value)),
-                Err(refusal) => Err(refusal),
+                Err(_) => Err(Refusal::NoMemory),
             },
+            Ok(false) => Ok(None),
             Err(fault) => Err(Refusal::Device(fault)),
         }
     }

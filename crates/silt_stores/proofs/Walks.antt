@@ -1,18 +1,23 @@
 -- A lookup, at its exits.
-use Rattle.std.proofs.Common.{◌≡◌, ◌<◌, ◌+◌, ◌*◌, ℕ, false, IsTrue, List, [], length, get_or, Option, Some, None, inl, inr, refl, ap, sym, ◌∙◌, subst, arith}
+use Rattle.std.proofs.Common.{◌≡◌, ◌<◌, ◌+◌, ◌*◌, ℕ, true, false, IsTrue, List, [], length, get_or, Option, Some, None, inl, inr, refl, ap, sym, ◌∙◌, subst, arith}
 use Rattle.std.specs.Prelude.{IfSome}
 use Rattle.std.specs.FinMap.{get}
 use Rattle.std.specs.Option.{option_map}
 use Rattle.std.proofs.lemmas.Bool.{cases_lt}
 use Rattle.std.proofs.lemmas.List.{get_or_default}
 use Rattle.silt_device.specs.Disk.{Content}
+use Rattle.silt_frame.specs.Frame.{is_put}
+use Rattle.silt_frame.specs.declared.key.Kind.{Kind}
+use Rattle.silt_frame.specs.declared.key.Kind.TheVariants.{Put, Delete}
 use Rattle.silt_hash_store.specs.Lookup.{FindsRow}
+use Rattle.silt_hash_store.specs.Slots.{slot_row}
 use Rattle.silt_hash_store.specs.State.{HashState, IsHashStore}
 use Rattle.silt_hash_store.specs.Findings.{holds_key}
 use Rattle.silt_sorted_store.specs.Findings.{sorted_findings}
+use Rattle.silt_log.specs.Rows.{row_at}
 use Rattle.silt_log.specs.State.{all_rows}
 use Rattle.silt_log_store.specs.State.{IsIndexed, LogStoreState}
-use Rattle.silt_log_store.specs.LastRow.{FindsLast, HasNoRow}
+use Rattle.silt_log_store.specs.LastRow.{FindsLast, HasNoRow, put_place}
 use Rattle.silt_log_store.specs.declared.store.Found.{Found}
 use Rattle.silt_frame.specs.Rows.{StoredRow}
 use Rattle.silt_sorted_store.specs.Index.{IsIndexOf}
@@ -23,7 +28,7 @@ use Rattle.silt_stores.specs.declared.location.Holder.TheVariants.{Active, Froze
 use Rattle.silt_stores.specs.declared.location.Location.{Location}
 use Rattle.silt_stores.specs.State.{StoresState}
 use Rattle.silt_stores.specs.Standing.{Stands, current_map}
-use Rattle.silt_stores.specs.Lookup.{FindsFrozen, FindsHashed, FindsNewest, frozen_at, hash_store_at, hash_rows_of, located, value_at}
+use Rattle.silt_stores.specs.Lookup.{FindsFrozen, FindsHashed, FindsNewest, IsItsValue, frozen_at, hash_store_at, hash_rows_of, located, row_in, value_at}
 use Rattle.silt_stores.proofs.Lookups.{entries_sound, found_active, found_frozen, found_hashed, found_nowhere, found_sorted, found_value, past_hashed}
 
 -- what a frozen log finds, by its number
@@ -130,6 +135,69 @@ module _ (content : Content) (view s : StoresState) (is : view ≡ s) (key : Lis
     -- none has one
     pub newest_nowhere : hash_walked ≡ None → FindsNewest content s key None
     newest_nowhere gone = past_hashed content s stands honest key active_lacks frozen_lack (subst (FindsHashed content s key) gone (hash_walks stands honest))
+
+-- ---- the value beside the answer
+
+-- by the row of a holder
+its_value : (content : Content) (s : StoresState) (holder : Holder) (kind : Kind) (place : ℕ) (out : List ℕ) (value : ℕ → List ℕ) → ((n : ℕ) → value n ≡ (row_in content s holder n).value)
+    → IfSome (put_place (Some (record { kind = kind; place = place }))) (λ n. out ≡ value n) → IsItsValue content s holder (record { kind = kind; place = place }) out
+its_value content s holder Put place out value same has = has ∙ same place
+its_value content s holder Delete place out value same has = tt
+
+-- in the active log, which is seen through the stores' fields
+pub active_value : (content : Content) (view s : StoresState) → view ≡ s → (o : Option Found) (found : Found) (out : List ℕ) → o ≡ Some found
+    → IfSome (put_place o) (λ place. out ≡ (row_at view.active.log.shape view.active.log.region content.shown place).value) → IsItsValue content s Active found out
+active_value content view s is o found out some has =
+    its_value content s Active found.kind found.place out (λ n. (row_at view.active.log.shape view.active.log.region content.shown n).value)
+    (λ n. ap (λ (v : StoresState). (row_at v.active.log.shape v.active.log.region content.shown n).value) is)
+    (subst (λ (o : Option Found). IfSome (put_place o) (λ place. out ≡ (row_at view.active.log.shape view.active.log.region content.shown place).value)) some has)
+
+-- in a frozen log
+pub frozen_value : (content : Content) (s : StoresState) (items : List LogStoreState) (number : ℕ) (store : LogStoreState) (o : Option Found) (found : Found) (out : List ℕ)
+    → items ≡ s.frozen → number < length items → store ≡ get_or items number store → o ≡ Some found
+    → IfSome (put_place o) (λ place. out ≡ (row_at store.log.shape store.log.region content.shown place).value) → IsItsValue content s (Frozen number) found out
+frozen_value content s items number store o found out are inside is some has =
+    let below : number < length s.frozen = subst (λ (l : List LogStoreState). number < length l) are inside in
+    let here : store ≡ frozen_at s number = is ∙ ap (λ (l : List LogStoreState). get_or l number store) are ∙ get_or_default s.frozen number store s.active below in
+    its_value content s (Frozen number) found.kind found.place out (λ n. (row_at store.log.shape store.log.region content.shown n).value)
+    (λ n. ap (λ (t : LogStoreState). (row_at t.log.shape t.log.region content.shown n).value) here)
+    (subst (λ (o : Option Found). IfSome (put_place o) (λ place. out ≡ (row_at store.log.shape store.log.region content.shown place).value)) some has)
+
+-- in a hash store
+pub hashed_value : (content : Content) (s : StoresState) (items : List HashState) (number : ℕ) (store : HashState) (o : Option Found) (found : Found) (out : List ℕ)
+    → items ≡ s.hashes → number < length items → store ≡ get_or items number store → o ≡ Some found
+    → IfSome (put_place o) (λ place. out ≡ (slot_row store.shape store.region content.shown place).value) → IsItsValue content s (Hashed number) found out
+hashed_value content s items number store o found out are inside is some has =
+    let none : HashState = record { shape = s.manifest.shape; region = 0; tags = []; puts = 0 } in
+    let below : number < length s.hashes = subst (λ (l : List HashState). number < length l) are inside in
+    let here : store ≡ hash_store_at s number = is ∙ ap (λ (l : List HashState). get_or l number store) are ∙ get_or_default s.hashes number store none below in
+    its_value content s (Hashed number) found.kind found.place out (λ n. (slot_row store.shape store.region content.shown n).value)
+    (λ n. ap (λ (t : HashState). (slot_row t.shape t.region content.shown n).value) here)
+    (subst (λ (o : Option Found). IfSome (put_place o) (λ place. out ≡ (slot_row store.shape store.region content.shown place).value)) some has)
+
+-- a put gives the key its value
+put_gives : (content : Content) (s : StoresState) (key : List ℕ) (holder : Holder) (kind : Kind) (place : ℕ) (out : List ℕ) → FindsNewest content s key (Some (holder, record { kind = kind; place = place }))
+    → IsItsValue content s holder (record { kind = kind; place = place }) out → is_put kind ≡ true → get (current_map content s) key ≡ Some out
+put_gives content s key holder Put place out finds has puts = finds ∙ ap Some (sym has)
+put_gives content s key holder Delete place out finds has puts = absurd (cc)
+
+-- and a delete gives it none
+delete_gives : (content : Content) (s : StoresState) (key : List ℕ) (holder : Holder) (kind : Kind) (place : ℕ) → FindsNewest content s key (Some (holder, record { kind = kind; place = place })) → is_put kind ≡ false
+    → get (current_map content s) key ≡ None
+delete_gives content s key holder Put place finds deletes = absurd (cc)
+delete_gives content s key holder Delete place finds deletes = finds
+
+-- the row that was found is a put, and this is the value
+pub found_put : (content : Content) (s : StoresState) (key : List ℕ) (walked : Option (Holder × Found)) (holder : Holder) (found : Found) (out : List ℕ) → FindsNewest content s key walked → walked ≡ Some (holder, found)
+    → IfSome walked (λ row. IsItsValue content s row.0 row.1 out) → is_put found.kind ≡ true → get (current_map content s) key ≡ Some out
+found_put content s key walked holder found out finds some has puts =
+    put_gives content s key holder found.kind found.place out (subst (FindsNewest content s key) some finds)
+    (subst (λ (w : Option (Holder × Found)). IfSome w (λ row. IsItsValue content s row.0 row.1 out)) some has) puts
+
+-- it is a delete
+pub found_delete : (content : Content) (s : StoresState) (key : List ℕ) (walked : Option (Holder × Found)) (holder : Holder) (found : Found) → FindsNewest content s key walked → walked ≡ Some (holder, found)
+    → is_put found.kind ≡ false → get (current_map content s) key ≡ None
+found_delete content s key walked holder found finds some deletes = delete_gives content s key holder found.kind found.place (subst (FindsNewest content s key) some finds) deletes
 
 -- ---- the answer of a lookup
 

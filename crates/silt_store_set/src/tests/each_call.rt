@@ -113,17 +113,17 @@ fn each_read_fails(rt: &impl Abort, alloc: Global, life: &Life, least: u64) -> R
 }
 
 // An opening makes four reads, each put of a key whose bucket is taken one of a head, each slot that is not empty one of a row, the get
-// two, and the list at least one for each row.
+// one, and the list at least one for each row.
 #[test]
 fn each_read_of_a_conversion_fails(rt: HostRuntime) -> Result<(), Fail> {
     let alloc = rt.alloc();
-    each_read_fails(&rt, alloc, &converted(alloc)?, 4 + 4 + 4 + 2 + 5)
+    each_read_fails(&rt, alloc, &converted(alloc)?, 4 + 4 + 4 + 1 + 5)
 }
 
 #[test]
 fn each_read_of_a_merge_fails(rt: HostRuntime) -> Result<(), Fail> {
     let alloc = rt.alloc();
-    each_read_fails(&rt, alloc, &converted_meanwhile(alloc)?, 4 + 3 + 8 + 4)
+    each_read_fails(&rt, alloc, &converted_meanwhile(alloc)?, 4 + 3 + 8 + 3)
 }
 
 // Which of a kind of call fails, and what a stop behind the life leaves, if there is one.

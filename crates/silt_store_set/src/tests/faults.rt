@@ -136,8 +136,8 @@ fn a_write_that_fails_fails_the_store(rt: HostRuntime) -> Result<(), Fail> {
     Ok(())
 }
 
-// A read that fails is refused, and the same get, asked again, gives its value. A get makes two reads, of the row's head and of
-// its value. Which of the disk's reads these are is not fixed: those before them refuse the opening.
+// A read that fails is refused, and the same get, asked again, gives its value. A get makes one read, of the whole row. Which of the
+// disk's reads it is is not fixed: those before it refuse the opening.
 #[test]
 fn a_read_that_fails_changes_nothing(rt: HostRuntime) -> Result<(), Fail> {
     let alloc = rt.alloc();
@@ -156,7 +156,7 @@ fn a_read_that_fails_changes_nothing(rt: HostRuntime) -> Result<(), Fail> {
             }
         }
     }
-    assert_eq!(rt; refused, 2);
+    assert_eq!(rt; refused, 1);
     Ok(())
 }
 
