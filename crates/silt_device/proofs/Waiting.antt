@@ -366,3 +366,15 @@ module _ (g : GatheredBytes) (at start end : ℕ) (old part : List ℕ) (a : g.a
       ]
     ];
   }
+
+-- ---- sizes and places
+
+-- bytes that wait change no size
+pub size_over : (g : GatheredBytes) (inner : Content) → size (content_over g inner) ≡ size inner
+size_over g inner = length-image_over g inner.shown
+
+-- more bytes that wait have their places where the last of them has
+pub grown_places : (g : GatheredBytes) (from : ℕ) (bytes : List ℕ) (size : ℕ) → IsTrue (takes g from (length bytes)) → from + length bytes ≤ size → (grown g from bytes).at + length (grown g from bytes).bytes ≤ size
+grown_places g from bytes size room fits =
+    let before : length g.bytes ≤ from = elim (cases_lt 0 (length g.bytes)) [ | inl some ↦ omega (arith, continues g from (length bytes) room some) | inr none ↦ omega arith ] in
+    omega (arith, before, length-append g.bytes bytes)
