@@ -246,7 +246,7 @@ module _ (g : GatheredBytes) (from : ℕ) (bytes image : List ℕ) (room : IsTru
   byte_new : (place : ℕ) → place < length bytes → get_or (image_over (grown g from bytes) image) (from + place) 0 ≡ get_or bytes place 0
   byte_new place inside =
       let begin : (0 < length g.bytes → from ≡ g.at + length g.bytes) = continues g from (length bytes) room in
-      let before : length g.bytes ≤ from = elim (cases_lt 0 (length g.bytes)) [ | inl some ↦ omega (arith, begin some) | inr none ↦ omega arith ] in
+      let before : length g.bytes ≤ from = elim (cases_lt 0 (length g.bytes)) [ inl some ↦ omega (arith, begin some) | inr none ↦ omega arith ] in
       let now : waits (grown g from bytes) (from + place) ≡ true = grind (arith, nat_tests, length-append g.bytes bytes) in
       byte_there (grown g from bytes) image (from + place) now (omega arith)
       ∙ get_or-append_right g.bytes bytes (length g.bytes) (from + place - (from - length g.bytes)) 0 refl (omega (arith, before))
@@ -340,10 +340,10 @@ module _ (g : GatheredBytes) (at start end : ℕ) (old part : List ℕ) (a : g.a
   part_torn = torn_splice (start - at) part old part_fits
 
   none_before : (place : ℕ) → at + place < start → waits g (at + place) ≡ false
-  none_before place low = elim (cases_lt g.at start) [ | inl later ↦ absurd (omega (arith, first later)) | inr is ↦ grind (arith, nat_tests) ]
+  none_before place low = elim (cases_lt g.at start) [ inl later ↦ absurd (omega (arith, first later)) | inr is ↦ grind (arith, nat_tests) ]
 
   none_behind : (place : ℕ) → place < length old → end ≤ at + place → waits g (at + place) ≡ false
-  none_behind place inside behind = elim (cases_lt end (g.at + length g.bytes)) [ | inl earlier ↦ absurd (omega (arith, last earlier)) | inr is ↦ grind (arith, nat_tests) ]
+  none_behind place inside behind = elim (cases_lt end (g.at + length g.bytes)) [ inl earlier ↦ absurd (omega (arith, last earlier)) | inr is ↦ grind (arith, nat_tests) ]
 
   waits_between : (place : ℕ) → start ≤ at + place → at + place < end → waits g (at + place) ≡ true
   waits_between place high low = grind (arith, nat_tests)
@@ -366,3 +366,32 @@ module _ (g : GatheredBytes) (at start end : ℕ) (old part : List ℕ) (a : g.a
       ]
     ];
   }
+
+-- ---- sizes and places
+
+-- bytes that wait change no size
+pub size_over : (g : GatheredBytes) (inner : Content) → size (content_over g inner) ≡ size inner
+size_over g inner = length-image_over g inner.shown
+
+-- more bytes that wait have their places where the last of them has
+pub grown_places : (g : GatheredBytes) (from : ℕ) (bytes : List ℕ) (size : ℕ) → IsTrue (takes g from (length bytes)) → from + length bytes ≤ size → (grown g from bytes).at + length (grown g from bytes).bytes ≤ size
+grown_places g from bytes size room fits =
+    let before : length g.bytes ≤ from = elim (cases_lt 0 (length g.bytes)) [ inl some ↦ omega (arith, continues g from (length bytes) room some) | inr none ↦ omega arith ] in
+    omega (arith, before, length-append g.bytes bytes)
+
+-- a range of the disk is one of its inner disk
+pub fits_inner : (g : GatheredBytes) (inner : Content) (end : ℕ) → end ≤ size (content_over g inner) → end ≤ size inner
+fits_inner g inner end fits = omega (arith, fits, size_over g inner)
+
+-- ---- exits of a call, where the bytes that wait and their place were asked for
+
+-- those that wait were written
+pub out_at : (g : GatheredBytes) (at : ℕ) (bytes : List ℕ) (old new : Content) → at ≡ g.at → bytes ≡ g.bytes → g.at + length g.bytes ≤ size old → Tears at (length bytes) old new → Writes at bytes old new → Stays (content_over g old) (content_over (emptied g) new)
+out_at g at bytes old new same_at same_bytes fits tears writes =
+    written_out g old new fits (subst (λ (n : ℕ). Tears n (length g.bytes) old new) same_at (subst (λ (l : List ℕ). Tears at (length l) old new) same_bytes tears))
+    (subst (λ (n : ℕ). Writes n g.bytes old new) same_at (subst (λ (l : List ℕ). Writes at l old new) same_bytes writes))
+
+-- or they were not
+pub not_out_at : (g : GatheredBytes) (at : ℕ) (bytes : List ℕ) (old new : Content) → at ≡ g.at → bytes ≡ g.bytes → Tears at (length bytes) old new → Stays (content_over g old) (content_over g new)
+not_out_at g at bytes old new same_at same_bytes tears =
+    not_written_out g old new (subst (λ (n : ℕ). Tears n (length g.bytes) old new) same_at (subst (λ (l : List ℕ). Tears at (length l) old new) same_bytes tears))

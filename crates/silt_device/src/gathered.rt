@@ -70,7 +70,8 @@ impl Gathered {
     pub(crate) fn takes(&self, at: u64, count: usize) -> bool
         ensures { result ≡ takes self.now at count }
     {
-        (self.count == 0 || at == self.at + self.count as u64) && count <= self.bytes.len() - self.count
+        (self.count == 0 || at == self.at + self.count as u64)
+            && count <= self.bytes.len() - self.count
     }
 
     // Puts bytes behind them.

@@ -1,6 +1,6 @@
 // A disk that gathers adjacent writes for another disk.
 ghost use Rattle.std.specs.Prelude.{◌≡◌, ◌+◌, ◌≤◌, ◌%◌, ◌^◌, ◌==◌, IfOk, OnOk, IfErr, MatchResult, IsTrue, length, []};
-ghost use Rattle.silt_device.specs.Disk.{GaveAny, Stays, size};
+ghost use Rattle.silt_device.specs.Disk.{GaveAny, Stays, Tears, Writes, size};
 
 use crate::gathered::Gathered;
 use crate::{Call, Disk, Stoppable};
@@ -20,6 +20,21 @@ pub struct GatherFault<F> {
     count: u64,
     failures: u64,
     inner: F,
+}
+
+// Counts a failed write or sync, modulo 2^64, and makes its fault of the inner disk's.
+fn count_fault<F>(failures: &mut u64, call: Call, at: u64, count: u64, inner: F) -> GatherFault<F>
+    ensures counted { failures.new ≡ (failures.old + 1) % 2 ^ 64 }
+    ensures fault { result ≡ record { call = call; at = at; count = count; failures = failures.new; inner = inner } }
+{
+    *failures = failures.wrapping_add(1);
+    GatherFault {
+        call,
+        at,
+        count,
+        failures: *failures,
+        inner,
+    }
 }
 
 // What failed on the inner disk.
@@ -56,8 +71,6 @@ impl<D: Disk> Model for GatheringDisk<D> {
 }
 
 impl<D: Disk> GatheringDisk<D> {
-    ghost use Rattle.silt_device.specs.Gathering.{gathering_content, gathering_gave};
-
     /// Gathers writes for this disk, up to 65,536 bytes at a time.
     ///
     /// # Errors
@@ -90,45 +103,105 @@ impl<D: Disk> GatheringDisk<D> {
     {
         self.inner
     }
+}
 
-    // The fault of a call of the disk as it stands.
-    fn fault(&self, call: Call, at: u64, count: usize, inner: D::Fault) -> GatherFault<D::Fault>
-        requires { (disk : D) × GaveAny D.gave disk inner }
-        ensures { gathering_gave D.gave self.now result call at count }
-    {
-        GatherFault {
-            call,
-            at,
-            count: count as u64,
-            failures: self.failures,
-            inner,
-        }
+impl<D: Disk> Disk for GatheringDisk<D> {
+    ghost use Rattle.silt_device.specs.Gathering.{gathering_content, gathering_gave};
+
+    type Fault = GatherFault<D::Fault>;
+
+    ghost content = { gathering_content D.content };
+
+    ghost failures = { λ disk. disk.failures };
+
+    ghost gave = { gathering_gave D.gave };
+
+    #[tactic(auto, using(crate::proofs::Waiting::size_over))]
+    fn len(&self) -> u64 {
+        self.inner.len()
     }
 
-    // Counts a failed write or sync, modulo 2^64, and gives its fault.
-    fn fail(&mut self, call: Call, at: u64, count: usize, inner: D::Fault) -> GatherFault<D::Fault>
-        requires { (disk : D) × GaveAny D.gave disk inner }
-        ensures counted { self.new ≡ record self.old { failures = (self.old.failures + 1) % 2 ^ 64 } }
-        ensures gave { gathering_gave D.gave self.new result call at count }
-    {
-        self.failures = self.failures.wrapping_add(1);
-        self.fault(call, at, count, inner)
-    }
-
-    #[tactic(auto, using(crate::proofs::Waiting::written_out, crate::proofs::Waiting::not_written_out))]
-    // Writes what is gathered to the inner disk. Where that fails it stays gathered.
-    fn write_out(&mut self) -> Result<(), D::Fault>
-        ensures size { size (D.content self.new.inner) ≡ size (D.content self.old.inner) }
-        ensures stays { Stays (gathering_content D.content self.old) (gathering_content D.content self.new) }
-        ensures failures { self.new.failures ≡ self.old.failures }
-        ensures empty { OnOk result (length self.new.gathered.bytes ≡ 0) }
-        ensures gave { IfErr result (λ fault. GaveAny D.gave self.new.inner fault) }
-    {
-        if self.gathered.is_empty() {
+    #[tactic(auto, using(crate::proofs::Waiting::size_over, crate::proofs::Waiting::laid_shows, crate::proofs::Waiting::laid_whole))]
+    fn read(&self, at: u64, buf: &mut [u8]) -> Result<(), GatherFault<D::Fault>> {
+        let _size = self.inner.len();
+        if self.gathered.holds(at, buf.len()) {
+            self.gathered.lay_over(at, buf);
             return Ok(());
         }
-        self.inner.write(self.gathered.at(), self.gathered.bytes())?;
+        let count = buf.len() as u64;
+        match self.inner.read(at, buf) {
+            Ok(()) => {
+                self.gathered.lay_over(at, buf);
+                Ok(())
+            }
+            Err(inner) => Err(GatherFault {
+                call: Call::Read,
+                at,
+                count,
+                failures: self.failures,
+                inner,
+            }),
+        }
+    }
+
+    #[tactic(auto, using(crate::proofs::Waiting::size_over, crate::proofs::Waiting::grown_places))]
+    fn write(&mut self, at: u64, buf: &[u8]) -> Result<(), GatherFault<D::Fault>> {
+        let _size = self.inner.len();
+        let count = buf.len() as u64;
+        if self.gathered.takes(at, buf.len()) {
+            self.gathered.append(at, buf);
+            return Ok(());
+        }
+        if self.gathered.is_empty() {
+            return match self.inner.write(at, buf) {
+                Ok(()) => Ok(()),
+                Err(inner) => Err(count_fault(&mut self.failures, Call::Write, at, count, inner)),
+            };
+        }
+        if let Err(inner) = self.inner.write(self.gathered.at(), self.gathered.bytes()) {
+            // The bytes are given to the inner disk all the same, so that their range is pending there.
+            let _ = self.inner.write(at, buf);
+            return Err(count_fault(&mut self.failures, Call::Write, at, count, inner));
+        }
         self.gathered.empty();
-        Ok(())
+        if self.gathered.takes(at, buf.len()) {
+            self.gathered.append(at, buf);
+            return Ok(());
+        }
+        match self.inner.write(at, buf) {
+            Ok(()) => Ok(()),
+            Err(inner) => Err(count_fault(&mut self.failures, Call::Write, at, count, inner)),
+        }
+    }
+
+    #[tactic(auto, using(crate::proofs::Waiting::size_over))]
+    fn sync(&mut self) -> Result<(), GatherFault<D::Fault>> {
+        let size = self.inner.len();
+        if !self.gathered.is_empty() {
+            if let Err(inner) = self.inner.write(self.gathered.at(), self.gathered.bytes()) {
+                return Err(count_fault(&mut self.failures, Call::Sync, 0, size, inner));
+            }
+            self.gathered.empty();
+            return match self.inner.sync() {
+                Ok(()) => Ok(()),
+                Err(inner) => Err(count_fault(&mut self.failures, Call::Sync, 0, size, inner)),
+            };
+        }
+        match self.inner.sync() {
+            Ok(()) => Ok(()),
+            Err(inner) => Err(count_fault(&mut self.failures, Call::Sync, 0, size, inner)),
+        }
+    }
+}
+
+impl<D: Stoppable> Stoppable for GatheringDisk<D> {
+    #[tactic(auto, using(crate::proofs::Waiting::size_over, crate::proofs::Waiting::restarts_over))]
+    fn restart(mut self) -> Self {
+        self.gathered.empty();
+        GatheringDisk {
+            inner: self.inner.restart(),
+            gathered: self.gathered,
+            failures: self.failures,
+        }
     }
 }

@@ -20,7 +20,7 @@
 //! what its bytes are.
 //!
 //! `MemDisk` is a disk in memory that stops at a chosen write or sync, and is then restarted with what such a stop could leave.
-//! On a `FaultDisk` one chosen call fails. `FileDisk` is a disk in a file of the system,
+//! On a `FaultDisk` one chosen call fails. A `GatheringDisk` gathers adjacent writes for another disk. `FileDisk` is a disk in a file of the system,
 //! and `RandomAccessDisk` one in any file. A `DiskSource` opens or makes the disk of a path: a file's with
 //! `FileDisks`, or the one of a `NamedDisk`. `write_synced` is a write with the sync that settles
 //! it: on it stands nearly all that changes a device. `Geometry` is the six numbers of a store, with the place of each of its
@@ -52,5 +52,7 @@ pub use system_disk::FileDisk;
 
 #[cfg(test)]
 mod file_tests;
+#[cfg(test)]
+mod gathering_tests;
 #[cfg(test)]
 mod tests;
