@@ -7,5 +7,4 @@ pub mod Outcomes
 pub mod Readings
 pub mod Refusals
 pub mod Services
-pub mod Sessions
 pub mod Texts

@@ -49,34 +49,33 @@ status_cases ReadFault = inr refl
 status_cases WriteFault = inr refl
 status_cases WantsMemory = inr refl
 
-module _ {D F N : Type 0} (content : D → Content) (failures : D → ℕ) (gave : D → F → Type 0) (told : N → N → Refusal F → Type 0) (notes heard : N) where
+module _ {D F : Type 0} (content : D → Content) (failures : D → ℕ) (gave : D → F → Type 0) (told : Refusal F → Type 0) where
   -- what the status says of the session
-  broken_by_status : (end : SessionEnd) (status : ℕ) (old new : D) (remaining left before after : Option (List ℕ)) → status ≡ status_of end → EndsRun content failures gave told notes end old new remaining left before after
-      → (status_of end ≡ 0) ⊎ (status_of end ≡ 1)
-      → (status ≡ 0) ⊎ ((status ≡ 1) × (TellsOpening content gave (told notes heard) old new before after ⊎ BreaksRun content failures gave told notes old new remaining left before after))
+  broken_by_status : (end : SessionEnd) (status : ℕ) (old new : D) (remaining left before after : Option (List ℕ)) → status ≡ status_of end → EndsRun content failures gave end old new remaining left before after
+      → (status_of end ≡ 0) ⊎ (status_of end ≡ 1) → (status ≡ 0) ⊎ ((status ≡ 1) × (TellsOpening content gave told old new before after ⊎ BreaksRun content failures gave old new remaining left before after))
   broken_by_status end status old new remaining left before after is h (inl e) = inl (is ∙ e)
   broken_by_status end status old new remaining left before after is h (inr e) = inr (is ∙ e, inr (end, status_broken end e, h))
 
   -- the store was taken up, and its session ended in some way
-  pub ran_told : {E : Type 0} (result : Result ℕ E) (old new : D) (first last : CoreState D) (ended : N) (remaining left before after : Option (List ℕ)) → Opens content (content old) first → new ≡ last.disk
-      → IfOk result (λ status. (end : SessionEnd) × (status ≡ status_of end) × AnswersReader content failures gave told end (first, notes) (last, ended) remaining left before after)
-      → IfOk result (λ status. (status ≡ 0) ⊎ ((status ≡ 1) × (TellsOpening content gave (told notes heard) old new before after ⊎ BreaksRun content failures gave told notes old new remaining left before after)))
-  ran_told (Ok status) old new first last ended remaining left before after opens closed h =
-      broken_by_status h.0 status old new remaining left before after h.1 (first, last, ended, opens, h.2, closed) (status_cases h.0)
-  ran_told (Err error) old new first last ended remaining left before after opens closed h = h
+  pub ran_told : {E : Type 0} (result : Result ℕ E) (old new : D) (first last : CoreState D) (remaining left before after : Option (List ℕ)) → Opens content (content old) first → new ≡ last.disk
+      → IfOk result (λ status. (end : SessionEnd) × (status ≡ status_of end) × AnswersReader content failures gave end first last remaining left before after)
+      → IfOk result (λ status. (status ≡ 0) ⊎ ((status ≡ 1) × (TellsOpening content gave told old new before after ⊎ BreaksRun content failures gave old new remaining left before after)))
+  ran_told (Ok status) old new first last remaining left before after opens closed h =
+      broken_by_status h.0 status old new remaining left before after h.1 (first, last, opens, h.2, closed) (status_cases h.0)
+  ran_told (Err error) old new first last remaining left before after opens closed h = h
 
   -- with status 0 the session was at the end of the lines
-  pub ran_done : {E : Type 0} (result : Result ℕ E) (old new : D) (first last : CoreState D) (ended : N) (remaining left before after : Option (List ℕ)) → Opens content (content old) first → new ≡ last.disk
-      → IfOk result (λ status. (end : SessionEnd) × (status ≡ status_of end) × AnswersReader content failures gave told end (first, notes) (last, ended) remaining left before after)
-      → result ≡ Ok 0 → EndsRun content failures gave told notes End old new remaining left before after
-  ran_done result old new first last ended remaining left before after opens closed h is =
-      let known : (end : SessionEnd) × (0 ≡ status_of end) × AnswersReader content failures gave told end (first, notes) (last, ended) remaining left before after =
-      subst (λ r. IfOk r (λ status. (end : SessionEnd) × (status ≡ status_of end) × AnswersReader content failures gave told end (first, notes) (last, ended) remaining left before after)) is h in
-      subst (λ e. EndsRun content failures gave told notes e old new remaining left before after) (status_done known.0 (sym known.1)) (first, last, ended, opens, known.2, closed)
+  pub ran_done : {E : Type 0} (result : Result ℕ E) (old new : D) (first last : CoreState D) (remaining left before after : Option (List ℕ)) → Opens content (content old) first → new ≡ last.disk
+      → IfOk result (λ status. (end : SessionEnd) × (status ≡ status_of end) × AnswersReader content failures gave end first last remaining left before after)
+      → result ≡ Ok 0 → EndsRun content failures gave End old new remaining left before after
+  ran_done result old new first last remaining left before after opens closed h is =
+      let told : (end : SessionEnd) × (0 ≡ status_of end) × AnswersReader content failures gave end first last remaining left before after =
+      subst (λ r. IfOk r (λ status. (end : SessionEnd) × (status ≡ status_of end) × AnswersReader content failures gave end first last remaining left before after)) is h in
+      subst (λ e. EndsRun content failures gave e old new remaining left before after) (status_done told.0 (sym told.1)) (first, last, opens, told.2, closed)
 
   -- the store was not taken up
-  pub unopened_told : {E : Type 0} (result : Result ℕ E) (old new : D) (refusal : Refusal F) (remaining left before after : Option (List ℕ)) → OpeningCause content gave (content old) new refusal → told notes heard refusal
+  pub unopened_told : {E : Type 0} (result : Result ℕ E) (old new : D) (refusal : Refusal F) (remaining left before after : Option (List ℕ)) → OpeningCause content gave (content old) new refusal → told refusal
       → IfOk result (λ status. (status ≡ 1) × Tells refusal before after)
-      → IfOk result (λ status. (status ≡ 0) ⊎ ((status ≡ 1) × (TellsOpening content gave (told notes heard) old new before after ⊎ BreaksRun content failures gave told notes old new remaining left before after)))
+      → IfOk result (λ status. (status ≡ 0) ⊎ ((status ≡ 1) × (TellsOpening content gave told old new before after ⊎ BreaksRun content failures gave old new remaining left before after)))
   unopened_told (Ok status) old new refusal remaining left before after cause noted h = inr (h.0, inl (refusal, cause, h.1, noted))
   unopened_told (Err error) old new refusal remaining left before after cause noted h = h

@@ -14,18 +14,18 @@ use Rattle.silt.specs.Jobs.{BreaksRun, EndsCheck, EndsFormat, EndsRun, Tells, Te
 abbrev pub TellsNoDisk : {E : Type 0} → (E → Type 0) → Option (List ℕ) → Option (List ℕ) → Type 0
 TellsNoDisk {E} IsCause before after = (error : E) × IsCause error × Tells (Device (tt {0})) before after
 
-module _ {D F N : Type 0} (content : D → Content) (failures : D → ℕ) (gave : D → F → Type 0) (told : N → N → Refusal F → Type 0) (notes : N) where
+module _ {D F : Type 0} (content : D → Content) (failures : D → ℕ) (gave : D → F → Type 0) where
   -- one life on a disk that the source opened, which is given back as the store left it
   abbrev pub RunsFile : (D → Type 0) → Option D → Option (List ℕ) → Option (List ℕ) → Option (List ℕ) → Option (List ℕ) → Type 0
   RunsFile Opened given remaining left before after =
-      (old : D) × Opened old × IsSomeAnd given (λ new. EndsRun content failures gave told notes End old new remaining left before after)
+      (old : D) × Opened old × IsSomeAnd given (λ new. EndsRun content failures gave End old new remaining left before after)
 
-module _ {D F E N : Type 0} (content : D → Content) (failures : D → ℕ) (gave : D → F → Type 0) (told : N → N → Refusal F → Type 0) (notes heard : N) (Opened : D → Type 0) (NotOpened : E → Type 0) where
+module _ {D F E : Type 0} (content : D → Content) (failures : D → ℕ) (gave : D → F → Type 0) (told : Refusal F → Type 0) (Opened : D → Type 0) (NotOpened : E → Type 0) where
   -- it was written that the source opened no disk, or why the store was not taken up from the one that it opened, or the session on it broke off
   abbrev pub TellsRunFile : Option D → Option (List ℕ) → Option (List ℕ) → Option (List ℕ) → Option (List ℕ) → Type 0
   TellsRunFile given remaining left before after =
       TellsNoDisk NotOpened before after ⊎ ((old : D) × Opened old
-      × IsSomeAnd given (λ new. TellsOpening content gave (told notes heard) old new before after ⊎ BreaksRun content failures gave told notes old new remaining left before after))
+      × IsSomeAnd given (λ new. TellsOpening content gave told old new before after ⊎ BreaksRun content failures gave old new remaining left before after))
 
 module _ {D F E : Type 0} (content : D → Content) (gave : D → F → Type 0) (told : Refusal F → Type 0) (Opened : D → Type 0) (NotOpened : E → Type 0) where
   -- it was written that the source opened no disk, or what is wrong with the one that it opened, which is given back

@@ -12,14 +12,11 @@ use Rattle.silt_recovery.specs.Refusals.{IsFound, IsRefusedLook}
 use Rattle.silt_recovery.specs.declared.fault.FormatError.{FormatError}
 use Rattle.silt_recovery.specs.declared.fault.OpenError.{OpenError}
 use Rattle.silt_image.specs.Meaning.{StandsFor}
-use Rattle.silt_store_set.specs.CoreState.{CoreState, Does, Opens}
+use Rattle.silt_store_set.specs.CoreState.{CoreState, Opens, DoesPlain}
 use Rattle.silt_store_set.specs.Opening.{OpeningCause}
 use Rattle.silt_recovery.specs.Errors.{refusal_of_formatting, refusal_of_opening}
-use Rattle.silt_event.specs.declared.event.Event.{Event}
 use Rattle.silt_event.specs.declared.refusal.Refusal.{Refusal}
-use Rattle.silt_event.specs.declared.reply.Reply.{Reply}
 use Rattle.silt_event.specs.declared.reply.Reply.TheVariants.{Refused}
-use Rattle.silt_event.specs.Events.{PlainReply, plain}
 use Rattle.silt_wire.specs.Reports.{report_text}
 use Rattle.silt_wire.specs.Sessions.{Ends}
 use Rattle.silt_wire.specs.declared.sessions.SessionEnd.{SessionEnd}
@@ -39,31 +36,21 @@ abbrev pub status_of : SessionEnd → ℕ
 status_of End = 0
 status_of end = 1
 
--- where a reply refuses, people were told of the refusal
-abbrev pub IsReplyTold : {F : Type 0} → (Refusal F → Type 0) → Reply F → Type 0
-IsReplyTold told (Refused refusal) = told refusal
-IsReplyTold told reply = Unit {0}
-
-module _ {D F N : Type 0} (content : D → Content) (failures : D → ℕ) (gave : D → F → Type 0) (told : N → N → Refusal F → Type 0) where
-  -- the store does the event, its reply is given without its fault, and people are told of a refusal: the store and the notes before and after
-  abbrev pub DoesTold : CoreState D × N → CoreState D × N → Event → PlainReply → Type 0
-  DoesTold old new event reply =
-      (full : Reply F) × Does content failures gave old.0 new.0 event full × (reply ≡ plain full) × IsReplyTold (told old.1 new.1) full
-
+module _ {D F : Type 0} (content : D → Content) (failures : D → ℕ) (gave : D → F → Type 0) where
   -- `opened` was written, and then the store's session with the reader and the writer ended so
-  abbrev pub AnswersReader : SessionEnd → CoreState D × N → CoreState D × N → Option (List ℕ) → Option (List ℕ) → Option (List ℕ) → Option (List ℕ) → Type 0
+  abbrev pub AnswersReader : SessionEnd → CoreState D → CoreState D → Option (List ℕ) → Option (List ℕ) → Option (List ℕ) → Option (List ℕ) → Type 0
   AnswersReader end old new remaining left before after =
-      (opened : Option (List ℕ)) × Appends before opened (codes "opened\n") × Ends DoesTold end old.0.shape.value_len old new remaining left opened after
+      (opened : Option (List ℕ)) × Appends before opened (codes "opened\n")
+      × Ends (DoesPlain content failures gave) end old.shape.value_len old new remaining left opened after
 
   -- one life on a disk: the store was taken up from it, its session ended so, and the disk is as the store then left it
-  abbrev pub EndsRun : N → SessionEnd → D → D → Option (List ℕ) → Option (List ℕ) → Option (List ℕ) → Option (List ℕ) → Type 0
-  EndsRun notes end old new remaining left before after =
-      (first : CoreState D) × (last : CoreState D) × (heard : N) × Opens content (content old) first
-      × AnswersReader end (first, notes) (last, heard) remaining left before after × (new ≡ last.disk)
+  abbrev pub EndsRun : SessionEnd → D → D → Option (List ℕ) → Option (List ℕ) → Option (List ℕ) → Option (List ℕ) → Type 0
+  EndsRun end old new remaining left before after =
+      (first : CoreState D) × (last : CoreState D) × Opens content (content old) first × AnswersReader end first last remaining left before after × (new ≡ last.disk)
 
   -- one life whose session did not reach the end of the lines
-  abbrev pub BreaksRun : N → D → D → Option (List ℕ) → Option (List ℕ) → Option (List ℕ) → Option (List ℕ) → Type 0
-  BreaksRun notes old new remaining left before after = (end : SessionEnd) × (end ≢ End) × EndsRun notes end old new remaining left before after
+  abbrev pub BreaksRun : D → D → Option (List ℕ) → Option (List ℕ) → Option (List ℕ) → Option (List ℕ) → Type 0
+  BreaksRun old new remaining left before after = (end : SessionEnd) × (end ≢ End) × EndsRun end old new remaining left before after
 
 -- the report of what the disk shows was written
 abbrev pub EndsCheck : {D : Type 0} → (D → Content) → D → Option (List ℕ) → Option (List ℕ) → Type 0

@@ -4,7 +4,7 @@ ghost use Rattle.std.specs.Io.KnownBytes.{Appends};
 ghost use Rattle.silt_device.specs.Disk.{GaveAny};
 ghost use Rattle.silt_device.specs.Layout.{InLimits};
 ghost use Rattle.silt.specs.Files.{ChecksFile, FormatsFile, RunsFile, TellsCheckFile, TellsFormatFile, TellsRunFile};
-ghost use Rattle.silt.specs.Notes.{ToldOf};
+ghost use Rattle.silt.specs.Notes.{IsTold};
 ghost use Rattle.silt.specs.Numbers.{shape_asked};
 
 use crate::damage::holds_store;
@@ -38,7 +38,7 @@ pub fn format_file<
     notes: &mut N,
 ) -> (Option<S::Disk>, io::Result<u8>)
     ensures refused { ¬ InLimits (shape_asked numbers.now) → IfOk result.1 (λ status. (status ≡ 1) × Appends (W.contents writer.old) (W.contents writer.new) (codes "refused 2 BadGeometry\n")) }
-    ensures told { IfOk result.1 (λ status. (status ≡ 0) ⊎ ((status ≡ 1) × TellsFormatFile S.Disk.Disk.content (GaveAny S.Disk.Disk.gave) (ToldOf N.told_fault N.told_damage path.now notes.old notes.new) (S.created source path.now)
+    ensures told { IfOk result.1 (λ status. (status ≡ 0) ⊎ ((status ≡ 1) × TellsFormatFile S.Disk.Disk.content (GaveAny S.Disk.Disk.gave) (IsTold (N.told_fault notes.old notes.new path.now) (N.told_damage notes.old notes.new path.now)) (S.created source path.now)
         (λ len error. S.not_created source path.now len error × N.told_error notes.old notes.new path.now error) (shape_asked numbers.now) result.0 (W.contents writer.old) (W.contents writer.new))) }
     ensures formatted { result.1 ≡ Ok 0 → FormatsFile S.Disk.Disk.content (GaveAny S.Disk.Disk.gave) (N.told_store notes.old notes.new path.now) (S.created source path.now) (shape_asked numbers.now) result.0 (W.contents writer.old) (W.contents writer.new) }
 {
@@ -90,9 +90,9 @@ pub fn run_file<
 ) -> (Option<S::Disk>, io::Result<u8>)
 where
     S::Disk: Served,
-    ensures told { IfOk result.1 (λ status. (status ≡ 0) ⊎ ((status ≡ 1) × TellsRunFile S.Disk.Disk.content S.Disk.Disk.failures (GaveAny S.Disk.Disk.gave) (ToldOf N.told_fault N.told_damage path.now) notes.old notes.new (S.opened source path.now)
+    ensures told { IfOk result.1 (λ status. (status ≡ 0) ⊎ ((status ≡ 1) × TellsRunFile S.Disk.Disk.content S.Disk.Disk.failures (GaveAny S.Disk.Disk.gave) (IsTold (N.told_fault notes.old notes.new path.now) (N.told_damage notes.old notes.new path.now)) (S.opened source path.now)
         (λ error. S.not_opened source path.now error × N.told_error notes.old notes.new path.now error) result.0 (R.remaining reader.old) (R.remaining reader.new) (W.contents writer.old) (W.contents writer.new))) }
-    ensures answered { result.1 ≡ Ok 0 → RunsFile S.Disk.Disk.content S.Disk.Disk.failures (GaveAny S.Disk.Disk.gave) (ToldOf N.told_fault N.told_damage path.now) notes.old (S.opened source path.now) result.0 (R.remaining reader.old) (R.remaining reader.new) (W.contents writer.old) (W.contents writer.new) }
+    ensures answered { result.1 ≡ Ok 0 → RunsFile S.Disk.Disk.content S.Disk.Disk.failures (GaveAny S.Disk.Disk.gave) (S.opened source path.now) result.0 (R.remaining reader.old) (R.remaining reader.new) (W.contents writer.old) (W.contents writer.new) }
 {
     match source.open(path) {
         Ok(disk) => {
@@ -123,7 +123,7 @@ pub fn check_file<
     writer: &mut W,
     notes: &mut N,
 ) -> (Option<S::Disk>, io::Result<u8>)
-    ensures told { IfOk result.1 (λ status. (status ≡ 0) ⊎ ((status ≡ 1) × TellsCheckFile S.Disk.Disk.content (GaveAny S.Disk.Disk.gave) (ToldOf N.told_fault N.told_damage path.now notes.old notes.new) (S.shared source path.now)
+    ensures told { IfOk result.1 (λ status. (status ≡ 0) ⊎ ((status ≡ 1) × TellsCheckFile S.Disk.Disk.content (GaveAny S.Disk.Disk.gave) (IsTold (N.told_fault notes.old notes.new path.now) (N.told_damage notes.old notes.new path.now)) (S.shared source path.now)
         (λ error. S.not_shared source path.now error × N.told_error notes.old notes.new path.now error) result.0 (W.contents writer.old) (W.contents writer.new))) }
     ensures reported { result.1 ≡ Ok 0 → ChecksFile S.Disk.Disk.content (S.shared source path.now) result.0 (W.contents writer.old) (W.contents writer.new) }
 {

@@ -6,12 +6,11 @@ ghost use Rattle.silt_device.specs.Layout.{device_size};
 ghost use Rattle.silt_wire.specs.declared.sessions.SessionEnd.{SessionEnd as SessionEndOf};
 ghost use Rattle.silt_wire.specs.declared.sessions.SessionEnd.TheVariants.{End};
 ghost use Rattle.silt.specs.Jobs.{AnswersReader, BreaksRun, EndsCheck, EndsFormat, EndsRun, TellsCheck, TellsFormat, TellsOpening, formatted_line, status_of};
-ghost use Rattle.silt.specs.Notes.{ToldOf};
+ghost use Rattle.silt.specs.Notes.{IsTold};
 
 use crate::damage::damage_at;
 use crate::notes::{FaultNotes, tell_refusal};
 use crate::refusal::refuse;
-use crate::told_store::ToldStore;
 use silt_device::{Disk, Geometry};
 use silt_recovery::{check, format};
 use silt_store_set::{Core, Refusal, Served};
@@ -34,16 +33,14 @@ pub fn run_on<D: Served, R: Read, W: Write, N: FaultNotes<D::Fault>>(
     writer: &mut W,
     notes: &mut N,
 ) -> (D, io::Result<u8>)
-    ensures told { IfOk result.1 (λ status. (status ≡ 0) ⊎ ((status ≡ 1) × (TellsOpening D.content (GaveAny D.gave) (ToldOf N.told_fault N.told_damage file.now notes.old notes.new) disk result.0 (W.contents writer.old) (W.contents writer.new)
-        ⊎ BreaksRun D.content D.failures (GaveAny D.gave) (ToldOf N.told_fault N.told_damage file.now) notes.old disk result.0 (R.remaining reader.old) (R.remaining reader.new) (W.contents writer.old) (W.contents writer.new)))) }
-    ensures answered { result.1 ≡ Ok 0 → EndsRun D.content D.failures (GaveAny D.gave) (ToldOf N.told_fault N.told_damage file.now) notes.old End disk result.0
+    ensures told { IfOk result.1 (λ status. (status ≡ 0) ⊎ ((status ≡ 1) × (TellsOpening D.content (GaveAny D.gave) (IsTold (N.told_fault notes.old notes.new file.now) (N.told_damage notes.old notes.new file.now)) disk result.0 (W.contents writer.old) (W.contents writer.new)
+        ⊎ BreaksRun D.content D.failures (GaveAny D.gave) disk result.0 (R.remaining reader.old) (R.remaining reader.new) (W.contents writer.old) (W.contents writer.new)))) }
+    ensures answered { result.1 ≡ Ok 0 → EndsRun D.content D.failures (GaveAny D.gave) End disk result.0
         (R.remaining reader.old) (R.remaining reader.new) (W.contents writer.old) (W.contents writer.new) }
 {
     match Core::open(alloc, disk) {
-        Ok(core) => {
-            let mut store = ToldStore { core, file, notes };
-            let status = answer_reader(alloc, &mut store, reader, writer);
-            let ToldStore { core, .. } = store;
+        Ok(mut core) => {
+            let status = answer_reader(alloc, &mut core, reader, writer);
             (core.close(), status)
         }
         Err(fault) => {
@@ -56,20 +53,19 @@ pub fn run_on<D: Served, R: Read, W: Write, N: FaultNotes<D::Fault>>(
 }
 
 // Writes that the store is taken up, answers the reader's lines to their end, and answers the status.
-fn answer_reader<D: Served, R: Read, W: Write, N: FaultNotes<D::Fault>>(
+fn answer_reader<D: Served, R: Read, W: Write>(
     alloc: Global,
-    store: &mut ToldStore<'_, D, N>,
+    core: &mut Core<D>,
     reader: &mut R,
     writer: &mut W,
 ) -> io::Result<u8>
-    ensures { IfOk result (λ status. (end : SessionEndOf) × (status ≡ status_of end)
-        × AnswersReader D.content D.failures (GaveAny D.gave) (ToldOf N.told_fault N.told_damage store.old.file.now) end (store.old.core, store.old.notes.now) (store.new.core, store.new.notes.now)
+    ensures { IfOk result (λ status. (end : SessionEndOf) × (status ≡ status_of end) × AnswersReader D.content D.failures (GaveAny D.gave) end core.old core.new
         (R.remaining reader.old) (R.remaining reader.new) (W.contents writer.old) (W.contents writer.new)) }
 {
-    let value_len = store.core.geometry().value_len() as usize;
+    let value_len = core.geometry().value_len() as usize;
     writer.write_all(b"opened\n")?;
     writer.flush()?;
-    let end = session(alloc, value_len, reader, writer, store);
+    let end = session(alloc, value_len, reader, writer, core);
     Ok(status_of(end))
 }
 
@@ -95,7 +91,7 @@ pub fn check_on<D: Disk, W: Write, N: FaultNotes<D::Fault>>(
     writer: &mut W,
     notes: &mut N,
 ) -> io::Result<u8>
-    ensures told { IfOk result (λ status. (status ≡ 0) ⊎ ((status ≡ 1) × TellsCheck D.content (GaveAny D.gave) (ToldOf N.told_fault N.told_damage file.now notes.old notes.new) disk.now (W.contents writer.old) (W.contents writer.new))) }
+    ensures told { IfOk result (λ status. (status ≡ 0) ⊎ ((status ≡ 1) × TellsCheck D.content (GaveAny D.gave) (IsTold (N.told_fault notes.old notes.new file.now) (N.told_damage notes.old notes.new file.now)) disk.now (W.contents writer.old) (W.contents writer.new))) }
     ensures reported { result ≡ Ok 0 → EndsCheck D.content disk.now (W.contents writer.old) (W.contents writer.new) }
 {
     match check(alloc, disk) {
@@ -126,7 +122,7 @@ pub fn format_on<D: Disk, W: Write, N: FaultNotes<D::Fault>>(
     writer: &mut W,
     notes: &mut N,
 ) -> (D, io::Result<u8>)
-    ensures told { IfOk result.1 (λ status. (status ≡ 0) ⊎ ((status ≡ 1) × TellsFormat D.content (GaveAny D.gave) (ToldOf N.told_fault N.told_damage file.now notes.old notes.new) geometry disk result.0 (W.contents writer.old) (W.contents writer.new))) }
+    ensures told { IfOk result.1 (λ status. (status ≡ 0) ⊎ ((status ≡ 1) × TellsFormat D.content (GaveAny D.gave) (IsTold (N.told_fault notes.old notes.new file.now) (N.told_damage notes.old notes.new file.now)) geometry disk result.0 (W.contents writer.old) (W.contents writer.new))) }
     ensures formatted { result.1 ≡ Ok 0 → EndsFormat D.content geometry result.0 (W.contents writer.old) (W.contents writer.new) }
 {
     match format(alloc, disk, geometry) {

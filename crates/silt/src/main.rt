@@ -25,7 +25,6 @@ mod script_lines;
 mod service;
 #[cfg(test)]
 mod tests;
-mod told_store;
 mod transcript;
 mod usage;
 

@@ -1,7 +1,7 @@
 // What the program tells people, beside what it writes for programs.
 ghost use Rattle.std.specs.Prelude.{◌≡◌, ⊤, ℕ, List, Option, map, string_bytes};
 ghost use Rattle.silt_event.specs.declared.place.Place.{Place as PlaceOf};
-ghost use Rattle.silt.specs.Notes.{ToldOf};
+ghost use Rattle.silt.specs.Notes.{IsTold};
 
 use crate::usage::{FORMS, complaint_of};
 use silt_store_set::{Place, Refusal};
@@ -66,7 +66,7 @@ pub fn tell_refusal<F, N: FaultNotes<F>>(
     at: Option<u64>,
     notes: &mut N,
 )
-    ensures { ToldOf N.told_fault N.told_damage file.now notes.old notes.new refusal.now }
+    ensures { IsTold (N.told_fault notes.old notes.new file.now) (N.told_damage notes.old notes.new file.now) refusal.now }
 {
     match refusal {
         Refusal::Device(fault) => notes.tell_fault(file, fault),

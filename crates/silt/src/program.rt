@@ -5,7 +5,7 @@ ghost use Rattle.std.specs.Result.{result_unwrap_or};
 ghost use Rattle.silt_device.specs.Disk.{GaveAny};
 ghost use Rattle.silt_words.specs.declared.job.Job.{Job as JobOf};
 ghost use Rattle.silt_words.specs.Commands.{job_named};
-ghost use Rattle.silt.specs.Notes.{ToldOf};
+ghost use Rattle.silt.specs.Notes.{IsTold};
 ghost use Rattle.silt.specs.Programs.{Answers, EndsJob, NamesJob, TellsJob, TellsWords};
 
 use crate::files::{check_file, format_file, run_file};
@@ -41,7 +41,7 @@ pub fn program<
 where
     S::Disk: Served,
     ensures done { result ≡ 0 → (job : JobOf) × NamesJob (map string_bytes words.now) job
-        × EndsJob S.Disk.Disk.content S.Disk.Disk.failures (GaveAny S.Disk.Disk.gave) (ToldOf N.told_fault N.told_damage) (N.told_store notes.old notes.new) notes.old (S.opened source) (S.shared source) (S.created source) job
+        × EndsJob S.Disk.Disk.content S.Disk.Disk.failures (GaveAny S.Disk.Disk.gave) (N.told_store notes.old notes.new) (S.opened source) (S.shared source) (S.created source) job
         (R.remaining reader.old) (R.remaining reader.new) (W.contents writer.old) (W.contents writer.new) }
     ensures usage { result ≡ 2 → (job_named (map string_bytes words.now) ≡ None) × N.told_words notes.old notes.new (map string_bytes words.now)
         × Appends (W.contents writer.old) (W.contents writer.new) (codes "usage\n") }
@@ -78,7 +78,7 @@ pub fn answer<
 ) -> io::Result<u8>
 where
     S::Disk: Served,
-    ensures { IfOk result (λ status. Answers S.Disk.Disk.content S.Disk.Disk.failures (GaveAny S.Disk.Disk.gave) (ToldOf N.told_fault N.told_damage) notes.old notes.new (S.opened source) (λ path error. S.not_opened source path error × N.told_error notes.old notes.new path error)
+    ensures { IfOk result (λ status. Answers S.Disk.Disk.content S.Disk.Disk.failures (GaveAny S.Disk.Disk.gave) (λ path. IsTold (N.told_fault notes.old notes.new path) (N.told_damage notes.old notes.new path)) (S.opened source) (λ path error. S.not_opened source path error × N.told_error notes.old notes.new path error)
         (S.shared source) (λ path error. S.not_shared source path error × N.told_error notes.old notes.new path error)
         (S.created source) (λ path len error. S.not_created source path len error × N.told_error notes.old notes.new path error) (N.told_store notes.old notes.new) (N.told_words notes.old notes.new)
         (map string_bytes words.now) status (R.remaining reader.old) (R.remaining reader.new) (W.contents writer.old) (W.contents writer.new)) }
@@ -120,11 +120,11 @@ fn do_job<
 ) -> io::Result<u8>
 where
     S::Disk: Served,
-    ensures told { IfOk result (λ status. (status ≡ 0) ⊎ ((status ≡ 1) × TellsJob S.Disk.Disk.content S.Disk.Disk.failures (GaveAny S.Disk.Disk.gave) (ToldOf N.told_fault N.told_damage) notes.old notes.new (S.opened source) (λ path error. S.not_opened source path error × N.told_error notes.old notes.new path error)
+    ensures told { IfOk result (λ status. (status ≡ 0) ⊎ ((status ≡ 1) × TellsJob S.Disk.Disk.content S.Disk.Disk.failures (GaveAny S.Disk.Disk.gave) (λ path. IsTold (N.told_fault notes.old notes.new path) (N.told_damage notes.old notes.new path)) (S.opened source) (λ path error. S.not_opened source path error × N.told_error notes.old notes.new path error)
         (S.shared source) (λ path error. S.not_shared source path error × N.told_error notes.old notes.new path error)
         (S.created source) (λ path len error. S.not_created source path len error × N.told_error notes.old notes.new path error)
         job.entry (R.remaining reader.old) (R.remaining reader.new) (W.contents writer.old) (W.contents writer.new))) }
-    ensures done { result ≡ Ok 0 → EndsJob S.Disk.Disk.content S.Disk.Disk.failures (GaveAny S.Disk.Disk.gave) (ToldOf N.told_fault N.told_damage) (N.told_store notes.old notes.new) notes.old (S.opened source) (S.shared source) (S.created source)
+    ensures done { result ≡ Ok 0 → EndsJob S.Disk.Disk.content S.Disk.Disk.failures (GaveAny S.Disk.Disk.gave) (N.told_store notes.old notes.new) (S.opened source) (S.shared source) (S.created source)
         job.entry (R.remaining reader.old) (R.remaining reader.new) (W.contents writer.old) (W.contents writer.new) }
 {
     match job {

@@ -3,7 +3,7 @@ use Rattle.silt_device.specs.Disk.{GaveAny}
 use Rattle.silt_device.specs.Layout.{device_size}
 use Rattle.silt_event.specs.declared.refusal.Refusal.TheVariants.{BadGeometry, Device}
 use Rattle.silt.specs.Jobs.{TellsFormat}
-use Rattle.silt.specs.Notes.{ToldOf}
+use Rattle.silt.specs.Notes.{IsTold}
 use Rattle.silt.proofs.FileRefusals.{stored_or_fault, told_kept, told_refusal, told_weaker}
 use Rattle.silt.proofs.Refusals.{tells_bad_geometry}
 use Rattle.silt.proofs.files.format_file.Goals as goal
@@ -19,7 +19,7 @@ returns-in-Ok-create-clause-told g c =
     let len = c.size.ensures.value ∙ ap device_size c.in-Ok.ensures.0 in
     told_weaker c.format_on-disk.result.1
     (λ told. inr (inr (c.in-Ok.ensures.1, (c.in-Ok-create.disk, rw (len) at c.in-Ok-create.ensures.created, c.in-Ok-create.ensures.size ∙ len, rw (c.in-Ok.ensures.0) at told))))
-    (told_kept (λ notes. TellsFormat g.S.Disk.Disk.content (GaveAny g.S.Disk.Disk.gave) (ToldOf g.N.FaultNotes.told_fault g.N.FaultNotes.told_damage c.args.path.now c.args.notes.now notes) _ _ _ _ _)
+    (told_kept (λ notes. TellsFormat g.S.Disk.Disk.content (GaveAny g.S.Disk.Disk.gave) (IsTold (g.N.FaultNotes.told_fault c.args.notes.now notes c.args.path.now) (g.N.FaultNotes.told_damage c.args.notes.now notes c.args.path.now)) _ _ _ _ _)
     c.format_on-disk.result.1 c.tell_gone.ensures.same c.format_on-disk.ensures.told)
 
 pub returns-in-Ok-create-clause-formatted : goal.returns-in-Ok-create-clause-formatted
