@@ -7,6 +7,7 @@ use crate::job::Plan;
 use crate::keys::{byte_of, key_of};
 use crate::pauses::{Lap, Pauses};
 use silt_device::Disk;
+use silt_frame::Key;
 use silt_store_set::Core;
 use std::alloc::Global;
 use std::time::Clock;
@@ -73,16 +74,38 @@ fn put_group<D: Disk, R: Clock>(
     value: &mut [u8],
     pauses: &mut Pauses,
 ) -> Result<(), Ending> {
-    if core.geometry().value_len() as usize != value.len() {
-        return Err(Ending::Refused(Call::Put));
-    }
     let mut lap = Lap::new(rt)?;
     for number in first..end {
         value.fill(byte_of(number));
-        if core.put(alloc, &key_of(number), value).is_err() {
-            return Err(Ending::Refused(Call::Put));
-        }
+        put_once(alloc, core, &key_of(number), value)?;
         pauses.note(lap.turn(rt)?);
     }
     Ok(())
+}
+
+// Puts a value.
+fn put_once<D: Disk>(
+    alloc: Global,
+    core: &mut Core<D>,
+    key: &Key,
+    value: &[u8],
+) -> Result<(), Ending> {
+    if core.geometry().value_len() as usize != value.len() {
+        return Err(Ending::Refused(Call::Put));
+    }
+    match core.put(alloc, key, value) {
+        Ok(_) => Ok(()),
+        Err(_) => Err(Ending::Refused(Call::Put)),
+    }
+}
+
+/// Gets the value of a key into a buffer. Whether there is one.
+pub fn get_once<D: Disk>(core: &Core<D>, key: &Key, out: &mut [u8]) -> Result<bool, Ending> {
+    if core.geometry().value_len() as usize != out.len() {
+        return Err(Ending::Refused(Call::Get));
+    }
+    match core.get(key, out) {
+        Ok(found) => Ok(found),
+        Err(_) => Err(Ending::Refused(Call::Get)),
+    }
 }

@@ -4,11 +4,10 @@ use crate::ending::Ending;
 use crate::figures::a_second;
 use crate::keys::{byte_of, key_of, pick};
 use crate::pauses::Lap;
-use silt_desk::{Naming, Shared, Trace};
+use crate::threads::join_over;
+use silt_desk::{Desk, Naming, Shared, Trace};
 use silt_device::Disk;
-use std::alloc::Global;
 use std::sync::Wait;
-use std::thread;
 use std::thread::Threads;
 use std::time::Clock;
 
@@ -50,49 +49,73 @@ impl Looks {
     }
 }
 
-/// How many looks a second so many threads make.
+/// How many looks a second one thread makes.
 ///
 /// # Errors
 ///
 /// `Wrong` where a look found another value than was put.
-pub fn looks_a_second<
+pub fn looks_by_one<D: Disk, T: Trace, N: Naming, R: Wait + Clock>(
+    rt: &R,
+    shared: &Shared<D, T, N>,
+    looks: Looks,
+) -> Result<u64, Ending> {
+    let mut lap = Lap::new(rt)?;
+    if !look_all(rt, shared, looks, looks.count, 0) {
+        return Err(Ending::Wrong);
+    }
+    Ok(a_second(looks.count, lap.turn(rt)?))
+}
+
+/// How many looks a second four threads make, side by side.
+///
+/// # Errors
+///
+/// `Wrong` where a look found another value than was put.
+pub fn looks_by_four<
     D: Disk,
     T: Trace + Send + Sync,
     N: Naming + Send + Sync,
     R: Threads + Wait + Clock + Sync,
->(
-    rt: &R,
-    alloc: Global,
-    shared: &Shared<D, T, N>,
-    looks: Looks,
-    threads: usize,
-) -> Result<u64, Ending> {
-    let each = looks.count.checked_div(threads as u64).unwrap_or(0);
+>(rt: &R, shared: &Shared<D, T, N>, looks: Looks) -> Result<u64, Ending> {
+    let each = looks.count / 4;
     let mut lap = Lap::new(rt)?;
-    let right = look_beside(rt, alloc, shared, looks, each, threads)?;
-    let nanos = lap.turn(rt)?;
-    if !right.iter().all(|&right| right) {
+    if !four_look(rt, shared, looks, each) {
         return Err(Ending::Wrong);
     }
-    Ok(a_second(looks.count, nanos))
+    Ok(a_second(looks.count, lap.turn(rt)?))
 }
 
-// So many looks by each of so many threads: whether each look of a thread found what is there.
-fn look_beside<D: Disk, T: Trace + Send + Sync, N: Naming + Send + Sync, R: Threads + Wait + Sync>(
+// So many looks by each of four threads: whether each found what is there.
+fn four_look<D: Disk, T: Trace + Send + Sync, N: Naming + Send + Sync, R: Threads + Wait + Sync>(
     rt: &R,
-    alloc: Global,
     shared: &Shared<D, T, N>,
     looks: Looks,
     each: u64,
-    threads: usize,
-) -> Result<Vec<bool>, Ending> {
-    let right = thread::map_indices(
+) -> bool {
+    let (first, second) = join_over(
         rt,
-        alloc,
-        threads,
-        &|thread| { look_all(rt, shared, looks, each, thread as u64) },
+        shared,
+        move |desk: &Shared<D, T, N>| two_look(rt, desk, looks, each, 0),
+        move |desk: &Shared<D, T, N>| two_look(rt, desk, looks, each, 2),
     );
-    Ok(right?)
+    first && second
+}
+
+// So many looks by each of two threads: whether each found what is there.
+fn two_look<D: Disk, T: Trace + Send + Sync, N: Naming + Send + Sync, R: Threads + Wait + Sync>(
+    rt: &R,
+    shared: &Shared<D, T, N>,
+    looks: Looks,
+    each: u64,
+    thread: u64,
+) -> bool {
+    let (first, second) = join_over(
+        rt,
+        shared,
+        move |desk: &Shared<D, T, N>| look_all(rt, desk, looks, each, thread),
+        move |desk: &Shared<D, T, N>| look_all(rt, desk, looks, each, thread ^ 1),
+    );
+    first && second
 }
 
 // So many looks of one thread: whether each found what is there.
@@ -105,10 +128,11 @@ fn look_all<D: Disk, T: Trace, N: Naming, R: Wait>(
 ) -> bool {
     let mut buffer = [0u8; 4096];
     let value_len = shared.read(rt).geometry().value_len() as usize;
-    let out = &mut buffer[0..value_len];
+    let len = value_len.min(buffer.len());
+    let out = &mut buffer[..len];
     for turn in 0..count {
         let number = pick(turn, thread, looks.keys);
-        if !is_right(rt, shared, looks, number, out) {
+        if !is_right(&*shared.read(rt), looks, number, out) {
             return false;
         }
     }
@@ -116,19 +140,16 @@ fn look_all<D: Disk, T: Trace, N: Naming, R: Wait>(
 }
 
 // Whether one look finds what is there.
-fn is_right<D: Disk, T: Trace, N: Naming, R: Wait>(
-    rt: &R,
-    shared: &Shared<D, T, N>,
+fn is_right<D: Disk, T: Trace, N: Naming>(
+    desk: &Desk<D, T, N>,
     looks: Looks,
     number: u64,
     out: &mut [u8],
 ) -> bool {
-    let key = key_of(looks.first.wrapping_add(number));
-    let desk = shared.read(rt);
     if desk.geometry().value_len() as usize != out.len() {
         return false;
     }
-    match desk.look(&key, out) {
+    match desk.look(&key_of(looks.first.wrapping_add(number)), out) {
         Ok((_, found)) => {
             found == looks.present && (!found || out.first() == Some(&byte_of(number)))
         }

@@ -26,6 +26,7 @@ mod looks;
 mod measurement;
 mod pauses;
 mod small;
+mod threads;
 mod workers;
 
 use ending::Ending;

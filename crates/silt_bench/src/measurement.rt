@@ -5,10 +5,10 @@ use crate::background::Background;
 use crate::counting::CountingDisk;
 use crate::ending::{Call, Ending};
 use crate::figures::{Thousandths, a_second, resident};
-use crate::filling::{WriterPauses, fill};
+use crate::filling::{WriterPauses, fill, get_once};
 use crate::job::{Plan, Work};
 use crate::keys::{key_of, pick};
-use crate::looks::{ABSENT, Looks, looks_a_second};
+use crate::looks::{ABSENT, Looks, looks_by_four, looks_by_one};
 use crate::pauses::Lap;
 use crate::workers::fill_beside;
 use silt_desk::{Count, Desk, Naming, Shared};
@@ -147,10 +147,10 @@ fn look<D: Disk, N: Naming + Send + Sync, R: Threads + Wait + Clock + Files + Sy
     let absent = Looks::absent(plan.keys, plan.gets);
     Ok(Seen {
         puts: a_second(plan.keys, nanos),
-        gets_by_one: looks_a_second(rt, alloc, shared, present, 1)?,
-        gets_by_four: looks_a_second(rt, alloc, shared, present, 4)?,
-        absent_by_one: looks_a_second(rt, alloc, shared, absent, 1)?,
-        absent_by_four: looks_a_second(rt, alloc, shared, absent, 4)?,
+        gets_by_one: looks_by_one(rt, shared, present)?,
+        gets_by_four: looks_by_four(rt, shared, present)?,
+        absent_by_one: looks_by_one(rt, shared, absent)?,
+        absent_by_four: looks_by_four(rt, shared, absent)?,
         resident: resident(rt, alloc),
         put_late: pauses.puts.all_but(1),
         put_longest: pauses.puts.longest() / 1000,
@@ -199,16 +199,11 @@ pub fn count_reads<D: Disk>(
 ) -> Result<u64, Ending> {
     let value_len = core.geometry().value_len() as usize;
     let mut out = vec![in alloc; 0u8; value_len]?;
-    let out = out.as_mut_slice();
-    if out.len() != core.geometry().value_len() as usize {
-        return Err(Ending::Wrong);
-    }
     let before = reads.load(Ordering::SeqCst);
     for turn in 0..looks {
         let key = key_of(first.wrapping_add(pick(turn, 0, keys)));
-        match core.get(&key, out) {
-            Ok(found) if found == (first == 0) => {}
-            _ => return Err(Ending::Wrong),
+        if get_once(core, &key, out.as_mut_slice())? != (first == 0) {
+            return Err(Ending::Wrong);
         }
     }
     Ok(reads.load(Ordering::SeqCst).wrapping_sub(before))

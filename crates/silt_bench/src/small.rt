@@ -2,8 +2,8 @@
 
 use crate::background::Background;
 use crate::counting::CountingDisk;
-use crate::ending::{Call, Ending};
-use crate::filling::{WriterPauses, fill};
+use crate::ending::Ending;
+use crate::filling::{WriterPauses, fill, get_once};
 use crate::job::{Plan, Work};
 use crate::keys::{byte_of, key_of};
 use crate::looks::ABSENT;
@@ -69,14 +69,10 @@ fn count_values<D: Disk>(
 ) -> Result<u64, Ending> {
     let value_len = core.geometry().value_len() as usize;
     let mut out = vec![in alloc; 0u8; value_len]?;
-    let out = out.as_mut_slice();
-    if out.len() != core.geometry().value_len() as usize {
-        return Err(Ending::Wrong);
-    }
     let mut found = 0u64;
     for number in 0..count {
-        let answer = core.get(&key_of(first.wrapping_add(number)), out);
-        let has_value = answer.ok().ok_or(Ending::Refused(Call::Get))?;
+        let key = key_of(first.wrapping_add(number));
+        let has_value = get_once(core, &key, out.as_mut_slice())?;
         if has_value && out.iter().all(|&byte| byte == byte_of(number)) {
             found = found.wrapping_add(1);
         }

@@ -5,8 +5,9 @@ use crate::filling::WriterPauses;
 use crate::job::Plan;
 use crate::keys::{byte_of, key_of};
 use crate::pauses::{Lap, Pauses};
+use crate::threads::join_over;
 use crossbeam_channel::{Receiver, Sender};
-use silt_desk::{Gate, Naming, Seat, Shared, Spot, Trace, Wake, converter, merger};
+use silt_desk::{Desk, Gate, Naming, Seat, Shared, Spot, Trace, Wake, converter, merger};
 use silt_device::Disk;
 use silt_event::Refusal;
 use silt_frame::Key;
@@ -80,27 +81,6 @@ pub fn fill_beside<
         merger: to_merger,
     };
     run_threads(rt, alloc, shared, first, second, writer, plan, pauses)
-}
-
-// Two calls on one value, by two threads, until both are done.
-fn join_over<S: Sync, X: Send, Y, A: FnOnce(&S) -> X + Send, B: FnOnce(&S) -> Y, R: Threads>(
-    rt: &R,
-    shared: &S,
-    first: A,
-    second: B,
-) -> (X, Y)
-    requires first { A.IsAlwaysCallable first }
-    requires second { B.IsAlwaysCallable second }
-{
-    thread::join(
-        rt,
-        move || -> X
-            requires { A.IsAlwaysCallable first }
-        { first(shared) },
-        move || -> Y
-            requires { B.IsAlwaysCallable second }
-        { second(shared) },
-    )
 }
 
 // The two workers, each until it is stopped.
@@ -258,7 +238,7 @@ fn put_patiently<D: Disk, T: Trace, N: Naming, R: Wait + Clock>(
     value: &[u8],
 ) -> Result<(), Ending> {
     for _ in rt.forever() {
-        if put_once(rt, alloc, shared, &mut writer.seat, key, value)? {
+        if put_once(&mut *shared.write(rt), alloc, &mut writer.seat, key, value)? {
             break;
         }
         writer.tell(rt, Wake::Go);
@@ -268,15 +248,13 @@ fn put_patiently<D: Disk, T: Trace, N: Naming, R: Wait + Clock>(
 }
 
 // Puts a value. False where the store has no room for it.
-fn put_once<D: Disk, T: Trace, N: Naming, R: Wait>(
-    rt: &R,
+fn put_once<D: Disk, T: Trace, N: Naming>(
+    desk: &mut Desk<D, T, N>,
     alloc: Global,
-    shared: &Shared<D, T, N>,
     seat: &mut Seat<N>,
     key: &Key,
     value: &[u8],
 ) -> Result<bool, Ending> {
-    let mut desk = shared.write(rt);
     if desk.geometry().value_len() as usize != value.len() {
         return Err(Ending::Refused(Call::Put));
     }
