@@ -17,6 +17,7 @@ mod damage;
 mod files;
 mod geometry;
 mod jobs;
+mod note_lines;
 mod notes;
 mod program;
 mod refusal;
@@ -28,7 +29,7 @@ mod tests;
 mod transcript;
 mod usage;
 
-use notes::NoteLines;
+use note_lines::NoteLines;
 use program::{program, refuse_words, status_of};
 use silt_device::FileDisks;
 use silt_words::WordsError;

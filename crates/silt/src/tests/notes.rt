@@ -1,6 +1,6 @@
 // What people are told, on files and by words, and one owner for a file. Each test has a folder of its own.
 
-use crate::notes::NoteLines;
+use crate::note_lines::NoteLines;
 use crate::program::program;
 use crate::tests::{answers, words};
 use crate::usage::{FORMS, complaint_of};
