@@ -1,10 +1,10 @@
 // A disk in a file of the system.
 ghost use Rattle.std.specs.Prelude.{⊤, ◌≡◌, ◌≤◌, ◌^◌, IfOk, OnOk, IsErr};
 
+use crate::Disk;
 use crate::file::{FileFault, RandomAccessDisk};
 use crate::gathering::{GatherFault, GatheringDisk};
 use crate::system::FileSystem;
-use crate::Disk;
 #[cfg(test)]
 use std::alloc::Global;
 use std::fs::File;
@@ -53,7 +53,10 @@ impl FileDisk {
     ///
     /// The error of the system, where the file is not there, another open of it has a lock, or it cannot be read, written, measured
     /// or synced, or where the bytes that it gathers find no memory.
-    pub fn open<R: FileSystem<File = File> + AllocGlobal>(system: &R, path: &str) -> io::Result<FileDisk>
+    pub fn open<R: FileSystem<File = File> + AllocGlobal>(
+        system: &R,
+        path: &str,
+    ) -> io::Result<FileDisk>
         ensures opened { IfOk result (λ disk. IsOpenedFile (R.opened system.now path.now) (R.locked system.now) (λ _ _. ⊤) (λ _. ⊤) disk.inner.inner) }
     {
         let disk = RandomAccessDisk::open(system, path)?;
@@ -68,7 +71,10 @@ impl FileDisk {
     ///
     /// The error of the system, where the file is not there, another open of it has the exclusive lock, or it cannot be read or
     /// measured.
-    pub fn open_shared<R: FileSystem<File = File> + AllocGlobal>(system: &R, path: &str) -> io::Result<FileDisk>
+    pub fn open_shared<R: FileSystem<File = File> + AllocGlobal>(
+        system: &R,
+        path: &str,
+    ) -> io::Result<FileDisk>
         ensures opened { IfOk result (λ disk. IsSharedFile (R.opened_to_read system.now path.now) (R.shared system.now) (λ _ _. ⊤) disk.inner.inner) }
     {
         let disk = RandomAccessDisk::open_shared(system, path)?;
