@@ -5,7 +5,11 @@ use Rattle.std.proofs.lemmas.List.Edits.{length-between, get_or-between}
 use Rattle.std.proofs.lemmas.Bool.{cases_lt, cases_Bool, cond-true, cond-false}
 use Rattle.std.proofs.lemmas.Bool.Decides.{nat_tests}
 use Rattle.silt_device.specs.Disk.{Content, Torn, Left, Tears, Writes, Settles, Stays, Rests, Restarts, size, splice, within}
-use Rattle.silt_device.specs.Gathering.{GatheredBytes, takes, grown, emptied, waits, image_over, length-image_over, byte_elsewhere, byte_there, content_over, neither, holds, LaidOver}
+use Rattle.silt_device.specs.Gathering.{GatheredBytes, GatheringState, gathering_content, takes, grown, emptied, waits, image_over, length-image_over, byte_elsewhere, byte_there, content_over, neither, holds, LaidOver}
+use Rattle.std.specs.Prelude.{Result, Ok, Err, IfOk}
+use Rattle.silt_device.specs.File.{IsOpened, file_content}
+use Rattle.silt_device.specs.declared.file.RandomAccessDisk.{RandomAccessDisk}
+use Rattle.silt_device.specs.declared.system_disk.FileDisk.{FileDisk}
 use Rattle.silt_device.proofs.Images.{torn_splice, splice_byte, length-splice}
 
 -- ---- one call after another
@@ -395,3 +399,14 @@ out_at g at bytes old new same_at same_bytes fits tears writes =
 pub not_out_at : (g : GatheredBytes) (at : ℕ) (bytes : List ℕ) (old new : Content) → at ≡ g.at → bytes ≡ g.bytes → Tears at (length bytes) old new → Stays (content_over g old) (content_over g new)
 not_out_at g at bytes old new same_at same_bytes tears =
     not_written_out g old new (subst (λ (n : ℕ). Tears n (length g.bytes) old new) same_at (subst (λ (l : List ℕ). Tears at (length l) old new) same_bytes tears))
+
+-- ---- a disk in a file
+
+-- the length of a disk that was opened or made is that of the disk that gathers for it
+opened_size : {F : Type 0} (len : ℕ) (disk : GatheringState (RandomAccessDisk F)) → IsOpened len disk.inner → size (gathering_content file_content disk) ≡ len
+opened_size len disk opened = size_over disk.gathered (file_content disk.inner) ∙ opened.bytes
+
+-- where there is one
+pub opened_sizes : {E : Type 0} (len : ℕ) (answer : Result FileDisk E) → IfOk answer (λ disk. IsOpened len disk.inner.inner) → IfOk answer (λ disk. size (gathering_content file_content disk.inner) ≡ len)
+opened_sizes len (Ok disk) opened = opened_size len disk.inner opened
+opened_sizes len (Err error) opened = opened

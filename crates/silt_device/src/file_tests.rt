@@ -112,22 +112,22 @@ fn each_call_hands_out_its_error(rt: HostRuntime) -> Result<(), Fail> {
     assert_eq!(rt; read, FIRST);
     let cut = disk.read(1, &mut read).err();
     assert_eq!(rt;
-        cut.map(|fault| fault.error().kind()),
+        cut.map(|fault| fault.inner().error().kind()),
         Some(ErrorKind::UnexpectedEof)
     );
-    let mut disk = FileDisk::of_len(File::open(&rt, "failing/disk")?, 4);
+    let mut disk = FileDisk::of_len(rt.alloc(), File::open(&rt, "failing/disk")?, 4)?;
     let refused = disk.write(0, &SECOND).err();
     assert_eq!(rt;
-        refused.and_then(|fault| fault.error().raw_os_error()),
+        refused.and_then(|fault| fault.inner().error().raw_os_error()),
         Some(9)
     );
     disk.sync()?;
     disk.read(0, &mut read)?;
     assert_eq!(rt; read, FIRST);
-    let mut disk = FileDisk::of_len(File::open(&rt, "/dev/null")?, 4);
+    let mut disk = FileDisk::of_len(rt.alloc(), File::open(&rt, "/dev/null")?, 4)?;
     let refused = disk.sync().err();
     assert_eq!(rt;
-        refused.map(|fault| fault.error().kind()),
+        refused.map(|fault| fault.inner().error().kind()),
         Some(ErrorKind::InvalidInput)
     );
     fs::remove_dir_all(&rt, "failing")?;
@@ -166,7 +166,7 @@ fn readers_share_a_file(rt: HostRuntime) -> Result<(), Fail> {
     assert_eq!(rt; kind_of(FileDisk::create(&rt, "shared/disk", 2)), busy);
     let refused = first.write(0, &SECOND).err();
     assert_eq!(rt;
-        refused.and_then(|fault| fault.error().raw_os_error()),
+        refused.and_then(|fault| fault.inner().error().raw_os_error()),
         Some(9)
     );
     let mut read = [0; 4];

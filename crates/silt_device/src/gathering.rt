@@ -22,6 +22,15 @@ pub struct GatherFault<F> {
     inner: F,
 }
 
+impl<F> GatherFault<F> {
+    /// The fault of the inner disk.
+    pub fn inner(&self) -> &F
+        ensures { result.now ≡ self.now.inner }
+    {
+        &self.inner
+    }
+}
+
 // Counts a failed write or sync, modulo 2^64, and makes its fault of the inner disk's.
 fn count_fault<F>(failures: &mut u64, call: Call, at: u64, count: u64, inner: F) -> GatherFault<F>
     ensures counted { failures.new ≡ (failures.old + 1) % 2 ^ 64 }

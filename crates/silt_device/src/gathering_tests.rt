@@ -73,14 +73,28 @@ fn it_shows_what_was_written(rt: HostRuntime) -> Result<(), Fail> {
     let mut disk = gathering(rt.alloc(), Call::Write, 0)?;
     let mut plain = MemDisk::new(rt.alloc(), 24)?;
     for (at, bytes) in WRITES {
-        assert!(rt; write_at(&mut disk, at, bytes) && write_at(&mut plain, at, bytes), "at {at}");
+        assert!(rt;
+            write_at(&mut disk, at, bytes) && write_at(&mut plain, at, bytes),
+            "at {at}"
+        );
         for place in 0..25u64 {
-            assert_eq!(rt; tail_of(&disk, place), tail_of(&plain, place), "{place} after {at}");
-            assert_eq!(rt; four_at(&disk, place), four_at(&plain, place), "{place} after {at}");
+            assert_eq!(rt;
+                tail_of(&disk, place),
+                tail_of(&plain, place),
+                "{place} after {at}"
+            );
+            assert_eq!(rt;
+                four_at(&disk, place),
+                four_at(&plain, place),
+                "{place} after {at}"
+            );
         }
     }
     assert!(rt; disk.sync().is_ok());
-    assert_eq!(rt; disk.into_inner().into_disk().restart().shown(), plain.shown());
+    assert_eq!(rt;
+        disk.into_inner().into_disk().restart().shown(),
+        plain.shown()
+    );
     Ok(())
 }
 
@@ -123,7 +137,10 @@ fn a_failed_write_keeps_what_is_gathered(rt: HostRuntime) -> Result<(), Fail> {
     assert_eq!(rt; four_at(&disk, 2), Some([0, 0, 0x11, 0x12]));
     assert!(rt; disk.sync().is_ok());
     let left = disk.into_inner().into_disk().restart();
-    assert_eq!(rt; &left.shown()[..8], [0, 0, 0, 0, 0x11, 0x12, 0x13, 0].as_slice());
+    assert_eq!(rt;
+        &left.shown()[..8],
+        [0, 0, 0, 0, 0x11, 0x12, 0x13, 0].as_slice()
+    );
     Ok(())
 }
 

@@ -67,7 +67,7 @@ impl<S> FileDisks<S> {
 
 impl<S> DiskSource for FileDisks<S>
 where
-    S: FileSystem<File = File> + Drop,
+    S: FileSystem<File = File> + AllocGlobal + Drop,
 {
     ghost use Rattle.std.specs.Prelude.{⊤};
     ghost use Rattle.silt_device.specs.File.{IsOpened, IsOpenedFile, IsMadeFile, IsSharedFile};
@@ -76,16 +76,16 @@ where
 
     type Error = io::Error;
 
-    ghost opened = { λ source path disk. IsOpenedFile (S.opened source.system path) (S.locked source.system) (λ _ _. ⊤) (λ _. ⊤) disk.inner };
+    ghost opened = { λ source path disk. IsOpenedFile (S.opened source.system path) (S.locked source.system) (λ _ _. ⊤) (λ _. ⊤) disk.inner.inner };
 
     ghost not_opened = { λ _ _ _. ⊤ };
 
-    ghost shared = { λ source path disk. IsSharedFile (S.opened_to_read source.system path) (S.shared source.system) (λ _ _. ⊤) disk.inner };
+    ghost shared = { λ source path disk. IsSharedFile (S.opened_to_read source.system path) (S.shared source.system) (λ _ _. ⊤) disk.inner.inner };
 
     ghost not_shared = { λ _ _ _. ⊤ };
 
-    ghost created = { λ source path len disk. IsOpened len disk.inner
-        × IsMadeFile (S.made source.system path) (S.locked source.system) (λ _ _ _. ⊤) (λ _. ⊤) len disk.inner.file × S.folder_synced source.system path };
+    ghost created = { λ source path len disk. IsOpened len disk.inner.inner
+        × IsMadeFile (S.made source.system path) (S.locked source.system) (λ _ _ _. ⊤) (λ _. ⊤) len disk.inner.inner.file × S.folder_synced source.system path };
 
     ghost not_created = { λ _ _ _ _. ⊤ };
 
