@@ -1,5 +1,5 @@
 // The places of the sessions.
-ghost use Rattle.std.specs.Prelude.{◌≡◌, ◌<◌, true, false, not, length, IfSome};
+ghost use Rattle.std.specs.Prelude.{◌≡◌, ◌<◌, true, false, not, length, Some, None, IfSome};
 
 use silt_inbox::{Feeder, Post};
 use std::alloc::{AllocError, Global};
@@ -20,7 +20,7 @@ impl<P: Post> Place<P> {
     fn take(&mut self) -> bool
         ensures taken { self.new.is_taken ≡ true }
         ensures free { result ≡ not self.old.is_taken }
-        ensures feeder { self.new.feeder ≡ self.old.feeder }
+        ensures others { (self.new.feeder ≡ self.old.feeder) × (self.new.stream ≡ self.old.stream) }
     {
         let was_free = !self.is_taken;
         self.is_taken = true;
@@ -29,14 +29,17 @@ impl<P: Post> Place<P> {
 
     /// Gives a connection to the session that will have this place.
     pub fn connect(&mut self, stream: TcpStream)
-        ensures { (self.new.feeder ≡ self.old.feeder) × (self.new.is_taken ≡ self.old.is_taken) }
+        ensures given { self.new.stream ≡ Some stream }
+        ensures others { (self.new.feeder ≡ self.old.feeder) × (self.new.is_taken ≡ self.old.is_taken) }
     {
         self.stream = Some(stream);
     }
 
     /// The connection that was given.
     pub fn connection(&mut self) -> Option<TcpStream>
-        ensures { (self.new.feeder ≡ self.old.feeder) × (self.new.is_taken ≡ self.old.is_taken) }
+        ensures given { result ≡ self.old.stream }
+        ensures none { self.new.stream ≡ None }
+        ensures others { (self.new.feeder ≡ self.old.feeder) × (self.new.is_taken ≡ self.old.is_taken) }
     {
         mem::replace(&mut self.stream, None)
     }
@@ -44,6 +47,7 @@ impl<P: Post> Place<P> {
     /// Gives the place back, with its feeder. A connection that still waits is closed.
     pub fn leave(&mut self)
         ensures free { self.new.is_taken ≡ false }
+        ensures none { self.new.stream ≡ None }
         ensures feeder { self.new.feeder ≡ self.old.feeder }
     {
         self.is_taken = false;
