@@ -32,20 +32,39 @@ use program::{program, refuse_words, status_of};
 use silt_device::FileDisks;
 use silt_words::WordsError;
 use std::env::{self, Env};
-use std::io::{self, ErrorKind};
+use std::fs::File;
+use std::io::{self, ErrorKind, Write};
+use std::net::{Net, TcpListener, TcpStream};
 use std::process::ExitCode;
+use std::rt::{Files, Runtime};
+use std::sync::Wait;
+use std::thread::Threads;
 
 fn main(rt: HostRuntime) -> ExitCode {
-    let mut writer = io::writer(&rt);
-    let status = match own_words(&rt) {
+    done(&rt, rt.stderr())
+}
+
+// Does the job that the process's own words name, and gives the status that the process is to end with. Notes go to `errors`.
+fn done<
+    S: Runtime
+        + AllocGlobal
+        + Files<File = File>
+        + Net<Listener = TcpListener, Stream = TcpStream>
+        + Threads
+        + Wait
+        + Sync,
+    E: Write + Drop,
+>(rt: &S, errors: E) -> ExitCode {
+    let mut writer = io::writer(rt);
+    let status = match own_words(rt) {
         Ok(words) => program(
-            &rt,
+            rt,
             rt.alloc(),
-            FileDisks::new(&rt),
+            FileDisks::new(rt),
             words.as_slice(),
             &mut rt.reader(),
             &mut writer,
-            &mut NoteLines::new(rt.stderr()),
+            &mut NoteLines::new(errors),
         ),
         Err(error) => status_of(refuse_words(error, &mut writer)),
     };

@@ -9,6 +9,7 @@ mod lines;
 mod merge;
 mod notes;
 
+use crate::done;
 use crate::notes::{FaultNotes, Notes, SourceNotes};
 use crate::program::{program, refuse_words};
 use crate::script_lines::read_script;
@@ -17,7 +18,7 @@ use silt_words::WordsError;
 use std::fs::File;
 use std::io::{self, Cursor, ErrorKind, Read, Write};
 use std::net::{Net, TcpListener, TcpStream};
-use std::process::Abort;
+use std::process::{Abort, ExitCode};
 use std::rt::Files;
 use std::sync::Wait;
 use std::test::Fail;
@@ -391,6 +392,15 @@ fn stops_at_the_end_of_a_life(rt: HostRuntime) -> Result<(), Fail> {
     )?;
     let output = b"opened\naccepted 1\nstopped\nopened\nabsent\n";
     answers(&rt, SMALL, &text, 0, output)
+}
+
+// The words of a test's own process name no job: that is told, and the process would end with 2.
+#[test]
+fn hands_on_the_status(rt: HostRuntime) -> Result<(), Fail> {
+    let mut errors = Vec::new(rt.alloc());
+    assert!(rt; done(&rt, &mut errors) == ExitCode::from(2));
+    assert!(rt; !errors.is_empty());
+    Ok(())
 }
 
 // A stop within a flush keeps a beginning of the commands, and the next life goes on from it.
