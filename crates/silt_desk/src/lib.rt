@@ -36,4 +36,4 @@ pub use silt_inbox::{
     Queue, Taker, answered_law,
 };
 pub use trace::{NotPrepared, Trace};
-pub use worker::{Gate, Spot, Turn, Wake, convert_once, converter, merge_once, merger};
+pub use worker::{Gate, Hears, Spot, Turn, Wake, convert_once, converter, merge_once, merger};

@@ -96,8 +96,28 @@ pub fn merge_once<D: Disk, T: Trace, N: Naming>(
     turn_after(desk.merge(alloc, seat))
 }
 
+/// Where a worker hears that there may be work.
+pub trait Hears: Drop {
+    /// It heard that it is to end, or that nobody is left to tell it anything.
+    ghost has_ended: { Self → Type 0 };
+
+    /// Waits for a message, and answers whether there may be work. False where the worker is to end.
+    fn goes_on<R: Wait>(&self, rt: &R) -> bool
+        ensures { result ≡ false → has_ended self.now };
+}
+
+impl Hears for Receiver<Wake> {
+    ghost has_ended = { λ _. Unit {0} };
+
+    fn goes_on<R: Wait>(&self, rt: &R) -> bool {
+        matches!(self.recv(rt), Ok(Wake::Go))
+    }
+}
+
 // What a worker does between two steps, with no lock held: it tells the other one, or waits for a message. False where it is to end.
-fn rest<R: Wait>(rt: &R, turn: Turn, wakes: &Receiver<Wake>, other: &Sender<Wake>) -> bool {
+fn rest<W: Hears, R: Wait>(rt: &R, turn: Turn, wakes: &W, other: &Sender<Wake>) -> bool
+    ensures { result ≡ false → W.has_ended wakes.now }
+{
     match turn {
         Turn::GoOn => {
             thread::yield_now();
@@ -107,50 +127,52 @@ fn rest<R: Wait>(rt: &R, turn: Turn, wakes: &Receiver<Wake>, other: &Sender<Wake
             let _ = other.send(rt, Wake::Go); // the other one may have ended
             true
         }
-        Turn::Wait => matches!(wakes.recv(rt), Ok(Wake::Go)),
+        Turn::Wait => wakes.goes_on(rt),
     }
 }
 
-/// Does steps of conversion, each under a guard of its own, until it is told to stop or its channel is closed. Gives its seat back.
-pub fn converter<D: Disk, T: Trace, N: Naming, G: Gate, R: Wait>(
+/// Does steps of conversion, each under a guard of its own, until it hears that it is to end. Gives its seat back.
+pub fn converter<D: Disk, T: Trace, N: Naming, G: Gate, W: Hears, R: Wait>(
     rt: &R,
     alloc: Global,
     shared: &Shared<D, T, N>,
     mut seat: Seat<N>,
     gate: &G,
-    wakes: Receiver<Wake>,
+    wakes: W,
     other: Sender<Wake>,
 ) -> Seat<N>
-    ensures { result.number ≡ seat.number }
+    ensures number { result.number ≡ seat.number }
+    ensures ended { W.has_ended wakes }
 {
     for _ in rt.forever() {
         gate.pass(Spot::Converter);
         let turn = convert_once(&mut *shared.write(rt), alloc, &mut seat);
         if !rest(rt, turn, &wakes, &other) {
-            break;
+            return seat;
         }
     }
-    seat
+    unreachable!()
 }
 
-/// Does steps of merging, each under a guard of its own, until it is told to stop or its channel is closed. Gives its seat back.
-pub fn merger<D: Disk, T: Trace, N: Naming, G: Gate, R: Wait>(
+/// Does steps of merging, each under a guard of its own, until it hears that it is to end. Gives its seat back.
+pub fn merger<D: Disk, T: Trace, N: Naming, G: Gate, W: Hears, R: Wait>(
     rt: &R,
     alloc: Global,
     shared: &Shared<D, T, N>,
     mut seat: Seat<N>,
     gate: &G,
-    wakes: Receiver<Wake>,
+    wakes: W,
     other: Sender<Wake>,
 ) -> Seat<N>
-    ensures { result.number ≡ seat.number }
+    ensures number { result.number ≡ seat.number }
+    ensures ended { W.has_ended wakes }
 {
     for _ in rt.forever() {
         gate.pass(Spot::Merger);
         let turn = merge_once(&mut *shared.write(rt), alloc, &mut seat);
         if !rest(rt, turn, &wakes, &other) {
-            break;
+            return seat;
         }
     }
-    seat
+    unreachable!()
 }
