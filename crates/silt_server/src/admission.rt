@@ -1,6 +1,5 @@
 // Connections, each served in a thread of its own.
 ghost use Rattle.std.specs.Prelude.{◌≡◌, ◌≤◌, IfOk};
-ghost use Rattle.silt_server.specs.Network.{is_passing};
 
 use crate::answers::answer;
 use crate::client::{AskBy, Asking, Client};
@@ -22,9 +21,7 @@ use std::thread;
 use std::thread::Threads;
 
 // Whether an accept failed for this one connection alone, so that the next may be accepted.
-fn is_passing(kind: ErrorKind) -> bool
-    ensures { result ≡ is_passing kind }
-{
+fn is_passing(kind: ErrorKind) -> bool {
     matches!(
         kind,
         ErrorKind::Interrupted | ErrorKind::ConnectionAborted | ErrorKind::ConnectionReset
