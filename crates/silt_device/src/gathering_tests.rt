@@ -1,9 +1,4 @@
 // What no clause says of a disk that gathers: how often it calls the inner disk, and what that one holds meanwhile.
-ghost use Rattle.std.specs.Prelude.{◌≡◌, IfOk};
-ghost use Rattle.silt_device.specs.Disk.{size};
-ghost use Rattle.silt_device.specs.Fault.{fault_content};
-ghost use Rattle.silt_device.specs.Gathering.{gathering_content};
-
 use super::*;
 use std::alloc::Global;
 use std::test::Fail;
@@ -25,22 +20,17 @@ const WRITES: [(u64, &[u8]); 9] = [
 ];
 
 // Writes bytes that have a place on a disk of LEN bytes, and says whether they were written.
-fn write_at<D: Disk>(disk: &mut D, at: u64, bytes: &[u8]) -> bool
-    requires { size (D.content disk.old) ≡ 24 }
-    ensures { size (D.content disk.new) ≡ 24 }
-{
-    if at > LEN || bytes.len() as u64 > LEN - at {
+fn write_at<D: Disk>(disk: &mut D, at: u64, bytes: &[u8]) -> bool {
+    if disk.len() != LEN || at > LEN || bytes.len() as u64 > LEN - at {
         return false;
     }
     disk.write(at, bytes).is_ok()
 }
 
 // The bytes from a place on to the end.
-fn tail_of<D: Disk>(disk: &D, at: u64) -> Option<[u8; 24]>
-    requires { size (D.content disk.now) ≡ 24 }
-{
+fn tail_of<D: Disk>(disk: &D, at: u64) -> Option<[u8; 24]> {
     let mut read = [0; 24];
-    if at > LEN {
+    if disk.len() != LEN || at > LEN {
         return None;
     }
     let count = (LEN - at) as usize;
@@ -49,20 +39,16 @@ fn tail_of<D: Disk>(disk: &D, at: u64) -> Option<[u8; 24]>
 }
 
 // Four bytes from a place on.
-fn four_at<D: Disk>(disk: &D, at: u64) -> Option<[u8; 4]>
-    requires { size (D.content disk.now) ≡ 24 }
-{
+fn four_at<D: Disk>(disk: &D, at: u64) -> Option<[u8; 4]> {
     let mut read = [0; 4];
-    if at > LEN - 4 {
+    if disk.len() != LEN || at > LEN - 4 {
         return None;
     }
     disk.read(at, &mut read).ok()?;
     Some(read)
 }
 
-fn gathering(alloc: Global, call: Call, number: u64) -> Result<GatheringDisk<FaultDisk>, Fail>
-    ensures { IfOk result (λ disk. size (gathering_content fault_content disk) ≡ 24) }
-{
+fn gathering(alloc: Global, call: Call, number: u64) -> Result<GatheringDisk<FaultDisk>, Fail> {
     let disk = FaultDisk::new(MemDisk::new(alloc, LEN as usize)?, call, number);
     Ok(GatheringDisk::with_room(alloc, disk, 8)?)
 }
@@ -137,10 +123,7 @@ fn a_failed_write_keeps_what_is_gathered(rt: HostRuntime) -> Result<(), Fail> {
     assert_eq!(rt; four_at(&disk, 2), Some([0, 0, 0x11, 0x12]));
     assert!(rt; disk.sync().is_ok());
     let left = disk.into_inner().into_disk().restart();
-    assert_eq!(rt;
-        &left.shown()[..8],
-        [0, 0, 0, 0, 0x11, 0x12, 0x13, 0].as_slice()
-    );
+    assert_eq!(rt; four_at(&left, 4), Some([0x11, 0x12, 0x13, 0]));
     Ok(())
 }
 
