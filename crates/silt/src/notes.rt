@@ -8,30 +8,6 @@ use silt_store_set::{Place, Refusal};
 use std::fmt::Display;
 use std::io::{self, Write};
 
-/// Where people are told what does not concern one disk or its source. Nothing that is written for programs depends on a note.
-pub trait Notes {
-    /// It was told why this port of this machine cannot be listened on.
-    ghost told_port: { Self → Self → ℕ → Type 0 };
-
-    /// It was told that a file of this name held a store, which is gone.
-    ghost told_store: { Self → Self → List ℕ → Type 0 };
-
-    /// It was told why these words name no job.
-    ghost told_words: { Self → Self → List (List ℕ) → Type 0 };
-
-    /// Tells why this port cannot be listened on.
-    fn tell_port(&mut self, port: u16, error: &io::Error)
-        ensures { told_port self.old self.new port };
-
-    /// Tells that the file of this name held a store, which is gone.
-    fn tell_store(&mut self, file: &str)
-        ensures { told_store self.old self.new file.now };
-
-    /// Tells which words would name a job, and what is wrong with these.
-    fn tell_words(&mut self, words: &[String])
-        ensures { told_words self.old self.new (map string_bytes words.now) };
-}
-
 /// Where people are told why there is no disk. `E` is the error of the disks' source.
 pub trait SourceNotes<E> {
     /// It was told that this error kept the disk of a file of this name away.
@@ -73,6 +49,30 @@ pub fn tell_refusal<F, N: FaultNotes<F>>(
         Refusal::Damaged(place) => notes.tell_damage(file, *place, at),
         _ => {}
     }
+}
+
+/// Where people are told what does not concern one disk or its source. Nothing that is written for programs depends on a note.
+pub trait Notes {
+    /// It was told why this port of this machine cannot be listened on.
+    ghost told_port: { Self → Self → ℕ → Type 0 };
+
+    /// It was told that a file of this name held a store, which is gone.
+    ghost told_store: { Self → Self → List ℕ → Type 0 };
+
+    /// It was told why these words name no job.
+    ghost told_words: { Self → Self → List (List ℕ) → Type 0 };
+
+    /// Tells why this port cannot be listened on.
+    fn tell_port(&mut self, port: u16, error: &io::Error)
+        ensures { told_port self.old self.new port };
+
+    /// Tells that the file of this name held a store, which is gone.
+    fn tell_store(&mut self, file: &str)
+        ensures { told_store self.old self.new file.now };
+
+    /// Tells which words would name a job, and what is wrong with these.
+    fn tell_words(&mut self, words: &[String])
+        ensures { told_words self.old self.new (map string_bytes words.now) };
 }
 
 /// Notes as lines of a writer, as the standard error: `silt: `, what it is of, and the words of the system. A line that cannot be
