@@ -1,4 +1,4 @@
-// The same work as the bench of silt does, on a store that a user might pick instead: N puts of 20-byte keys with V-byte values, a sync
+// One piece of work on a store that a user might pick instead of silt: N puts of 20-byte keys with V-byte values, a sync
 // behind each group of G puts, all background work to its end; then gets of present and of absent keys on one thread and on four, and a
 // reopening. It prints one line of numbers, separated by tabs, behind one of their names.
 //
@@ -38,7 +38,7 @@ static void need(bool done, const char *what) {
     }
 }
 
-// The keys are those of the bench of silt (crates/silt_bench/src/keys.rt).
+// The keys are spread as digests are, and each is made of its number.
 static uint64_t mix(uint64_t x) {
     x += 0x9e3779b97f4a7c15ull;
     x = (x ^ (x >> 30)) * 0xbf58476d1ce4e5b9ull;
