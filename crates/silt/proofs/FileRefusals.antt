@@ -1,5 +1,5 @@
 -- What is told of the disk of a path.
-use Rattle.std.proofs.Common.{◌≡◌, ◌≢◌, ◌⊎◌, ◌∙◌, ℕ, List, Option, Result, Ok, Err, arith, inl, inr, refl, subst, sym}
+use Rattle.std.proofs.Common.{◌≡◌, ◌≢◌, ◌⊎◌, ◌∙◌, ℕ, List, Option, Result, Ok, Err, arith, inl, inr, refl}
 use Rattle.std.specs.Prelude.{IfOk}
 use Rattle.silt_event.specs.declared.refusal.Refusal.{Refusal}
 use Rattle.silt.specs.Jobs.{Tells}
@@ -22,12 +22,12 @@ not-done result status known is e =
     let zero : status ≡ 0 = cc in
     omega (arith, is, zero)
 
--- what was told is told yet where nothing more was told but of a job that is done
-pub told_kept : {E N : Type 0} {old new : N} (P : N → Type 0) (result : Result ℕ E) → (result ≢ Ok 0 → new ≡ old) → IfOk result (λ status. (status ≡ 0) ⊎ ((status ≡ 1) × P old))
-    → IfOk result (λ status. (status ≡ 0) ⊎ ((status ≡ 1) × P new))
-told_kept P (Ok status) same (inl done) = inl done
-told_kept P (Ok status) same (inr h) = inr (h.0, subst P (sym (same (not-done (Ok status) status refl h.0))) h.1)
-told_kept P (Err error) same h = h
+-- a job that ended well or was told to be refused, where what was told is told of more by one that was refused
+pub told_more : {E P Q : Type 0} (result : Result ℕ E) → IfOk result (λ status. (status ≡ 0) ⊎ ((status ≡ 1) × P)) → (result ≢ Ok 0 → P → Q)
+    → IfOk result (λ status. (status ≡ 0) ⊎ ((status ≡ 1) × Q))
+told_more (Ok status) (inl done) step = inl done
+told_more (Ok status) (inr h) step = inr (h.0, step (not-done (Ok status) status refl h.0) h.1)
+told_more (Err error) h step = h
 
 -- what holds of a store that was found, where it was found or the disk could not be read
 pub stored_or_fault : {A B C : Type 0} → A ⊎ B → (A → C) → C ⊎ B

@@ -1,13 +1,7 @@
 -- How a service of a disk ends.
-use Rattle.std.proofs.Common.{◌≡◌, ◌⊎◌, ℕ, Option, Some, None, Result, Ok, Err, arith, inl, inr, refl}
-use Rattle.std.specs.Prelude.{IfOk, IfSome}
-use Rattle.std.specs.Option.{option_map}
+use Rattle.std.proofs.Common.{◌≡◌, ◌⊎◌, ℕ, Result, Ok, Err, arith, inl, inr, refl}
+use Rattle.std.specs.Prelude.{IfOk}
 use Rattle.silt_server.specs.Serving.{IsStatus}
-
--- what holds where there is a number holds where there was one before it was turned into another
-pub if-mapped : {A B : Type 0} (P : Type 0) (f : A → B) (x : Option A) → IfSome (option_map f x) (λ y. P) → IfSome x (λ y. P)
-if-mapped P f (Some x) h = h
-if-mapped P f None h = h
 
 -- status 1 alone, and what was told
 pub status_told : {E P Q : Type 0} (result : Result ℕ E) → (P → Q) → IfOk result (λ status. (status ≡ 1) × P) → IfOk result (IsStatus Q)

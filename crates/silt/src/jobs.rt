@@ -124,6 +124,7 @@ pub fn format_on<D: Disk, W: Write, N: FaultNotes<D::Fault>>(
 ) -> (D, io::Result<u8>)
     ensures told { IfOk result.1 (λ status. (status ≡ 0) ⊎ ((status ≡ 1) × TellsFormat D.content (GaveAny D.gave) (IsTold (N.told_fault notes.old notes.new file.now) (N.told_damage notes.old notes.new file.now)) geometry disk result.0 (W.contents writer.old) (W.contents writer.new))) }
     ensures formatted { result.1 ≡ Ok 0 → EndsFormat D.content geometry result.0 (W.contents writer.old) (W.contents writer.new) }
+    ensures quiet { result.1 ≡ Ok 0 → notes.new ≡ notes.old }
 {
     match format(alloc, disk, geometry) {
         Ok(disk) => (disk, write_formatted(alloc, geometry.size(), writer)),

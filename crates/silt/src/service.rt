@@ -86,6 +86,16 @@ fn serve_disk<
         }
     };
     let sessions = service.sessions.unwrap_or(0);
-    let audit = service.audit.map(u64::from);
-    serve_on(rt, alloc, &listener, disk, audit, sessions, &Open, writer)
+    let calls = calls_kept(service.audit);
+    serve_on(rt, alloc, &listener, disk, calls, sessions, &Open, writer)
+}
+
+// How many calls a record keeps, where there is to be one.
+fn calls_kept(audit: Option<u32>) -> Option<u64>
+    ensures { result ≡ audit }
+{
+    match audit {
+        Some(calls) => Some(u64::from(calls)),
+        None => None,
+    }
 }

@@ -1,10 +1,7 @@
 use Rattle.std.proofs.Common.{◌∙◌, ap, inl, inr}
-use Rattle.silt_device.specs.Disk.{GaveAny}
 use Rattle.silt_device.specs.Layout.{device_size}
 use Rattle.silt_event.specs.declared.refusal.Refusal.TheVariants.{BadGeometry, Device}
-use Rattle.silt.specs.Jobs.{TellsFormat}
-use Rattle.silt.specs.Notes.{IsTold}
-use Rattle.silt.proofs.FileRefusals.{stored_or_fault, told_kept, told_refusal, told_weaker}
+use Rattle.silt.proofs.FileRefusals.{stored_or_fault, told_more, told_refusal}
 use Rattle.silt.proofs.Refusals.{tells_bad_geometry}
 use Rattle.silt.proofs.files.format_file.Goals as goal
 
@@ -17,10 +14,8 @@ returns-in_default-clause-told g c = told_refusal {F = Unit {0}} c.refuse.result
 pub returns-in-Ok-create-clause-told : goal.returns-in-Ok-create-clause-told
 returns-in-Ok-create-clause-told g c =
     let len = c.size.ensures.value ∙ ap device_size c.in-Ok.ensures.0 in
-    told_weaker c.format_on-disk.result.1
-    (λ told. inr (inr (c.in-Ok.ensures.1, (c.in-Ok-create.disk, rw (len) at c.in-Ok-create.ensures.created, c.in-Ok-create.ensures.size ∙ len, rw (c.in-Ok.ensures.0) at told))))
-    (told_kept (λ notes. TellsFormat g.S.Disk.Disk.content (GaveAny g.S.Disk.Disk.gave) (IsTold (g.N.FaultNotes.told_fault c.args.notes.now notes c.args.path.now) (g.N.FaultNotes.told_damage c.args.notes.now notes c.args.path.now)) _ _ _ _ _)
-    c.format_on-disk.result.1 c.tell_gone.ensures.same c.format_on-disk.ensures.told)
+    told_more c.format_on-disk.result.1 c.format_on-disk.ensures.told
+    (λ broken told. inr (inr (c.in-Ok.ensures.1, (c.in-Ok-create.disk, rw (len) at c.in-Ok-create.ensures.created, c.in-Ok-create.ensures.size ∙ len, rw (c.in-Ok.ensures.0, ← c.tell_gone.ensures.same broken) at told))))
 
 pub returns-in-Ok-create-clause-formatted : goal.returns-in-Ok-create-clause-formatted
 returns-in-Ok-create-clause-formatted g c =
@@ -28,7 +23,7 @@ returns-in-Ok-create-clause-formatted g c =
     λ is. (
       c.in-Ok-create.disk,
       rw (len) at c.in-Ok-create.ensures.created,
-      (λ held. stored_or_fault (c.holds_store-held_store.ensures held) (c.tell_gone.ensures.gone is)),
+      (λ held. stored_or_fault (c.holds_store-held_store.ensures held) (λ stored. rw (c.format_on-disk.ensures.quiet is) at (c.tell_gone.ensures.gone is stored))),
       rw (c.in-Ok.ensures.0) at (c.format_on-disk.ensures.formatted is),
     )
 

@@ -1,5 +1,5 @@
 use Rattle.std.proofs.Common.{inl, inr}
-use Rattle.silt.proofs.Services.{if-mapped, never_done, status_told}
+use Rattle.silt.proofs.Services.{never_done, status_told}
 use Rattle.silt.proofs.service.serve_disk.Goals as goal
 
 pub returns-in-Err-clause-served : goal.returns-in-Err-clause-served
@@ -16,4 +16,4 @@ pub returns-in-Err-clause-left : goal.returns-in-Err-clause-left
 returns-in-Err-clause-left g c = inl c.refuse_network.ensures.left
 
 pub returns-clause-served : goal.returns-clause-served
-returns-clause-served g c = λ is. (c.serve_on.ensures.served is, if-mapped _ _ c.args.service.now.audit (c.serve_on.ensures.kept is))
+returns-clause-served g c = λ is. (c.serve_on.ensures.served is, rw (c.calls_kept-calls.ensures) at (c.serve_on.ensures.kept is))
