@@ -9,13 +9,11 @@ pub fn standing_law()
 {}
 
 /// What a conversion has written may stand in a hash store in place of the oldest log.
-#[tactic(auto, using(crate::proofs::LogReplaced::converts))]
 pub fn converts_law()
     ensures { ConvertsLaw }
 {}
 
 /// A merge of the entries and the oldest hash stores may stand as the entries in their place.
-#[tactic(auto, using(crate::proofs::StoresReplaced::merges))]
 pub fn merges_law()
     ensures { MergesLaw }
 {}
