@@ -169,3 +169,83 @@ fn a_sync_of_no_file_fails(rt: HostRuntime) -> Result<(), Fail> {
     );
     Ok(())
 }
+
+// While a disk is there, no other open of its file gets a disk that could change it, and nothing in the file is changed.
+#[test]
+fn a_file_has_one_owner(rt: HostRuntime) -> Result<(), Fail> {
+    make_folder(&rt, "owned")?;
+    let busy = Some(ErrorKind::WouldBlock);
+    let owner = FileDisk::create(&rt, "owned/disk", 3)?;
+    assert_eq!(rt; kind_of(FileDisk::open(&rt, "owned/disk")), busy);
+    assert_eq!(rt; kind_of(FileDisk::create(&rt, "owned/disk", 2)), busy);
+    assert_eq!(rt; kind_of(FileDisk::open_shared(&rt, "owned/disk")), busy);
+    assert_eq!(rt; fs::metadata(&rt, "owned/disk")?.len(), 3);
+    drop(owner);
+    let owner = FileDisk::open(&rt, "owned/disk")?;
+    assert_eq!(rt; kind_of(FileDisk::open_shared(&rt, "owned/disk")), busy);
+    drop(owner);
+    assert_eq!(rt; FileDisk::open(&rt, "owned/disk")?.len(), 3);
+    fs::remove_dir_all(&rt, "owned")?;
+    Ok(())
+}
+
+// Who only reads shares the file with others that do, and keeps an owner out.
+#[test]
+fn readers_share_a_file(rt: HostRuntime) -> Result<(), Fail> {
+    make_folder(&rt, "shared")?;
+    fs::write(&rt, "shared/disk", FIRST.as_slice())?;
+    let mut first = FileDisk::open_shared(&rt, "shared/disk")?;
+    let second = FileDisk::open_shared(&rt, "shared/disk")?;
+    assert_eq!(rt; (first.len(), second.len()), (4, 4));
+    let busy = Some(ErrorKind::WouldBlock);
+    assert_eq!(rt; kind_of(FileDisk::open(&rt, "shared/disk")), busy);
+    assert_eq!(rt; kind_of(FileDisk::create(&rt, "shared/disk", 2)), busy);
+    let refused = first.write(0, &SECOND).err();
+    assert_eq!(rt;
+        refused.and_then(|fault| fault.inner().error().raw_os_error()),
+        Some(9)
+    );
+    let mut read = [0; 4];
+    second.read(0, &mut read)?;
+    assert_eq!(rt; read, FIRST);
+    let missing = Some(ErrorKind::NotFound);
+    assert_eq!(rt; kind_of(FileDisk::open_shared(&rt, "shared/none")), missing);
+    fs::remove_dir_all(&rt, "shared")?;
+    Ok(())
+}
+
+// The length of the disk that a source opens, or makes where a length is given. None: it gives none.
+fn len_from<S: DiskSource>(source: S, path: &str, made: Option<u64>) -> Option<u64> {
+    let disk = match made {
+        Some(len) => source.create(path, len),
+        None => source.open(path),
+    };
+    Some(disk.ok()?.len())
+}
+
+// A source of files gives the disk of the path, and one of a named disk gives it under its name and at its length alone.
+#[test]
+fn a_source_gives_the_disk_of_its_path(rt: HostRuntime) -> Result<(), Fail> {
+    make_folder(&rt, "source")?;
+    assert_eq!(rt; len_from(FileDisks::new(&rt), "source/disk", None), None);
+    assert_eq!(rt;
+        len_from(FileDisks::new(&rt), "source/disk", Some(7)),
+        Some(7)
+    );
+    assert_eq!(rt; len_from(FileDisks::new(&rt), "source/disk", None), Some(7));
+    assert_eq!(rt; len_from(FileDisks::new(&rt), "source/other", None), None);
+    fs::remove_dir_all(&rt, "source")?;
+    let table = [
+        ("disk", None, Some(4)),
+        ("disk", Some(4), Some(4)),
+        ("disk", Some(5), None),
+        ("dis", None, None),
+        ("disks", Some(4), None),
+    ];
+    let alloc = rt.alloc();
+    for (path, made, len) in table {
+        let named = NamedDisk::new(String::from_str(alloc, "disk")?, MemDisk::new(alloc, 4)?);
+        assert_eq!(rt; len_from(named, path, made), len, "{path}");
+    }
+    Ok(())
+}
