@@ -6,7 +6,6 @@ mod failing;
 mod history;
 mod lacking;
 mod looks;
-mod memory;
 mod sessions;
 mod steps;
 
