@@ -152,7 +152,7 @@ fn tells_which_word_is_wrong(rt: HostRuntime) -> Result<(), Fail> {
         };
         let text = format!(in rt.alloc(); "{found}")?;
         assert_eq!(rt; text.as_str(), complaint);
-        let told = format!(in rt.alloc(); "silt: {complaint}\n{FORMS}")?;
+        let told = format!(in rt.alloc(); "silt: {found}\n{FORMS}")?;
         tells(&rt, call, 2, &told)?;
         answers(&rt, call, b"", 2, b"usage\n")?;
     }
