@@ -57,12 +57,15 @@ static const uint64_t ABSENT = 1ull << 40;
 
 static char byte_of(uint64_t number) { return static_cast<char>(number % 251); }
 
-static long resident_kib() {
-    long pages = 0, resident = 0;
-    FILE *file = fopen("/proc/self/statm", "r");
-    if (!file || fscanf(file, "%ld %ld", &pages, &resident) != 2) resident = 0;
+// A number of kibibytes that the system tells of this process: VmRSS is resident, VmHWM the most that was.
+static long kib_of(const char *name) {
+    FILE *file = fopen("/proc/self/status", "r");
+    char line[256];
+    long kib = 0;
+    while (file && fgets(line, sizeof line, file))
+        if (strncmp(line, name, strlen(name)) == 0) kib = atol(line + strlen(name));
     if (file) fclose(file);
-    return resident * (sysconf(_SC_PAGESIZE) / 1024);
+    return kib;
 }
 
 struct Store {
@@ -232,7 +235,7 @@ int main(int count, char **words) {
     std::vector<float>().swap(puts);
     double one = gets_a_second(*store, keys, gets, 1, 0, true), four = gets_a_second(*store, keys, gets, 4, 0, true);
     double none = gets_a_second(*store, keys, gets, 1, ABSENT, false), none_by_four = gets_a_second(*store, keys, gets, 4, ABSENT, false);
-    long resident = resident_kib();
+    long resident = kib_of("VmRSS:"), most = kib_of("VmHWM:");
     store->close();
     uint64_t bytes = bytes_in(folder);
     start = Clock::now();
@@ -240,7 +243,7 @@ int main(int count, char **words) {
     double opened = seconds_since(start) * 1000;
     store->close();
     std::filesystem::remove_all(folder);
-    printf("keys\tvalue bytes\tputs/s\tgets/s 1 thread\tgets/s 4 threads\tabsent/s 1 thread\tabsent/s 4 threads\topen ms\trss KiB\tbytes on disk a key\tput p99.9 us\tput longest us\n");
-    printf("%lu\t%lu\t%.0f\t%.0f\t%.0f\t%.0f\t%.0f\t%.3f\t%ld\t%.1f\t%.0f\t%.0f\n", keys, length, put_rate, one, four, none, none_by_four, opened, resident,
+    printf("keys\tvalue bytes\tputs/s\tgets/s 1 thread\tgets/s 4 threads\tabsent/s 1 thread\tabsent/s 4 threads\topen ms\trss KiB\tpeak KiB\tbytes on disk a key\tput p99.9 us\tput longest us\n");
+    printf("%lu\t%lu\t%.0f\t%.0f\t%.0f\t%.0f\t%.0f\t%.3f\t%ld\t%ld\t%.1f\t%.0f\t%.0f\n", keys, length, put_rate, one, four, none, none_by_four, opened, resident, most,
            double(bytes) / keys, late, longest);
 }

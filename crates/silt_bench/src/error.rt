@@ -1,0 +1,72 @@
+// Why a job of the bench ends early.
+
+use std::alloc::AllocError;
+use std::{fmt, io};
+
+/// A call of a store.
+#[derive(Clone, Copy)]
+pub enum Call {
+    Format,
+    Open,
+    Put,
+    Get,
+    Flush,
+    Convert,
+    Merge,
+}
+
+impl fmt::Display for Call {
+    fn fmt<W: fmt::Write>(&self, f: &mut fmt::Formatter<W>) -> fmt::Result {
+        match self {
+            Call::Format => write!(f, "a format"),
+            Call::Open => write!(f, "an opening"),
+            Call::Put => write!(f, "a put"),
+            Call::Get => write!(f, "a get"),
+            Call::Flush => write!(f, "a flush"),
+            Call::Convert => write!(f, "a step of conversion"),
+            Call::Merge => write!(f, "a step of merging"),
+        }
+    }
+}
+
+/// Why a job ends early.
+#[derive(Drop)]
+pub enum BenchError {
+    /// The words name no job.
+    Words,
+    /// The store refused a call.
+    Refused(Call),
+    /// A look did not find what is there, or found what is not.
+    Wrong,
+    /// The clock, a file or the output failed.
+    System(io::Error),
+    /// No memory was found.
+    NoMemory,
+}
+
+impl fmt::Display for BenchError {
+    fn fmt<W: fmt::Write>(&self, f: &mut fmt::Formatter<W>) -> fmt::Result {
+        match self {
+            BenchError::Words => write!(f, "the words name no job"),
+            BenchError::Refused(call) => write!(f, "the store refused {call}"),
+            BenchError::Wrong => write!(
+                f,
+                "a look did not find what is there, or found what is not"
+            ),
+            BenchError::System(error) => write!(f, "{error}"),
+            BenchError::NoMemory => write!(f, "no memory was found"),
+        }
+    }
+}
+
+impl From<io::Error> for BenchError {
+    fn from(error: io::Error) -> BenchError {
+        BenchError::System(error)
+    }
+}
+
+impl From<AllocError> for BenchError {
+    fn from(_error: AllocError) -> BenchError {
+        BenchError::NoMemory
+    }
+}

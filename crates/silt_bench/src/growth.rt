@@ -1,0 +1,167 @@
+// What a get costs while hash stores grow in number.
+ghost use Rattle.std.specs.Prelude.{◌≡◌};
+
+use crate::background::Background;
+use crate::error::BenchError;
+use crate::figures::Thousandths;
+use crate::job::Plan;
+use crate::looks::{Looks, count_reads, looks_by_four, looks_by_one};
+use crate::read_counter::CountingDisk;
+use crate::store::{new_store, seated};
+use crate::turns::Turns;
+use crate::writer::{Writer, fill, fill_all};
+use silt_desk::{Naming, Seat, Shared, Trace};
+use silt_device::{Disk, Geometry, MemDisk};
+use silt_store_set::Core;
+use std::alloc::Global;
+use std::marker::Brand;
+use std::sync::atomic::AtomicU64;
+use std::sync::ledger::Blank;
+use std::sync::{RwLock, Wait};
+use std::thread::Threads;
+use std::time::Clock;
+
+/// What is told of a store.
+#[derive(Clone, Copy)]
+pub enum Detail {
+    /// How many reads a get makes.
+    Reads,
+    /// Also how many gets there are a second.
+    Rates,
+}
+
+/// Fills a store on a disk and merges all of it, and then prints what gets cost for each number of hash stores that stand before the
+/// sorted store.
+pub fn grow<D: Disk, R: Threads + Wait + Clock + Print + Sync>(
+    rt: &R,
+    alloc: Global,
+    disk: D,
+    plan: &Plan,
+    detail: Detail,
+) -> Result<(), BenchError> {
+    let reads = AtomicU64::new(0);
+    let core = new_store(alloc, CountingDisk::new(disk, &reads), plan.geometry)?;
+    grow_seated::<_, Brand, _>(
+        rt,
+        alloc,
+        core,
+        &reads,
+        plan,
+        detail,
+        Blank::new(3),
+        Blank::new(3),
+    )
+}
+
+/// The same of a small store in memory, with no rates.
+pub fn grow_small<R: Threads + Wait + Clock + Print + Sync>(
+    rt: &R,
+    alloc: Global,
+) -> Result<(), BenchError> {
+    let geometry = Geometry::new(8, 2048, 224, 2, 4, 4000)
+        .ok()
+        .ok_or(BenchError::Words)?;
+    let plan = Plan {
+        geometry,
+        keys: 2000,
+        group: 100,
+        gets: 400,
+        stores: 4,
+    };
+    let disk = MemDisk::new(alloc, geometry.size() as usize)?;
+    grow(rt, alloc, disk, &plan, Detail::Reads)
+}
+
+// Grows a new store whose reads are counted.
+fn grow_seated<D: Disk, N: Naming + Send + Sync, R: Threads + Wait + Clock + Print + Sync>(
+    rt: &R,
+    alloc: Global,
+    core: Core<D>,
+    reads: &AtomicU64,
+    plan: &Plan,
+    detail: Detail,
+    calls: Blank,
+    accepted: Blank,
+) -> Result<(), BenchError>
+    requires calls { (calls.name ≡ N.calls_name) × (calls.parts ≡ N.seats) }
+    requires accepted { (accepted.name ≡ N.accepted_name) × (accepted.parts ≡ N.seats) }
+    requires seats { N.seats ≡ 3 }
+{
+    let (desk, mut seats) = seated::<D, N>(alloc, core, calls, accepted)?;
+    let shared = RwLock::new(desk);
+    match seats.pop() {
+        Some(seat) => grow_at(rt, alloc, &shared, seat, reads, plan, detail),
+        None => Err(BenchError::NoMemory),
+    }
+}
+
+// Grows a store from a seat.
+fn grow_at<
+    D: Disk,
+    T: Trace + Send + Sync,
+    N: Naming + Send + Sync,
+    R: Threads + Wait + Clock + Print + Sync,
+>(
+    rt: &R,
+    alloc: Global,
+    shared: &Shared<D, T, N>,
+    seat: Seat<N>,
+    reads: &AtomicU64,
+    plan: &Plan,
+    detail: Detail,
+) -> Result<(), BenchError> {
+    let mut writer = Writer::new(seat, Background::Turns(Turns::new(plan.stores)));
+    fill_all(rt, alloc, shared, &mut writer, plan)?;
+    tell_names(rt, detail)?;
+    let rows = u64::from(plan.geometry.log_capacity());
+    let mut keys = plan.keys;
+    for stores in 0..plan.stores {
+        tell_state(rt, shared, reads, keys, plan.gets, stores, detail)?;
+        let end = keys.saturating_add(rows);
+        fill(rt, alloc, shared, &mut writer, plan, keys, end)?;
+        keys = end;
+    }
+    Ok(())
+}
+
+// Prints the names of the numbers.
+fn tell_names<R: Print>(rt: &R, detail: Detail) -> Result<(), BenchError> {
+    print!(rt; "hash stores\treads a get\treads an absent get")?;
+    match detail {
+        Detail::Reads => println!(rt; "")?,
+        Detail::Rates => println!(rt; "\tgets/s 1 thread\tgets/s 4 threads")?,
+    }
+    Ok(())
+}
+
+// Prints what gets of so many keys cost while so many hash stores stand.
+fn tell_state<
+    D: Disk,
+    T: Trace + Send + Sync,
+    N: Naming + Send + Sync,
+    R: Threads + Wait + Clock + Print + Sync,
+>(
+    rt: &R,
+    shared: &Shared<D, T, N>,
+    reads: &AtomicU64,
+    keys: u64,
+    gets: u64,
+    stores: u64,
+    detail: Detail,
+) -> Result<(), BenchError> {
+    let present = Looks::present(keys, gets);
+    let made = count_reads(rt, shared, reads, present)?;
+    let made_absent = count_reads(rt, shared, reads, Looks::absent(keys, gets))?;
+    let each = Thousandths::of(made, gets);
+    let each_absent = Thousandths::of(made_absent, gets);
+    print!(rt; "{stores}\t{each}\t{each_absent}")?;
+    match detail {
+        Detail::Reads => println!(rt; "")?,
+        Detail::Rates => {
+            let one = looks_by_one(rt, shared, present)?;
+            let four = looks_by_four(rt, shared, present)?;
+            println!(rt; "\t{one}\t{four}")?;
+        }
+    }
+    Ok(())
+}

@@ -1,0 +1,177 @@
+// Looks at a store that threads share, side by side.
+
+use crate::error::BenchError;
+use crate::figures::a_second;
+use crate::keys::{byte_of, key_of, pick};
+use crate::pauses::Lap;
+use crate::threads::join_over;
+use silt_desk::{Desk, Naming, Shared, Trace};
+use silt_device::Disk;
+use std::sync::Wait;
+use std::sync::atomic::{AtomicU64, Ordering};
+use std::thread::Threads;
+use std::time::Clock;
+
+/// The first number of the keys that are never put.
+pub const ABSENT: u64 = 1 << 40;
+
+/// Which looks are made.
+#[derive(Clone, Copy)]
+pub struct Looks {
+    /// The first number of the keys.
+    pub first: u64,
+    /// How many keys there are to pick from.
+    pub keys: u64,
+    /// How many looks are made in all.
+    pub count: u64,
+    /// Whether the keys have values.
+    pub present: bool,
+}
+
+impl Looks {
+    /// Looks at keys that were put.
+    pub fn present(keys: u64, count: u64) -> Looks {
+        Looks {
+            first: 0,
+            keys,
+            count,
+            present: true,
+        }
+    }
+
+    /// Looks at keys that were not.
+    pub fn absent(keys: u64, count: u64) -> Looks {
+        Looks {
+            first: ABSENT,
+            keys,
+            count,
+            present: false,
+        }
+    }
+}
+
+/// How many looks a second one thread makes.
+///
+/// # Errors
+///
+/// `Wrong` where a look found another value than was put.
+pub fn looks_by_one<D: Disk, T: Trace, N: Naming, R: Wait + Clock>(
+    rt: &R,
+    shared: &Shared<D, T, N>,
+    looks: Looks,
+) -> Result<u64, BenchError> {
+    let mut lap = Lap::new(rt)?;
+    if !look_all(rt, shared, looks, looks.count, 0) {
+        return Err(BenchError::Wrong);
+    }
+    Ok(a_second(looks.count, lap.turn(rt)?))
+}
+
+/// How many looks a second four threads make, side by side.
+///
+/// # Errors
+///
+/// `Wrong` where a look found another value than was put.
+pub fn looks_by_four<
+    D: Disk,
+    T: Trace + Send + Sync,
+    N: Naming + Send + Sync,
+    R: Threads + Wait + Clock + Sync,
+>(rt: &R, shared: &Shared<D, T, N>, looks: Looks) -> Result<u64, BenchError> {
+    let each = looks.count / 4;
+    let mut lap = Lap::new(rt)?;
+    if !four_look(rt, shared, looks, each) {
+        return Err(BenchError::Wrong);
+    }
+    Ok(a_second(looks.count, lap.turn(rt)?))
+}
+
+/// How many reads the looks of one thread make.
+///
+/// # Errors
+///
+/// `Wrong` where a look found another value than was put.
+pub fn count_reads<D: Disk, T: Trace, N: Naming, R: Wait>(
+    rt: &R,
+    shared: &Shared<D, T, N>,
+    reads: &AtomicU64,
+    looks: Looks,
+) -> Result<u64, BenchError> {
+    let before = reads.load(Ordering::SeqCst);
+    if !look_all(rt, shared, looks, looks.count, 0) {
+        return Err(BenchError::Wrong);
+    }
+    Ok(reads.load(Ordering::SeqCst).wrapping_sub(before))
+}
+
+// So many looks by each of four threads: whether each found what is there.
+fn four_look<D: Disk, T: Trace + Send + Sync, N: Naming + Send + Sync, R: Threads + Wait + Sync>(
+    rt: &R,
+    shared: &Shared<D, T, N>,
+    looks: Looks,
+    each: u64,
+) -> bool {
+    let (first, second) = join_over(
+        rt,
+        shared,
+        move |desk: &Shared<D, T, N>| two_look(rt, desk, looks, each, 0),
+        move |desk: &Shared<D, T, N>| two_look(rt, desk, looks, each, 2),
+    );
+    first && second
+}
+
+// So many looks by each of two threads: whether each found what is there.
+fn two_look<D: Disk, T: Trace + Send + Sync, N: Naming + Send + Sync, R: Threads + Wait + Sync>(
+    rt: &R,
+    shared: &Shared<D, T, N>,
+    looks: Looks,
+    each: u64,
+    thread: u64,
+) -> bool {
+    let (first, second) = join_over(
+        rt,
+        shared,
+        move |desk: &Shared<D, T, N>| look_all(rt, desk, looks, each, thread),
+        move |desk: &Shared<D, T, N>| look_all(rt, desk, looks, each, thread ^ 1),
+    );
+    first && second
+}
+
+// So many looks of one thread: whether each found what is there.
+fn look_all<D: Disk, T: Trace, N: Naming, R: Wait>(
+    rt: &R,
+    shared: &Shared<D, T, N>,
+    looks: Looks,
+    count: u64,
+    thread: u64,
+) -> bool {
+    let mut buffer = [0u8; 4096];
+    let value_len = shared.read(rt).geometry().value_len() as usize;
+    let len = value_len.min(buffer.len());
+    let out = &mut buffer[..len];
+    for turn in 0..count {
+        let number = pick(turn, thread, looks.keys);
+        if !is_right(&*shared.read(rt), looks, number, out) {
+            return false;
+        }
+    }
+    true
+}
+
+// Whether one look finds what is there.
+fn is_right<D: Disk, T: Trace, N: Naming>(
+    desk: &Desk<D, T, N>,
+    looks: Looks,
+    number: u64,
+    out: &mut [u8],
+) -> bool {
+    if desk.geometry().value_len() as usize != out.len() {
+        return false;
+    }
+    match desk.look(&key_of(looks.first.wrapping_add(number)), out) {
+        Ok((_, found)) => {
+            found == looks.present && (!found || out.first() == Some(&byte_of(number)))
+        }
+        Err(_) => false,
+    }
+}

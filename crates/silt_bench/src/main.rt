@@ -1,0 +1,95 @@
+//! The bench: a store is filled and read, and what that took is told.
+//!
+//! - `silt_bench store PATH WORK V B CAP NL NH S KEYS GROUP GETS STORES` puts so many keys into a store in the file PATH, which it makes,
+//!   with a flush behind each group, does what is wanted in the background, looks for present and absent keys on one thread and on four, and
+//!   takes the store up again. WORK is `turns`, on one thread between the groups, or `workers`, on two threads beside the writer; by turns
+//!   a merge begins when so many hash stores stand. It prints one line of numbers behind one of their names.
+//! - `silt_bench growth PATH V B CAP NL NH S KEYS GROUP GETS` prints a line for each number of hash stores that stand before a
+//!   sorted store.
+//! - `silt_bench index KEYS GETS` measures the index of a sorted store alone.
+//! - `silt_bench counts` prints counts and no times: each look at an index beside a search among the keys, and the growth of a small store.
+//!
+//! Nothing is proved of times. What is proved is that a disk that counts is the disk that it counts for, and what the sums of a
+//! figure are.
+#![tactic(auto)]
+
+mod background;
+mod error;
+mod figures;
+mod growth;
+mod index;
+mod job;
+mod keys;
+mod looks;
+mod measurement;
+mod pauses;
+mod read_counter;
+mod store;
+mod threads;
+mod turns;
+mod workers;
+mod writer;
+
+use error::BenchError;
+use growth::{Detail, grow, grow_small};
+use index::{index_agrees, measure_index};
+use job::{Job, Plan, Work, job_of, path_of};
+use measurement::measure;
+use silt_device::{FileDisk, FileSystem};
+use std::alloc::Global;
+use std::env::{self, Env};
+use std::fs::{File, Files};
+use std::process::ExitCode;
+use std::sync::Wait;
+use std::thread::Threads;
+use std::time::Clock;
+
+fn main(rt: HostRuntime) -> ExitCode {
+    match run(&rt) {
+        Ok(()) => ExitCode::from(0),
+        Err(error) => {
+            let _ = eprintln!(rt; "silt_bench: {error}"); // nobody may listen
+            ExitCode::from(1)
+        }
+    }
+}
+
+// Does the job that the words name.
+fn run<
+    R: Threads + Wait + Clock + Print + FileSystem<File = File> + Files + Env + AllocGlobal + Sync,
+>(rt: &R) -> Result<(), BenchError> {
+    let alloc = rt.alloc();
+    let words = env::args(rt)?.collect::<Vec<String>>(alloc)?;
+    match (job_of(words.as_slice()), path_of(words.as_slice())) {
+        (Some(Job::Store(work, plan)), Some(path)) => measure_file(rt, alloc, path, &plan, work),
+        (Some(Job::Growth(plan)), Some(path)) => grow_file(rt, alloc, path, &plan),
+        (Some(Job::Index { keys, gets }), _) => measure_index(rt, alloc, keys, gets),
+        (Some(Job::Counts), _) => tell_counts(rt, alloc),
+        _ => Err(BenchError::Words),
+    }
+}
+
+// Measures a store in a file.
+fn measure_file<
+    R: Threads + Wait + Clock + Print + FileSystem<File = File> + Files + AllocGlobal + Sync,
+>(rt: &R, alloc: Global, path: &str, plan: &Plan, work: Work) -> Result<(), BenchError> {
+    let disk = FileDisk::create(rt, path, plan.geometry.size())?;
+    measure(rt, alloc, disk, plan, work)
+}
+
+// Tells of a store in a file what gets cost while hash stores grow in number.
+fn grow_file<
+    R: Threads + Wait + Clock + Print + FileSystem<File = File> + Files + AllocGlobal + Sync,
+>(rt: &R, alloc: Global, path: &str, plan: &Plan) -> Result<(), BenchError> {
+    let disk = FileDisk::create(rt, path, plan.geometry.size())?;
+    grow(rt, alloc, disk, plan, Detail::Rates)
+}
+
+// Tells what can be counted, which is the same on each machine.
+fn tell_counts<R: Threads + Wait + Clock + Print + Sync>(
+    rt: &R,
+    alloc: Global,
+) -> Result<(), BenchError> {
+    index_agrees(rt, alloc, 100_000, 10_000)?;
+    grow_small(rt, alloc)
+}

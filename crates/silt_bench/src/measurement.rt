@@ -1,0 +1,262 @@
+// A store is filled, read and taken up again, and what that took is told.
+ghost use Rattle.std.specs.Prelude.{◌≡◌};
+
+use crate::background::Background;
+use crate::error::BenchError;
+use crate::figures::{Memory, Thousandths, a_second, memory_of_process};
+use crate::job::{Plan, Work};
+use crate::looks::{Looks, count_reads, looks_by_four, looks_by_one};
+use crate::pauses::Lap;
+use crate::read_counter::CountingDisk;
+use crate::store::{new_store, open_store, seated};
+use crate::turns::Turns;
+use crate::workers::fill_beside;
+use crate::writer::{Filled, Writer, fill_all};
+use silt_desk::{Naming, Seat, Shared, Trace};
+use silt_device::Disk;
+use silt_store_set::Core;
+use std::alloc::Global;
+use std::fs::Files;
+use std::marker::Brand;
+use std::sync::atomic::{AtomicU64, Ordering};
+use std::sync::ledger::Blank;
+use std::sync::{RwLock, Wait};
+use std::thread::Threads;
+use std::time::Clock;
+
+/// The names of the numbers, in their order.
+pub const NAMES: &str =
+    "keys\tvalue bytes\tputs/s\tgets/s 1 thread\tgets/s 4 threads\tabsent/s 1 thread\tabsent/s 4 threads\topen ms\trss KiB\tpeak KiB\treads a get\treads an absent get\treads of opening\tput p99.9 us\tput longest us\tflush p50 us\tflush longest us";
+
+/// How many looks are counted, where as many are wanted.
+const COUNTED: u64 = 100_000;
+
+/// What was seen of a store while it was shared.
+#[derive(Clone, Copy)]
+struct Seen {
+    filled: Filled,
+    gets_by_one: u64,
+    gets_by_four: u64,
+    absent_by_one: u64,
+    absent_by_four: u64,
+    memory: Memory,
+}
+
+/// The reads that were counted: those of an opening, and those of so many looks.
+#[derive(Clone, Copy)]
+struct Counted {
+    opening: u64,
+    looks: u64,
+    gets: u64,
+    absent: u64,
+}
+
+/// Fills a store on this disk as planned, reads it, takes it up again, once by the clock and once with its reads counted, and prints one
+/// line of numbers behind their names.
+pub fn measure<D: Disk, R: Threads + Wait + Clock + Print + Files + Sync>(
+    rt: &R,
+    alloc: Global,
+    disk: D,
+    plan: &Plan,
+    work: Work,
+) -> Result<(), BenchError> {
+    let core = new_store(alloc, disk, plan.geometry)?;
+    let (disk, seen) = see::<_, Brand, _>(
+        rt,
+        alloc,
+        core,
+        plan,
+        work,
+        Blank::new(3),
+        Blank::new(3),
+    )?;
+    let (disk, open) = open_by_clock(rt, alloc, disk)?;
+    let counted = count_opened(rt, alloc, disk, plan)?;
+    tell(rt, plan, &seen, open, &counted)
+}
+
+// Fills a new store and looks at it from a desk, and gives its disk back.
+fn see<D: Disk, N: Naming + Send + Sync, R: Threads + Wait + Clock + Files + Sync>(
+    rt: &R,
+    alloc: Global,
+    core: Core<D>,
+    plan: &Plan,
+    work: Work,
+    calls: Blank,
+    accepted: Blank,
+) -> Result<(D, Seen), BenchError>
+    requires calls { (calls.name ≡ N.calls_name) × (calls.parts ≡ N.seats) }
+    requires accepted { (accepted.name ≡ N.accepted_name) × (accepted.parts ≡ N.seats) }
+    requires seats { N.seats ≡ 3 }
+{
+    let (desk, seats) = seated::<D, N>(alloc, core, calls, accepted)?;
+    let shared = RwLock::new(desk);
+    match fill_and_look(rt, alloc, &shared, seats, plan, work) {
+        Ok(seen) => Ok((shared.into_inner().close(), seen)),
+        Err(error) => Err(error),
+    }
+}
+
+// Fills a store as planned, and looks at it.
+fn fill_and_look<
+    D: Disk,
+    T: Trace + Send + Sync,
+    N: Naming + Send + Sync,
+    R: Threads + Wait + Clock + Files + Sync,
+>(
+    rt: &R,
+    alloc: Global,
+    shared: &Shared<D, T, N>,
+    seats: Vec<Seat<N>>,
+    plan: &Plan,
+    work: Work,
+) -> Result<Seen, BenchError> {
+    let seats = three_of(seats).ok_or(BenchError::NoMemory)?;
+    let filled = match work {
+        Work::Turns => fill_by_turns(rt, alloc, shared, seats, plan)?,
+        Work::Workers => fill_beside(rt, alloc, shared, seats, plan)?,
+    };
+    look(rt, alloc, shared, plan, filled)
+}
+
+// The seats of a desk that has three.
+fn three_of<N: Naming>(seats: Vec<Seat<N>>) -> Option<(Seat<N>, Seat<N>, Seat<N>)> {
+    let mut seats = seats;
+    let third = seats.pop()?;
+    let second = seats.pop()?;
+    let first = seats.pop()?;
+    Some((first, second, third))
+}
+
+// Fills a store on this thread, with its work in the background between the groups.
+fn fill_by_turns<D: Disk, T: Trace, N: Naming, R: Wait + Clock>(
+    rt: &R,
+    alloc: Global,
+    shared: &Shared<D, T, N>,
+    seats: (Seat<N>, Seat<N>, Seat<N>),
+    plan: &Plan,
+) -> Result<Filled, BenchError> {
+    let (seat, _second, _third) = seats;
+    let mut writer = Writer::new(seat, Background::Turns(Turns::new(plan.stores)));
+    fill_all(rt, alloc, shared, &mut writer, plan)
+}
+
+// Looks at a store that was filled.
+fn look<
+    D: Disk,
+    T: Trace + Send + Sync,
+    N: Naming + Send + Sync,
+    R: Threads + Wait + Clock + Files + Sync,
+>(
+    rt: &R,
+    alloc: Global,
+    shared: &Shared<D, T, N>,
+    plan: &Plan,
+    filled: Filled,
+) -> Result<Seen, BenchError> {
+    let present = Looks::present(plan.keys, plan.gets);
+    let absent = Looks::absent(plan.keys, plan.gets);
+    Ok(Seen {
+        filled,
+        gets_by_one: looks_by_one(rt, shared, present)?,
+        gets_by_four: looks_by_four(rt, shared, present)?,
+        absent_by_one: looks_by_one(rt, shared, absent)?,
+        absent_by_four: looks_by_four(rt, shared, absent)?,
+        memory: memory_of_process(rt, alloc),
+    })
+}
+
+// How many nanoseconds it takes to take up the store on a disk, which is given back.
+fn open_by_clock<D: Disk, R: Clock>(
+    rt: &R,
+    alloc: Global,
+    disk: D,
+) -> Result<(D, u64), BenchError> {
+    let mut lap = Lap::new(rt)?;
+    let core = open_store(alloc, disk)?;
+    match lap.turn(rt) {
+        Ok(nanos) => Ok((core.close(), nanos)),
+        Err(error) => Err(BenchError::System(error)),
+    }
+}
+
+// Takes up the store on a disk with its reads counted, those of the opening and those of some looks.
+fn count_opened<D: Disk, R: Wait>(
+    rt: &R,
+    alloc: Global,
+    disk: D,
+    plan: &Plan,
+) -> Result<Counted, BenchError> {
+    let reads = AtomicU64::new(0);
+    let core = open_store(alloc, CountingDisk::new(disk, &reads))?;
+    count_seated::<_, Brand, _>(rt, alloc, core, &reads, plan, Blank::new(3), Blank::new(3))
+}
+
+// The same of a store that was just taken up.
+fn count_seated<D: Disk, N: Naming, R: Wait>(
+    rt: &R,
+    alloc: Global,
+    core: Core<D>,
+    reads: &AtomicU64,
+    plan: &Plan,
+    calls: Blank,
+    accepted: Blank,
+) -> Result<Counted, BenchError>
+    requires calls { (calls.name ≡ N.calls_name) × (calls.parts ≡ N.seats) }
+    requires accepted { (accepted.name ≡ N.accepted_name) × (accepted.parts ≡ N.seats) }
+    requires seats { N.seats ≡ 3 }
+{
+    let opening = reads.load(Ordering::SeqCst);
+    let (desk, _seats) = seated::<D, N>(alloc, core, calls, accepted)?;
+    let shared = RwLock::new(desk);
+    count_looks(rt, &shared, reads, plan, opening)
+}
+
+// Counts the reads of looks for present and for absent keys.
+fn count_looks<D: Disk, T: Trace, N: Naming, R: Wait>(
+    rt: &R,
+    shared: &Shared<D, T, N>,
+    reads: &AtomicU64,
+    plan: &Plan,
+    opening: u64,
+) -> Result<Counted, BenchError> {
+    let looks = plan.gets.min(COUNTED);
+    Ok(Counted {
+        opening,
+        looks,
+        gets: count_reads(rt, shared, reads, Looks::present(plan.keys, looks))?,
+        absent: count_reads(rt, shared, reads, Looks::absent(plan.keys, looks))?,
+    })
+}
+
+// Prints the numbers.
+fn tell<R: Print>(
+    rt: &R,
+    plan: &Plan,
+    seen: &Seen,
+    open: u64,
+    counted: &Counted,
+) -> Result<(), BenchError> {
+    let keys = plan.keys;
+    let value_len = plan.geometry.value_len();
+    let puts = a_second(keys, seen.filled.nanos);
+    let open = Thousandths(open / 1000);
+    let gets = Thousandths::of(counted.gets, counted.looks);
+    let absent = Thousandths::of(counted.absent, counted.looks);
+    println!(rt; "{NAMES}")?;
+    print!(rt;
+        "{keys}\t{value_len}\t{puts}\t{}\t{}",
+        seen.gets_by_one, seen.gets_by_four
+    )?;
+    print!(rt; "\t{}\t{}\t{open}", seen.absent_by_one, seen.absent_by_four)?;
+    print!(rt;
+        "\t{}\t{}\t{gets}\t{absent}\t{}",
+        seen.memory.resident, seen.memory.most, counted.opening
+    )?;
+    print!(rt; "\t{}\t{}", seen.filled.put_late, seen.filled.put_longest)?;
+    println!(rt;
+        "\t{}\t{}",
+        seen.filled.flush_middle, seen.filled.flush_longest
+    )?;
+    Ok(())
+}

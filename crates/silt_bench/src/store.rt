@@ -1,0 +1,47 @@
+// The store that is measured.
+ghost use Rattle.std.specs.Prelude.{◌≡◌};
+
+use crate::error::{BenchError, Call};
+use silt_desk::{Count, Desk, Naming, Seat};
+use silt_device::{Disk, Geometry};
+use silt_recovery::format;
+use silt_store_set::Core;
+use std::alloc::Global;
+use std::sync::ledger::Blank;
+
+/// An empty store of this geometry on a disk.
+pub fn new_store<D: Disk>(
+    alloc: Global,
+    disk: D,
+    geometry: Geometry,
+) -> Result<Core<D>, BenchError> {
+    match format(alloc, disk, geometry) {
+        Ok(disk) => open_store(alloc, disk),
+        Err(_) => Err(BenchError::Refused(Call::Format)),
+    }
+}
+
+/// The store that stands on a disk.
+pub fn open_store<D: Disk>(alloc: Global, disk: D) -> Result<Core<D>, BenchError> {
+    match Core::open(alloc, disk) {
+        Ok(core) => Ok(core),
+        Err(_) => Err(BenchError::Refused(Call::Open)),
+    }
+}
+
+/// A store at a desk with three seats.
+pub fn seated<D: Disk, N: Naming>(
+    alloc: Global,
+    core: Core<D>,
+    calls: Blank,
+    accepted: Blank,
+) -> Result<(Desk<D, Count, N>, Vec<Seat<N>>), BenchError>
+    requires calls { (calls.name ≡ N.calls_name) × (calls.parts ≡ N.seats) }
+    requires accepted { (accepted.name ≡ N.accepted_name) × (accepted.parts ≡ N.seats) }
+    requires seats { N.seats ≡ 3 }
+{
+    match Desk::new(alloc, core, Count::new(), 3, calls, accepted) {
+        Ok(made) => Ok(made),
+        Err(_) => Err(BenchError::NoMemory),
+    }
+}

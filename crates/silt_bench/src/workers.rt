@@ -1,0 +1,153 @@
+// A store is filled while two workers do its work in the background.
+
+use crate::background::{Background, Wakes};
+use crate::error::BenchError;
+use crate::job::Plan;
+use crate::threads::join_over;
+use crate::writer::{Filled, Writer, fill_all};
+use crossbeam_channel::{Receiver, Sender};
+use silt_desk::{Gate, Naming, Seat, Shared, Spot, Trace, Wake, converter, merger};
+use silt_device::Disk;
+use std::alloc::{AllocError, Global};
+use std::sync::Wait;
+use std::thread::Threads;
+use std::time::Clock;
+
+/// No worker waits for anything but the store.
+#[derive(Drop)]
+struct Open;
+
+impl Gate for Open {
+    fn pass(&self, _spot: Spot) {}
+}
+
+/// The place of a worker: its seat, where it is woken, and how it wakes the other one.
+#[derive(Drop)]
+struct Worker<N: Naming> {
+    seat: Seat<N>,
+    wakes: Receiver<Wake>,
+    other: Sender<Wake>,
+}
+
+/// Who fills a store: a writer and two workers.
+#[derive(Drop)]
+struct Crew<N: Naming> {
+    writer: Writer<N>,
+    converter: Worker<N>,
+    merger: Worker<N>,
+}
+
+/// Puts the plan's keys beside a converter and a merger, and ends when nothing is left to be done.
+pub fn fill_beside<
+    D: Disk,
+    T: Trace + Send + Sync,
+    N: Naming + Send + Sync,
+    R: Threads + Wait + Clock + Sync,
+>(
+    rt: &R,
+    alloc: Global,
+    shared: &Shared<D, T, N>,
+    seats: (Seat<N>, Seat<N>, Seat<N>),
+    plan: &Plan,
+) -> Result<Filled, BenchError> {
+    match crew_of(alloc, seats) {
+        Ok(crew) => run_crew(rt, alloc, shared, crew, plan),
+        Err(_) => Err(BenchError::NoMemory),
+    }
+}
+
+// The places of those who have these seats.
+fn crew_of<N: Naming>(
+    alloc: Global,
+    seats: (Seat<N>, Seat<N>, Seat<N>),
+) -> Result<Crew<N>, AllocError> {
+    let (to_converter, converter_wakes) = crossbeam_channel::unbounded(alloc)?;
+    let (to_merger, merger_wakes) = crossbeam_channel::unbounded(alloc)?;
+    let converter = Worker {
+        seat: seats.1,
+        wakes: converter_wakes,
+        other: to_merger.clone()?,
+    };
+    let merger = Worker {
+        seat: seats.2,
+        wakes: merger_wakes,
+        other: to_converter.clone()?,
+    };
+    let wakes = Wakes {
+        converter: to_converter,
+        merger: to_merger,
+    };
+    Ok(Crew {
+        writer: Writer::new(seats.0, Background::Workers(wakes)),
+        converter,
+        merger,
+    })
+}
+
+// The two workers in threads of their own, and the writer in this one.
+fn run_crew<
+    D: Disk,
+    T: Trace + Send + Sync,
+    N: Naming + Send + Sync,
+    R: Threads + Wait + Clock + Sync,
+>(
+    rt: &R,
+    alloc: Global,
+    shared: &Shared<D, T, N>,
+    crew: Crew<N>,
+    plan: &Plan,
+) -> Result<Filled, BenchError> {
+    let Crew {
+        writer,
+        converter,
+        merger,
+    } = crew;
+    let (_seats, filled) = join_over(
+        rt,
+        shared,
+        move |desk: &Shared<D, T, N>| both_workers(rt, alloc, desk, converter, merger),
+        move |desk: &Shared<D, T, N>| write(rt, alloc, desk, writer, plan),
+    );
+    filled
+}
+
+// The two workers, each until it is stopped.
+fn both_workers<D: Disk, T: Trace + Send + Sync, N: Naming + Send + Sync, R: Threads + Wait + Sync>(
+    rt: &R,
+    alloc: Global,
+    shared: &Shared<D, T, N>,
+    first: Worker<N>,
+    second: Worker<N>,
+) -> (Seat<N>, Seat<N>) {
+    join_over(
+        rt,
+        shared,
+        move |desk: &Shared<D, T, N>| {
+            converter(rt, alloc, desk, first.seat, &Open, first.wakes, first.other)
+        },
+        move |desk: &Shared<D, T, N>| {
+            merger(
+                rt,
+                alloc,
+                desk,
+                second.seat,
+                &Open,
+                second.wakes,
+                second.other,
+            )
+        },
+    )
+}
+
+// Puts all keys, waits until nothing is left to be done, and stops the workers.
+fn write<D: Disk, T: Trace, N: Naming, R: Wait + Clock>(
+    rt: &R,
+    alloc: Global,
+    shared: &Shared<D, T, N>,
+    mut writer: Writer<N>,
+    plan: &Plan,
+) -> Result<Filled, BenchError> {
+    let filled = fill_all(rt, alloc, shared, &mut writer, plan);
+    writer.background.stop(rt);
+    filled
+}

@@ -1,0 +1,173 @@
+// A store is filled by one writer.
+ghost use Rattle.std.specs.Prelude.{◌≡◌, length};
+
+use crate::background::Background;
+use crate::error::{BenchError, Call};
+use crate::job::Plan;
+use crate::keys::{byte_of, key_of};
+use crate::pauses::{Lap, Pauses};
+use silt_desk::{Desk, Naming, Seat, Shared, Trace};
+use silt_device::Disk;
+use silt_event::Refusal;
+use silt_frame::Key;
+use std::alloc::Global;
+use std::sync::Wait;
+use std::thread;
+use std::time::{Clock, Duration};
+
+/// How often a put is tried again where the store has no room for it.
+const MOST_TRIES: u32 = 2_000_000;
+
+/// What filling a store took: nanoseconds in all, and of single calls microseconds.
+#[derive(Clone, Copy)]
+pub struct Filled {
+    pub nanos: u64,
+    pub put_late: u64,
+    pub put_longest: u64,
+    pub flush_middle: u64,
+    pub flush_longest: u64,
+}
+
+/// The writer of a store, and who does the work in the background.
+#[derive(Drop)]
+pub struct Writer<N: Naming> {
+    pub seat: Seat<N>,
+    pub background: Background,
+    pub puts: Pauses,
+    pub flushes: Pauses,
+}
+
+impl<N: Naming> Writer<N> {
+    /// A writer that has put nothing yet.
+    pub fn new(seat: Seat<N>, background: Background) -> Writer<N> {
+        Writer {
+            seat,
+            background,
+            puts: Pauses::new(),
+            flushes: Pauses::new(),
+        }
+    }
+
+    // What filling took, so many nanoseconds in all.
+    fn filled(&self, nanos: u64) -> Filled {
+        Filled {
+            nanos,
+            put_late: self.puts.all_but(1),
+            put_longest: self.puts.longest() / 1000,
+            flush_middle: self.flushes.all_but(500),
+            flush_longest: self.flushes.longest() / 1000,
+        }
+    }
+}
+
+/// Puts the plan's keys, and sees all work in the background done.
+pub fn fill_all<D: Disk, T: Trace, N: Naming, R: Wait + Clock>(
+    rt: &R,
+    alloc: Global,
+    shared: &Shared<D, T, N>,
+    writer: &mut Writer<N>,
+    plan: &Plan,
+) -> Result<Filled, BenchError> {
+    let mut lap = Lap::new(rt)?;
+    fill(rt, alloc, shared, writer, plan, 0, plan.keys)?;
+    writer
+        .background
+        .finish(rt, alloc, shared, &mut writer.seat)?;
+    Ok(writer.filled(lap.turn(rt)?))
+}
+
+/// Puts the keys of the numbers from `first` up to `end`, in groups, with a flush and some work in the background behind each. What is
+/// done in the background on this thread is part of the next put's pause.
+pub fn fill<D: Disk, T: Trace, N: Naming, R: Wait + Clock>(
+    rt: &R,
+    alloc: Global,
+    shared: &Shared<D, T, N>,
+    writer: &mut Writer<N>,
+    plan: &Plan,
+    first: u64,
+    end: u64,
+) -> Result<(), BenchError> {
+    let mut value = vec![in alloc; 0u8; plan.geometry.value_len() as usize]?;
+    let mut lap = Lap::new(rt)?;
+    for at in (first..end).step_by((plan.group as usize).max(1)) {
+        let next = at.saturating_add(plan.group.max(1)).min(end);
+        let value = value.as_mut_slice();
+        put_group(rt, alloc, shared, writer, at, next, value, &mut lap)?;
+        flush_once(&mut *shared.write(rt), alloc, &mut writer.seat)?;
+        writer.flushes.note(lap.turn(rt)?);
+        writer
+            .background
+            .go_on(rt, alloc, shared, &mut writer.seat)?;
+    }
+    Ok(())
+}
+
+// Puts the keys of the numbers from `first` up to `end`.
+fn put_group<D: Disk, T: Trace, N: Naming, R: Wait + Clock>(
+    rt: &R,
+    alloc: Global,
+    shared: &Shared<D, T, N>,
+    writer: &mut Writer<N>,
+    first: u64,
+    end: u64,
+    value: &mut [u8],
+    lap: &mut Lap,
+) -> Result<(), BenchError> {
+    for number in first..end {
+        value.fill(byte_of(number));
+        put_patiently(rt, alloc, shared, writer, &key_of(number), value)?;
+        writer.puts.note(lap.turn(rt)?);
+    }
+    Ok(())
+}
+
+// Puts a value, and waits for the work in the background where the store has no room for it.
+fn put_patiently<D: Disk, T: Trace, N: Naming, R: Wait + Clock>(
+    rt: &R,
+    alloc: Global,
+    shared: &Shared<D, T, N>,
+    writer: &mut Writer<N>,
+    key: &Key,
+    value: &[u8],
+) -> Result<(), BenchError> {
+    for _try in 0..MOST_TRIES {
+        if put_once(&mut *shared.write(rt), alloc, &mut writer.seat, key, value)? {
+            return Ok(());
+        }
+        writer
+            .background
+            .go_on(rt, alloc, shared, &mut writer.seat)?;
+        thread::sleep(rt, Duration::from_micros(50));
+    }
+    Err(BenchError::Refused(Call::Put))
+}
+
+// Puts a value. False where the store has no room for it.
+fn put_once<D: Disk, T: Trace, N: Naming>(
+    desk: &mut Desk<D, T, N>,
+    alloc: Global,
+    seat: &mut Seat<N>,
+    key: &Key,
+    value: &[u8],
+) -> Result<bool, BenchError> {
+    if desk.geometry().value_len() as usize != value.len() {
+        return Err(BenchError::Refused(Call::Put));
+    }
+    match desk.put(alloc, seat, key, value) {
+        Ok(_) => Ok(true),
+        Err(Refusal::NoRoom | Refusal::StoreFull) => Ok(false),
+        Err(_) => Err(BenchError::Refused(Call::Put)),
+    }
+}
+
+// Acknowledges all puts.
+fn flush_once<D: Disk, T: Trace, N: Naming>(
+    desk: &mut Desk<D, T, N>,
+    alloc: Global,
+    seat: &mut Seat<N>,
+) -> Result<(), BenchError> {
+    match desk.flush(alloc, seat) {
+        Ok(_) => Ok(()),
+        Err(_) => Err(BenchError::Refused(Call::Flush)),
+    }
+}
