@@ -6,6 +6,7 @@ mod failing;
 mod history;
 mod lacking;
 mod looks;
+mod memory;
 mod sessions;
 mod steps;
 

@@ -2,7 +2,7 @@
 ghost use Rattle.std.specs.Prelude.{◌≡◌};
 
 use crate::tests::{get, key, look, opened, put, small};
-use crate::{Count, Desk, Naming, NotPrepared, Note, Seat, Trace};
+use crate::{Count, Desk, Kept, Naming, NotPrepared, Note, Seat, Trace};
 use silt_device::Disk;
 use silt_event::Refusal;
 use silt_store_set::Core;
@@ -105,4 +105,20 @@ fn each_call_lacks_memory(rt: HostRuntime) -> Result<(), Fail> {
     let alloc = rt.alloc();
     let core = opened(alloc, small(alloc)?)?;
     refuses_all::<_, Brand, _>(&rt, alloc, core, Blank::new(1), Blank::new(1))
+}
+
+// A trace with more places than any memory has is refused, and the store stands as it was: one with three places is made of it.
+#[test]
+fn a_trace_lacks_memory(rt: HostRuntime) -> Result<(), Fail> {
+    let alloc = rt.alloc();
+    let mut core = opened(alloc, small(alloc)?)?;
+    assert_eq!(rt; core.delete(alloc, &key(1)).ok(), Some(1));
+    for most in [u64::MAX, 1 << 62, 1 << 58] {
+        let trace = Kept::new(alloc, &core, most);
+        assert!(rt; matches!(trace, Err(Refusal::NoMemory)), "{most}");
+        assert_eq!(rt; core.count(), 1, "{most}");
+    }
+    let trace = Kept::new(alloc, &core, 3).ok().ok_or("a trace")?;
+    assert_eq!(rt; (trace.count(), trace.calls().len()), (1, 0));
+    Ok(())
 }

@@ -1,35 +1,18 @@
 // A frozen log as a hash store: its bytes, what is found damaged in it, and faults on the way.
 
-use crate::tests::script::{Line, Told, live};
-use crate::tests::{formatted, stands_at};
+use crate::tests::lines::CONVERTED;
+use crate::tests::script::{Told, live, repeated};
+use crate::tests::support::{changed, formatted, stands_at};
 use crate::{Core, OpenFault, Place, Progress, Refusal};
 use silt_device::MemDisk;
 use std::alloc::Global;
 use std::process::Abort;
 use std::test::Fail;
 
-// Five puts, of which the last freezes the full log, a flush, and the nine steps that convert that log.
-const CONVERTED: [Line; 15] = [
-    Line::Put(1, 1),
-    Line::Put(2, 2),
-    Line::Put(3, 3),
-    Line::Put(4, 4),
-    Line::Put(5, 5),
-    Line::Flush,
-    Line::Convert,
-    Line::Convert,
-    Line::Convert,
-    Line::Convert,
-    Line::Convert,
-    Line::Convert,
-    Line::Convert,
-    Line::Convert,
-    Line::Convert,
-];
-
-// The device after these, with its replies checked.
+// The device after a conversion, with its replies checked.
 fn converted(rt: &impl Abort, alloc: Global) -> Result<MemDisk, Fail> {
-    let (disk, told) = live(alloc, formatted(alloc)?, &CONVERTED)?;
+    let lines = repeated(alloc, &CONVERTED)?;
+    let (disk, told) = live(alloc, formatted(alloc)?, &lines)?;
     assert_eq!(rt; told.len(), 16);
     for reply in &told[7..15] {
         assert_eq!(rt; *reply, Told::Progress(Progress::Moved));
@@ -79,8 +62,7 @@ fn finds_damaged_slots(rt: HostRuntime) -> Result<(), Fail> {
     let whole = converted(&rt, alloc)?.shown().to_vec(alloc)?;
     assert_eq!(rt; whole.len(), 45_056);
     assert_eq!(rt; refusal_of(alloc, &whole)?, None);
-    let mut bytes = whole.as_slice().to_vec(alloc)?;
-    bytes[28_695] = 3;
+    let bytes = changed(&rt, alloc, &whole, &[(28_695, 3)])?;
     let expected = Some(Place::Hash { region: 0, slot: 1 });
     assert_eq!(rt; refusal_of(alloc, &bytes)?, expected);
     let mut bytes = whole.as_slice().to_vec(alloc)?;

@@ -1,7 +1,7 @@
 // Images that an opening refuses, and the first finding in each.
 
-use crate::tests::formatted;
 use crate::tests::script::{Line, live};
+use crate::tests::support::{SMALL_LEN, changed, formatted, formatted_with, of_regions};
 use crate::{Core, OpenFault, Place, Refusal};
 use silt_device::MemDisk;
 use std::alloc::Global;
@@ -117,9 +117,7 @@ fn finds_each_damaged_byte(rt: HostRuntime) -> Result<(), Fail> {
     let whole = image(alloc)?;
     assert_eq!(rt; find_damage(&rt, alloc, &whole)?, Finding::Keys(2));
     for (place, byte, expected) in BYTES {
-        let mut bytes = whole.as_slice().to_vec(alloc)?;
-        assert!(rt; place < bytes.len());
-        bytes[place] = byte;
+        let bytes = changed(&rt, alloc, &whole, &[(place, byte)])?;
         assert_eq!(rt;
             find_damage(&rt, alloc, &bytes)?,
             expected,
@@ -218,25 +216,10 @@ fn finds_crafted_damage(rt: HostRuntime) -> Result<(), Fail> {
         let bytes = changed(&rt, alloc, &whole, changes)?;
         assert_eq!(rt; find_damage(&rt, alloc, &bytes)?, expected);
     }
-    let zeros = vec![in alloc; 0u8; 45_056]?;
+    let zeros = vec![in alloc; 0u8; SMALL_LEN]?;
     let found = find_damage(&rt, alloc, &zeros)?;
     assert_eq!(rt; found, Finding::NotFormatted);
     Ok(())
-}
-
-// These bytes with some of them changed.
-fn changed(
-    rt: &impl Abort,
-    alloc: Global,
-    whole: &[u8],
-    changes: &[(usize, u8)],
-) -> Result<Vec<u8>, Fail> {
-    let mut bytes = whole.to_vec(alloc)?;
-    for (place, byte) in changes {
-        assert!(rt; *place < bytes.len());
-        bytes[*place] = *byte;
-    }
-    Ok(bytes)
 }
 
 // A small store without rows, whose sorted entries have these first bytes of their keys.
@@ -285,5 +268,165 @@ fn counts_entries_with_rows(rt: HostRuntime) -> Result<(), Fail> {
     let bytes = changed(&rt, alloc, &whole, &[(12_288, 0xA7), (16_384, 1)])?;
     let found = find_damage(&rt, alloc, &bytes)?;
     assert_eq!(rt; found, Finding::Damaged(Place::Charge));
+    Ok(())
+}
+
+// Changes of a device, and what is found after them.
+type Plant = (&'static [(usize, u8)], Finding);
+
+// A device of two buckets and logs of eight rows, all of whose parts have something. The active log has the keys 1 to 4, which fill a bucket,
+// and behind a closed gate key 5, of the same bucket; log 1 is frozen and has key 0. Hash store 0 has the keys 0 and 1, and a mark in slot 4;
+// hash store 1 is older and empty; three sorted entries rise.
+const WHOLE: [(usize, u8); 35] = [
+    (4112, 1),
+    (4116, 1),
+    (12_288, 0xA7),
+    (12_289, 0xA7),
+    (12_290, 0xA7),
+    (12_291, 0xA7),
+    (16_384, 1),
+    (16_385, 1),
+    (16_407, 1),
+    (16_408, 2),
+    (16_430, 1),
+    (16_431, 3),
+    (16_453, 1),
+    (16_454, 4),
+    (16_476, 1),
+    (16_477, 5),
+    (20_480, 0xA7),
+    (24_576, 1),
+    (4144, 2),
+    (4152, 1),
+    (28_672, 1),
+    (28_695, 1),
+    (28_696, 1),
+    (28_764, 2),
+    (28_766, 1),
+    (4216, 3),
+    (36_864, 1),
+    (36_886, 2),
+    (36_908, 2),
+    (36_927, 1),
+    // values, at which no opening looks
+    (16_406, 9),
+    (28_694, 9),
+    (28_717, 9),
+    (36_885, 9),
+    (36_907, 9),
+];
+
+// One finding each, in the order in which an opening looks for them.
+const PLANTS: [Plant; 22] = [
+    (&[(0, 0x00)], Finding::NotFormatted),
+    (&[(5, b'f')], Finding::NotFormatted),
+    (&[(12, 9)], Finding::NotFormatted),
+    (&[(16, 0)], Finding::Damaged(Place::Header)),
+    (&[(20, 3)], Finding::Damaged(Place::Header)),
+    (&[(28, 9)], Finding::Damaged(Place::Header)),
+    (&[(32, 1)], Finding::Damaged(Place::Length)),
+    // the active log is frozen too; log 1 is frozen twice; a third hash store; a hash store twice
+    (&[(4108, 1)], Finding::Damaged(Place::Slot(0))),
+    (&[(4112, 2), (4120, 1)], Finding::Damaged(Place::Slot(0))),
+    (&[(4144, 3)], Finding::Damaged(Place::Slot(0))),
+    (&[(4152, 0)], Finding::Damaged(Place::Slot(0))),
+    (&[(8192, 0xA7)], Finding::Damaged(Place::Slot(1))),
+    (
+        &[(16_407, 3)],
+        Finding::Damaged(Place::Log { region: 0, row: 1 }),
+    ),
+    (&[(12_292, 0xA7)], Finding::Other(4)),
+    (
+        &[(24_576, 0)],
+        Finding::Damaged(Place::Log { region: 1, row: 0 }),
+    ),
+    // the key of slot 0 again; a row outside its key's buckets; an unknown kind
+    (
+        &[(28_741, 2)],
+        Finding::Damaged(Place::Hash { region: 0, slot: 3 }),
+    ),
+    (
+        &[(28_787, 1)],
+        Finding::Damaged(Place::Hash { region: 0, slot: 5 }),
+    ),
+    (
+        &[(28_833, 3)],
+        Finding::Damaged(Place::Hash { region: 0, slot: 7 }),
+    ),
+    (
+        &[(32_768, 0xA7)],
+        Finding::Damaged(Place::Hash { region: 1, slot: 0 }),
+    ),
+    (&[(36_886, 1)], Finding::Damaged(Place::Sorted(1))),
+    (&[(36_908, 1)], Finding::Damaged(Place::Sorted(2))),
+    (&[(36, 9)], Finding::Damaged(Place::Charge)),
+];
+
+// No slot is open. This is found behind what is looked for in slot 1, and before all that the slots name.
+const NO_SLOT: Plant = (&[(4096, 0x00)], Finding::Damaged(Place::NoSlot));
+
+// The bytes of that device.
+fn planted(rt: &impl Abort, alloc: Global) -> Result<Vec<u8>, Fail> {
+    let empty = formatted_with(alloc, of_regions(8, 2, 2, 16)?)?;
+    changed(rt, alloc, empty.shown(), &WHOLE)
+}
+
+// What an opening finds where both changes are made to these bytes.
+fn find_both(
+    rt: &impl Abort,
+    alloc: Global,
+    whole: &[u8],
+    first: Plant,
+    second: Plant,
+) -> Result<Finding, Fail> {
+    let bytes = changed(rt, alloc, whole, first.0)?;
+    let bytes = changed(rt, alloc, &bytes, second.0)?;
+    find_damage(rt, alloc, &bytes)
+}
+
+// What is found of this plant, the one at this place of the list, where no slot is open.
+fn left_of(plant: Plant, index: usize) -> Finding {
+    if index < 7 || plant.1 == Finding::Damaged(Place::Slot(1)) {
+        return plant.1;
+    }
+    NO_SLOT.1
+}
+
+// What is found of this plant, the one at this place of the list, on a device that is one byte short.
+fn found_short(plant: Plant, index: usize) -> Finding {
+    if index < 6 {
+        return plant.1;
+    }
+    Finding::Damaged(Place::Length)
+}
+
+// Each finding alone, and of each two the one that is looked for first. With no slot open, what the slots name is not looked at, nor is slot 0.
+#[test]
+fn finds_the_first_of_each_two(rt: HostRuntime) -> Result<(), Fail> {
+    let alloc = rt.alloc();
+    let whole = planted(&rt, alloc)?;
+    assert_eq!(rt; find_damage(&rt, alloc, &whole)?, Finding::Keys(6));
+    for (index, first) in PLANTS.iter().enumerate() {
+        for second in PLANTS[PLANTS.len().min(index)..].iter() {
+            let found = find_both(&rt, alloc, &whole, *first, *second)?;
+            assert_eq!(rt; found, first.1, "{first:?} {second:?}");
+        }
+        let found = find_both(&rt, alloc, &whole, *first, NO_SLOT)?;
+        assert_eq!(rt; found, left_of(*first, index), "{first:?}");
+    }
+    Ok(())
+}
+
+// The same on a device that is one byte short: the header is looked at before, and all else is not.
+#[test]
+fn finds_a_short_device_behind_its_header(rt: HostRuntime) -> Result<(), Fail> {
+    let alloc = rt.alloc();
+    let mut whole = planted(&rt, alloc)?;
+    let _last = whole.pop();
+    for (index, plant) in PLANTS.iter().enumerate() {
+        let bytes = changed(&rt, alloc, &whole, plant.0)?;
+        let found = find_damage(&rt, alloc, &bytes)?;
+        assert_eq!(rt; found, found_short(*plant, index), "{plant:?}");
+    }
     Ok(())
 }

@@ -1,7 +1,9 @@
 // One device call that fails, and the refusals of puts and deletes.
 
 use crate::tests::script::{Line, Told, live};
-use crate::tests::{entries_of, formatted, formatted_with, key, of_regions, values_of};
+use crate::tests::support::{
+    SMALL_LEN, entries_of, formatted, formatted_with, key, of_regions, values_of,
+};
 use crate::{Core, Refusal};
 use silt_device::{Call, FaultDisk, MemDisk, MemFault};
 use std::alloc::Global;
@@ -41,8 +43,8 @@ fn put(
     answer(core.put(alloc, &key(first), &[0, last]))
 }
 
-// Every call of a failed store is refused, and the list of its entries too.
-fn is_failed(rt: &impl Abort, alloc: Global, core: &mut Core<FaultDisk>) {
+/// Every call of a failed store is refused, and the list of its entries too.
+pub(crate) fn is_failed(rt: &impl Abort, alloc: Global, core: &mut Core<FaultDisk>) {
     assert_eq!(rt; core.geometry().value_len(), 2);
     let mut out = [7; 2];
     assert_eq!(rt; answer(core.get(&key(1), &mut out)), Err(9));
@@ -228,7 +230,7 @@ fn spends_its_generations(rt: HostRuntime) -> Result<(), Fail> {
     let alloc = rt.alloc();
     let disk = formatted(alloc)?;
     let mut bytes = disk.shown().to_vec(alloc)?;
-    assert_eq!(rt; bytes.len(), 45_056);
+    assert_eq!(rt; bytes.len(), SMALL_LEN);
     bytes[8192] = 0xA7;
     bytes[8193] = 0x7F;
     bytes[8194..8201].fill(0xFF);

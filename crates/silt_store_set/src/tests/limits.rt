@@ -1,6 +1,6 @@
 // Stores at the limits of their numbers, where there is ample memory.
 
-use crate::tests::{formatted_with, key};
+use crate::tests::support::{formatted_with, key};
 use crate::{Core, Event, Reply};
 use silt_device::{Geometry, MemDisk};
 use silt_frame::Value;

@@ -1,53 +1,19 @@
-// Hash stores and the sorted store as one sorted store: the replies of whole lives, a get of each key between any two lines of them, and
-// a stop at each of their calls.
+// Hash stores and the sorted store as one sorted store: the replies of whole lives, and a get of each key between any two lines of them.
 
 use crate::Progress;
+use crate::tests::kept::after;
+use crate::tests::lines::{
+    CONVERTED_MEANWHILE, CONVERTED_MEANWHILE_TOLD, FINISHED, MERGED_TWICE, MERGED_TWICE_TOLD,
+    MOVED, of_three_hash_stores, of_two_hash_stores,
+};
 use crate::tests::script::{Line, Told, live, repeated};
-use crate::tests::stops::{after, sweep};
-use crate::tests::{formatted_with, of_regions};
+use crate::tests::support::{formatted_with, of_regions};
 use silt_device::Geometry;
 use silt_event::Report;
 use silt_recovery::check;
 use std::alloc::{AllocError, Global};
 use std::process::Abort;
 use std::test::Fail;
-
-const MOVED: Told = Told::Progress(Progress::Moved);
-
-const FINISHED: Told = Told::Progress(Progress::Finished);
-
-// Logs of one row, of which the second put freezes the first: a merge of one hash store; then a delete and another key, and a merge of
-// the two hash stores that they became with what was merged before. The last put still stands in a log.
-const MERGED_TWICE: [(Line, u8); 13] = [
-    (Line::Put(1, 0x0102), 1),
-    (Line::Put(2, 0x0304), 1),
-    (Line::Convert, 9),
-    (Line::Merge, 10),
-    (Line::Delete(1), 1),
-    (Line::Convert, 9),
-    (Line::Put(3, 0x0506), 1),
-    (Line::Convert, 9),
-    (Line::Merge, 19),
-    (Line::Get(1), 1),
-    (Line::Get(2), 1),
-    (Line::Get(3), 1),
-    (Line::Flush, 1),
-];
-
-// A merge under way while two more hash stores are made, which it leaves alone.
-const CONVERTED_MEANWHILE: [(Line, u8); 11] = [
-    (Line::Put(1, 1), 1),
-    (Line::Put(2, 2), 1),
-    (Line::Convert, 9),
-    (Line::Put(1, 3), 1),
-    (Line::Merge, 3),
-    (Line::Convert, 9),
-    (Line::Put(2, 4), 1),
-    (Line::Convert, 9),
-    (Line::Merge, 7),
-    (Line::Get(1), 1),
-    (Line::Get(2), 1),
-];
 
 // One hash region, whose hash store a second conversion waits for until it is merged.
 const MERGED_FOR_ROOM: [(Line, u8); 6] = [
@@ -58,14 +24,6 @@ const MERGED_FOR_ROOM: [(Line, u8); 6] = [
     (Line::Merge, 10),
     (Line::Convert, 1),
 ];
-
-fn of_two_hash_stores() -> Result<Geometry, Fail> {
-    of_regions(1, 2, 2, 4)
-}
-
-fn of_three_hash_stores() -> Result<Geometry, Fail> {
-    of_regions(1, 3, 3, 8)
-}
 
 fn of_one_hash_store() -> Result<Geometry, Fail> {
     of_regions(1, 3, 1, 8)
@@ -129,28 +87,8 @@ fn answers(
 
 #[test]
 fn drops_what_is_deleted(rt: HostRuntime) -> Result<(), Fail> {
-    let replies = [
-        (Told::Accepted(1), 1),
-        (Told::Accepted(2), 1),
-        (MOVED, 8),
-        (FINISHED, 1),
-        (MOVED, 9),
-        (FINISHED, 1),
-        (Told::Accepted(3), 1),
-        (MOVED, 8),
-        (FINISHED, 1),
-        (Told::Accepted(4), 1),
-        (MOVED, 8),
-        (FINISHED, 1),
-        (MOVED, 18),
-        (FINISHED, 1),
-        (Told::Absent, 1),
-        (Told::Value(3, 4), 1),
-        (Told::Value(5, 6), 1),
-        (Told::Acknowledged(4), 1),
-    ];
     let geometry = of_two_hash_stores()?;
-    answers(&rt, rt.alloc(), geometry, &MERGED_TWICE, &replies)
+    answers(&rt, rt.alloc(), geometry, &MERGED_TWICE, &MERGED_TWICE_TOLD)
 }
 
 // Of the three keys one is deleted, one is merged, and one still stands in the active log. Each put froze a log but for the first, and
@@ -178,25 +116,14 @@ fn reports_what_is_merged(rt: HostRuntime) -> Result<(), Fail> {
 
 #[test]
 fn keeps_the_newer_rows_in_front(rt: HostRuntime) -> Result<(), Fail> {
-    let replies = [
-        (Told::Accepted(1), 1),
-        (Told::Accepted(2), 1),
-        (MOVED, 8),
-        (FINISHED, 1),
-        (Told::Accepted(3), 1),
-        (MOVED, 3),
-        (MOVED, 8),
-        (FINISHED, 1),
-        (Told::Accepted(4), 1),
-        (MOVED, 8),
-        (FINISHED, 1),
-        (MOVED, 6),
-        (FINISHED, 1),
-        (Told::Value(0, 3), 1),
-        (Told::Value(0, 4), 1),
-    ];
     let geometry = of_three_hash_stores()?;
-    answers(&rt, rt.alloc(), geometry, &CONVERTED_MEANWHILE, &replies)
+    answers(
+        &rt,
+        rt.alloc(),
+        geometry,
+        &CONVERTED_MEANWHILE,
+        &CONVERTED_MEANWHILE_TOLD,
+    )
 }
 
 #[test]
@@ -214,18 +141,4 @@ fn makes_room_for_a_conversion(rt: HostRuntime) -> Result<(), Fail> {
     ];
     let geometry = of_one_hash_store()?;
     answers(&rt, rt.alloc(), geometry, &MERGED_FOR_ROOM, &replies)
-}
-
-#[test]
-fn two_merges_stopped_anywhere(rt: HostRuntime) -> Result<(), Fail> {
-    let alloc = rt.alloc();
-    let lines = repeated(alloc, &MERGED_TWICE)?;
-    sweep(&rt, alloc, of_two_hash_stores()?, &lines, 106)
-}
-
-#[test]
-fn merge_beside_conversions_stopped_anywhere(rt: HostRuntime) -> Result<(), Fail> {
-    let alloc = rt.alloc();
-    let lines = repeated(alloc, &CONVERTED_MEANWHILE)?;
-    sweep(&rt, alloc, of_three_hash_stores()?, &lines, 95)
 }

@@ -1,6 +1,6 @@
 // A long run of pseudo-random events, answered as a plain map answers them.
 
-use crate::tests::formatted_with;
+use crate::tests::support::formatted_with;
 use crate::{Core, Refusal};
 use silt_device::{Disk, Geometry};
 use silt_frame::{Key, Value};
@@ -13,13 +13,13 @@ use std::test::Fail;
 // How many keys the events name.
 const KEYS: u8 = 40;
 
-// The pseudo-random number after this one.
-fn next(number: u32) -> u32 {
+/// The pseudo-random number after this one.
+pub(crate) fn next(number: u32) -> u32 {
     number.wrapping_mul(1_664_525).wrapping_add(1_013_904_223)
 }
 
-// A key whose first bucket is its number, of four, and whose second bucket is its quarter.
-fn key_of(number: u8) -> Key {
+/// A key whose first bucket is its number, of four, and whose second bucket is its quarter.
+pub(crate) fn key_of(number: u8) -> Key {
     let mut bytes = [0; 20];
     bytes[1] = number;
     bytes[3] = number / 4;

@@ -1,7 +1,7 @@
 // Reads that fail, one after the other: each is told as the device's fault, and no other call is refused.
 
-use crate::tests::script::{Line, Told, live, replies_of};
-use crate::tests::{formatted, values_of};
+use crate::tests::script::{Line, Told, live, repeated, replies_of};
+use crate::tests::support::{formatted, values_of};
 use crate::{Core, Progress};
 use silt_device::{Call, FaultDisk, MemDisk};
 use std::alloc::Global;
@@ -9,27 +9,19 @@ use std::process::Abort;
 use std::test::Fail;
 
 // Five puts, of which the last freezes the full log, and its conversion; three rows more, and a put that freezes the next log.
-const THREE_PLACES: [Line; 20] = [
-    Line::Put(1, 1),
-    Line::Put(2, 2),
-    Line::Put(3, 3),
-    Line::Put(4, 4),
-    Line::Put(5, 5),
-    Line::Convert,
-    Line::Convert,
-    Line::Convert,
-    Line::Convert,
-    Line::Convert,
-    Line::Convert,
-    Line::Convert,
-    Line::Convert,
-    Line::Convert,
-    Line::Put(6, 6),
-    Line::Put(7, 7),
-    Line::Delete(1),
-    Line::Put(2, 9),
-    Line::Flush,
-    Line::Get(2),
+const THREE_PLACES: [(Line, u8); 12] = [
+    (Line::Put(1, 1), 1),
+    (Line::Put(2, 2), 1),
+    (Line::Put(3, 3), 1),
+    (Line::Put(4, 4), 1),
+    (Line::Put(5, 5), 1),
+    (Line::Convert, 9),
+    (Line::Put(6, 6), 1),
+    (Line::Put(7, 7), 1),
+    (Line::Delete(1), 1),
+    (Line::Put(2, 9), 1),
+    (Line::Flush, 1),
+    (Line::Get(2), 1),
 ];
 
 // A key of the active log, one of the frozen log, one of the hash store, one that was deleted, and the first step of a conversion.
@@ -118,7 +110,8 @@ fn all_refused(rt: &impl Abort, alloc: Global, bytes: &[u8]) -> Result<Refused, 
 #[test]
 fn tells_each_failed_read_as_a_fault(rt: HostRuntime) -> Result<(), Fail> {
     let alloc = rt.alloc();
-    let (disk, told) = live(alloc, formatted(alloc)?, &THREE_PLACES)?;
+    let lines = repeated(alloc, &THREE_PLACES)?;
+    let (disk, told) = live(alloc, formatted(alloc)?, &lines)?;
     assert_eq!(rt; told.len(), 21);
     assert_eq!(rt; told[20], Told::Value(0, 9));
     let [opening, newest, frozen, hashed, deleted, converted, entries] = all_refused(

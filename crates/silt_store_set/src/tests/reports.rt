@@ -1,7 +1,7 @@
 // What a check of a device tells after its logs were frozen.
 
 use crate::Core;
-use crate::tests::{formatted_with, key, of_regions, opened, stands_at};
+use crate::tests::support::{formatted_with, key, of_regions, opened, stands_at};
 use silt_device::MemDisk;
 use silt_event::Report;
 use silt_frame::Key;

@@ -1,19 +1,12 @@
 // Lives that are stopped: what the next ones answer.
 
+use crate::tests::lines::THREE_PUTS;
 use crate::tests::script::{Line, Told, live, told_lives};
-use crate::tests::{formatted, of_values, stands_at, stopping};
+use crate::tests::support::{FILLS, SMALL_LEN, formatted, of_values, stands_at, stopping};
 use silt_device::{Fill, MemDisk, Stoppable};
 use std::test::Fail;
 
-// Three puts and a flush: the opening's sync is call 1, each put makes two, and the gates are written by call 9.
-const THREE_PUTS: [Line; 4] = [
-    Line::Put(1, 1),
-    Line::Put(2, 2),
-    Line::Put(3, 3),
-    Line::Flush,
-];
-
-// What is told of that life where its call 9 fails.
+// What is told of three puts and a flush where call 9 fails.
 const TOLD_TO_CALL_9: [Told; 5] = [
     Told::Opened,
     Told::Accepted(1),
@@ -26,7 +19,7 @@ const TOLD_TO_CALL_9: [Told; 5] = [
 #[test]
 fn loses_what_no_flush_answered(rt: HostRuntime) -> Result<(), Fail> {
     let alloc = rt.alloc();
-    for fill in [Fill::Old, Fill::New, Fill::Zero, Fill::Ones, Fill::Mix] {
+    for fill in FILLS {
         let disk = formatted(alloc)?.arm(stopping(alloc, &[(0, fill)])?);
         let put = [Line::Put(1, 2)];
         let get = [Line::Get(1)];
@@ -90,7 +83,7 @@ fn seals_the_gates_past_the_first_closed_one(rt: HostRuntime) -> Result<(), Fail
 #[test]
 fn keeps_what_a_flush_answered(rt: HostRuntime) -> Result<(), Fail> {
     let alloc = rt.alloc();
-    for fill in [Fill::Old, Fill::New, Fill::Zero, Fill::Ones, Fill::Mix] {
+    for fill in FILLS {
         let disk = formatted(alloc)?.arm(stopping(alloc, &[(0, fill), (1, fill)])?);
         let first = [Line::Put(1, 1), Line::Flush];
         let get = [Line::Get(1)];
@@ -113,7 +106,7 @@ fn keeps_what_a_flush_answered(rt: HostRuntime) -> Result<(), Fail> {
 fn recovers_after_a_stopped_recovery(rt: HostRuntime) -> Result<(), Fail> {
     let alloc = rt.alloc();
     for k in 1..4u32 {
-        for fill in [Fill::Old, Fill::New, Fill::Zero, Fill::Ones, Fill::Mix] {
+        for fill in FILLS {
             let stops = stopping(alloc, &[(9, Fill::Mix), (k, fill)])?;
             let disk = formatted(alloc)?.arm(stops);
             let second = [Line::Get(1)];
@@ -194,11 +187,11 @@ fn refuses_without_running(rt: HostRuntime) -> Result<(), Fail> {
     let alloc = rt.alloc();
     let put = [Line::Put(1, 1), Line::Flush];
     let get = [Line::Get(1)];
-    let disk = MemDisk::new(alloc, 45_056)?;
+    let disk = MemDisk::new(alloc, SMALL_LEN)?;
     let told = told_lives(alloc, disk, &[&put, &get])?;
     let expected = [Told::NotOpened(1), Told::NotOpened(1)];
     assert_eq!(rt; told.as_slice(), expected.as_slice());
-    let (disk, told) = live(alloc, MemDisk::new(alloc, 45_056)?, &put)?;
+    let (disk, told) = live(alloc, MemDisk::new(alloc, SMALL_LEN)?, &put)?;
     assert_eq!(rt; told.as_slice(), [Told::NotOpened(1)].as_slice());
     assert!(rt; disk.shown().iter().all(|byte| *byte == 0));
     Ok(())

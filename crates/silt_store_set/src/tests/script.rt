@@ -2,7 +2,7 @@
 ghost use Rattle.std.specs.Prelude.{All, IfOk};
 ghost use Rattle.silt_event.specs.Events.{HasValueOf};
 
-use crate::tests::key;
+use crate::tests::support::key;
 use crate::{Core, Event, LifeReply, OpenFault, Progress, Reply, lives};
 use silt_device::{Disk, FaultDisk, MemDisk, MemFault};
 use silt_frame::Value;
@@ -80,6 +80,29 @@ pub(crate) fn events(alloc: Global, lines: &[Line]) -> Result<Vec<Event>, AllocE
     Ok(events)
 }
 
+/// The events of a life, made once more where memory was refused.
+pub(crate) fn events_twice(alloc: Global, lines: &[Line]) -> Result<Vec<Event>, AllocError>
+    ensures { IfOk result (λ events. All (HasValueOf 2) events.items) }
+{
+    match events(alloc, lines) {
+        Ok(made) => Ok(made),
+        Err(_) => events(alloc, lines),
+    }
+}
+
+/// The events of each life, made once more where memory was refused.
+pub(crate) fn all_events_twice(
+    alloc: Global,
+    all: &[&[Line]],
+) -> Result<Vec<Vec<Event>>, AllocError>
+    ensures { IfOk result (λ lives. All (λ life. All (HasValueOf 2) life.items) lives.items) }
+{
+    match all_events(alloc, all) {
+        Ok(made) => Ok(made),
+        Err(_) => all_events(alloc, all),
+    }
+}
+
 // The events of each life.
 fn all_events(alloc: Global, all: &[&[Line]]) -> Result<Vec<Vec<Event>>, AllocError>
     ensures { IfOk result (λ lives. All (λ life. All (HasValueOf 2) life.items) lives.items) }
@@ -99,7 +122,8 @@ fn told_value(bytes: &[u8]) -> Told {
     }
 }
 
-fn tell_reply(reply: &Reply<MemFault>) -> Told {
+/// What is told of a reply.
+pub(crate) fn tell_reply<F: Drop>(reply: &Reply<F>) -> Told {
     match reply {
         Reply::Accepted(n) => Told::Accepted(*n),
         Reply::Acknowledged(n) => Told::Acknowledged(*n),
@@ -146,8 +170,8 @@ pub(crate) fn told_lives(
     Ok(told)
 }
 
-// The replies to these events, none where the store has values of another length.
-fn answered<D: Disk>(
+/// The replies to these events, none where the store has values of another length.
+pub(crate) fn run<D: Disk>(
     alloc: Global,
     core: &mut Core<D>,
     value_len: u32,
@@ -161,6 +185,31 @@ fn answered<D: Disk>(
     core.run(alloc, events)
 }
 
+// What is told of an event, where the store has values of this length.
+fn told_of<D: Disk>(alloc: Global, core: &mut Core<D>, value_len: u32, event: &Event) -> Told
+    requires { HasValueOf value_len event.now }
+{
+    if core.geometry().value_len() != value_len {
+        return Told::Other;
+    }
+    tell_reply(&core.answer(alloc, event))
+}
+
+/// What is told of a line, in an opened store of values of two bytes. Its event is made once more where memory was refused.
+pub(crate) fn ask<D: Disk>(
+    alloc: Global,
+    core: &mut Core<D>,
+    line: Line,
+) -> Result<Told, AllocError> {
+    match event(alloc, line) {
+        Ok(event) => Ok(told_of(alloc, core, 2, &event)),
+        Err(_) => {
+            let event = event(alloc, line)?;
+            Ok(told_of(alloc, core, 2, &event))
+        }
+    }
+}
+
 /// What is told of events, in an opened store of values of two bytes on a disk on which one call fails.
 pub(crate) fn replies_of(
     alloc: Global,
@@ -169,7 +218,7 @@ pub(crate) fn replies_of(
 ) -> Result<Vec<Told>, AllocError> {
     let mut told = Vec::new(alloc);
     let events = events(alloc, lines)?;
-    let replies = answered(alloc, core, 2, &events)?;
+    let replies = run(alloc, core, 2, &events)?;
     tell(&mut told, &replies)?;
     Ok(told)
 }
@@ -190,7 +239,7 @@ pub(crate) fn live(
     };
     told.push(Told::Opened)?;
     let events = events(alloc, lines)?;
-    let replies = answered(alloc, &mut core, 2, &events)?;
+    let replies = run(alloc, &mut core, 2, &events)?;
     tell(&mut told, &replies)?;
     Ok((core.close(), told))
 }
