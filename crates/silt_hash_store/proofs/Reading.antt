@@ -2,13 +2,14 @@
 use Rattle.std.proofs.Common.{◌≡◌, ◌≢◌, ℕ, ◌+◌, ◌*◌, ◌≤◌, ◌<◌, inl, inr, IsTrue, List, length, take, drop, get_or, slice_range, sym, subst, ap, ◌∙◌, arith}
 use Rattle.std.proofs.lemmas.Bool.{cases_lt}
 use Rattle.std.proofs.lemmas.List.Edits.{get_or-between}
+use Rattle.std.proofs.Math.Nat.{add-mul, mul-le-mul_right}
 use Rattle.silt_device.specs.Disk.{Content, ChangesWithin, Tears, Torn, Writes, size}
 use Rattle.silt_device.specs.Layout.{Shape, hash_at, row_len}
 use Rattle.silt_device.proofs.Images.{splice_slice, torn_slice_after, torn_slice_before, write_within}
 use Rattle.silt_frame.specs.Rows.{row_of}
 use Rattle.silt_log.proofs.Bodies.{body_before}
 use Rattle.silt_log.proofs.Parts.{drop_front, slice_of_slice, slice_to_end}
-use Rattle.silt_hash_store.specs.Slots.{HeadSays, hash_slot_at, slot_row}
+use Rattle.silt_hash_store.specs.Slots.{HeadSays, HoldsSlots, hash_slot_at, slot_row}
 use Rattle.silt_hash_store.specs.declared.region.Head.{Head}
 
 -- a slot lies within its region
@@ -49,6 +50,23 @@ pub value_read : (s : Shape) (region slot at count : ℕ) (image bytes : List �
 unfolding slot_row
 value_read s region slot at count image bytes here fits long read =
     read ∙ slice_to_end image at (row_len s) 21 count (omega arith) fits ∙ ap (λ n. drop 21 (slice_range image n (n + row_len s))) here
+
+-- slots that are read together lie within the device
+pub slots_within : (s : Shape) (region slot count at n end : ℕ) → hash_at s region + 4 * s.buckets * row_len s ≤ end → slot + count ≤ 4 * s.buckets → at ≡ hash_slot_at s region slot → n ≡ count * row_len s → at + n ≤ end
+slots_within s region slot count at n end fits within here long =
+    let most : (slot + count) * row_len s ≤ 4 * s.buckets * row_len s = mul-le-mul_right (row_len s) within in
+    omega (arith, fits, most, add-mul slot count (row_len s), here, long)
+
+-- and hold their rows
+pub slots_read : (s : Shape) (region slot count at n : ℕ) (image bytes : List ℕ) → at ≡ hash_slot_at s region slot → n ≡ count * row_len s → at + n ≤ length image → bytes ≡ slice_range image at (at + n) → HoldsSlots s region image slot count bytes
+unfolding slot_row
+slots_read s region slot count at n image bytes here long fits read = λ i below.
+    let len : ℕ = row_len s in
+    let inside = body_before 0 len i count below in
+    let there : at + i * len ≡ hash_slot_at s region (slot + i) = omega (arith, here, add-mul slot i len) in
+    let part : slice_range image (at + i * len) (at + i * len + len) ≡ slice_range bytes (i * len) (i * len + len) =
+    slice_of_slice image at n (i * len) len (omega (arith, inside, long)) fits ∙ ap (λ b. slice_range b (i * len) (i * len + len)) (sym read) in
+    ap (λ k. row_of (slice_range image k (k + len))) (sym there) ∙ ap row_of part
 
 -- a write of a slot changes nothing but the slot
 pub slot_changes : (s : Shape) (region slot at count : ℕ) (old new : Content) → at ≡ hash_slot_at s region slot → count ≡ row_len s → Tears at count old new → ChangesWithin (hash_slot_at s region slot) (row_len s) old new

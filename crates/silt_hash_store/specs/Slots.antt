@@ -1,5 +1,5 @@
 -- The slots of a hash region, and their tags.
-use Rattle.std.specs.Prelude.{◌≡◌, ◌≢◌, ℕ, ◌+◌, ◌*◌, ◌==◌, Bool, ◌&&◌, if◌then◌else◌, List, get_or, map, Option, Some, None}
+use Rattle.std.specs.Prelude.{◌≡◌, ◌≢◌, ℕ, ◌+◌, ◌*◌, ◌==◌, ◌<◌, Bool, ◌&&◌, if◌then◌else◌, List, get_or, map, slice_range, Option, Some, None}
 use Rattle.std.specs.List.{range_with_len}
 use Rattle.std.specs.Str.{bytes_eq}
 use Rattle.silt_cuckoo.specs.Keys.{first_bucket, second_bucket}
@@ -10,7 +10,7 @@ use Rattle.silt_hash_store.specs.declared.region.Head.{Head}
 use Rattle.silt_hash_store.specs.declared.region.Head.TheVariants.{Empty, Unknown, Row}
 use Rattle.silt_hash_store.specs.Findings.{is_sound_hash_slot}
 use Rattle.silt_log.specs.Rows.{body_row}
-use Rattle.silt_frame.specs.Rows.{has_known_kind, StoredRow}
+use Rattle.silt_frame.specs.Rows.{has_known_kind, row_of, StoredRow}
 use Rattle.silt_log_store.specs.Parts.{Part}
 
 -- the rows in the slots of a hash region, in order
@@ -58,3 +58,8 @@ tag_seen number = if number == 65535 then None else Some number
 -- the tag that a row has in a slot: none where it is empty, else that bucket of its key's two in which the slot does not lie
 abbrev pub tag_of : ℕ → ℕ → StoredRow → Option ℕ
 tag_of buckets slot row = if row.kind == 0 then None else Some (other_bucket (first_bucket buckets row.key) (second_bucket buckets row.key) slot)
+
+-- so many slots from a slot on hold the rows that these bytes stand for, one after the other
+abbrev pub HoldsSlots : Shape → ℕ → List ℕ → ℕ → ℕ → List ℕ → Type 0
+HoldsSlots shape region image slot count bytes =
+    (i : ℕ) → i < count → slot_row shape region image (slot + i) ≡ row_of (slice_range bytes (i * row_len shape) (i * row_len shape + row_len shape))

@@ -25,6 +25,7 @@ pub use laws::{
     written_elsewhere_law,
 };
 pub use rebuild::{RebuildError, Rebuilt};
+pub use region::row_in;
 pub use silt_log_store::Found;
 pub use store::HashStore;
 

@@ -2,11 +2,12 @@
 ghost use Rattle.std.specs.Prelude.{◌≡◌, ◌+◌, ◌*◌, ◌<◌, ◌≤◌, ◌^◌, length, drop, slice_index, IsTrue, IfOk, IfErr, OnOk, MatchResult};
 ghost use Rattle.silt_device.specs.Disk.{ChangesWithin, CountsFault, GaveAny, size};
 ghost use Rattle.silt_device.specs.Layout.{device_size, row_len};
-ghost use Rattle.silt_hash_store.specs.Slots.{HeadSays, hash_slot_at, slot_row};
+ghost use Rattle.silt_hash_store.specs.Lookup.{IsRowAt};
+ghost use Rattle.silt_hash_store.specs.Slots.{HeadSays, HoldsSlots, hash_slot_at, slot_row};
 ghost use Rattle.silt_frame.specs.Rows.{row_of};
 
 use silt_device::{Disk, Geometry};
-use silt_frame::{HEAD_LEN, Key, Kind, head_of};
+use silt_frame::{HEAD_LEN, Key, Kind, Row, head_of};
 
 /// What the head of a slot says.
 #[derive(Clone, Copy)]
@@ -37,6 +38,23 @@ fn head_said(bytes: &[u8; HEAD_LEN]) -> Head
     match head_of(bytes) {
         Some((kind, key)) => Head::Row(kind, key),
         None => Head::Unknown,
+    }
+}
+
+/// The kind and the key of the row that the bytes of a slot of this number hold, none where the slot is empty or its kind is unknown.
+pub fn row_in(bytes: &[u8], slot: u32) -> Option<Row>
+    requires { 21 ≤ length bytes.now }
+    ensures { IsRowAt (row_of bytes.now) slot result }
+{
+    let mut head = [0; HEAD_LEN];
+    head.copy_from_slice(&bytes[..HEAD_LEN]);
+    match head_said(&head) {
+        Head::Row(kind, key) => Some(Row {
+            kind,
+            key,
+            place: slot,
+        }),
+        Head::Empty | Head::Unknown => None,
     }
 }
 
@@ -114,6 +132,29 @@ impl HashRegion {
         ensures fault { IfErr result (GaveAny D.gave disk.now) }
     {
         disk.read(self.slot_at(slot) + HEAD_LEN as u64, out)?;
+        Ok(())
+    }
+
+    /// Reads the bytes of so many slots from a slot on, in one read.
+    ///
+    /// # Errors
+    ///
+    /// The fault of the read. The bytes of `rows` are then open.
+    pub fn read_slots<D: Disk>(
+        &self,
+        disk: &D,
+        slot: u32,
+        count: u32,
+        rows: &mut [u8],
+    ) -> Result<(), D::Fault>
+        requires some { 0 < count }
+        requires within { slot + count ≤ 4 * self.now.geometry.buckets }
+        requires rows { length rows.old ≡ count * row_len self.now.geometry }
+        requires size { device_size self.now.geometry ≤ size (D.content disk.now) }
+        ensures slots { IsTrue (D.content disk.now).honest → OnOk result (HoldsSlots self.now.geometry self.now.number (D.content disk.now).shown slot count rows.new) }
+        ensures fault { IfErr result (GaveAny D.gave disk.now) }
+    {
+        disk.read(self.slot_at(slot), rows)?;
         Ok(())
     }
 

@@ -1,8 +1,8 @@
 // A hash store and its look-ups.
-ghost use Rattle.std.specs.Prelude.{◌≡◌, ◌*◌, ◌<◌, ◌≤◌, ℕ, None, drop, length, IsTrue, IfOk, IfErr, IfSome, OnOk};
+ghost use Rattle.std.specs.Prelude.{◌≡◌, ◌+◌, ◌*◌, ◌<◌, ◌≤◌, ℕ, None, drop, length, IsTrue, IfOk, IfErr, IfSome, OnOk};
 ghost use Rattle.silt_device.specs.Disk.{GaveAny, size};
 ghost use Rattle.silt_device.specs.Layout.{device_size, row_len};
-ghost use Rattle.silt_hash_store.specs.Slots.{hash_rows};
+ghost use Rattle.silt_hash_store.specs.Slots.{HoldsSlots, hash_rows};
 ghost use Rattle.silt_log_store.specs.LastRow.{put_place};
 
 use crate::lookup::find_in;
@@ -222,6 +222,28 @@ impl HashStore {
         ensures fault { IfErr result (GaveAny D.gave disk.now) }
     {
         self.region.read_value(disk, slot, out)
+    }
+
+    /// Reads the bytes of so many slots from a slot on, in one read.
+    ///
+    /// # Errors
+    ///
+    /// The fault of the read. The bytes of `out` are then open.
+    pub fn read_slots<D: Disk>(
+        &self,
+        disk: &D,
+        slot: u32,
+        count: u32,
+        out: &mut [u8],
+    ) -> Result<(), D::Fault>
+        requires some { 0 < count }
+        requires within { slot + count ≤ 4 * self.now.shape.buckets }
+        requires out { length out.old ≡ count * row_len self.now.shape }
+        requires size { device_size self.now.shape ≤ size (D.content disk.now) }
+        ensures slots { IsTrue (D.content disk.now).honest → OnOk result (HoldsSlots self.now.shape self.now.region (D.content disk.now).shown slot count out.new) }
+        ensures fault { IfErr result (GaveAny D.gave disk.now) }
+    {
+        self.region.read_slots(disk, slot, count, out)
     }
 
     /// The kind and the key of the row in a slot, none where the slot is empty or its kind is unknown. Its head is read. It takes

@@ -1,5 +1,5 @@
 -- What a change on another part of the disk leaves of a merge.
-use Rattle.std.proofs.Common.{◌≡◌, ◌≢◌, ℕ, suc, ◌+◌, ◌-◌, ◌*◌, ◌<◌, ◌≤◌, ◌⊎◌, cond, IsTrue, List, [], ◌∷◌, ◌++◌, filter, flat_map, length, drop, map, take, get_or, slice_get, Option, Some, None, option_map, inl, inr, refl, sym, subst, ap, ◌∙◌, arith}
+use Rattle.std.proofs.Common.{◌≡◌, ◌≢◌, ℕ, suc, ◌+◌, ◌-◌, ◌*◌, ◌<◌, ◌≤◌, ◌⊎◌, cond, IsTrue, List, [], ◌∷◌, ◌++◌, filter, flat_map, length, drop, map, take, get_or, Option, Some, None, option_map, inl, inr, refl, sym, subst, ap, ◌∙◌, arith}
 use Rattle.std.specs.List.{All, range_with_len}
 use Rattle.std.proofs.lemmas.Bool.{cases_lt, cases_order}
 use Rattle.std.proofs.Math.Seq.{drop-append-add}
@@ -23,10 +23,16 @@ use Rattle.silt_log.proofs.Bodies.{map_range_same}
 use Rattle.silt_merge.specs.Laws.{MergedElsewhereLaw, OldestStoresLaw}
 use Rattle.silt_sorted_store.proofs.Elsewhere.{entries_inside, entries_outside}
 use Rattle.silt_merge.specs.Merging.{AreSound, IsGatheredIn, IsMergedIn, decided_rows, gathered_rows, source_row}
+use Rattle.silt_merge.specs.Pieces.{AreEntries}
 use Rattle.silt_merge.specs.Rows.{entries_in, has_row_with, rows_of_hashes, key_count, newest_rows, regions_of, sources}
 use Rattle.silt_merge.specs.State.{IsHeldMerge, MergeState, oldest_stores, source_at}
 use Rattle.silt_merge.specs.declared.source.Source.{Source}
 use Rattle.silt_trie.specs.Coded.{bytes_of}
+use Rattle.silt_merge.proofs.Pieces.{slots_same}
+
+-- there are as many regions as stores
+pub regions_count : (stores : List HashState) → length (regions_of stores) ≡ length stores
+regions_count stores = length-map stores (λ (s : HashState). s.region)
 
 -- ---- all that is merged
 
@@ -107,7 +113,9 @@ module _ (old new : List ℕ) (stores : List HashState) (sorted : SortedState) (
               ∙ ap (λ l. cond (has_row_with key (decided_rows old stores sorted merge.decided)) None (newest_row l key)) (sym (gathered_same sorted.shape old new (regions_of stores) merge.store merge.slot same.rows some most))
               ∙ ap (λ l. cond (has_row_with key l) None (newest_row (gathered_rows sorted.shape new (regions_of stores) merge.store merge.slot) key)) (sym decided);
           last = λ key same_key. ap (has_row_with key.0) decided ∙ is.last key same_key;
-          next = λ bytes same_bytes below. ap (λ l. slice_get l merge.passed) same.entries ∙ is.next bytes same_bytes below;
+          slots = λ below.
+              slots_same sorted.shape (get_or (regions_of stores) merge.store 0) old new merge.slot merge.slots (λ slot inside. same.rows merge.store slot (omega (arith, below, regions_count stores)) inside) (is.slots below);
+          ahead = subst (λ l. AreEntries l merge.passed merge.ahead) (sym same.entries) is.ahead;
           passes = λ place below.
               ap (λ l. has_row_with (get_or (keys_of l) place []) (decided_rows new stores sorted merge.decided)) same.entries
               ∙ ap (has_row_with (get_or (keys_of (entries_in old sorted)) place [])) decided
@@ -126,10 +134,6 @@ module _ (old new : List ℕ) (stores : List HashState) (sorted : SortedState) (
 -- the region of a store
 region_of : (stores : List HashState) (store : ℕ) (blank : HashState) → store < length stores → get_or (regions_of stores) store 0 ≡ (get_or stores store blank).region
 region_of stores store blank below = get_or-map (λ (s : HashState). s.region) stores store blank 0 below
-
--- there are as many regions as stores
-pub regions_count : (stores : List HashState) → length (regions_of stores) ≡ length stores
-regions_count stores = length-map stores (λ (s : HashState). s.region)
 
 -- a change outside all that is merged
 pub same_outside : (stores : List HashState) (sorted : SortedState) (old new : List ℕ) (at count : ℕ) → device_size sorted.shape ≤ length old → All (λ store. store.region < sorted.shape.hashes) stores → IsHeldSorted sorted

@@ -2,7 +2,7 @@
 use Rattle.std.proofs.Common.{◌≡◌, ◌≢◌, ℕ, ◌+◌, ◌*◌, ◌<◌, ◌≤◌, ◌^◌, ◌&&◌, ◌==◌, nat_lt, nat_le, Bool, true, false, not, ◌||◌, cond, IsTrue, List, [], ◌∷◌, ◌++◌, filter, length, take, get_or, slice_get, Option, Some, None, option_map, inl, inr, refl, sym, subst, ap, ◌∙◌, arith}
 use Rattle.std.specs.Option.{is_some}
 use Rattle.std.specs.Str.{bytes_eq}
-use Rattle.std.proofs.lemmas.Bool.{and_from, and_parts, cases_lt, cond-true, cond-false, eq-eqb, eqb-true, le-leb, leb-true, lt-ltb, ltb-true, ne_eqb}
+use Rattle.std.proofs.lemmas.Bool.{and_from, and_parts, cases_lt, cond-true, cond-false, eq-eqb, eqb-true, le-leb, leb-true, ltb-true, ne_eqb}
 use Rattle.std.proofs.lemmas.Map.Text.{is_eq-slice_cmp}
 use Rattle.std.proofs.lemmas.List.{take_all}
 use Rattle.std.proofs.lemmas.Option.{slice_get_within}
@@ -27,8 +27,9 @@ use Rattle.silt_frame.specs.Rows.{StoredRow, entry_row, is_put_row, keys_of}
 use Rattle.silt_merge.specs.Choice.{IsFirstWaiting, IsNextEntry, IsOffered, ReadsRow, choice_of, choice_puts}
 use Rattle.silt_sorted_store.specs.Region.{due_rows}
 use Rattle.silt_merge.specs.Merging.{AreSound, HasMerged, IsGatheredIn, IsMergeOf, source_row}
+use Rattle.silt_merge.specs.Pieces.{AreEntries, AreSlots, parts_after}
 use Rattle.silt_merge.specs.Rows.{entries_in, has_row_with, rows_of_hashes, key_count, merged_rows, newest_rows, regions_of, sources}
-use Rattle.silt_merge.specs.State.{AreKeysUpTo, IsHeldMerge, IsInside, MergeState, is_behind, is_done, keys_after, next_after, next_bytes, passed_after, source_at, steps_for, steps_of, written_after}
+use Rattle.silt_merge.specs.State.{AreKeysUpTo, IsHeldMerge, IsInside, MergeState, is_behind, is_done, keys_after, passed_after, source_at, steps_for, steps_of, written_after}
 use Rattle.silt_trie.specs.Building.{is_above}
 use Rattle.silt_merge.specs.declared.choice.Choice.{Choice}
 use Rattle.silt_merge.specs.declared.source.Source.{Source}
@@ -71,13 +72,14 @@ module _ (image : List ℕ) (stores : List HashState) (sorted : SortedState) whe
   -- and the other way round
   pub gathered_of : (merge : MergeState) → length (regions_of stores) ≤ merge.store → merge.slot ≡ 0 → merge.decided ≤ length (newest_rows (entries ++ hashed))
       → ((key : Key) → merge.last ≡ Some key → has_row_with key.0 (take merge.decided (newest_rows (entries ++ hashed))) ≡ true)
-      → ((bytes : List ℕ) → merge.next ≡ Some bytes → merge.passed < sorted.count → slice_get entries merge.passed ≡ Some (entry_row bytes))
+      → AreEntries entries merge.passed merge.ahead
       → IsDecided entries hashed merge.decided merge.passed (waits_in merge.waiting) → IsGatheredIn image stores sorted merge
   unfolding sources
-  gathered_of merge past none most last next is = record {
+  gathered_of merge past none most last ahead is = record {
     most = most;
     last = last;
-    next = next;
+    slots = λ below. absurd (omega (arith, past, below, regions_count stores));
+    ahead = ahead;
     waits = λ key. is.waiting key
         ∙ ap (λ l. cond (has_row_with key (take merge.decided (newest_rows (entries ++ hashed)))) None (newest_row l key)) (sym (all_gathered sorted.shape image (regions_of stores) merge.store merge.slot past none));
     passes = λ place inside. is.passing place (omega (arith, entry_count sorted.shape sorted.region sorted.count image));
@@ -175,28 +177,65 @@ last_decided rows decided row own key there same is =
     ∙ ap (λ b. has_row_with key.0 (take decided rows) || b) (key_itself row.key key.0 (same ∙ ap (λ (k : Key). k.0) one))
     ∙ last (has_row_with key.0 (take decided rows))
 
--- the bytes of the next entry are what it has
-abbrev pub HasNext : List StoredRow → ℕ → MergeState → Type 0
-HasNext entries count merge = (bytes : List ℕ) → merge.next ≡ Some bytes → merge.passed < count → slice_get entries merge.passed ≡ Some (entry_row bytes)
+-- the entries that are ahead after a key are the next ones
+ahead_after : (rows : List StoredRow) (passes : Bool) (passed : ℕ) (ahead : List (List ℕ)) → AreEntries rows passed ahead → AreEntries rows (passed_after passes passed) (parts_after passes ahead)
+ahead_after rows true passed [] is = tt
+ahead_after rows true passed (bytes ∷ ahead) is = is.1
+ahead_after rows false passed ahead is = is
 
--- those that are kept
-pub has_kept : (rows : List StoredRow) (count : ℕ) (merge : MergeState) (is_read : Bool) (items kept : List ℕ) → merge.next ≡ next_bytes is_read items → kept ≡ items → HasNext rows count merge
-    → is_read ≡ true → merge.passed < count → slice_get rows merge.passed ≡ Some (entry_row kept)
-has_kept rows count merge is_read items kept same value has is below = has kept (same ∙ ap (λ b. next_bytes b items) is ∙ ap Some (sym value)) below
+-- a merge with entries that are read ahead
+pub merged_ahead : (content : Content) (stores : List HashState) (sorted : SortedState) (merge : MergeState) (ahead : List (List ℕ)) → (IsTrue content.honest → AreEntries (entries_of content sorted) merge.passed ahead)
+    → HasMerged content stores sorted merge → HasMerged content stores sorted (record merge { ahead = ahead })
+merged_ahead content stores sorted merge ahead there is = record {
+  shape = is.shape;
+  counted = is.counted;
+  apart = is.apart;
+  merged = λ honest sound.
+      let so_far = is.merged honest sound in
+      record {
+        gathered = record {
+          most = so_far.gathered.most;
+          waits = so_far.gathered.waits;
+          last = so_far.gathered.last;
+          slots = so_far.gathered.slots;
+          ahead = there honest;
+          passes = so_far.gathered.passes;
+        };
+        writes = so_far.writes;
+        keys = so_far.keys;
+      };
+}
 
--- they are so after a key that the next entry has not
-next_kept : (entries : List StoredRow) (count passed : ℕ) (next : Option Key) (passes : Bool) (bytes kept : List ℕ) → is_some next ≡ nat_lt passed count → IsNextEntry entries passed bytes next
-    → next_after passes (Some bytes) ≡ Some kept → passed_after passes passed < count → slice_get entries (passed_after passes passed) ≡ Some (entry_row kept)
-next_kept entries count passed next true bytes kept some there is below = absurd (cc)
-next_kept entries count passed (Some next) false bytes kept some there is below = let same : bytes ≡ kept = cc in there.0 ∙ ap (λ b. Some (entry_row b)) same
-next_kept entries count passed None false bytes kept some there is below = let more = lt-ltb passed count below in absurd (cc)
+-- one with slots that are read ahead
+pub merged_slots : (content : Content) (stores : List HashState) (sorted : SortedState) (merge : MergeState) (slots : List (List ℕ))
+    → (IsTrue content.honest → sorted.shape ≡ merge.shape → AreSlots sorted.shape (get_or (regions_of stores) merge.store 0) content.shown merge.slot slots)
+    → HasMerged content stores sorted merge → HasMerged content stores sorted (record merge { slots = slots })
+merged_slots content stores sorted merge slots there is = record {
+  shape = is.shape;
+  counted = is.counted;
+  apart = is.apart;
+  merged = λ honest sound.
+      let so_far = is.merged honest sound in
+      record {
+        gathered = record {
+          most = so_far.gathered.most;
+          waits = so_far.gathered.waits;
+          last = so_far.gathered.last;
+          slots = λ below. there honest is.shape;
+          ahead = so_far.gathered.ahead;
+          passes = so_far.gathered.passes;
+        };
+        writes = so_far.writes;
+        keys = so_far.keys;
+      };
+}
 
 -- ---- on a disk
 
 -- on an honest disk the next entry is above the last key, so that none is passed over for its key
 pub merged_behind : (content : Content) (stores : List HashState) (sorted : SortedState) (merge : MergeState) (next : Option Key) (bytes : List ℕ) → IsHeldMerge merge → merge.store ≡ merge.stores
-    → is_some next ≡ nat_lt merge.passed sorted.count → (IsTrue content.honest → HasNext (entries_of content sorted) sorted.count merge → IsNextEntry (entries_of content sorted) merge.passed bytes next) → is_behind merge.last next ≡ true
-    → HasMerged content stores sorted merge → HasMerged content stores sorted (record merge { passed = merge.passed + 1; decided = merge.decided + 1; next = None })
+    → is_some next ≡ nat_lt merge.passed sorted.count → (IsTrue content.honest → AreEntries (entries_of content sorted) merge.passed merge.ahead → IsNextEntry (entries_of content sorted) merge.passed bytes next) → is_behind merge.last next ≡ true
+    → HasMerged content stores sorted merge → HasMerged content stores sorted (record merge { passed = merge.passed + 1; decided = merge.decided + 1; ahead = parts_after true merge.ahead })
 unfolding sources
 merged_behind content stores sorted merge next bytes held all some there behind is = record {
   shape = is.shape;
@@ -209,7 +248,7 @@ merged_behind content stores sorted merge next bytes held all some there behind 
       let rises = rises_of (entries_in image sorted) sound.entries in
       let decided = decided_of image stores sorted merge past (held.ended all) so_far.gathered in
       let long = entry_count sorted.shape sorted.region sorted.count image in
-      absurd (go next merge.last refl some (there honest so_far.gathered.next) behind (λ key is_key below.
+      absurd (go next merge.last refl some (there honest so_far.gathered.ahead) behind (λ key is_key below.
       next_above (entries_in image sorted) (rows_of_hashes sorted.shape image (regions_of stores)) merge.decided merge.passed (waits_in image stores sorted merge.waiting) rises decided key.0 (so_far.gathered.last key is_key) (omega (arith, long, below))));
 }
   where
@@ -253,12 +292,12 @@ module _ (old new : Content) (stores : List HashState) (sorted : SortedState) (m
 
   -- a key that is decided, with its entry where one is due
   pub merged_step : (first : Option (Key × Source)) (next : Option Key) (choice : Choice) (bytes row_bytes : List ℕ) (after : List (Key × Source)) (count : ℕ) → merge.store ≡ merge.stores → IsFirstWaiting merge.waiting first
-      → choice_of first next ≡ Some choice → is_some next ≡ nat_lt merge.passed sorted.count → (IsTrue old.honest → HasNext (entries_of old sorted) sorted.count merge → IsNextEntry (entries_of old sorted) merge.passed bytes next)
+      → choice_of first next ≡ Some choice → is_some next ≡ nat_lt merge.passed sorted.count → (IsTrue old.honest → AreEntries (entries_of old sorted) merge.passed merge.ahead → IsNextEntry (entries_of old sorted) merge.passed bytes next)
       → (IsTrue old.honest → ReadsRow merge.shape old.shown (regions_of stores) choice.key.0 choice.source bytes row_bytes)
       → (IsTrue old.honest → sorted_rows merge.shape merge.region count new.shown ≡ take merge.shape.sorted_capacity (sorted_rows merge.shape merge.region merge.written old.shown ++ due_rows (choice_puts choice.source) row_bytes))
       → ((key : List ℕ) → source_at after key ≡ cond (bytes_eq choice.key.0 key) None (source_at merge.waiting key))
       → HasMerged old stores sorted merge
-      → HasMerged new stores sorted (record merge { waiting = after; passed = passed_after choice.passes merge.passed; written = written_after (nat_lt merge.written count) merge.written; keys = keys_after (nat_lt merge.written count) merge.keys choice.key; decided = merge.decided + 1; last = Some choice.key; next = next_after choice.passes (Some bytes) })
+      → HasMerged new stores sorted (record merge { waiting = after; passed = passed_after choice.passes merge.passed; written = written_after (nat_lt merge.written count) merge.written; keys = keys_after (nat_lt merge.written count) merge.keys choice.key; decided = merge.decided + 1; last = Some choice.key; ahead = parts_after choice.passes merge.ahead })
   unfolding sources
   merged_step first next choice bytes row_bytes after count all its_first made some there read written gone is = record {
     shape = is.shape;
@@ -267,7 +306,7 @@ module _ (old new : Content) (stores : List HashState) (sorted : SortedState) (m
     merged = λ honest sound.
         let was : IsTrue old.honest = sym changes.honest ∙ honest in
         let image : List ℕ = old.shown in
-        let merge_after : MergeState = record merge { waiting = after; passed = passed_after choice.passes merge.passed; written = written_after (nat_lt merge.written count) merge.written; keys = keys_after (nat_lt merge.written count) merge.keys choice.key; decided = merge.decided + 1; last = Some choice.key; next = next_after choice.passes (Some bytes) } in
+        let merge_after : MergeState = record merge { waiting = after; passed = passed_after choice.passes merge.passed; written = written_after (nat_lt merge.written count) merge.written; keys = keys_after (nat_lt merge.written count) merge.keys choice.key; decided = merge.decided + 1; last = Some choice.key; ahead = parts_after choice.passes merge.ahead } in
         let same = sources_stay is sound was in
         let sound_old = sound_before old.shown new.shown stores sorted same sound in
         let so_far = is.merged was sound_old in
@@ -276,7 +315,7 @@ module _ (old new : Content) (stores : List HashState) (sorted : SortedState) (m
         let rises = rises_of (entries_in image sorted) sound_old.entries in
         let decided = decided_of image stores sorted merge past none so_far.gathered in
         let long = entry_count sorted.shape sorted.region sorted.count image in
-        let choices = chosen (entries_in image sorted) merge.passed bytes (source_row sorted.shape image (regions_of stores)) merge.waiting first next choice its_first (there was so_far.gathered.next) (some ∙ ap (nat_lt merge.passed) (sym long)) made in
+        let choices = chosen (entries_in image sorted) merge.passed bytes (source_row sorted.shape image (regions_of stores)) merge.waiting first next choice its_first (there was so_far.gathered.ahead) (some ∙ ap (nat_lt merge.passed) (sym long)) made in
         let next_row = decides image stores sorted merge choice bytes rises decided choices in
         let reads = subst (λ (s : Shape). ReadsRow s image (regions_of stores) choice.key.0 choice.source bytes row_bytes) (sym is.shape) (read was) in
         let due = due_is image stores sorted merge choice bytes rises decided choices row_bytes reads in
@@ -290,14 +329,14 @@ module _ (old new : Content) (stores : List HashState) (sorted : SortedState) (m
         merged_same old.shown new.shown stores sorted same merge_after (λ key source found. source_inside stores sorted merge held is.shape is.counted key source (still_inside choice after gone key source found)) (inr none)
         (omega (arith, none)) (gathered_of image stores sorted merge_after past none (omega (arith, below))
         (λ key is_key. last_decided (newest_rows (entries_in image sorted ++ rows_of_hashes sorted.shape image (regions_of stores))) merge.decided next_row.0 choice.key key next_row.1 next_row.2 is_key)
-        (λ b is_bytes within. next_kept (entries_in image sorted) sorted.count merge.passed next choice.passes bytes b some (there was so_far.gathered.next) is_bytes within) after_it) (entries_after ∙ writes) (ap keys_of entries_after ∙ kept.1);
+        (ahead_after (entries_in image sorted) choice.passes merge.passed merge.ahead so_far.gathered.ahead) after_it) (entries_after ∙ writes) (ap keys_of entries_after ∙ kept.1);
   }
 
 -- ---- on any disk
 
--- a merge with the next entry read or not
-pub held_next : (merge : MergeState) (next : Option (List ℕ)) → IsHeldMerge merge → IsHeldMerge (record merge { next = next })
-held_next merge next held = record {
+-- a merge with others ahead
+pub held_ahead : (merge : MergeState) (slots ahead : List (List ℕ)) → IsHeldMerge merge → IsHeldMerge (record merge { slots = slots; ahead = ahead })
+held_ahead merge slots ahead held = record {
   there = held.there;
   store = held.store;
   slot = held.slot;
@@ -308,22 +347,6 @@ held_next merge next held = record {
   inside = λ key source found. let inside = held.inside key source found in record { store = inside.store; slot = inside.slot };
   room = held.room;
   few = held.few;
-  keys = held.keys;
-}
-
--- a merge with one entry more passed over
-pub passed_held : (merge : MergeState) → IsHeldMerge merge → merge.store ≡ merge.stores → IsHeldMerge (record merge { passed = merge.passed + 1; decided = merge.decided + 1; next = None })
-passed_held merge held all = record {
-  there = held.there;
-  store = held.store;
-  slot = held.slot;
-  ended = held.ended;
-  gathers = λ still. absurd (omega (arith, all));
-  fresh = held.fresh;
-  above = held.above;
-  inside = λ key source found. let inside = held.inside key source found in record { store = inside.store; slot = inside.slot };
-  room = held.room;
-  few = omega (arith, held.few);
   keys = held.keys;
 }
 
@@ -342,11 +365,11 @@ decided_keys merge choice is_written count keys held offers room most long risin
     within false below is = omega (arith, is, held.room)
 
 -- a merge with one key more
-pub decided_held : (merge : MergeState) (choice : Choice) (after : List (Key × Source)) (count : ℕ) (keys : List Key) (next : Option (List ℕ)) → IsHeldMerge merge → merge.store ≡ merge.stores → IsOffered merge.waiting merge.last choice
+pub decided_held : (merge : MergeState) (choice : Choice) (after : List (Key × Source)) (count : ℕ) (keys : List Key) (ahead : List (List ℕ)) → IsHeldMerge merge → merge.store ≡ merge.stores → IsOffered merge.waiting merge.last choice
     → count ≤ merge.shape.sorted_capacity → AreKeysUpTo (Some choice.key) count keys → ((key : List ℕ) → source_at after key ≡ cond (bytes_eq choice.key.0 key) None (source_at merge.waiting key))
     → length after ≤ length merge.waiting → ((source : Source) → source_at merge.waiting choice.key.0 ≡ Some source → length after + 1 ≡ length merge.waiting)
-    → IsHeldMerge (record merge { waiting = after; passed = passed_after choice.passes merge.passed; written = count; keys = keys; decided = merge.decided + 1; last = Some choice.key; next = next })
-decided_held merge choice after count keys next held all offers room rising gone long less = record {
+    → IsHeldMerge (record merge { waiting = after; passed = passed_after choice.passes merge.passed; written = count; keys = keys; decided = merge.decided + 1; last = Some choice.key; ahead = ahead })
+decided_held merge choice after count keys ahead held all offers room rising gone long less = record {
   there = held.there;
   store = held.store;
   slot = held.slot;

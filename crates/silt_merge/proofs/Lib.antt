@@ -5,6 +5,7 @@ pub mod Elsewhere
 pub mod Ending
 pub mod Gathering
 pub mod Newest
+pub mod Pieces
 pub mod Reading
 pub mod Sounding
 pub mod Kept

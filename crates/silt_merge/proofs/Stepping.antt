@@ -1,5 +1,5 @@
 -- What each step of a merge leaves.
-use Rattle.std.proofs.Common.{◌≡◌, ◌≢◌, ℕ, ◌+◌, ◌*◌, ◌<◌, ◌≤◌, ◌⊎◌, eqb, Bool, true, false, cond, IsTrue, List, [], length, get_or, Option, Some, None, option_map, inl, inr, refl, sym, subst, ap, ◌∙◌, arith}
+use Rattle.std.proofs.Common.{◌≡◌, ◌≢◌, ℕ, ◌+◌, ◌*◌, ◌<◌, ◌≤◌, ◌⊎◌, eqb, Bool, true, false, cond, IsTrue, List, [], ◌∷◌, length, get_or, Option, Some, None, option_map, inl, inr, refl, sym, subst, ap, ◌∙◌, arith}
 use Rattle.std.specs.Option.{option_or}
 use Rattle.std.specs.Str.{bytes_eq}
 use Rattle.std.proofs.lemmas.Bool.{cases_Bool, cond-true, cond-false, eq-eqb, eqb-true, le-ltb}
@@ -16,7 +16,8 @@ use Rattle.silt_sorted_store.specs.State.{sorted_rows, SortedState}
 use Rattle.silt_frame.specs.Rows.{StoredRow, keys_of}
 use Rattle.silt_merge.specs.Choice.{Gathers, own_source}
 use Rattle.silt_merge.specs.Merging.{HasMerged, decided_rows, gathered_rows, source_row}
-use Rattle.silt_merge.specs.Rows.{has_row_with, regions_of}
+use Rattle.silt_merge.specs.Pieces.{AreEntries, AreSlots, parts_after}
+use Rattle.silt_merge.specs.Rows.{entries_in, has_row_with, regions_of}
 use Rattle.silt_merge.specs.State.{IsHeldMerge, MergeState, slot_after, source_at}
 use Rattle.silt_trie.specs.Building.{is_above}
 use Rattle.silt_merge.specs.declared.source.Source.{Source}
@@ -33,9 +34,9 @@ unfolding sorted_rows
 none_written s region image = refl
 
 -- nothing is gathered, and nothing is due
-pub started : (content : Content) (stores : List HashState) (sorted : SortedState) (shape : Shape) (region : ℕ) (waiting : List (Key × Source)) (written : ℕ) (keys : List Key) → shape ≡ sorted.shape → sorted.region ≢ region → waiting ≡ [] → written ≡ 0 → keys ≡ []
-    → HasMerged content stores sorted (record { shape = shape; region = region; stores = length stores; store = 0; slot = 0; waiting = waiting; passed = 0; written = written; keys = keys; decided = 0; last = None; next = None })
-started content stores sorted shape region waiting written keys same apart none no_entries no_keys = record {
+pub started : (content : Content) (stores : List HashState) (sorted : SortedState) (shape : Shape) (region : ℕ) (waiting : List (Key × Source)) (written : ℕ) (keys : List Key) (slots ahead : List (List ℕ)) → shape ≡ sorted.shape → sorted.region ≢ region → waiting ≡ [] → written ≡ 0 → keys ≡ [] → slots ≡ [] → ahead ≡ []
+    → HasMerged content stores sorted (record { shape = shape; region = region; stores = length stores; store = 0; slot = 0; waiting = waiting; passed = 0; written = written; keys = keys; decided = 0; last = None; slots = slots; ahead = ahead })
+started content stores sorted shape region waiting written keys slots ahead same apart none no_entries no_keys no_slots none_ahead = record {
   shape = sym same;
   counted = refl;
   apart = apart;
@@ -46,7 +47,8 @@ started content stores sorted shape region waiting written keys same apart none 
           ap (λ l. option_map (source_row sorted.shape content.shown (regions_of stores)) (source_at l key)) none
           ∙ sym (ap (λ l. newest_row l key) (none_gathered sorted.shape content.shown (regions_of stores) 0));
       last = λ key some. absurd (cc);
-      next = λ bytes some. absurd (cc);
+      slots = λ below. subst (AreSlots sorted.shape (get_or (regions_of stores) 0 0) content.shown 0) (sym no_slots) tt;
+      ahead = subst (AreEntries (entries_in content.shown sorted) 0) (sym none_ahead) tt;
       passes = λ place below. sym (le-ltb place 0 (omega arith));
     };
     writes = nothing ∙ sym (take_all shape.sorted_capacity [] (omega arith));
@@ -96,9 +98,9 @@ kept_inside merge (Some row) after held below keeps key source is =
     own_inside false found = absurd (cc)
 
 -- a merge with one slot more
-pub gathered_held : (merge : MergeState) (row : Option Row) (after : List (Key × Source)) (next : ℕ × ℕ) → IsHeldMerge merge → merge.store < merge.stores → Gathers merge.store merge.slot row merge.waiting after
-    → length after ≤ length merge.waiting + 1 → next ≡ slot_after merge.store merge.slot (4 * merge.shape.buckets) → IsHeldMerge (record merge { store = next.0; slot = next.1; waiting = after })
-gathered_held merge row after next held below keeps long is =
+pub gathered_held : (merge : MergeState) (row : Option Row) (after : List (Key × Source)) (next : ℕ × ℕ) (slots : List (List ℕ)) → IsHeldMerge merge → merge.store < merge.stores → Gathers merge.store merge.slot row merge.waiting after
+    → length after ≤ length merge.waiting + 1 → next ≡ slot_after merge.store merge.slot (4 * merge.shape.buckets) → IsHeldMerge (record merge { store = next.0; slot = next.1; waiting = after; slots = slots })
+gathered_held merge row after next slots held below keeps long is =
     let count : next.0 * (4 * merge.shape.buckets) + next.1 ≡ merge.store * (4 * merge.shape.buckets) + merge.slot + 1 =
     ap (λ (p : ℕ × ℕ). p.0 * (4 * merge.shape.buckets) + p.1) is ∙ slots_more merge.store merge.slot (4 * merge.shape.buckets) in
     let place = where_next (after_last merge.store merge.slot (4 * merge.shape.buckets)) in
@@ -128,12 +130,38 @@ gathered_held merge row after next held below keeps long is =
         let apart = further.1 in
         (omega (arith, below), omega (arith, held.slot), λ same. absurd (omega (arith, below)))
 
+-- the slots that are ahead after one are the next ones, and there are none behind the last slot of a store
+slots_next : (s : Shape) (regions image : List ℕ) (store slot : ℕ) (slots : List (List ℕ)) → AreSlots s (get_or regions store 0) image slot slots
+    → AreSlots s (get_or regions (slot_after store slot (4 * s.buckets)).0 0) image (slot_after store slot (4 * s.buckets)).1 (parts_after true slots)
+slots_next s regions image store slot [] are = tt
+slots_next s regions image store slot (part ∷ []) are = tt
+slots_next s regions image store slot (part ∷ other ∷ slots) are =
+    let rest : AreSlots s (get_or regions store 0) image (slot + 1) (other ∷ slots) = are.1 in
+    elim (after_last store slot (4 * s.buckets)) [
+      | inl last ↦ absurd (not_last (eqb (slot + 1) (4 * s.buckets)) refl last rest.0.0)
+      | inr further ↦ subst (λ (p : ℕ × ℕ). AreSlots s (get_or regions p.0 0) image p.1 (other ∷ slots)) (sym further.0) rest
+    ]
+  where
+    not_last : (b : Bool) → eqb (slot + 1) (4 * s.buckets) ≡ b → slot_after store slot (4 * s.buckets) ≡ (store + 1, 0) → slot + 1 < 4 * s.buckets → ⊥
+    not_last true same last below = let all : slot + 1 ≡ 4 * s.buckets = eqb-true (slot + 1) (4 * s.buckets) same in omega (arith, all, below)
+    not_last false other last below =
+        let further : slot_after store slot (4 * s.buckets) ≡ (store, slot + 1) = cond-false _ _ _ other in
+        let zero_slot : slot + 1 ≡ 0 = sym (ap (λ (p : ℕ × ℕ). p.1) further) ∙ ap (λ (p : ℕ × ℕ). p.1) last in
+        omega (arith, zero_slot)
+
+-- the row of a slot that was read of its store
+pub row_of_store : (s t : Shape) (stores : List HashState) (store : HashState) (image : List ℕ) (place slot : ℕ) (row : Option Row) → place < length stores → store ≡ get_or stores place store → store.shape ≡ t → s ≡ t
+    → IsRowAt (slot_row store.shape store.region image slot) slot row → IsRowAt (slot_row s (get_or (regions_of stores) place 0) image slot) slot row
+row_of_store s t stores store image place slot row inside here shape same is =
+    subst (λ r. IsRowAt (slot_row s r image slot) slot row) (sym (store_at stores place store inside here)) (subst (λ (u : Shape). IsRowAt (slot_row u store.region image slot) slot row) (shape ∙ sym same) is)
+
 -- has gathered one slot more
-pub gathered_step : (content : Content) (stores : List HashState) (sorted : SortedState) (merge : MergeState) (store : HashState) (row : Option Row) (after : List (Key × Source)) (next : ℕ × ℕ) → IsHeldMerge merge
-    → merge.store < merge.stores → store ≡ get_or stores merge.store store → store.shape ≡ merge.shape → (IsTrue content.honest → IsRowAt (slot_row store.shape store.region content.shown merge.slot) merge.slot row)
+pub gathered_step : (content : Content) (stores : List HashState) (sorted : SortedState) (merge : MergeState) (row : Option Row) (after : List (Key × Source)) (next : ℕ × ℕ) → IsHeldMerge merge → merge.store < merge.stores
+    → (IsTrue content.honest → sorted.shape ≡ merge.shape → AreSlots sorted.shape (get_or (regions_of stores) merge.store 0) content.shown merge.slot merge.slots
+    → IsRowAt (slot_row sorted.shape (get_or (regions_of stores) merge.store 0) content.shown merge.slot) merge.slot row)
     → Gathers merge.store merge.slot row merge.waiting after → next ≡ slot_after merge.store merge.slot (4 * merge.shape.buckets)
-    → HasMerged content stores sorted merge → HasMerged content stores sorted (record merge { store = next.0; slot = next.1; waiting = after })
-gathered_step content stores sorted merge store row after next held below here shape read keeps is so_far = record {
+    → HasMerged content stores sorted merge → HasMerged content stores sorted (record merge { store = next.0; slot = next.1; waiting = after; slots = parts_after true merge.slots })
+gathered_step content stores sorted merge row after next held below read keeps is so_far = record {
   shape = so_far.shape;
   counted = so_far.counted;
   apart = so_far.apart;
@@ -148,9 +176,7 @@ gathered_step content stores sorted merge store row after next held below here s
       let slot : merge.slot < 4 * s.buckets = subst (λ (t : Shape). merge.slot < 4 * t.buckets) (sym so_far.shape) held.slot in
       let first : (key : List ℕ) (l : List StoredRow) → cond (has_row_with key (decided_rows image stores sorted merge.decided)) None (newest_row l key) ≡ newest_row l key =
       λ key l. ap (λ n. cond (has_row_with key (decided_rows image stores sorted n)) None (newest_row l key)) none in
-      let shown : IsRowAt (slot_row s (get_or regions merge.store 0) image merge.slot) merge.slot row =
-      subst (λ r. IsRowAt (slot_row s r image merge.slot) merge.slot row) (sym (store_at stores merge.store store inside here))
-      (subst (λ (t : Shape). IsRowAt (slot_row t store.region image merge.slot) merge.slot row) (shape ∙ sym so_far.shape) (read honest)) in
+      let shown = read honest so_far.shape (was.gathered.slots inside) in
       let kept = waits_kept s image regions merge.store merge.slot row merge.waiting after within slot sound.hashes shown keeps (λ key. was.gathered.waits key ∙ first key (gathered_rows s image regions merge.store merge.slot)) in
       let moved : gathered_rows s image regions next.0 next.1 ≡ gathered_rows s image regions merge.store (merge.slot + 1) =
       ap (λ (p : ℕ × ℕ). gathered_rows s image regions p.0 p.1) is
@@ -161,7 +187,10 @@ gathered_step content stores sorted merge store row after next held below here s
           most = was.gathered.most;
           waits = λ key. kept key ∙ ap (λ l. newest_row l key) (sym moved) ∙ sym (first key (gathered_rows s image regions next.0 next.1));
           last = was.gathered.last;
-          next = was.gathered.next;
+          slots = λ further.
+              subst (λ (p : ℕ × ℕ). AreSlots s (get_or regions p.0 0) image p.1 (parts_after true merge.slots)) (ap (λ (t : Shape). slot_after merge.store merge.slot (4 * t.buckets)) so_far.shape ∙ sym is)
+              (slots_next s regions image merge.store merge.slot merge.slots (was.gathered.slots inside));
+          ahead = was.gathered.ahead;
           passes = was.gathered.passes;
         };
         writes = was.writes;

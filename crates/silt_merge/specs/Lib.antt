@@ -1,4 +1,5 @@
 pub mod Rows
+pub mod Pieces
 pub mod State
 pub mod Choice
 pub mod Merging

@@ -1,5 +1,5 @@
 -- What a merge has gathered and written.
-use Rattle.std.specs.Prelude.{◌≡◌, ◌≢◌, ℕ, ◌≤◌, ◌<◌, nat_lt, cond, IsTrue, List, [], ◌++◌, filter, flat_map, get_or, length, map, slice_get, take, true, Some, None, option_map}
+use Rattle.std.specs.Prelude.{◌≡◌, ◌≢◌, ℕ, ◌≤◌, ◌<◌, nat_lt, cond, IsTrue, List, [], ◌++◌, filter, flat_map, get_or, length, map, take, true, Some, None, option_map}
 use Rattle.std.specs.List.{All}
 use Rattle.silt_device.specs.Disk.{Content}
 use Rattle.silt_device.specs.Layout.{Shape}
@@ -9,9 +9,10 @@ use Rattle.silt_hash_store.specs.State.{HashState}
 use Rattle.silt_event.specs.Rows.{newest_row, map_of_rows}
 use Rattle.silt_hash_store.specs.Findings.{hash_findings}
 use Rattle.silt_sorted_store.specs.Findings.{sorted_findings}
-use Rattle.silt_frame.specs.Rows.{StoredRow, entry_row, has_known_kind, is_put_row, keys_of, put_count}
+use Rattle.silt_frame.specs.Rows.{StoredRow, has_known_kind, is_put_row, keys_of, put_count}
 use Rattle.silt_sorted_store.specs.State.{sorted_rows, SortedState}
 use Rattle.silt_frame.specs.declared.key.Key.{Key}
+use Rattle.silt_merge.specs.Pieces.{AreEntries, AreSlots}
 use Rattle.silt_merge.specs.Rows.{entries_in, has_row_with, rows_of_hashes, key_count, newest_rows, regions_of, sources}
 use Rattle.silt_merge.specs.State.{MergeState, source_at}
 use Rattle.silt_merge.specs.declared.merge.StepError.{StepError}
@@ -39,13 +40,14 @@ abbrev pub decided_rows : List ℕ → List HashState → SortedState → ℕ �
 decided_rows image stores sorted decided = take decided (newest_rows (sources image stores sorted))
 
 -- so far the newest gathered row of each key waits until the key is decided, and the entries of decided keys are passed over; the last key
--- is one of those that are decided, and the bytes of the next entry are what it has
+-- is one of those that are decided, and the slots and the entries that are ahead are the next ones
 pub record IsGatheredIn (image : List ℕ) (stores : List HashState) (sorted : SortedState) (merge : MergeState) : Type 0 where
   pub most : merge.decided ≤ key_count (sources image stores sorted)
   pub waits : (key : List ℕ) → option_map (source_row sorted.shape image (regions_of stores)) (source_at merge.waiting key)
       ≡ cond (has_row_with key (decided_rows image stores sorted merge.decided)) None (newest_row (gathered_rows sorted.shape image (regions_of stores) merge.store merge.slot) key)
   pub last : (key : Key) → merge.last ≡ Some key → has_row_with key.0 (decided_rows image stores sorted merge.decided) ≡ true
-  pub next : (bytes : List ℕ) → merge.next ≡ Some bytes → merge.passed < sorted.count → slice_get (entries_in image sorted) merge.passed ≡ Some (entry_row bytes)
+  pub slots : merge.store < length stores → AreSlots sorted.shape (get_or (regions_of stores) merge.store 0) image merge.slot merge.slots
+  pub ahead : AreEntries (entries_in image sorted) merge.passed merge.ahead
   pub passes : (place : ℕ) → place < sorted.count
       → has_row_with (get_or (keys_of (entries_in image sorted)) place []) (decided_rows image stores sorted merge.decided) ≡ nat_lt place merge.passed
 

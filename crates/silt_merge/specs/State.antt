@@ -15,7 +15,7 @@ use Rattle.silt_trie.specs.Coded.{bytes_of}
 
 -- A merge: the sorted region that is written, how many hash stores there are, the store and the slot that are gathered next, the
 -- rows that wait for their keys to be decided, how many entries of the sorted store are passed over, how many entries are written,
--- and their keys, how many keys are decided, the last of them, and the bytes of the next entry, where they are read. An entry that is
+-- and their keys, how many keys are decided, the last of them, and the bytes of the next slots and of the next entries, as far as they are read. An entry that is
 -- passed over since its key is not above the last one counts as a key that is decided.
 pub record MergeState : Type 0 where
   pub shape : Shape
@@ -29,12 +29,8 @@ pub record MergeState : Type 0 where
   pub keys : List Key
   pub decided : ℕ
   pub last : Option Key
-  pub next : Option (List ℕ)
-
--- the bytes of the next entry, where they are read
-abbrev pub next_bytes : Bool → List ℕ → Option (List ℕ)
-next_bytes true bytes = Some bytes
-next_bytes false bytes = None
+  pub slots : List (List ℕ)
+  pub ahead : List (List ℕ)
 
 -- the next entry is not above the last key that is decided
 abbrev pub is_behind : Option Key → Option Key → Bool
@@ -62,10 +58,10 @@ abbrev pub passed_after : Bool → ℕ → ℕ
 passed_after true passed = passed + 1
 passed_after false passed = passed
 
--- the bytes of the next entry after a key, which the next entry has or not
-abbrev pub next_after : Bool → Option (List ℕ) → Option (List ℕ)
-next_after true next = None
-next_after false next = next
+-- what is ahead without what was read, which is all of it, or nothing where nothing was read
+abbrev pub ahead_without : Bool → List (List ℕ) → List (List ℕ)
+ahead_without true ahead = []
+ahead_without false ahead = ahead
 
 -- how many entries are written after a key, which has an entry that is written or not
 abbrev pub written_after : Bool → ℕ → ℕ

@@ -1,9 +1,9 @@
 //! Hash stores and a sorted store, merged into a new sorted store.
 //!
-//! A `Merge` goes by steps. It first gathers: it reads the head of each slot of each hash store, from the newest store on, and keeps
+//! A `Merge` goes by steps. It first gathers: it looks at each slot of each hash store, from the newest store on, and keeps
 //! for each key where its newest row lies. Then it decides the keys one after the other, from the lowest on: the lower one of the
 //! first gathered key and the key of the next entry. A gathered row decides over the entry of its key. A put is written as the next
-//! entry of the region, and a key whose newest row is a delete is left out.
+//! entry of the region, and a key whose newest row is a delete is left out. Slots and entries are read in pieces of at most 64 KiB.
 //!
 //! The last key that is decided stays in memory, and an entry whose key is not above it is passed over. So what is written rises, on
 //! any disk.
@@ -17,6 +17,7 @@
 mod choice;
 mod laws;
 mod merge;
+mod piece;
 mod source;
 
 pub use laws::{

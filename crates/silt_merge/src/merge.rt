@@ -1,24 +1,28 @@
 // A merge of hash stores and a sorted store, by steps.
 ghost use Rattle.std.specs.Prelude.{◌≡◌, ◌≢◌, ◌==◌, ◌+◌, ◌*◌, ◌<◌, ◌≤◌, ◌^◌, ◌↔◌, ℕ, List, [], Option, true, false, Some};
-ghost use Rattle.std.specs.Prelude.{None, cond, length, take, IsTrue, IfOk, IfErr, IfSome, OnOk, OnErr, MatchResult, is_some, nat_lt, slice_index, vec_capacity, vec_len};
+ghost use Rattle.std.specs.Prelude.{None, cond, length, take, IsTrue, IfOk, IfErr, IfSome, IsSomeAnd, OnOk, OnErr, MatchResult, is_some, nat_lt, slice_index, vec_capacity, vec_len};
 ghost use Rattle.std.specs.List.{All};
 ghost use Rattle.std.specs.Str.{bytes_eq};
 ghost use Rattle.silt_device.specs.Disk.{Content, ChangesWithin, CountsFault, GaveAny, size};
 ghost use Rattle.silt_device.specs.Layout.{Shape, device_size, entry_len, sorted_at, sorted_size};
 ghost use Rattle.silt_frame.specs.declared.key.Key.{Key};
 ghost use Rattle.silt_hash_store.specs.State.{HashState};
-ghost use Rattle.silt_merge.specs.Choice.{IsNextEntry, IsOffered, ReadsRow};
+ghost use Rattle.silt_hash_store.specs.Lookup.{IsRowAt};
+ghost use Rattle.silt_hash_store.specs.Slots.{slot_row};
+ghost use Rattle.silt_merge.specs.Choice.{Gathers, IsNextEntry, IsOffered, ReadsRow};
 ghost use Rattle.silt_merge.specs.Rows.{regions_of};
-ghost use Rattle.silt_merge.specs.State.{AreKeysUpTo, keys_after, next_after, passed_after, slot_after, written_after};
+ghost use Rattle.silt_merge.specs.State.{AreKeysUpTo, ahead_without, keys_after, passed_after, slot_after, written_after};
 ghost use Rattle.silt_trie.specs.Building.{is_above};
 ghost use Rattle.silt_merge.specs.declared.source.Source.{Source};
-ghost use Rattle.silt_sorted_store.specs.OnlyRow.{HasEntry};
+ghost use Rattle.silt_frame.specs.Rows.{StoredRow};
+ghost use Rattle.silt_merge.specs.Pieces.{AreEntries, AreSlots, parts_after};
 ghost use Rattle.silt_sorted_store.specs.State.{IsHeldSorted, SortedState, entries_of};
 
 use crate::choice::{Choice, choose, is_behind};
+use crate::piece::Piece;
 use crate::source::{Source, first, keep, remove_waiting};
 use silt_device::Disk;
-use silt_frame::{KEY_LEN, Key, entry_of};
+use silt_frame::{KEY_LEN, Key, Row};
 use silt_hash_store::HashStore;
 use silt_sorted_store::{SortedEntries, SortedRegion, SortedStore};
 use std::alloc::{AllocError, Global};
@@ -39,7 +43,7 @@ pub enum StepError<F> {
 /// Hash stores and a sorted store on their way to become a new sorted store.
 ///
 /// It keeps the key and the place of each row that waits to be decided, the last key that was decided, the keys of all entries that it
-/// wrote, and the bytes of the next entry of the sorted store, so that it is read once. Two more buffers of an entry serve each step.
+/// wrote, a piece of the next slots, and one of the next entries of the sorted store, each read together. A buffer of an entry serves each step.
 #[derive(Drop)]
 pub struct Merge {
     target: SortedRegion,
@@ -51,16 +55,15 @@ pub struct Merge {
     keys: Vec<Key>,
     decided: u64,
     last: Option<Key>,
-    is_read: bool,
-    next: Vec<u8>,
-    entry: Vec<u8>,
+    slots: Piece,
+    ahead: Piece,
     made: Vec<u8>,
 }
 
 impl Model for Merge {
     ghost use Rattle.std.specs.Prelude.{◌≡◌, ◌≤◌, vec_capacity, vec_len};
-    ghost use Rattle.silt_device.specs.Layout.{entry_len};
-    ghost use Rattle.silt_merge.specs.State.{MergeState, IsHeldMerge, next_bytes};
+    ghost use Rattle.silt_device.specs.Layout.{entry_len, row_len};
+    ghost use Rattle.silt_merge.specs.State.{MergeState, IsHeldMerge};
 
     ghost Value = { MergeState };
 
@@ -76,7 +79,8 @@ impl Model for Merge {
       keys = a.keys.items;
       decided = a.decided;
       last = a.last;
-      next = next_bytes a.is_read a.next.items;
+      slots = a.slots.parts;
+      ahead = a.ahead.parts;
     } };
 
     ghost invariant = { λ a. IsHeldMerge (record {
@@ -91,42 +95,26 @@ impl Model for Merge {
       keys = a.keys.items;
       decided = a.decided;
       last = a.last;
-      next = next_bytes a.is_read a.next.items;
-    }) × (vec_len a.next ≡ entry_len a.target.geometry) × (vec_len a.entry ≡ entry_len a.target.geometry) × (vec_len a.made ≡ entry_len a.target.geometry)
+      slots = a.slots.parts;
+      ahead = a.ahead.parts;
+    }) × (a.slots.len ≡ row_len a.target.geometry) × (a.ahead.len ≡ entry_len a.target.geometry) × (vec_len a.made ≡ entry_len a.target.geometry)
         × (a.target.geometry.sorted_capacity ≤ vec_capacity a.keys) × (a.target.geometry.sorted_capacity ≤ 16777216) };
 }
 
-// Puts the bytes of the next entry of the sorted store into a buffer, where not all are passed over: those that are kept, or it reads
-// them. Its key.
-fn read_next<D: Disk>(
-    sorted: &SortedEntries,
-    disk: &D,
-    passed: u32,
-    is_read: bool,
-    kept: &[u8],
-    out: &mut [u8],
-) -> Result<Option<Key>, D::Fault>
-    requires kept { length kept.now ≡ entry_len sorted.now.shape }
-    requires out { length out.old ≡ entry_len sorted.now.shape }
-    requires size { device_size sorted.now.shape ≤ size (D.content disk.now) }
-    ensures next { IsTrue (D.content disk.now).honest → (is_read ≡ true → passed < sorted.now.count → HasEntry (entries_of (D.content disk.now) sorted.now) passed kept.now)
-        → IfOk result (IsNextEntry (entries_of (D.content disk.now) sorted.now) passed out.new) }
-    ensures is_some { IfOk result (λ next. is_some next ≡ nat_lt passed sorted.now.count) }
-    ensures fault { IfErr result (GaveAny D.gave disk.now) }
+// Puts the bytes of the next entry of the sorted store into a buffer, where not all are passed over. Its key.
+fn next_entry(sorted: &SortedEntries, ahead: &Piece, passed: u32, out: &mut [u8]) -> Option<Key>
+    requires there { passed < sorted.now.count → 0 < length ahead.now.parts }
+    requires out { length out.old ≡ ahead.now.len }
+    ensures next { (rows : List StoredRow) → AreEntries rows passed ahead.now.parts → IsNextEntry rows passed out.new result }
+    ensures is_some { is_some result ≡ nat_lt passed sorted.now.count }
     ensures len { length out.new ≡ length out.old }
     ensures held { IsHeldSorted sorted.now }
     ensures small { sorted.now.count < 2 ^ 32 }
 {
     if passed >= sorted.len() {
-        return Ok(None);
+        return None;
     }
-    if is_read {
-        out.copy_from_slice(kept);
-        let (key, _value) = entry_of(kept);
-        return Ok(Some(key));
-    }
-    let key = sorted.entry(disk, passed, out)?;
-    Ok(Some(key))
+    Some(ahead.first_entry(out))
 }
 
 // Reads the value of a row that is a put and decides, behind its key, into a buffer. It leaves the bytes of an entry that decides.
@@ -209,7 +197,7 @@ impl Merge {
     ///
     /// # Errors
     ///
-    /// Where these places or the bytes of three entries find no memory.
+    /// Where these places, the two pieces or the bytes of one entry find no memory.
     pub fn start(
         alloc: Global,
         stores: &[HashStore],
@@ -231,13 +219,15 @@ impl Merge {
           keys = [];
           decided = 0;
           last = None;
-          next = None;
+          slots = [];
+          ahead = [];
         }) }
         ensures held { IfOk result IsHeldMerge }
         ensures merged { (content : Content) → IfOk result (HasMerged content stores.now sorted.now) }
     {
         let geometry = sorted.geometry();
-        let _buckets = geometry.buckets();
+        let slots = Piece::new(alloc, geometry.row_len(), 4 * geometry.buckets())?;
+        let ahead = Piece::new(alloc, geometry.entry_len(), sorted.len())?;
         Ok(Merge {
             target: SortedRegion {
                 geometry,
@@ -251,9 +241,8 @@ impl Merge {
             keys: Vec::with_capacity(alloc, geometry.sorted_capacity() as usize)?,
             decided: 0,
             last: None,
-            is_read: false,
-            next: vec![in alloc; 0; geometry.entry_len()]?,
-            entry: vec![in alloc; 0; geometry.entry_len()]?,
+            slots,
+            ahead,
             made: vec![in alloc; 0; geometry.entry_len()]?,
         })
     }
@@ -282,8 +271,76 @@ impl Merge {
         self.passed >= sorted.len()
     }
 
-    // Gathers one slot.
-    fn gather<D: Disk>(&mut self, stores: &[HashStore], disk: &D) -> Result<(), StepError<D::Fault>>
+    // Reads the next slots of a store, where none is ahead. Whether it read some.
+    fn read_slots<D: Disk>(&mut self, stores: &[HashStore], disk: &D) -> Result<bool, D::Fault>
+        requires more { self.old.store < self.old.stores }
+        requires count { length stores.now ≡ self.old.stores }
+        requires shapes { All (λ store. store.shape ≡ self.old.shape) stores.now }
+        requires size { device_size self.old.shape ≤ size (D.content disk.now) }
+        ensures state { OnOk result (self.new ≡ record self.old { slots = self.new.slots }) }
+        ensures before { IfOk result (λ is_read. ahead_without is_read self.new.slots ≡ self.old.slots) }
+        ensures there { OnOk result (0 < length self.new.slots) }
+        ensures merged { (sorted : SortedState) → OnOk result (HasMerged (D.content disk.now) stores.now sorted self.old → HasMerged (D.content disk.now) stores.now sorted self.new) }
+        ensures held { IsHeldMerge self.new }
+        ensures err { OnErr result (self.new ≡ self.old) }
+        ensures fault { IfErr result (GaveAny D.gave disk.now) }
+    {
+        if !self.slots.is_empty() {
+            return Ok(false);
+        }
+        let store = &stores[self.store as usize];
+        self.slots.read_slots(store, disk, self.slot)?;
+        Ok(true)
+    }
+
+    // Forgets the slots that are ahead, where they were read just now.
+    fn forget_slots(&mut self, is_read: bool)
+        ensures held { IsHeldMerge self.new }
+        ensures state { self.new ≡ record self.old { slots = ahead_without is_read self.old.slots } }
+    {
+        if is_read {
+            self.slots.clear();
+        }
+    }
+
+    // The row of the next slot, which is ahead.
+    fn row_ahead(&self) -> Option<Row>
+        requires there { 0 < length self.now.slots }
+        ensures { (shape : Shape) (region : ℕ) (image : List ℕ) → AreSlots shape region image self.now.slot self.now.slots → IsRowAt (slot_row shape region image self.now.slot) self.now.slot result }
+    {
+        self.slots.first_row(self.slot)
+    }
+
+    // Keeps the row of the next slot, unless a newer one of its key is kept, and goes on to the slot after it.
+    fn take_row(&mut self, row: Option<Row>) -> Result<(), AllocError>
+        requires more { self.old.store < self.old.stores }
+        ensures gathers { OnOk result (Gathers self.old.store self.old.slot row self.old.waiting self.new.waiting) }
+        ensures state { OnOk result (self.new ≡ record self.old {
+          store = (slot_after self.old.store self.old.slot (4 * self.old.shape.buckets)).0;
+          slot = (slot_after self.old.store self.old.slot (4 * self.old.shape.buckets)).1;
+          waiting = self.new.waiting;
+          slots = parts_after true self.old.slots;
+        }) }
+        ensures ok { OnOk result (steps_of self.new ≡ steps_of self.old + 1) }
+        ensures held { IsHeldMerge self.new }
+        ensures err { OnErr result (self.new ≡ self.old) }
+        ensures new_key { OnErr result (IsSomeAnd row (λ row. source_at self.old.waiting row.key.0 ≡ None)) }
+    {
+        if let Err(error) = keep(&mut self.waiting, self.store, self.slot, row) {
+            return Err(error);
+        }
+        let slots = 4 * self.target.geometry.buckets();
+        (self.store, self.slot) = slot_after(self.store, self.slot, slots);
+        self.slots.pass(true);
+        Ok(())
+    }
+
+    // Gathers one slot by a read of its head.
+    fn gather_head<D: Disk>(
+        &mut self,
+        stores: &[HashStore],
+        disk: &D,
+    ) -> Result<(), StepError<D::Fault>>
         requires more { self.old.store < self.old.stores }
         requires count { length stores.now ≡ self.old.stores }
         requires shapes { All (λ store. store.shape ≡ self.old.shape) stores.now }
@@ -300,12 +357,39 @@ impl Merge {
             Ok(row) => row,
             Err(fault) => return Err(StepError::Read(fault)),
         };
-        let Ok(()) = keep(&mut self.waiting, self.store, self.slot, row) else {
-            return Err(StepError::NoMemory);
+        match self.take_row(row) {
+            Ok(()) => Ok(()),
+            Err(_) => Err(StepError::NoMemory),
+        }
+    }
+
+    // Gathers one slot, after a read of the next ones where none is ahead. Where its row finds no memory, that is told of the slot as the disk
+    // shows it then.
+    fn gather<D: Disk>(&mut self, stores: &[HashStore], disk: &D) -> Result<(), StepError<D::Fault>>
+        requires more { self.old.store < self.old.stores }
+        requires count { length stores.now ≡ self.old.stores }
+        requires shapes { All (λ store. store.shape ≡ self.old.shape) stores.now }
+        requires size { device_size self.old.shape ≤ size (D.content disk.now) }
+        ensures ok { OnOk result (steps_of self.new ≡ steps_of self.old + 1) }
+        ensures same { IsSameMerge self.old self.new }
+        ensures held { IsHeldMerge self.new }
+        ensures err { OnErr result (self.new ≡ self.old) }
+        ensures rises { LastRises self.old self.new }
+        ensures merged { (sorted : SortedState) → HasMerged (D.content disk.now) stores.now sorted self.old → HasMerged (D.content disk.now) stores.now sorted self.new }
+        ensures failures { IfErr result (FailsMerge (GaveAny D.gave) (λ fault. ⊥) (TakesMemory (D.content disk.now) stores.now self.old) disk.now disk.now) }
+    {
+        let is_read = match self.read_slots(stores, disk) {
+            Ok(is_read) => is_read,
+            Err(fault) => return Err(StepError::Read(fault)),
         };
-        let slots = 4 * self.target.geometry.buckets();
-        (self.store, self.slot) = slot_after(self.store, self.slot, slots);
-        Ok(())
+        let row = self.row_ahead();
+        match self.take_row(row) {
+            Ok(()) => Ok(()),
+            Err(_) => {
+                self.forget_slots(is_read);
+                self.gather_head(stores, disk)
+            }
+        }
     }
 
     // Marks a key as decided: no row waits for it any more, and the entry that has it is passed over. The key is kept where an entry
@@ -324,7 +408,7 @@ impl Merge {
           keys = keys_after is_written self.old.keys choice.now.key;
           decided = self.old.decided + 1;
           last = Some choice.now.key;
-          next = next_after choice.now.passes self.old.next;
+          ahead = parts_after choice.now.passes self.old.ahead;
         } }
     {
         remove_waiting(&mut self.waiting, &choice.key);
@@ -332,21 +416,101 @@ impl Merge {
         keep_key(&mut self.keys, choice.key, is_written);
         self.decided += 1;
         self.last = Some(choice.key);
-        self.is_read = self.is_read && !choice.passes;
+        self.ahead.pass(choice.passes);
     }
+
     // Passes over the next entry, whose key is not above the last one.
     fn pass_entry(&mut self)
         requires gathered { self.old.store ≡ self.old.stores }
         requires passed { self.old.passed + 1 < 2 ^ 32 }
         ensures held { IsHeldMerge self.new }
-        ensures state { self.new ≡ record self.old { passed = self.old.passed + 1; decided = self.old.decided + 1; next = None } }
+        ensures state { self.new ≡ record self.old { passed = self.old.passed + 1; decided = self.old.decided + 1; ahead = parts_after true self.old.ahead } }
     {
         self.passed += 1;
         self.decided += 1;
-        self.is_read = false;
+        self.ahead.pass(true);
     }
 
-    // Decides one key: reads the next entry, and the value of the row that decides, and writes the entry that is due.
+    // Reads the next entries of the sorted store, where none is ahead and not all are passed over. Whether it read some.
+    fn read_ahead<D: Disk>(&mut self, sorted: &SortedEntries, disk: &D) -> Result<bool, D::Fault>
+        requires shape { sorted.now.shape ≡ self.old.shape }
+        requires size { device_size self.old.shape ≤ size (D.content disk.now) }
+        ensures state { OnOk result (self.new ≡ record self.old { ahead = self.new.ahead }) }
+        ensures before { IfOk result (λ is_read. ahead_without is_read self.new.ahead ≡ self.old.ahead) }
+        ensures there { OnOk result (self.old.passed < sorted.now.count → 0 < length self.new.ahead) }
+        ensures merged { (stores : List HashState) → OnOk result (HasMerged (D.content disk.now) stores sorted.now self.old → HasMerged (D.content disk.now) stores sorted.now self.new) }
+        ensures held { IsHeldMerge self.new }
+        ensures err { OnErr result (self.new ≡ self.old) }
+        ensures fault { IfErr result (GaveAny D.gave disk.now) }
+    {
+        if !self.ahead.is_empty() {
+            return Ok(false);
+        }
+        if self.passed >= sorted.len() {
+            return Ok(false);
+        }
+        self.ahead.read_entries(sorted, disk, self.passed)?;
+        Ok(true)
+    }
+
+    // Forgets the entries that are ahead, where they were read just now.
+    fn forget_ahead(&mut self, is_read: bool)
+        ensures held { IsHeldMerge self.new }
+        ensures state { self.new ≡ record self.old { ahead = ahead_without is_read self.old.ahead } }
+    {
+        if is_read {
+            self.ahead.clear();
+        }
+    }
+
+    // Decides one key, where the next entry is ahead: reads the value of the row that decides, and writes the entry that is due.
+    fn decide_next<D: Disk>(
+        &mut self,
+        stores: &[HashStore],
+        sorted: &SortedEntries,
+        disk: &mut D,
+    ) -> Result<(), StepError<D::Fault>>
+        requires more { is_done self.old sorted.now ≡ false }
+        requires there { self.old.passed < sorted.now.count → 0 < length self.old.ahead }
+        requires gathered { self.old.store ≡ self.old.stores }
+        requires count { length stores.now ≡ self.old.stores }
+        requires shapes { All (λ store. store.shape ≡ self.old.shape) stores.now }
+        requires shape { sorted.now.shape ≡ self.old.shape }
+        requires size { device_size self.old.shape ≤ size (D.content disk.old) }
+        ensures size { size (D.content disk.new) ≡ size (D.content disk.old) }
+        ensures changes { ChangesWithin (sorted_entry_at self.old.shape self.old.region self.old.written) (entry_len self.old.shape) (D.content disk.old) (D.content disk.new) }
+        ensures region { ChangesWithin (sorted_at self.old.shape self.old.region) (self.old.shape.sorted_capacity * entry_len self.old.shape) (D.content disk.old) (D.content disk.new) }
+        ensures ok { OnOk result (steps_of self.new ≡ steps_of self.old + 1) }
+        ensures same { IsSameMerge self.old self.new }
+        ensures held { IsHeldMerge self.new }
+        ensures err { OnErr result (self.new ≡ self.old) }
+        ensures rises { LastRises self.old self.new }
+        ensures merged { HasMerged (D.content disk.old) stores.now sorted.now self.old → HasMerged (D.content disk.new) stores.now sorted.now self.new }
+        ensures failures { MatchResult result (λ _. D.failures disk.new ≡ D.failures disk.old) (FailsMerge (GaveAny D.gave) (CountsFault D.failures D.gave disk.old disk.new) ⊥ disk.old disk.new) }
+    {
+        let next = next_entry(sorted, &self.ahead, self.passed, &mut self.made);
+        if is_behind(self.last, next) {
+            self.pass_entry();
+            return Ok(());
+        }
+        let Some(choice) = choose(first(&self.waiting), next) else {
+            return Ok(());
+        };
+        if let Err(fault) = read_row(stores, disk, &choice, &mut self.made) {
+            return Err(StepError::Read(fault));
+        }
+        let written = self.keys.len() as u32;
+        match self
+            .target
+            .write_due(disk, written, choice.is_put(), &self.made)
+        {
+            Ok(count) => self.mark_decided(&choice, count > written),
+            Err(fault) => return Err(StepError::Write(fault)),
+        }
+        Ok(())
+    }
+
+    // Decides one key, after a read of the next entries where none is ahead.
     fn decide<D: Disk>(
         &mut self,
         stores: &[HashStore],
@@ -370,45 +534,22 @@ impl Merge {
         ensures merged { HasMerged (D.content disk.old) stores.now sorted.now self.old → HasMerged (D.content disk.new) stores.now sorted.now self.new }
         ensures failures { MatchResult result (λ _. D.failures disk.new ≡ D.failures disk.old) (FailsMerge (GaveAny D.gave) (CountsFault D.failures D.gave disk.old disk.new) ⊥ disk.old disk.new) }
     {
-        let next = match read_next(
-            sorted,
-            disk,
-            self.passed,
-            self.is_read,
-            &self.next,
-            &mut self.entry,
-        ) {
-            Ok(next) => next,
+        let is_read = match self.read_ahead(sorted, disk) {
+            Ok(is_read) => is_read,
             Err(fault) => return Err(StepError::Read(fault)),
         };
-        if is_behind(self.last, next) {
-            self.pass_entry();
-            return Ok(());
-        }
-        let Some(choice) = choose(first(&self.waiting), next) else {
-            return Ok(());
-        };
-        self.made.copy_from_slice(&self.entry);
-        if let Err(fault) = read_row(stores, disk, &choice, &mut self.made) {
-            return Err(StepError::Read(fault));
-        }
-        let written = self.keys.len() as u32;
-        match self
-            .target
-            .write_due(disk, written, choice.is_put(), &self.made)
-        {
-            Ok(count) => {
-                std::mem::swap(&mut self.next, &mut self.entry);
-                self.is_read = true;
-                self.mark_decided(&choice, count > written);
+        match self.decide_next(stores, sorted, disk) {
+            Ok(()) => Ok(()),
+            Err(error) => {
+                self.forget_ahead(is_read);
+                Err(error)
             }
-            Err(fault) => return Err(StepError::Write(fault)),
         }
-        Ok(())
     }
 
     /// Takes the next step: gathers one slot, or decides one key. It makes at most two reads and then at most one write, of one
-    /// entry, and takes memory for at most one row. The next entry of the sorted store is read once, and anew after a step that failed.
+    /// entry, and takes memory for at most one row. Slots and entries are read once, in pieces of at most 64 KiB, and those of a piece anew
+    /// where the step failed that read it.
     ///
     /// The stores are those that stand, the newest first: the last of them are those that the merge took, whatever stands in front of
     /// them since.

@@ -1,13 +1,13 @@
 -- The keys of entries that were read together.
-use Rattle.std.proofs.Common.{◌≡◌, ℕ, ◌+◌, ◌*◌, ◌<◌, ◌≤◌, List, ◌++◌, length, take, drop, slice_range, sym, ap, ◌∙◌, arith, length-append}
+use Rattle.std.proofs.Common.{◌≡◌, ℕ, ◌+◌, ◌*◌, ◌<◌, ◌≤◌, List, ◌++◌, length, take, drop, slice_range, refl, sym, ap, ◌∙◌, arith, length-append}
 use Rattle.std.proofs.lemmas.List.{take-append-drop}
 use Rattle.std.proofs.Math.Nat.{add-mul, mul-le-mul_right}
 use Rattle.silt_device.specs.Layout.{Shape, device_size, entry_len}
 use Rattle.silt_frame.specs.Rows.{StoredRow}
 use Rattle.silt_sorted_store.specs.State.{sorted_rows, sorted_entry_at}
 use Rattle.silt_log.proofs.Parts.{slice_of_slice}
-use Rattle.silt_sorted_store.specs.Indexing.{HoldsKeys}
-use Rattle.silt_sorted_store.proofs.Entries.{key_read, part_inside}
+use Rattle.silt_sorted_store.specs.Indexing.{HoldsEntries, HoldsKeys}
+use Rattle.silt_sorted_store.proofs.Entries.{entry_read, key_read, part_inside}
 use Rattle.silt_sorted_store.proofs.Elsewhere.{entries_inside}
 use Rattle.silt_sorted_store.proofs.Rising.{key_at}
 
@@ -28,6 +28,17 @@ keys_read shape region total image place count at n bytes within here long fits 
     let part : slice_range image (at + i * len) (at + i * len + 20) ≡ slice_range bytes (i * len) (i * len + 20) =
     slice_of_slice image at n (i * len) 20 (omega (arith, inside)) fits ∙ ap (λ b. slice_range b (i * len) (i * len + 20)) (sym read) in
     key_read shape region total image (place + i) (at + i * len) (slice_range bytes (i * len) (i * len + 20)) (omega (arith, within, below)) there (omega (arith, inside, fits)) (sym part)
+
+-- and the entries themselves
+pub entries_read : (shape : Shape) (region total : ℕ) (image : List ℕ) (place count at n : ℕ) (bytes : List ℕ) → place + count ≤ total → at ≡ sorted_entry_at shape region place → n ≡ count * entry_len shape → at + n ≤ length image
+    → bytes ≡ slice_range image at (at + n) → HoldsEntries (sorted_rows shape region total image) place count (entry_len shape) bytes
+entries_read shape region total image place count at n bytes within here long fits read = λ i below.
+    let len : ℕ = entry_len shape in
+    let inside = part_inside 0 len count i n (omega (arith, long)) below in
+    let there : at + i * len ≡ sorted_entry_at shape region (place + i) = omega (arith, here, add-mul place i len) in
+    let part : slice_range image (at + i * len) (at + i * len + len) ≡ slice_range bytes (i * len) (i * len + len) =
+    slice_of_slice image at n (i * len) len (omega (arith, inside)) fits ∙ ap (λ b. slice_range b (i * len) (i * len + len)) (sym read) in
+    entry_read shape region total image (place + i) (at + i * len) len (slice_range bytes (i * len) (i * len + len)) (omega (arith, within, below)) there refl (sym part)
 
 -- a buffer that has room for `most` of them has room for fewer
 pub chunk_fits : (shape : Shape) (next most len room : ℕ) → next ≤ most → len ≡ entry_len shape → most * entry_len shape ≤ room → next * len ≤ room

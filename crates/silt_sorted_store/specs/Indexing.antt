@@ -3,12 +3,17 @@ use Rattle.std.specs.Prelude.{◌≡◌, ℕ, ◌+◌, ◌-◌, ◌*◌, ◌<◌
 use Rattle.silt_frame.specs.Rows.{StoredRow, keys_of}
 use Rattle.silt_frame.specs.declared.key.Key.{Key}
 use Rattle.silt_sorted_store.specs.Findings.{entry_findings}
+use Rattle.silt_sorted_store.specs.OnlyRow.{HasEntry}
 use Rattle.silt_sorted_store.specs.Rebuild.{IsFirstOutOfOrder}
 use Rattle.silt_trie.specs.Building.{Building, IsBuildingOf}
 
 -- so many rows from a place on have the keys in these bytes, each of which begins one of the parts of `len` bytes
 abbrev pub HoldsKeys : List StoredRow → ℕ → ℕ → ℕ → List ℕ → Type 0
 HoldsKeys rows place count len bytes = (i : ℕ) → i < count → get_or (keys_of rows) (place + i) [] ≡ slice_range bytes (i * len) (i * len + 20)
+
+-- so many rows from a place on are what these bytes stand for, one after the other, `len` bytes each
+abbrev pub HoldsEntries : List StoredRow → ℕ → ℕ → ℕ → List ℕ → Type 0
+HoldsEntries rows place count len bytes = (i : ℕ) → i < count → HasEntry rows (place + i) (slice_range bytes (i * len) (i * len + len))
 
 -- this is the key of the row before a place, and there is none before the first
 abbrev pub IsKeyBefore : List StoredRow → ℕ → Option Key → Type 0

@@ -34,7 +34,7 @@ impl Model for SortedEntries {
 impl SortedEntries {
     ghost use Rattle.silt_sorted_store.specs.State.{SortedState, IsHeldSorted, sorted_entry_at, entries_of};
     ghost use Rattle.silt_sorted_store.specs.OnlyRow.{HasEntry, HasKeyAndValue, HasValue};
-    ghost use Rattle.silt_sorted_store.specs.Indexing.{HoldsKeys};
+    ghost use Rattle.silt_sorted_store.specs.Indexing.{HoldsEntries, HoldsKeys};
 
     /// The first `count` entries of this region, with no look at the device.
     pub fn new(geometry: Geometry, region: u32, count: u32) -> Self
@@ -138,8 +138,12 @@ impl SortedEntries {
         Ok(Key(key))
     }
 
-    // Reads so many entries from a place on, in one read.
-    pub(crate) fn read_entries<D: Disk>(
+    /// Reads so many entries from a place on, in one read.
+    ///
+    /// # Errors
+    ///
+    /// The fault of the read. The bytes of `out` are then open.
+    pub fn read_entries<D: Disk>(
         &self,
         disk: &D,
         place: u32,
@@ -151,6 +155,7 @@ impl SortedEntries {
         requires out { length out.old ≡ count * entry_len self.now.shape }
         requires size { device_size self.now.shape ≤ size (D.content disk.now) }
         ensures keys { IsTrue (D.content disk.now).honest → OnOk result (HoldsKeys (entries_of (D.content disk.now) self.now) place count (entry_len self.now.shape) out.new) }
+        ensures entries { IsTrue (D.content disk.now).honest → OnOk result (HoldsEntries (entries_of (D.content disk.now) self.now) place count (entry_len self.now.shape) out.new) }
         ensures fault { IfErr result (GaveAny D.gave disk.now) }
     {
         let _count = self.len(); // so the entries lie within the region

@@ -1,33 +1,16 @@
-use Rattle.std.proofs.Common.{◌≡◌, ◌*◌, ap, ◌∙◌, arith}
-use Rattle.silt_hash_store.specs.State.{HashState}
+use Rattle.std.proofs.Common.{◌≡◌, ◌*◌, ◌<◌, List, ℕ, get_or, refl, sym, subst, ap, ◌∙◌, arith}
+use Rattle.silt_merge.specs.Merging.{HasMerged}
+use Rattle.silt_merge.specs.Rows.{regions_of}
 use Rattle.silt_merge.specs.State.{MergeState, slot_after}
-use Rattle.silt_merge.proofs.Stepping.{gathered_held, gathered_step}
-use Rattle.silt_merge.proofs.Viewing.{state_of}
+use Rattle.silt_merge.proofs.Stepping.{gathered_step}
 use Rattle.silt_merge.proofs.merge.Merge.gather.Goals as goal
 
-pub invariant_of-self-2 : goal.invariant_of-self-2
-invariant_of-self-2 g c =
-    let merge : MergeState = state_of c.self.inside in
-    let below = rw (← c.self.view_is) at c.requires.more in
-    let next : c.slot_after.result ≡ slot_after merge.store merge.slot (4 * merge.shape.buckets) = c.slot_after.ensures ∙ ap (slot_after merge.store merge.slot) (ap (λ n. 4 * n) c.buckets-slots.ensures.value) in
-    (gathered_held merge c.in-Ok.row c.keep.new.waiting.entries c.slot_after.result c.self.invariant.0 below c.in-Ok-keep.ensures.ok c.in-Ok-keep.ensures.len next, c.self.invariant.1, c.self.invariant.2, c.self.invariant.3, c.self.invariant.4, c.self.invariant.5)
-
-pub returns-clause-held : goal.returns-clause-held
-returns-clause-held g c =
-    let merge : MergeState = state_of c.self.inside in
-    let below = rw (← c.self.view_is) at c.requires.more in
-    let next : c.slot_after.result ≡ slot_after merge.store merge.slot (4 * merge.shape.buckets) = c.slot_after.ensures ∙ ap (slot_after merge.store merge.slot) (ap (λ n. 4 * n) c.buckets-slots.ensures.value) in
-    gathered_held merge c.in-Ok.row c.keep.new.waiting.entries c.slot_after.result c.self.invariant.0 below c.in-Ok-keep.ensures.ok c.in-Ok-keep.ensures.len next
-
-pub returns-clause-merged : goal.returns-clause-merged
-returns-clause-merged g c =
-    let merge : MergeState = state_of c.self.inside in
-    let below = rw (← c.self.view_is) at c.requires.more in
-    let count = rw (← c.self.view_is) at c.requires.count in
-    let shapes = rw (← c.self.view_is) at c.requires.shapes in
-    let store : HashState = c.index-stores-self.result in
-    let next : c.slot_after.result ≡ slot_after merge.store merge.slot (4 * merge.shape.buckets) = c.slot_after.ensures ∙ ap (slot_after merge.store merge.slot) (ap (λ n. 4 * n) c.buckets-slots.ensures.value) in
-    let shape : store.shape ≡ merge.shape = ap (λ (s : HashState). s.shape) c.index-stores-self.is ∙ shapes merge.store store (omega (arith, below, count)) in
-    rw (← c.self.view_is) (λ sorted is.
-    gathered_step (g.D.Disk.content c.args.disk.now) c.args.stores.now sorted merge store c.in-Ok.row c.keep.new.waiting.entries c.slot_after.result c.self.invariant.0 below c.index-stores-self.is shape
-    c.in-Ok.ensures.row c.in-Ok-keep.ensures.ok next is)
+pub returns-in-Ok-take_row-clause-merged : goal.returns-in-Ok-take_row-clause-merged
+returns-in-Ok-take_row-clause-merged g c = λ sorted is.
+    let content = g.D.Disk.content c.args.disk.now in
+    let read : MergeState = c.read_slots.new.self in
+    let same : c.args.self.now.store ≡ read.store = sym (ap (λ (m : MergeState). m.store) c.in-Ok.ensures.state) in
+    let all : c.args.self.now.stores ≡ read.stores = sym (ap (λ (m : MergeState). m.stores) c.in-Ok.ensures.state) in
+    subst (λ (m : MergeState). HasMerged content c.args.stores.now sorted m) (sym c.in-Ok-take_row.ensures.state)
+    (gathered_step content c.args.stores.now sorted read c.row_ahead-row.result c.take_row.new.self.waiting (slot_after read.store read.slot (4 * read.shape.buckets)) c.in-Ok.ensures.held (omega (arith, same, all, c.requires.more))
+    (λ honest shape slots. c.row_ahead-row.ensures sorted.shape (get_or (regions_of c.args.stores.now) read.store 0) content.shown slots) c.in-Ok-take_row.ensures.gathers refl (c.in-Ok.ensures.merged sorted is))

@@ -1,5 +1,6 @@
-use Rattle.std.proofs.Common.{arith}
+use Rattle.std.proofs.Common.{ap, ◌∙◌, arith}
 use Rattle.std.specs.Vec.{vec_len}
+use Rattle.silt_merge.specs.Pieces.{PieceState}
 use Rattle.silt_merge.specs.State.{MergeState}
 use Rattle.silt_merge.proofs.Ending.{decided_held, decided_keys}
 use Rattle.silt_merge.proofs.Viewing.{state_of}
@@ -20,7 +21,7 @@ invariant_of-self c =
     rw c.passed_after-self-inside.ensures (
       decided_held merge c.args.choice.now c.remove_waiting.new.waiting.entries (vec_len c.keep_key.new.keys) c.keep_key.new.keys.items _ c.self.invariant.0 all offered kept.0 kept.1 c.remove_waiting.ensures.gone c.remove_waiting.ensures.len c.remove_waiting.ensures.less,
       c.self.invariant.1,
-      c.self.invariant.2,
+      ap (λ (p : PieceState). p.len) c.pass.ensures ∙ c.self.invariant.2,
       c.self.invariant.3,
       omega (arith, c.keep_key.ensures.room, c.self.invariant.4),
       c.self.invariant.5,

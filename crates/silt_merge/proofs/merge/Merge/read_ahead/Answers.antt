@@ -1,0 +1,24 @@
+use Rattle.std.proofs.Common.{List, ℕ, sym, ap, ◌∙◌}
+use Rattle.silt_merge.specs.State.{MergeState}
+use Rattle.silt_merge.proofs.Ending.{held_ahead, merged_ahead}
+use Rattle.silt_merge.proofs.Reading.{on_err}
+use Rattle.silt_merge.proofs.Viewing.{state_of}
+use Rattle.silt_merge.proofs.merge.Merge.read_ahead.Goals as goal
+
+pub invariant_of-self : goal.invariant_of-self
+invariant_of-self g c =
+    let merge : MergeState = state_of c.self.inside in
+    (held_ahead merge merge.slots c.read_entries.new.self.parts c.self.invariant.0, c.self.invariant.1, c.read_entries.ensures.len ∙ c.self.invariant.2, c.self.invariant.3, c.self.invariant.4, c.self.invariant.5)
+
+pub returns-in_err-read_entries-clause-err : goal.returns-in_err-read_entries-clause-err
+returns-in_err-read_entries-clause-err g c =
+    let merge : MergeState = state_of c.self.inside in
+    rw (← c.self.view_is) (on_err _ (ap (λ (a : List (List ℕ)). let m : MergeState = record merge { ahead = a } in m) (c.in_err-read_entries.ensures.err ∙ sym (c.is_empty.ensures.none c.if-not-is_empty.false))))
+
+pub returns-clause-before : goal.returns-clause-before
+returns-clause-before g c = rw (← c.self.view_is) (sym (c.is_empty.ensures.none c.if-not-is_empty.false))
+
+pub returns-clause-merged : goal.returns-clause-merged
+returns-clause-merged g c =
+    let merge : MergeState = state_of c.self.inside in
+    rw (← c.self.view_is) (λ stores is. merged_ahead (g.D.Disk.content c.args.disk.now) stores c.args.sorted.now merge c.read_entries.new.self.parts c.in_ok-read_entries.ensures.entries is)

@@ -1,0 +1,38 @@
+use Rattle.std.proofs.Common.{◌≡◌, List, ℕ, get_or, sym, subst, ap, ◌∙◌, arith}
+use Rattle.silt_device.specs.Layout.{Shape}
+use Rattle.silt_hash_store.specs.State.{HashState}
+use Rattle.silt_merge.specs.Pieces.{AreSlots}
+use Rattle.silt_merge.specs.Rows.{regions_of}
+use Rattle.silt_merge.specs.State.{MergeState}
+use Rattle.silt_merge.proofs.Ending.{held_ahead, merged_slots}
+use Rattle.silt_merge.proofs.Reading.{on_err, store_at}
+use Rattle.silt_merge.proofs.Viewing.{state_of}
+use Rattle.silt_merge.proofs.merge.Merge.read_slots.Goals as goal
+
+pub invariant_of-self : goal.invariant_of-self
+invariant_of-self g c =
+    let merge : MergeState = state_of c.self.inside in
+    (held_ahead merge c.read_slots.new.self.parts merge.ahead c.self.invariant.0, c.read_slots.ensures.len ∙ c.self.invariant.1, c.self.invariant.2, c.self.invariant.3, c.self.invariant.4, c.self.invariant.5)
+
+pub returns-in_err-read_slots-clause-err : goal.returns-in_err-read_slots-clause-err
+returns-in_err-read_slots-clause-err g c =
+    let merge : MergeState = state_of c.self.inside in
+    rw (← c.self.view_is) (on_err _ (ap (λ (a : List (List ℕ)). let m : MergeState = record merge { slots = a } in m) (c.in_err-read_slots.ensures.err ∙ sym (c.is_empty.ensures.none c.if-not-is_empty.false))))
+
+pub returns-clause-before : goal.returns-clause-before
+returns-clause-before g c = rw (← c.self.view_is) (sym (c.is_empty.ensures.none c.if-not-is_empty.false))
+
+pub returns-clause-merged : goal.returns-clause-merged
+returns-clause-merged g c =
+    let merge : MergeState = state_of c.self.inside in
+    let below = rw (← c.self.view_is) at c.requires.more in
+    let count = rw (← c.self.view_is) at c.requires.count in
+    let shapes = rw (← c.self.view_is) at c.requires.shapes in
+    let store : HashState = c.index-stores-self.result in
+    let image : List ℕ = (g.D.Disk.content c.args.disk.now).shown in
+    let shape : store.shape ≡ merge.shape = ap (λ (s : HashState). s.shape) c.index-stores-self.is ∙ shapes merge.store store (omega (arith, below, count)) in
+    let region : get_or (regions_of c.args.stores.now) merge.store 0 ≡ store.region = store_at c.args.stores.now merge.store store (omega (arith, below, count)) c.index-stores-self.is in
+    rw (← c.self.view_is) (λ sorted is.
+    merged_slots (g.D.Disk.content c.args.disk.now) c.args.stores.now sorted merge c.read_slots.new.self.parts
+    (λ honest same. subst (λ r. AreSlots sorted.shape r image merge.slot c.read_slots.new.self.parts) (sym region)
+    (subst (λ (s : Shape). AreSlots s store.region image merge.slot c.read_slots.new.self.parts) (shape ∙ sym same) (c.in_ok-read_slots.ensures.slots honest))) is)
