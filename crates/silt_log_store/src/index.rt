@@ -1,5 +1,5 @@
 // The table of a log's keys as it grows in a rebuild, with the keys themselves, so that no key is read twice.
-ghost use Rattle.std.specs.Prelude.{◌≡◌, ◌+◌, ◌<◌, ◌≤◌, ◌^◌, [], IfOk, IfSome, IsSome, All, length, get_or, find, option_map};
+ghost use Rattle.std.specs.Prelude.{◌≡◌, ◌+◌, ◌<◌, ◌≤◌, ◌^◌, [], IfOk, IfSome, IsSome, All, length, vec_capacity, get_or, find, option_map};
 ghost use Rattle.std.specs.Str.{bytes_eq};
 ghost use Rattle.silt_cuckoo.specs.declared.lookup.Candidate.{Candidate};
 ghost use Rattle.silt_cuckoo.specs.Index.{slot_of_key};
@@ -31,6 +31,7 @@ impl KeyIndex {
         ensures index { IfOk result IsKeyIndex }
         ensures buckets { IfOk result (λ index. bucket_count index.table ≡ buckets) }
         ensures empty { IfOk result (IsOfRows []) }
+        ensures room { IfOk result (λ index. capacity ≤ vec_capacity index.keys) }
     {
         Ok(KeyIndex {
             table: Table::new(alloc, buckets)?,

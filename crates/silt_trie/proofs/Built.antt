@@ -89,10 +89,12 @@ pub record CodesGroups (first at : ℕ) (old new : Building) : Type 0 where
   pub empty : first < at → new.group ≡ []
   pub same : at ≤ first → new ≡ old
   pub stays : (new.count ≡ old.count) × (new.last ≡ old.last)
+  pub levels : new.levels ≡ old.levels
 
 -- one group more
-pub codes_more : (first at : ℕ) (old now new : Building) → at < 256 → CodesGroups first at old now → ((n : ℕ) (keys : List (List ℕ)) → n < 256 → HasGroups n keys now → HasGroups (n + 1) keys new) → new.group ≡ [] → (new.count ≡ now.count) × (new.last ≡ now.last) → CodesGroups first (at + 1) old new
-codes_more first at old now new small codes coded empty stays =
+pub codes_more : (first at : ℕ) (old now new : Building) → at < 256 → CodesGroups first at old now → ((n : ℕ) (keys : List (List ℕ)) → n < 256 → HasGroups n keys now → HasGroups (n + 1) keys new) → new.group ≡ [] → (new.count ≡ now.count) × (new.last ≡ now.last) → new.levels ≡ now.levels
+    → CodesGroups first (at + 1) old new
+codes_more first at old now new small codes coded empty stays levels =
     let from = codes.from in
     record {
       from = omega arith;
@@ -100,6 +102,7 @@ codes_more first at old now new small codes coded empty stays =
       empty = λ h. empty;
       same = λ h. absurd (omega arith);
       stays = (stays.0 ∙ codes.stays.0, stays.1 ∙ codes.stays.1);
+      levels = levels ∙ codes.levels;
     }
 
 -- there are 256 groups

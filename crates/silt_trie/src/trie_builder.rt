@@ -2,7 +2,7 @@
 ghost use Rattle.std.specs.Prelude.{◌≡◌, ℕ, true, false, None, ◌+◌, ◌-◌, ◌^◌, ◌<◌, ◌≤◌, List, [], ◌∷◌, ◌++◌, Some, Ok, length, IsTrue, IfOk, OnOk};
 ghost use Rattle.std.specs.Ordering.{nat_cmp, is_lt};
 ghost use Rattle.std.specs.Cmp.Lexicographic.{slice_cmp};
-ghost use Rattle.silt_trie.specs.Building.{Building, HasGroups, IsBuildingOf, IsHeldBuilding, MayFollow, group_of, group_under_way, is_above};
+ghost use Rattle.silt_trie.specs.Building.{Building, HasGroups, IsBuildingOf, IsHeldBuilding, MayFollow, SuitsKeys, group_of, group_under_way, is_above};
 ghost use Rattle.silt_trie.specs.Marks.{IsMadeOf};
 
 use super::marked_code::write_marked;
@@ -59,6 +59,7 @@ impl MarkedTrieBuilder {
         ensures empty { IsBuildingOf [] result }
         ensures none { result.last ≡ None }
         ensures count { result.count ≡ 0 }
+        ensures levels { SuitsKeys count result.levels }
     {
         MarkedTrieBuilder {
             bits: BitWriter::new(alloc),
@@ -87,6 +88,7 @@ impl MarkedTrieBuilder {
         ensures last { result ≡ Ok true
             → (self.new.last ≡ Some key) × (self.new.count ≡ self.old.count + 1) }
         ensures stays { result ≡ Ok false → self.new ≡ self.old }
+        ensures levels { IfOk result (λ taken. self.new.levels ≡ self.old.levels) }
     {
         if !is_above(self.last, &key) {
             return Ok(false);
@@ -104,6 +106,7 @@ impl MarkedTrieBuilder {
             → IsMadeOf keys made) }
         ensures depth { IfOk result (λ made. made.depth ≡ 0) }
         ensures groups { IfOk result (λ made. made.groups ≡ 8) }
+        ensures levels { IfOk result (λ made. made.levels ≡ self.levels) }
     {
         self.code_groups(GROUPS)?;
         MarkedTrie::complete(
@@ -124,6 +127,7 @@ impl MarkedTrieBuilder {
         ensures empty { OnOk result (group_under_way self.old.last < next → self.new.group ≡ []) }
         ensures same { next ≤ group_under_way self.old.last → self.new ≡ self.old }
         ensures stays { (self.new.count ≡ self.old.count) × (self.new.last ≡ self.old.last) }
+        ensures levels { self.new.levels ≡ self.old.levels }
     {
         for _group in group_under_way(self.last)..next {
             self.code_group()?;
@@ -137,6 +141,7 @@ impl MarkedTrieBuilder {
             → HasGroups (n + 1) keys self.new) }
         ensures empty { OnOk result (self.new.group ≡ []) }
         ensures stays { (self.new.count ≡ self.old.count) × (self.new.last ≡ self.old.last) }
+        ensures levels { self.new.levels ≡ self.old.levels }
     {
         let place = (self.count - self.group.len()) as u32;
         let levels = self.levels - GROUP_BITS;

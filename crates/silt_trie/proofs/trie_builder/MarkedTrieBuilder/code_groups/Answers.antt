@@ -6,7 +6,7 @@ use Rattle.silt_trie.proofs.trie_builder.MarkedTrieBuilder.code_groups.Goals as 
 pub loop-group-preserved : goal.loop-group-preserved
 loop-group-preserved c =
     let coded = c.in_ok-code_group.ensures in
-    (codes_more _ c.loop-group._group _ _ _ (omega arith) c.loop-group.invariant.0 coded.coded coded.empty coded.stays, omega arith)
+    (codes_more _ c.loop-group._group _ _ _ (omega arith) c.loop-group.invariant.0 coded.coded coded.empty coded.stays coded.levels, omega arith)
 
 pub returns-clause-coded : goal.returns-clause-coded
 returns-clause-coded c = λ keys has upto.
