@@ -4,6 +4,8 @@ ghost use Rattle.silt_device.specs.declared.disk.Call.{Call};
 ghost use Rattle.silt_device.specs.declared.disk.Call.TheVariants.{Read, Write, Sync};
 ghost use Rattle.silt_device.specs.Disk.{Content, Tears, Writes, Settles, Stays, Rests, Restarts, ChangesWithin, OutsideLaw, size};
 
+use std::fmt;
+
 /// The calls of a disk that can fail.
 #[derive(Clone, Copy, Debug, PartialEq, Eq)]
 pub enum Call {
@@ -13,6 +15,24 @@ pub enum Call {
     Write,
     /// A sync of all that was written.
     Sync,
+}
+
+/// A call of a disk and where its range begins, in words.
+#[derive(Clone, Copy, Debug, PartialEq, Eq)]
+pub struct CallAt {
+    pub call: Call,
+    pub at: u64,
+}
+
+impl fmt::Display for CallAt {
+    fn fmt<W: fmt::Write>(&self, f: &mut fmt::Formatter<W>) -> fmt::Result {
+        let at = self.at;
+        match self.call {
+            Call::Read => write!(f, "a read at {at}"),
+            Call::Write => write!(f, "a write at {at}"),
+            Call::Sync => write!(f, "a sync"),
+        }
+    }
 }
 
 /// A disk of a fixed length in bytes. A range that is read or written lies within it: that is the caller's part.

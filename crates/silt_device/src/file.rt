@@ -2,7 +2,8 @@
 ghost use Rattle.std.specs.Prelude.{◌≡◌, ◌≤◌, ◌^◌, ◌+◌, ◌%◌, IfOk, OnOk, IsErr};
 
 use crate::system::{FileSystem, RandomAccessFile};
-use crate::{Call, Disk};
+use crate::{Call, CallAt, Disk};
+use std::error::Error;
 use std::fs::{File, Metadata};
 use std::{fmt, io};
 
@@ -29,15 +30,16 @@ impl FileFault {
 // What failed, and the system's words for it.
 impl fmt::Display for FileFault {
     fn fmt<W: fmt::Write>(&self, f: &mut fmt::Formatter<W>) -> fmt::Result {
+        let call = CallAt {
+            call: self.call,
+            at: self.at,
+        };
         let error = self.error;
-        let at = self.at;
-        match self.call {
-            Call::Read => write!(f, "a read at {at}: {error}"),
-            Call::Write => write!(f, "a write at {at}: {error}"),
-            Call::Sync => write!(f, "a sync: {error}"),
-        }
+        write!(f, "{call}: {error}")
     }
 }
+
+impl Error for FileFault {}
 
 /// A disk in a file, whose length never changes.
 ///

@@ -5,6 +5,7 @@ ghost use Rattle.silt_device.specs.Disk.{GaveAny, Stays, Tears, Writes, size};
 use crate::gathered::Gathered;
 use crate::{Call, Disk, Stoppable};
 use std::alloc::{AllocError, Global};
+use std::error::Error;
 use std::fmt;
 use std::marker::Model;
 
@@ -52,6 +53,8 @@ impl<F: fmt::Display> fmt::Display for GatherFault<F> {
         self.inner.fmt(f)
     }
 }
+
+impl<F: Error> Error for GatherFault<F> {}
 
 /// A disk that gathers adjacent writes, and gives them to another disk by one write.
 ///

@@ -4,6 +4,7 @@ ghost use Rattle.silt_device.specs.Layout.{Shape, InLimits, RegionsApart, is_buc
 
 use silt_frame::{HEAD_LEN, KEY_LEN};
 use std::marker::Model;
+use thiserror::Error;
 
 /// The length of a sector, in bytes. Each part of a device begins with one, and the header and each manifest slot are one.
 pub const SECTOR: u64 = 4096;
@@ -12,7 +13,8 @@ pub const SECTOR: u64 = 4096;
 pub const REGIONS_AT: u64 = 12_288;
 
 /// One of a geometry's numbers is outside its limits.
-#[derive(Clone, Copy, Debug, PartialEq, Eq)]
+#[derive(Clone, Copy, Debug, PartialEq, Eq, Error)]
+#[error("a number is out of its limits")]
 pub struct BadGeometry;
 
 /// The six numbers of a store, each within its limits, and where its parts lie on a device.

@@ -39,7 +39,7 @@ mod source;
 mod system;
 mod system_disk;
 
-pub use disk::{Call, Disk, Stoppable, ranges_outside_stay, write_synced};
+pub use disk::{Call, CallAt, Disk, Stoppable, ranges_outside_stay, write_synced};
 pub use fault::FaultDisk;
 pub use file::{FileFault, RandomAccessDisk};
 pub use gathering::{GatherFault, GatheringDisk};

@@ -4,8 +4,10 @@ ghost use Rattle.silt_device.specs.Disk.{splice, within};
 ghost use Rattle.silt_device.specs.Lives.{filled};
 
 use crate::life::{Fill, Lives, Stop, filled_byte};
-use crate::{Call, Disk, Stoppable};
+use crate::{Call, CallAt, Disk, Stoppable};
 use std::alloc::{AllocError, Global};
+use std::error::Error;
+use std::fmt;
 
 /// The fault of one device call: the call, its range, and how many calls had failed then. Only a disk makes one, and nothing
 /// copies it.
@@ -16,6 +18,19 @@ pub struct MemFault {
     count: u64,
     failures: u64,
 }
+
+// What failed.
+impl fmt::Display for MemFault {
+    fn fmt<W: fmt::Write>(&self, f: &mut fmt::Formatter<W>) -> fmt::Result {
+        let call = CallAt {
+            call: self.call,
+            at: self.at,
+        };
+        write!(f, "{call}")
+    }
+}
+
+impl Error for MemFault {}
 
 /// A disk in memory, on which the K-th write or sync of a life can be made to fail, and which can then be restarted with what
 /// such a stop could leave.

@@ -6,6 +6,7 @@ use crate::system::FileSystem;
 use crate::{Disk, FileDisk};
 use std::fs::File;
 use std::io;
+use thiserror::Error;
 
 /// Where one disk comes from. A source is used up by the disk that it gives.
 pub trait DiskSource: Drop {
@@ -103,7 +104,8 @@ where
 }
 
 /// There is no disk under this path, or it has another length.
-#[derive(Debug, Drop)]
+#[derive(Debug, Drop, Error)]
+#[error("no such disk, or it has another length")]
 pub struct NoSuchDisk;
 
 /// One disk under one path, as in a folder with nothing else in it.

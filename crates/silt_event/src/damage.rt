@@ -1,14 +1,18 @@
 // What is found wrong in a device.
 
 use crate::Place;
+use thiserror::Error;
 
 /// Why a device cannot be opened.
-#[derive(Clone, Copy, Debug, PartialEq, Eq)]
+#[derive(Clone, Copy, Debug, PartialEq, Eq, Error)]
 pub enum Finding {
     /// The device holds no store.
+    #[error("it holds no store")]
     NotFormatted,
     /// A part of the device is not as a store leaves it.
+    #[error("{0}")]
     Damaged(Place),
     /// The keys of a log find no places in a table.
+    #[error("the keys of a log find no places in a table")]
     Crowded,
 }

@@ -1,31 +1,45 @@
 // Why calls are refused.
 
 use crate::Place;
+use std::fmt::Display;
+use thiserror::Error;
 
 /// Why a call is refused. `Device` holds the fault that the device gave.
-#[derive(Clone, Copy, Debug, Drop)]
+#[derive(Clone, Copy, Debug, Drop, Error)]
+#[error_bound(F: Display)]
 pub enum Refusal<F> {
     /// The device holds no store.
+    #[error("it holds no store")]
     NotFormatted,
     /// A number is out of its limits, or the device has another length.
+    #[error("a number is out of its limits, or the length is another one")]
     BadGeometry,
     /// A part of the device is not as a store leaves it.
+    #[error("{0}")]
     Damaged(Place),
     /// The keys of a log find no places in a table.
+    #[error("the keys of a log find no places in a table")]
     Crowded,
     /// A device call within this very call failed.
+    #[error("{0}")]
     Device(F),
     /// A growth of memory was refused. Nothing was changed.
+    #[error("memory was wanted")]
     NoMemory,
     /// The store holds as many put rows as it may. Nothing was changed.
+    #[error("the store holds as many put rows as it may")]
     StoreFull,
     /// The active log cannot take the row, and no log region is free. Nothing was changed.
+    #[error("no log region is free")]
     NoRoom,
     /// An earlier write or sync of this store failed. It is opened again.
+    #[error("an earlier write or sync failed")]
     Failed,
     /// A number that counts up has reached its greatest value. Nothing was changed.
+    #[error("a number that counts up has reached its greatest value")]
     Spent,
     /// The history holds as many calls as it may. Nothing was done.
+    #[error("the history holds as many calls as it may")]
     HistoryFull,
 }
 

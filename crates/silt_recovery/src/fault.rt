@@ -5,15 +5,21 @@ ghost use Rattle.silt_recovery.specs.Errors.{refusal_of_formatting, refusal_of_o
 
 use silt_device::Disk;
 use silt_event::{Finding, Place, Refusal};
+use std::fmt::Display;
+use thiserror::Error;
 
 /// Why a device was not formatted. A fault is the disk's own, of a call that failed within this very call.
-#[derive(Debug, Drop)]
+#[derive(Debug, Drop, Error)]
+#[error_bound(F: Display)]
 pub enum FormatError<F> {
     /// The device is not as long as the geometry asks.
+    #[error("it has another length than the numbers ask for")]
     BadGeometry,
     /// A write or a sync failed with this fault.
+    #[error("{0}")]
     Device(F),
     /// The bytes for the gates of a log found no memory.
+    #[error("memory was wanted")]
     NoMemory,
 }
 
@@ -26,17 +32,23 @@ pub struct FormatFault<D: Disk> {
 
 /// Why a device was not opened or not found whole. The first thing that is found decides; a failed call or want of memory may be
 /// answered before it. A fault is the disk's own, of a call that failed within this very call.
-#[derive(Debug, Drop)]
+#[derive(Debug, Drop, Error)]
+#[error_bound(F: Display)]
 pub enum OpenError<F> {
     /// The device holds no store.
+    #[error("it holds no store")]
     NotFormatted,
     /// A part of the device is not as a store leaves it.
+    #[error("{0}")]
     Damaged(Place),
     /// The keys of a log find no places in a table.
+    #[error("the keys of a log find no places in a table")]
     Crowded,
     /// A read, a write or a sync failed with this fault.
+    #[error("{0}")]
     Device(F),
     /// A log, a hash store or the sorted store found no memory.
+    #[error("memory was wanted")]
     NoMemory,
 }
 

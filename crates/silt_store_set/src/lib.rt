@@ -9,6 +9,9 @@
 //! leave of the device, also where the call is refused. [`Core::run`] does events in order, and [`lives`] does lives in order, each
 //! ended by a stop before or within any device call.
 //!
+//! This crate is the library's one door: what a caller needs is here, `format` that makes a store of a disk and `check` that tells what one
+//! consists of, disks in memory and in files, [`Geometry`], [`Key`] and the errors.
+//!
 //! A row goes to the active log. Where that cannot take it, being full or by the placing rule of its table, it is frozen and
 //! another one is started. [`Core::convert`] rewrites the oldest frozen log as a hash store, one slot a call, and its region then is
 //! free again. [`Core::merge`] merges all hash stores and the sorted store into a new sorted store, one slot or one key a call, and
@@ -26,4 +29,7 @@ mod tests;
 pub use crate::store_core::{Core, OpenFault};
 pub use answerer::Served;
 pub use life::lives;
-pub use silt_event::{Answerer, Event, LifeReply, Place, Progress, Refusal, Reply};
+pub use silt_device::{BadGeometry, Disk, FileDisk, Geometry, MemDisk};
+pub use silt_event::{Answerer, Event, LifeReply, Place, Progress, Refusal, Reply, Report};
+pub use silt_frame::{Key, Value};
+pub use silt_recovery::{FormatError, FormatFault, OpenError, check, format};

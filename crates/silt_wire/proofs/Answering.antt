@@ -1,6 +1,6 @@
 -- Answering lines in two parts is answering them at once, and a beginning of a part is a beginning of the whole.
-use Rattle.std.proofs.Common.{IfOk, OnOk, OnErr, ◌≢◌, ◌≡◌, ◌-◌, arith, ◌==◌, ◌+◌, ◌<◌, ◌≤◌, take, drop, take-append-drop, inl, inr, get_or, ℕ, true, false, cond, Result, Ok, Err, List, [], ◌∷◌, ◌++◌, length, refl, sym, ap, ◌∙◌, append_assoc, Option, Some, None, subst}
-use Rattle.std.proofs.lemmas.List.{take_more, append-nil, length-drop, take_all}
+use Rattle.std.proofs.Common.{IfOk, OnOk, OnErr, ◌≢◌, ◌≡◌, ◌-◌, arith, ◌+◌, ◌≤◌, take, drop, take-append-drop, inl, inr, ℕ, true, false, cond, Result, Ok, Err, List, [], ◌∷◌, ◌++◌, length, refl, sym, ap, ◌∙◌, append_assoc, Option, Some, None, subst}
+use Rattle.std.proofs.lemmas.List.{append-nil, length-drop, take_all}
 use Rattle.std.proofs.Math.Seq.{take-add}
 use Rattle.std.specs.Io.KnownBytes.{Appends, Consumes, Keeps}
 use Rattle.silt_event.specs.declared.event.Event.{Event}
@@ -85,7 +85,7 @@ module _ {A : Type 0} (answers : A → A → Event → PlainReply → Type 0) wh
 
   -- ---- one part after the other
 
-  all-none : (a : A) (w : Option (List ℕ)) → AnswersAll answers [] a a w w
+  pub all-none : (a : A) (w : Option (List ℕ)) → AnswersAll answers [] a a w w
   all-none a w = ([], refl, Appends-none w)
 
   -- a beginning is nothing at all
@@ -145,29 +145,6 @@ module _ {A : Type 0} (answers : A → A → Event → PlainReply → Type 0) wh
       → AnswersSome answers (asks n (lines_after p (xs ++ ys))) a b w v
   some-front n p xs ys a b w v h = subst (λ q. AnswersSome answers q a b w v) (sym (asks_after-append n p xs ys)) (some-more a b _ _ w v h)
 
-  -- one byte more of a slice
-  pub all-next : (n : ℕ) (p bytes : List ℕ) (i : ℕ) (a b c : A) (w v u : Option (List ℕ)) → i < length bytes → AnswersAll answers (asks n (lines_after p (take i bytes))) a b w v
-      → AnswersAll answers (asks n (lines_after (rest_after p (take i bytes)) (get_or bytes i 0 ∷ []))) b c v u
-      → AnswersAll answers (asks n (lines_after p (take (i + 1) bytes))) a c w u
-  all-next n p bytes i a b c w v u lt h k =
-      subst (λ xs. AnswersAll answers (asks n (lines_after p xs)) a c w u) (sym (take_more bytes i 0 lt)) (all-bytes n p (take i bytes) (get_or bytes i 0 ∷ []) a b c w v u h k)
-
-  -- a byte of a slice at which it ends
-  pub some-next : (n : ℕ) (p bytes : List ℕ) (i : ℕ) (a b c : A) (w v u : Option (List ℕ)) → i < length bytes → AnswersAll answers (asks n (lines_after p (take i bytes))) a b w v
-      → AnswersSome answers (asks n (lines_after (rest_after p (take i bytes)) (get_or bytes i 0 ∷ []))) b c v u
-      → AnswersSome answers (asks n (lines_after p bytes)) a c w u
-  some-next n p bytes i a b c w v u lt h k =
-      let upto = subst (λ xs. AnswersSome answers (asks n (lines_after p xs)) a c w u) (sym (take_more bytes i 0 lt)) (some-bytes n p (take i bytes) (get_or bytes i 0 ∷ []) a b c w v u h k) in
-      subst (λ xs. AnswersSome answers (asks n (lines_after p xs)) a c w u) (take-append-drop (i + 1) bytes) (some-front n p (take (i + 1) bytes) (drop (i + 1) bytes) a c w u upto)
-
-  -- a byte within a line
-  pub all-within : (n byte : ℕ) (p : List ℕ) (a : A) (w : Option (List ℕ)) → (byte == 10) ≡ false → AnswersAll answers (asks n (lines_after p (byte ∷ []))) a a w w
-  all-within n byte p a w e =
-      subst (λ b. AnswersAll answers (asks n (cond b (p ∷ []) [])) a a w w) (sym e) (all-none a w)
-
-  pub some-within : (n byte : ℕ) (p : List ℕ) (a : A) (w : Option (List ℕ)) → AnswersSome answers (asks n (lines_after p (byte ∷ []))) a a w w
-  some-within n byte p a w = some-none _ a w
-
   -- one part more of a slice
   pub all-part : (n : ℕ) (p bytes : List ℕ) (done count : ℕ) (a b c : A) (w v u : Option (List ℕ)) → AnswersAll answers (asks n (lines_after p (take done bytes))) a b w v
       → AnswersAll answers (asks n (lines_after (rest_after p (take done bytes)) (take count (drop done bytes)))) b c v u
@@ -181,21 +158,18 @@ module _ {A : Type 0} (answers : A → A → Event → PlainReply → Type 0) wh
   some-part n p bytes done a b c w v u h k =
       subst (λ xs. AnswersSome answers (asks n (lines_after p xs)) a c w u) (take-append-drop done bytes) (some-bytes n p (take done bytes) (drop done bytes) a b c w v u h k)
 
+  -- a beginning of what a part asks is one of what the whole asks
+  pub some-cut : (n : ℕ) (p bytes : List ℕ) (count : ℕ) (a b : A) (w v : Option (List ℕ)) → AnswersSome answers (asks n (lines_after p (take count bytes))) a b w v
+      → AnswersSome answers (asks n (lines_after p bytes)) a b w v
+  some-cut n p bytes count a b w v h =
+      subst (λ xs. AnswersSome answers (asks n (lines_after p xs)) a b w v) (take-append-drop count bytes) (some-front n p (take count bytes) (drop count bytes) a b w v h)
+
   -- all that a part asks is a beginning of what the whole asks
   pub some-taken : (n : ℕ) (p bytes : List ℕ) (count : ℕ) (a b : A) (w v : Option (List ℕ)) → AnswersAll answers (asks n (lines_after p (take count bytes))) a b w v
       → AnswersSome answers (asks n (lines_after p bytes)) a b w v
   some-taken n p bytes count a b w v h =
       subst (λ xs. AnswersSome answers (asks n (lines_after p xs)) a b w v) (take-append-drop count bytes)
       (some-front n p (take count bytes) (drop count bytes) a b w v (some-from_all (asks n (lines_after p (take count bytes))) a b w v h))
-
-  -- the line feed
-  pub all-line : (n byte : ℕ) (p : List ℕ) (a b : A) (w v : Option (List ℕ)) → byte ≡ 10 → AnswersAll answers (asks n (p ∷ [])) a b w v
-      → AnswersAll answers (asks n (lines_after p (byte ∷ []))) a b w v
-  all-line n byte p a b w v e h = subst (λ c. AnswersAll answers (asks n (lines_after p (c ∷ []))) a b w v) (sym e) h
-
-  pub some-line : (n byte : ℕ) (p : List ℕ) (a b : A) (w v : Option (List ℕ)) → byte ≡ 10 → AnswersSome answers (asks n (p ∷ [])) a b w v
-      → AnswersSome answers (asks n (lines_after p (byte ∷ []))) a b w v
-  some-line n byte p a b w v e h = subst (λ c. AnswersSome answers (asks n (lines_after p (c ∷ []))) a b w v) (sym e) h
 
   -- ---- one line
 

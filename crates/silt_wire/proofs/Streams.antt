@@ -1,7 +1,15 @@
 -- Taking bytes in two parts is taking them at once.
-use Rattle.std.proofs.Common.{◌≡◌, ◌==◌, ◌+◌, ◌<◌, take, get_or, ℕ, true, false, cond, List, [], ◌∷◌, ◌++◌, length, refl, sym, ap, ◌∙◌, append_assoc, Option, Some, None}
-use Rattle.std.proofs.lemmas.List.{take_more, append-nil}
+use Rattle.std.proofs.Common.{◌≡◌, ◌==◌, ◌+◌, ◌<◌, ◌≤◌, take, get_or, ℕ, suc, true, false, cond, List, [], ◌∷◌, ◌++◌, length, refl, sym, ap, subst, ◌∙◌, append_assoc, arith, Option, Some, None}
+use Rattle.std.specs.Prelude.{MatchBool}
+use Rattle.std.specs.List.{position, position_or_len}
+use Rattle.std.proofs.lemmas.Grind.{common_steps}
+use Rattle.std.proofs.lemmas.List.{take_all, take_more, append-nil, get_or-take, length-take-le}
+use Rattle.std.proofs.lemmas.List.Quantifiers.{position-Some}
+use Rattle.std.proofs.lemmas.List.Sums.{fails_before_first}
 use Rattle.std.specs.Io.KnownBytes.{Appends, Consumes, Keeps}
+use Rattle.silt_wire.specs.LineBuffer.{HoldsBytes, TakesPiece}
+use Rattle.silt_wire.specs.declared.line_buffer.LineBuffer.{LineBuffer}
+use Rattle.silt_wire.specs.declared.line_buffer.Taken.{Taken}
 use Rattle.silt_wire.specs.Sessions.{lines_after, rest_after}
 
 -- what is pending after two parts
@@ -53,6 +61,110 @@ Consumes-keeps (Some a) None c xs h k = absurd h
 Consumes-keeps (Some a) (Some b) None xs h k = absurd k
 Consumes-keeps (Some a) (Some b) (Some c) xs h k = h ∙ ap (λ z. xs ++ z) (sym k)
 
--- one byte more of a slice
-pub rest_after-more : (p bytes : List ℕ) (i : ℕ) → i < length bytes → rest_after p (take (i + 1) bytes) ≡ rest_after (rest_after p (take i bytes)) (get_or bytes i 0 ∷ [])
-rest_after-more p bytes i lt = ap (λ xs. rest_after p xs) (take_more bytes i 0 lt) ∙ rest_after-append p (take i bytes) (get_or bytes i 0 ∷ [])
+-- ---- up to the first line feed
+
+-- none of these bytes is a line feed
+abbrev EndNone : List ℕ → Type 0
+EndNone bytes = (k : ℕ) → k < length bytes → (get_or bytes k 0 == 10) ≡ false
+
+-- nor is one of those behind the first
+EndNone-rest : (x : ℕ) (xs : List ℕ) → EndNone (x ∷ xs) → EndNone xs
+EndNone-rest x xs h = λ k lt. h (suc k) (omega arith)
+
+-- then they end no line
+lines_after-none : (p bytes : List ℕ) → EndNone bytes → lines_after p bytes ≡ []
+lines_after-none p [] h = refl
+lines_after-none p (x ∷ xs) h =
+    subst (λ b. cond b (p ∷ lines_after [] xs) (lines_after (p ++ x ∷ []) xs) ≡ []) (sym (h 0 (omega arith))) (lines_after-none (p ++ x ∷ []) xs (EndNone-rest x xs h))
+
+rest_after-none : (p bytes : List ℕ) → EndNone bytes → rest_after p bytes ≡ p ++ bytes
+rest_after-none p [] h = sym (append-nil p)
+rest_after-none p (x ∷ xs) h =
+    subst (λ b. cond b (rest_after [] xs) (rest_after (p ++ x ∷ []) xs) ≡ p ++ x ∷ xs) (sym (h 0 (omega arith))) (rest_after-none (p ++ x ∷ []) xs (EndNone-rest x xs h) ∙ append_assoc p (x ∷ []) xs)
+
+-- where no line feed is found there is none
+EndNone-position : (bytes : List ℕ) → position (λ b. b == 10) bytes ≡ None → EndNone bytes
+EndNone-position bytes e = λ k lt.
+    let p = λ (b : ℕ). b == 10 in
+    let ends : length bytes ≤ position_or_len p bytes = grind (arith, common_steps) in
+    fails_before_first p bytes k 0 (omega arith)
+
+-- and before the first one there is none
+EndNone-before : (bytes : List ℕ) (at : ℕ) → position (λ b. b == 10) bytes ≡ Some at → EndNone (take at bytes)
+EndNone-before bytes at e = λ k lt.
+    let found = position-Some (λ (b : ℕ). b == 10) bytes at 0 e in
+    let inside = found.0 in
+    let below : k < at = subst (λ n. k < n) (length-take-le at bytes (omega (arith, inside))) lt in
+    subst (λ x. (x == 10) ≡ false) (sym (get_or-take at bytes k 0 below)) (found.2 k below)
+
+is-feed : (x : ℕ) → (x == 10) ≡ true → x ≡ 10
+is-feed x e = grind (arith, common_steps)
+
+-- the bytes up to the first line feed, with it
+upto-first : (bytes : List ℕ) (at : ℕ) → position (λ b. b == 10) bytes ≡ Some at → take (at + 1) bytes ≡ take at bytes ++ 10 ∷ []
+upto-first bytes at e =
+    let found = position-Some (λ (b : ℕ). b == 10) bytes at 0 e in
+    take_more bytes at 0 found.0 ∙ ap (λ x. take at bytes ++ x ∷ []) (is-feed (get_or bytes at 0) found.1)
+
+-- the first line feed ends the line that had begun, and no other
+pub lines_after-first : (p bytes : List ℕ) (at : ℕ) → position (λ b. b == 10) bytes ≡ Some at → lines_after p (take (at + 1) bytes) ≡ (p ++ take at bytes) ∷ []
+lines_after-first p bytes at e =
+    let front = take at bytes in
+    let none = EndNone-before bytes at e in
+    ap (lines_after p) (upto-first bytes at e)
+    ∙ lines_after-append p front (10 ∷ [])
+    ∙ ap (λ lines. lines ++ lines_after (rest_after p front) (10 ∷ [])) (lines_after-none p front none)
+    ∙ ap (λ line. line ∷ []) (rest_after-none p front none)
+
+pub rest_after-first : (p bytes : List ℕ) (at : ℕ) → position (λ b. b == 10) bytes ≡ Some at → rest_after p (take (at + 1) bytes) ≡ []
+rest_after-first p bytes at e = ap (rest_after p) (upto-first bytes at e) ∙ rest_after-append p (take at bytes) (10 ∷ [])
+
+-- where there is no line feed no line ends
+pub lines_after-unended : (p bytes : List ℕ) → position (λ b. b == 10) bytes ≡ None → lines_after p bytes ≡ []
+lines_after-unended p bytes e = lines_after-none p bytes (EndNone-position bytes e)
+
+pub rest_after-unended : (p bytes : List ℕ) → position (λ b. b == 10) bytes ≡ None → rest_after p bytes ≡ p ++ bytes
+rest_after-unended p bytes e = rest_after-none p bytes (EndNone-position bytes e)
+
+-- ---- what a line buffer took
+
+-- the first line feed ended the line, which is held
+pub taken-line : (begun bytes : List ℕ) (at : ℕ) (front : List ℕ) (pending : LineBuffer) → position (λ b. b == 10) bytes ≡ Some at → front ≡ take at bytes → HoldsBytes pending (begun ++ front)
+    → TakesPiece begun bytes (record { count = at + 1; ends_line = true }) pending
+taken-line begun bytes at front pending e is h = record {
+  lines = (begun ++ take at bytes, subst (λ line. HoldsBytes pending (begun ++ line)) is h, lines_after-first begun bytes at e);
+  rest = rest_after-first begun bytes at e;
+}
+
+-- no line ended
+pub taken-rest : (begun bytes : List ℕ) (pending : LineBuffer) → position (λ b. b == 10) bytes ≡ None → HoldsBytes pending (begun ++ bytes)
+    → TakesPiece begun bytes (record { count = length bytes; ends_line = false }) pending
+taken-rest begun bytes pending e h =
+    let all : take (length bytes) bytes ≡ bytes = take_all (length bytes) bytes (omega arith) in
+    record {
+      lines = (
+        subst (λ xs. HoldsBytes pending (rest_after begun xs)) (sym all) (subst (λ xs. HoldsBytes pending xs) (sym (rest_after-unended begun bytes e)) h),
+        subst (λ xs. lines_after begun xs ≡ []) (sym all) (lines_after-unended begun bytes e),
+      );
+      rest = refl;
+    }
+
+-- the line that was ended, and that no other was
+pub piece-line : (begun bytes : List ℕ) (taken : Taken) (pending : LineBuffer) → taken.ends_line ≡ true → TakesPiece begun bytes taken pending
+    → (line : List ℕ) × HoldsBytes pending line × (lines_after begun (take taken.count bytes) ≡ line ∷ [])
+piece-line begun bytes taken pending e h =
+    subst (λ b. MatchBool b ((line : List ℕ) × HoldsBytes pending line × (lines_after begun (take taken.count bytes) ≡ line ∷ []))
+    (HoldsBytes pending (rest_after begun (take taken.count bytes)) × (lines_after begun (take taken.count bytes) ≡ []))) e h.lines
+
+-- nothing is begun behind it
+pub piece-over : (begun bytes : List ℕ) (taken : Taken) (pending : LineBuffer) → taken.ends_line ≡ true → TakesPiece begun bytes taken pending
+    → rest_after begun (take taken.count bytes) ≡ []
+piece-over begun bytes taken pending e h =
+    subst (λ b. MatchBool b (rest_after begun (take taken.count bytes) ≡ []) (taken.count ≡ length bytes)) e h.rest
+
+-- where no line was ended none was, and all is held
+pub piece-open : (begun bytes : List ℕ) (taken : Taken) (pending : LineBuffer) → taken.ends_line ≡ false → TakesPiece begun bytes taken pending
+    → HoldsBytes pending (rest_after begun (take taken.count bytes)) × (lines_after begun (take taken.count bytes) ≡ [])
+piece-open begun bytes taken pending e h =
+    subst (λ b. MatchBool b ((line : List ℕ) × HoldsBytes pending line × (lines_after begun (take taken.count bytes) ≡ line ∷ []))
+    (HoldsBytes pending (rest_after begun (take taken.count bytes)) × (lines_after begun (take taken.count bytes) ≡ []))) e h.lines

@@ -1,8 +1,17 @@
 -- What is kept of a line that has not ended.
-use Rattle.std.specs.Prelude.{◌≡◌, ◌<◌, ◌≤◌, ℕ, List, length, MatchBool}
+use Rattle.std.specs.Prelude.{◌≡◌, ◌<◌, ◌≤◌, ℕ, List, [], ◌∷◌, length, take, MatchBool}
 use Rattle.silt_wire.specs.Lines.{longest_line}
 use Rattle.silt_wire.specs.declared.line_buffer.LineBuffer.{LineBuffer}
+use Rattle.silt_wire.specs.declared.line_buffer.Taken.{Taken}
+use Rattle.silt_wire.specs.Sessions.{lines_after, rest_after}
 
 -- the bytes since the last line feed are these, or they are too many
 abbrev pub HoldsBytes : LineBuffer → List ℕ → Type 0
 HoldsBytes pending bytes = MatchBool pending.is_long (longest_line < length bytes) ((pending.line.items ≡ bytes) × (length bytes ≤ longest_line))
+
+-- Of these bytes so many were taken, behind those of a line that had begun: they end that line and no other, which is then held; or they are all, and
+-- end no line.
+pub record TakesPiece (begun bytes : List ℕ) (taken : Taken) (pending : LineBuffer) : Type 0 where
+  pub lines : MatchBool taken.ends_line ((line : List ℕ) × HoldsBytes pending line × (lines_after begun (take taken.count bytes) ≡ line ∷ []))
+      (HoldsBytes pending (rest_after begun (take taken.count bytes)) × (lines_after begun (take taken.count bytes) ≡ []))
+  pub rest : MatchBool taken.ends_line (rest_after begun (take taken.count bytes) ≡ []) (taken.count ≡ length bytes)

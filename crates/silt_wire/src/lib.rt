@@ -19,7 +19,7 @@ mod tests;
 
 pub use keys::key_of;
 pub use line::{LONGEST_LINE, LineFault, is_blank, parse_line, without_carriage_return};
-pub use line_buffer::LineBuffer;
+pub use line_buffer::{LineBuffer, Taken};
 pub use number::number_of;
 pub use reply::{print_fault, print_refusal, print_reply, refuse_line, write_refusal, write_reply};
 pub use report::{print_report, write_report};

@@ -8,22 +8,28 @@ use crate::keys::key_of;
 use silt_event::Event;
 use silt_frame::Value;
 use std::alloc::{AllocError, Global};
+use thiserror::Error;
 
 /// The most bytes that a line may have, its carriage return counted.
 pub const LONGEST_LINE: usize = 8300;
 
 /// Why a line asks for nothing.
-#[derive(Clone, Copy, Debug, PartialEq, Eq)]
+#[derive(Clone, Copy, Debug, PartialEq, Eq, Error)]
 pub enum LineFault {
     /// The first word is unknown, or there is a wrong number of words.
+    #[error("the first word is unknown, or there is a wrong number of words")]
     BadLine,
     /// The key is not in its form.
+    #[error("the key is not in its form")]
     BadKey,
     /// The value is not in its form.
+    #[error("the value is not in its form")]
     BadValue,
     /// The line has too many bytes.
+    #[error("the line has more than {LONGEST_LINE} bytes")]
     LineTooLong,
     /// A growth of memory was refused.
+    #[error("memory was wanted")]
     NoMemory,
 }
 

@@ -1,8 +1,8 @@
 // What is kept of a line that has not ended.
-ghost use Rattle.std.specs.Prelude.{◌≡◌, ◌++◌, ◌∷◌, [], ℕ, List, OnOk, OnErr, IfOk};
+ghost use Rattle.std.specs.Prelude.{◌≡◌, ◌==◌, ◌++◌, ◌<◌, ◌≤◌, [], ℕ, List, length, position, OnOk, IfOk};
 ghost use Rattle.silt_event.specs.Events.{HasValueOf};
 ghost use Rattle.silt_wire.specs.Lines.{Parses, asked_by, is_blank};
-ghost use Rattle.silt_wire.specs.LineBuffer.{HoldsBytes};
+ghost use Rattle.silt_wire.specs.LineBuffer.{HoldsBytes, TakesPiece};
 ghost use Rattle.silt_wire.specs.Stops.{stop_of};
 
 use crate::line::{LONGEST_LINE, LineFault, is_blank, parse_line};
@@ -18,6 +18,20 @@ pub struct LineBuffer {
     pub is_long: bool,
 }
 
+/// How many bytes were taken of a line, and whether they end it.
+#[derive(Clone, Copy, Debug, PartialEq, Eq)]
+pub struct Taken {
+    pub count: usize,
+    pub ends_line: bool,
+}
+
+// Where the first line feed is.
+fn feed_at(bytes: &[u8]) -> Option<usize>
+    ensures { result ≡ position (λ b. b == 10) bytes.now }
+{
+    bytes.iter().position(|byte| *byte == b'\n')
+}
+
 impl LineBuffer {
     /// No bytes yet, with room for a whole line.
     pub fn new(alloc: Global) -> Result<Self, AllocError>
@@ -29,19 +43,42 @@ impl LineBuffer {
         })
     }
 
-    /// Takes one more byte. On an error nothing is changed.
-    pub fn push(&mut self, byte: u8) -> Result<(), AllocError>
-        ensures ok { OnOk result ((bytes : List ℕ) → HoldsBytes self.old bytes → HoldsBytes self.new (bytes ++ byte ∷ [])) }
-        ensures err { OnErr result ((bytes : List ℕ) → HoldsBytes self.old bytes → HoldsBytes self.new bytes) }
+    /// Takes bytes up to the first line feed, or all where there is none. A line that has ended is held without its line feed, until
+    /// it is forgotten.
+    pub fn take(&mut self, bytes: &[u8]) -> Result<Taken, AllocError>
+        ensures takes { IfOk result (λ taken. (begun : List ℕ) → HoldsBytes self.old begun → TakesPiece begun bytes.now taken self.new) }
+        ensures count { IfOk result (λ taken. (0 < length bytes.now → 0 < taken.count) × (taken.count ≤ length bytes.now)) }
+    {
+        match feed_at(bytes) {
+            Some(at) => {
+                self.append(bytes.split_at(at).0)?;
+                Ok(Taken {
+                    count: at + 1,
+                    ends_line: true,
+                })
+            }
+            None => {
+                self.append(bytes)?;
+                Ok(Taken {
+                    count: bytes.len(),
+                    ends_line: false,
+                })
+            }
+        }
+    }
+
+    // Takes more bytes of the line.
+    fn append(&mut self, bytes: &[u8]) -> Result<(), AllocError>
+        ensures { OnOk result ((begun : List ℕ) → HoldsBytes self.old begun → HoldsBytes self.new (begun ++ bytes.now)) }
     {
         if self.is_long {
             return Ok(());
         }
-        if self.line.len() >= LONGEST_LINE {
+        if self.line.len() + bytes.len() > LONGEST_LINE {
             self.is_long = true;
             return Ok(());
         }
-        self.line.push(byte)?;
+        self.line.extend_from_slice(bytes)?;
         Ok(())
     }
 

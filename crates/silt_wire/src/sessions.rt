@@ -13,6 +13,7 @@ use crate::reply::{print_fault, print_reply};
 use silt_event::{Answerer, Event, Reply};
 use std::alloc::{AllocError, Global};
 use std::io::{ErrorKind, Read, Write};
+use thiserror::Error;
 
 /// The most reads of a session.
 const MOST_READS: u64 = (1 << 63) - 1;
@@ -21,15 +22,19 @@ const MOST_READS: u64 = (1 << 63) - 1;
 const ENOUGH_TEXT: usize = 65_536;
 
 /// How a session ended.
-#[derive(Clone, Copy, Debug, PartialEq, Eq)]
+#[derive(Clone, Copy, Debug, PartialEq, Eq, Error)]
 pub enum SessionEnd {
     /// The reader has no more bytes, and all lines are answered.
+    #[error("all lines are answered")]
     End,
     /// A read failed, or there were too many. All lines that were read are answered.
+    #[error("a read failed")]
     ReadFault,
     /// A write failed. What went out is a beginning of the answers.
+    #[error("a write failed")]
     WriteFault,
     /// A growth of memory was refused. What went out is a beginning of the answers.
+    #[error("memory was wanted")]
     NoMemory,
 }
 
@@ -190,40 +195,44 @@ fn take_part<A: Answerer>(
     ensures some { OnErr result ((p : List ℕ) → HoldsBytes pending.old p → ServesSome A.answers value_len p bytes.now
         answerer.old answerer.new (Some (string_bytes texts.old)) (Some (string_bytes texts.new))) }
 {
-    let mut count = 0;
-    for byte in bytes {
-        take_byte(alloc, value_len, *byte, pending, texts, answerer)?;
-        count += 1;
+    let mut done = 0;
+    while done < bytes.len() {
+        let (_, rest) = bytes.split_at(done);
+        done += take_line(alloc, value_len, rest, pending, texts, answerer)?;
         if texts.len() >= ENOUGH_TEXT {
             break;
         }
     }
-    Ok(count)
+    Ok(done)
 }
 
-// Takes a byte, and puts the answer to the line that it ends behind the texts.
-fn take_byte<A: Answerer>(
+// Takes bytes to the end of a line, and puts the answer to the line behind the texts; or takes all, where they end none. Answers how
+// many bytes were taken.
+fn take_line<A: Answerer>(
     alloc: Global,
     value_len: usize,
-    byte: u8,
+    bytes: &[u8],
     pending: &mut LineBuffer,
     texts: &mut String,
     answerer: &mut A,
-) -> Result<(), AllocError>
-    requires { A.value_len answerer.old ≡ value_len }
+) -> Result<usize, AllocError>
+    requires len { A.value_len answerer.old ≡ value_len }
+    requires some { 0 < length bytes.now }
     ensures stays { A.value_len answerer.new ≡ value_len }
-    ensures holds { OnOk result ((p : List ℕ) → HoldsBytes pending.old p → HoldsBytes pending.new (rest_after p (byte ∷ []))) }
-    ensures all { OnOk result ((p : List ℕ) → HoldsBytes pending.old p → ServesAll A.answers value_len p (byte ∷ [])
+    ensures count { IfOk result (λ count. (0 < count) × (count ≤ length bytes.now)) }
+    ensures holds { IfOk result (λ count. (p : List ℕ) → HoldsBytes pending.old p → HoldsBytes pending.new (rest_after p (take count bytes.now))) }
+    ensures all { IfOk result (λ count. (p : List ℕ) → HoldsBytes pending.old p → ServesAll A.answers value_len p (take count bytes.now)
         answerer.old answerer.new (Some (string_bytes texts.old)) (Some (string_bytes texts.new))) }
-    ensures some { OnErr result ((p : List ℕ) → HoldsBytes pending.old p → ServesSome A.answers value_len p (byte ∷ [])
+    ensures some { OnErr result ((p : List ℕ) → HoldsBytes pending.old p → ServesSome A.answers value_len p bytes.now
         answerer.old answerer.new (Some (string_bytes texts.old)) (Some (string_bytes texts.new))) }
 {
-    if byte == b'\n' {
-        answer_line(alloc, value_len, pending, texts, answerer)?;
-        pending.clear();
-        return Ok(());
+    let taken = pending.take(bytes)?;
+    if !taken.ends_line {
+        return Ok(taken.count);
     }
-    pending.push(byte)
+    answer_line(alloc, value_len, pending, texts, answerer)?;
+    pending.clear();
+    Ok(taken.count)
 }
 
 // Puts the answer to the line that has ended behind the texts, if the line is not blank.
