@@ -1,7 +1,7 @@
 -- How the program ends.
 use Rattle.std.proofs.Common.{◌≡◌, ◌∙◌, ◌⊎◌, ℕ, List, None, Option, Result, Ok, Err, ap, arith, refl, sym, subst, inl, inr, codes}
 use Rattle.std.specs.Prelude.{IfOk}
-use Rattle.std.specs.Result.{result_unwrap_or}
+use Rattle.std.specs.Result.{IsOk, result_unwrap_or}
 use Rattle.std.specs.Io.KnownBytes.{Appends}
 use Rattle.silt_words.specs.Commands.{job_named}
 use Rattle.silt_words.specs.declared.job.WordsError.{WordsError}
@@ -25,6 +25,11 @@ unread told words NoMemory none noted = tt
 pub at_status : {E : Type 0} (P : ℕ → Type 0) (ended : Result ℕ E) (result status : ℕ) → result ≡ result_unwrap_or ended 1 → (status ≡ 1 → ⊥) → result ≡ status → IfOk ended P → P status
 at_status P (Ok known) result status is other at holds = subst P (sym is ∙ at) holds
 at_status P (Err error) result status is other at holds = absurd (other (sym at ∙ is))
+
+-- at such a status neither failed
+pub was_ok : {E : Type 0} (ended : Result ℕ E) (result status : ℕ) → result ≡ result_unwrap_or ended 1 → (status ≡ 1 → ⊥) → result ≡ status → IsOk ended
+was_ok (Ok known) result status is other at = refl
+was_ok (Err error) result status is other at = absurd (other (sym at ∙ is))
 
 -- with 0 a job was done
 pub done_at_0 : {A : Type 0} (Named Done Told : A → Type 0) (Unread : WordsError → Type 0) (status : ℕ) (before after : Option (List ℕ)) → status ≡ 0

@@ -74,8 +74,8 @@ module _ {D F : Type 0} (content : D → Content) (failures : D → ℕ) (gave :
       subst (λ e. EndsRun content failures gave e old new remaining left before after) (status_done told.0 (sym told.1)) (first, last, opens, told.2, closed)
 
   -- the store was not taken up
-  pub unopened_told : {E : Type 0} (result : Result ℕ E) (old new : D) (refusal : Refusal F) (remaining left before after : Option (List ℕ)) → OpeningCause content gave (content old) new refusal → told refusal
-      → IfOk result (λ status. (status ≡ 1) × Tells refusal before after)
+  pub unopened_told : {E : Type 0} (result : Result ℕ E) (old new : D) (refusal : Refusal F) (remaining left before after : Option (List ℕ)) → OpeningCause content gave (content old) new refusal
+      → IfOk result (λ status. (status ≡ 1) × (Tells refusal before after × told refusal))
       → IfOk result (λ status. (status ≡ 0) ⊎ ((status ≡ 1) × (TellsOpening content gave told old new before after ⊎ BreaksRun content failures gave old new remaining left before after)))
-  unopened_told (Ok status) old new refusal remaining left before after cause noted h = inr (h.0, inl (refusal, cause, h.1, noted))
-  unopened_told (Err error) old new refusal remaining left before after cause noted h = h
+  unopened_told (Ok status) old new refusal remaining left before after cause h = inr (h.0, inl (refusal, cause, h.1.0, h.1.1))
+  unopened_told (Err error) old new refusal remaining left before after cause h = h

@@ -1,13 +1,16 @@
 -- Taking bytes in two parts is taking them at once.
-use Rattle.std.proofs.Common.{◌≡◌, ◌≢◌, ◌+◌, ◌<◌, take, get_or, ℕ, false, MatchBool, Option, None, Result, Err, inl, inr, List, [], ◌∷◌, ◌++◌, length, refl, sym, subst}
-use Rattle.std.proofs.lemmas.List.{take_more}
+use Rattle.std.proofs.Common.{◌≡◌, ◌≢◌, ◌+◌, take, drop, ℕ, true, false, MatchBool, None, Result, Err, inl, inr, List, [], ◌∷◌, ◌++◌, refl, sym, subst}
+use Rattle.std.proofs.Math.Seq.{take-add}
 use Rattle.silt_event.specs.declared.event.Event.{Event}
 use Rattle.silt_wire.specs.declared.line.LineFault.{LineFault}
 use Rattle.silt_wire.specs.declared.line.LineFault.TheVariants.{NoMemory}
+use Rattle.silt_wire.specs.declared.line_buffer.LineBuffer.{LineBuffer}
+use Rattle.silt_wire.specs.declared.line_buffer.Taken.{Taken}
+use Rattle.silt_wire.specs.LineBuffer.{HoldsBytes, TakesPiece}
 use Rattle.silt_wire.specs.Lines.{Parses, asked_by, is_blank}
 use Rattle.silt_wire.specs.Sessions.{lines_after, rest_after}
 use Rattle.silt_wire.specs.Stops.{stop_of}
-use Rattle.silt_wire.proofs.Streams.{lines_after-append}
+use Rattle.silt_wire.proofs.Streams.{lines_after-append, piece-line, piece-open}
 use Rattle.silt.specs.declared.script_lines.Reading.{Reading}
 use Rattle.silt.specs.Scripts.{TakesAsked, TakesLine, TakesLines, TakesBytes, TakesTold}
 
@@ -24,9 +27,18 @@ TakesLine-asked value_len line parsed old new live other parses told takes =
     let line_told = subst (λ s. TakesTold value_len line s old new) (sym other) asked in
     subst (λ b. MatchBool b (new ≡ old) (TakesTold value_len line (stop_of line) old new)) (sym live) line_told
 
--- a line feed ends the line that was pending
-pub TakesBytes-line : (value_len : ℕ) (line : List ℕ) (old new : Reading) (byte : ℕ) → byte ≡ 10 → TakesLine value_len line old new → TakesBytes value_len line old (byte ∷ []) new
-TakesBytes-line value_len line old new byte e h = subst (λ b. TakesBytes value_len line old (b ∷ []) new) (sym e) (new, h, refl)
+-- the line that these bytes end is taken
+pub TakesBytes-line : (value_len : ℕ) (begun bytes : List ℕ) (taken : Taken) (pending : LineBuffer) (old new : Reading) → taken.ends_line ≡ true → TakesPiece begun bytes taken pending
+    → ((line : List ℕ) → HoldsBytes pending line → TakesLine value_len line old new) → TakesBytes value_len begun old (take taken.count bytes) new
+TakesBytes-line value_len begun bytes taken pending old new e piece takes =
+    let line = piece-line begun bytes taken pending e piece in
+    subst (λ lines. TakesLines value_len lines old new) (sym line.2) (new, takes line.0 line.1, refl)
+
+-- bytes that end no line are kept
+pub TakesBytes-none : (value_len : ℕ) (begun bytes : List ℕ) (taken : Taken) (pending : LineBuffer) (reading : Reading) → taken.ends_line ≡ false → TakesPiece begun bytes taken pending
+    → TakesBytes value_len begun reading (take taken.count bytes) reading
+TakesBytes-none value_len begun bytes taken pending reading e piece =
+    subst (λ lines. TakesLines value_len lines reading reading) (sym (piece-open begun bytes taken pending e piece).1) refl
 
 TakesLines-append : (value_len : ℕ) (a b c : Reading) (xs ys : List (List ℕ)) → TakesLines value_len xs a b → TakesLines value_len ys b c → TakesLines value_len (xs ++ ys) a c
 TakesLines-append value_len a b c [] ys h k = subst (λ s. TakesLines value_len ys s c) h k
@@ -36,8 +48,8 @@ pub TakesBytes-append : (value_len : ℕ) (p : List ℕ) (a b c : Reading) (xs y
 TakesBytes-append value_len p a b c xs ys h k =
     subst (λ lines. TakesLines value_len lines a c) (sym (lines_after-append p xs ys)) (TakesLines-append value_len a b c (lines_after p xs) (lines_after (rest_after p xs) ys) h k)
 
--- one byte more of a slice
-pub TakesBytes-more : (value_len : ℕ) (p : List ℕ) (a b c : Reading) (bytes : List ℕ) (i : ℕ) → i < length bytes → TakesBytes value_len p a (take i bytes) b → TakesBytes value_len (rest_after p (take i bytes)) b (get_or bytes i 0 ∷ []) c
-    → TakesBytes value_len p a (take (i + 1) bytes) c
-TakesBytes-more value_len p a b c bytes i lt h k =
-    subst (λ xs. TakesBytes value_len p a xs c) (sym (take_more bytes i 0 lt)) (TakesBytes-append value_len p a b c (take i bytes) (get_or bytes i 0 ∷ []) h k)
+-- one part more of a slice
+pub TakesBytes-part : (value_len : ℕ) (p : List ℕ) (a b c : Reading) (bytes : List ℕ) (done count : ℕ) → TakesBytes value_len p a (take done bytes) b
+    → TakesBytes value_len (rest_after p (take done bytes)) b (take count (drop done bytes)) c → TakesBytes value_len p a (take (done + count) bytes) c
+TakesBytes-part value_len p a b c bytes done count h k =
+    subst (λ xs. TakesBytes value_len p a xs c) (sym (take-add done count bytes)) (TakesBytes-append value_len p a b c (take done bytes) (take count (drop done bytes)) h k)

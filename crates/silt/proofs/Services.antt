@@ -1,5 +1,5 @@
 -- How a service of a disk ends.
-use Rattle.std.proofs.Common.{◌≡◌, ◌⊎◌, ℕ, Result, Ok, Err, arith, inl, inr, refl}
+use Rattle.std.proofs.Common.{◌≡◌, ℕ, Result, Ok, Err, arith, inl, inr, refl}
 use Rattle.std.specs.Prelude.{IfOk}
 use Rattle.silt_server.specs.Serving.{IsStatus}
 

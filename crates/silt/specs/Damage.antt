@@ -1,5 +1,5 @@
 -- Where the parts of a disk lie.
-use Rattle.std.specs.Prelude.{◌≡◌, ◌≢◌, ◌+◌, ◌*◌, ◌&&◌, ℕ, nat_lt, if◌then◌else◌, IsTrue, Option, Some, None, Err}
+use Rattle.std.specs.Prelude.{◌≢◌, ◌+◌, ◌*◌, ℕ, nat_lt, if◌then◌else◌, IsTrue, Option, Some, None, Err}
 use Rattle.silt_device.specs.Disk.{Content, size}
 use Rattle.silt_device.specs.Layout.{Shape, bodies_at, entry_len, hash_at, row_len, slot_at, sorted_at}
 use Rattle.silt_event.specs.declared.place.Place.{Place}
@@ -14,15 +14,15 @@ part_at region_at len count part = if nat_lt part count then Some (region_at + p
 
 -- Where a part begins on a disk of this shape whose sorted store lies in this region: a row by its body. The numbers of the header follow its gate, its
 -- eight letters and its version. The length and the charge are of the whole disk.
-abbrev pub place_at : Shape → ℕ → Place → Option ℕ
-place_at s sorted Header = Some 13
-place_at s sorted Length = None
-place_at s sorted (Slot slot) = if nat_lt slot 2 then Some (slot_at slot) else None
-place_at s sorted NoSlot = Some (slot_at 0)
-place_at s sorted (Log region row) = if nat_lt region s.logs then part_at (bodies_at s region) (row_len s) s.log_capacity row else None
-place_at s sorted (Hash region slot) = if nat_lt region s.hashes then part_at (hash_at s region) (row_len s) (4 * s.buckets) slot else None
-place_at s sorted (Sorted entry) = part_at (sorted_at s sorted) (entry_len s) s.sorted_capacity entry
-place_at s sorted Charge = None
+abbrev pub offset_of : Shape → ℕ → Place → Option ℕ
+offset_of s sorted Header = Some 13
+offset_of s sorted Length = None
+offset_of s sorted (Slot slot) = if nat_lt slot 2 then Some (slot_at slot) else None
+offset_of s sorted NoSlot = Some (slot_at 0)
+offset_of s sorted (Log region row) = if nat_lt region s.logs then part_at (bodies_at s region) (row_len s) s.log_capacity row else None
+offset_of s sorted (Hash region slot) = if nat_lt region s.hashes then part_at (hash_at s region) (row_len s) (4 * s.buckets) slot else None
+offset_of s sorted (Sorted entry) = part_at (sorted_at s sorted) (entry_len s) s.sorted_capacity entry
+offset_of s sorted Charge = None
 
 -- the header of a store of this format stands on the disk, its gate open
 abbrev pub HoldsStore : Content → Type 0

@@ -5,7 +5,9 @@ use Rattle.silt_device.specs.Disk.{Content, size}
 use Rattle.silt_device.specs.Layout.{InLimits, Shape, device_size}
 use Rattle.silt_event.specs.declared.refusal.Refusal.{Refusal}
 use Rattle.silt_event.specs.declared.refusal.Refusal.TheVariants.{BadGeometry, Device}
-use Rattle.silt_server.specs.Serving.{IsServed, LeavesServed, ServesKept, TellsNotServed}
+use Rattle.silt_recovery.specs.Opening.{LeavesNoOther}
+use Rattle.silt_server.specs.Serving.{IsServed, ServesKept, TellsNotServed}
+use Rattle.silt_store_set.specs.CoreInvariant.{LeavesBegun}
 use Rattle.silt_wire.specs.declared.sessions.SessionEnd.TheVariants.{End}
 use Rattle.silt.specs.Damage.{HoldsStore}
 use Rattle.silt.specs.Jobs.{BreaksRun, EndsCheck, EndsFormat, EndsRun, Tells, TellsCheck, TellsFormat, TellsOpening}
@@ -14,11 +16,11 @@ use Rattle.silt.specs.Jobs.{BreaksRun, EndsCheck, EndsFormat, EndsRun, Tells, Te
 abbrev pub TellsNoDisk : {E : Type 0} → (E → Type 0) → Option (List ℕ) → Option (List ℕ) → Type 0
 TellsNoDisk {E} IsCause before after = (error : E) × IsCause error × Tells (Device (tt {0})) before after
 
-module _ {D F : Type 0} (content : D → Content) (failures : D → ℕ) (gave : D → F → Type 0) where
-  -- one life on a disk that the source opened, which is given back as the store left it
+module _ {D F : Type 0} (content : D → Content) (failures : D → ℕ) (gave : D → F → Type 0) (told_failure : D → Type 0) where
+  -- one life on a disk that the source opened, which is given back as the store left it; people were told which call failed last
   abbrev pub RunsFile : (D → Type 0) → Option D → Option (List ℕ) → Option (List ℕ) → Option (List ℕ) → Option (List ℕ) → Type 0
   RunsFile Opened given remaining left before after =
-      (old : D) × Opened old × IsSomeAnd given (λ new. EndsRun content failures gave End old new remaining left before after)
+      (old : D) × Opened old × IsSomeAnd given (λ new. EndsRun content failures gave End old new remaining left before after × told_failure new)
 
 module _ {D F E : Type 0} (content : D → Content) (failures : D → ℕ) (gave : D → F → Type 0) (told : Refusal F → Type 0) (Opened : D → Type 0) (NotOpened : E → Type 0) where
   -- it was written that the source opened no disk, or why the store was not taken up from the one that it opened, or the session on it broke off
@@ -41,20 +43,26 @@ ChecksFile {D} content Opened given before after = (disk : D) × Opened disk × 
 abbrev pub EndsServe : {D : Type 0} → (D → Content) → Option ℕ → D → Option (List ℕ) → Option (List ℕ) → Type 0
 EndsServe content audit new before after = IsServed (content new) before after × IfSome audit (λ most. ServesKept content (λ port. Unit {0}) new before after)
 
--- it was written why the store on a disk was not served to the end
-abbrev pub TellsServe : {D F : Type 0} → (D → Content) → (D → F → Type 0) → D → D → Option (List ℕ) → Option (List ℕ) → Type 0
-TellsServe content gave old new before after = TellsNotServed content gave (λ port. Unit {0}) old new before after
+module _ {D F : Type 0} (content : D → Content) (gave : D → F → Type 0) where
+  -- it was written why the store on a disk was not taken up or not served to the end, and people were told why it was not taken up
+  abbrev pub TellsServe : (Refusal F → Type 0) → D → D → Option (List ℕ) → Option (List ℕ) → Type 0
+  TellsServe told old new before after = TellsOpening content gave told old new before after ⊎ TellsNotServed content gave (λ port. Unit {0}) new before after
 
--- a disk that the source opened was served to the end, and is given back as a server leaves it
-abbrev pub ServesFile : {D F : Type 0} → (D → Content) → (D → F → Type 0) → (D → Type 0) → Option ℕ → Option D → Option (List ℕ) → Option (List ℕ) → Type 0
-ServesFile {D} content gave Opened audit given before after =
-    (old : D) × Opened old × IsSomeAnd given (λ new. EndsServe content audit new before after × LeavesServed content gave old new)
+  -- what a server gives back, however it ends: each image that a stop may leave might have been left before or stands for what was shown, or all
+  -- stand for one map after a beginning of one list of commands
+  abbrev pub LeavesServed : D → D → Type 0
+  LeavesServed old new = LeavesNoOther (content old) (content new) ⊎ ((shape : Shape) × LeavesBegun (content new) shape)
 
--- it was written that the source opened no disk, or why the one that it opened was not served to the end, which is given back as a server leaves it
-abbrev pub TellsServeFile : {D F E : Type 0} → (D → Content) → (D → F → Type 0) → (D → Type 0) → (E → Type 0) → Option D → Option (List ℕ) → Option (List ℕ) → Type 0
-TellsServeFile {D} content gave Opened NotOpened given before after =
-    TellsNoDisk NotOpened before after
-    ⊎ ((old : D) × Opened old × IsSomeAnd given (λ new. TellsServe content gave old new before after × LeavesServed content gave old new))
+  -- a disk that the source opened was served to the end, and is given back as a server leaves it; people were told which call failed last
+  abbrev pub ServesFile : (D → Type 0) → (D → Type 0) → Option ℕ → Option D → Option (List ℕ) → Option (List ℕ) → Type 0
+  ServesFile told_failure Opened audit given before after =
+      (old : D) × Opened old × IsSomeAnd given (λ new. EndsServe content audit new before after × LeavesServed old new × told_failure new)
+
+  -- it was written that the source opened no disk, or why the one that it opened was not served to the end, which is given back as a server leaves it
+  abbrev pub TellsServeFile : {E : Type 0} → (Refusal F → Type 0) → (D → Type 0) → (E → Type 0) → Option D → Option (List ℕ) → Option (List ℕ) → Type 0
+  TellsServeFile told Opened NotOpened given before after =
+      TellsNoDisk NotOpened before after
+      ⊎ ((old : D) × Opened old × IsSomeAnd given (λ new. TellsServe told old new before after × LeavesServed old new))
 
 -- where the disk held a store, people were told that it is gone, or the disk could not be read
 abbrev pub TellsStore : {D F : Type 0} → (D → Content) → (D → F → Type 0) → Type 0 → D → Type 0

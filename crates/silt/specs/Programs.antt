@@ -13,15 +13,15 @@ use Rattle.silt.specs.Files.{ChecksFile, FormatsFile, RunsFile, ServesFile, Tell
 use Rattle.silt.specs.Numbers.{shape_asked}
 use Rattle.silt.specs.Scripts.{EndsScript, TellsRefusal}
 
-module _ {D F : Type 0} (content : D → Content) (failures : D → ℕ) (gave : D → F → Type 0) (told_store : List ℕ → Type 0) (Opened Shared : List ℕ → D → Type 0) (Created : List ℕ → ℕ → D → Type 0) where
+module _ {D F : Type 0} (content : D → Content) (failures : D → ℕ) (gave : D → F → Type 0) (told_store : List ℕ → Type 0) (told_failure : List ℕ → D → Type 0) (Opened Shared : List ℕ → D → Type 0) (Created : List ℕ → ℕ → D → Type 0) where
   -- this job was done, on a disk that the source gave for its path
   abbrev pub EndsJob : Job → Option (List ℕ) → Option (List ℕ) → Option (List ℕ) → Option (List ℕ) → Type 0
   EndsJob (Format file numbers) remaining left before after =
       (given : Option D) × FormatsFile content gave (told_store file.now) (Created file.now) (shape_asked numbers) given before after
   EndsJob (Script numbers) remaining left before after = EndsScript (shape_asked numbers) remaining left before after
-  EndsJob (Run file) remaining left before after = (given : Option D) × RunsFile content failures gave (Opened file.now) given remaining left before after
+  EndsJob (Run file) remaining left before after = (given : Option D) × RunsFile content failures gave (told_failure file.now) (Opened file.now) given remaining left before after
   EndsJob (Check file) remaining left before after = (given : Option D) × ChecksFile content (Shared file.now) given before after
-  EndsJob (Serve service) remaining left before after = (given : Option D) × ServesFile content gave (Opened service.file.now) service.audit given before after
+  EndsJob (Serve service) remaining left before after = (given : Option D) × ServesFile content gave (told_failure service.file.now) (Opened service.file.now) service.audit given before after
 
 module _ {D F E : Type 0} (content : D → Content) (failures : D → ℕ) (gave : D → F → Type 0)
     (told : List ℕ → Refusal F → Type 0) (Opened : List ℕ → D → Type 0) (NotOpened : List ℕ → E → Type 0) (Shared : List ℕ → D → Type 0) (NotShared : List ℕ → E → Type 0)
@@ -36,7 +36,7 @@ module _ {D F E : Type 0} (content : D → Content) (failures : D → ℕ) (gave
   TellsJob (Check file) remaining left before after =
       (given : Option D) × TellsCheckFile content gave (told file.now) (Shared file.now) (NotShared file.now) given before after
   TellsJob (Serve service) remaining left before after =
-      (given : Option D) × TellsServeFile content gave (Opened service.file.now) (NotOpened service.file.now) given before after
+      (given : Option D) × TellsServeFile content gave (told service.file.now) (Opened service.file.now) (NotOpened service.file.now) given before after
 
 -- what is written where no job was read of the words, and the status
 abbrev pub TellsWords : WordsError → ℕ → Option (List ℕ) → Option (List ℕ) → Type 0
@@ -54,10 +54,10 @@ IsUnread told words NoMemory = Unit {0}
 
 module _ {D F E : Type 0} (content : D → Content) (failures : D → ℕ) (gave : D → F → Type 0)
     (told : List ℕ → Refusal F → Type 0) (Opened : List ℕ → D → Type 0) (NotOpened : List ℕ → E → Type 0) (Shared : List ℕ → D → Type 0) (NotShared : List ℕ → E → Type 0)
-    (Created : List ℕ → ℕ → D → Type 0) (NotCreated : List ℕ → ℕ → E → Type 0) (told_store : List ℕ → Type 0) (told_words : List (List ℕ) → Type 0) where
+    (Created : List ℕ → ℕ → D → Type 0) (NotCreated : List ℕ → ℕ → E → Type 0) (told_store : List ℕ → Type 0) (told_failure : List ℕ → D → Type 0) (told_words : List (List ℕ) → Type 0) where
   -- the job that the words name was done with status 0 or refused or broke off with status 1, or no job was read of them
   abbrev pub Answers : List (List ℕ) → ℕ → Option (List ℕ) → Option (List ℕ) → Option (List ℕ) → Option (List ℕ) → Type 0
   Answers words status remaining left before after =
-      ((job : Job) × NamesJob words job × (((status ≡ 0) × EndsJob content failures gave told_store Opened Shared Created job remaining left before after)
+      ((job : Job) × NamesJob words job × (((status ≡ 0) × EndsJob content failures gave told_store told_failure Opened Shared Created job remaining left before after)
       ⊎ ((status ≡ 1) × TellsJob content failures gave told Opened NotOpened Shared NotShared Created NotCreated job remaining left before after)))
       ⊎ ((error : WordsError) × IsUnread told_words words error × TellsWords error status before after)

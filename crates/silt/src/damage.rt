@@ -4,7 +4,7 @@ ghost use Rattle.silt_device.specs.Disk.{GaveAny, size};
 ghost use Rattle.silt_device.specs.Layout.{device_size, entry_len, row_len};
 ghost use Rattle.silt_image.specs.Header.{header_of};
 ghost use Rattle.silt_image.specs.Stores.{shape_found};
-ghost use Rattle.silt.specs.Damage.{HoldsStore, part_at, place_at};
+ghost use Rattle.silt.specs.Damage.{HoldsStore, part_at, offset_of};
 
 use silt_device::{Disk, Geometry, slot_start};
 use silt_event::{Finding, Place, Refusal};
@@ -20,7 +20,7 @@ pub fn damage_at<D: Disk, F: Drop>(disk: &D, refusal: &Refusal<F>) -> Option<u64
         Refusal::Damaged(Place::Header) => Some(NUMBERS_AT),
         Refusal::Damaged(place) => {
             let geometry = geometry_on(disk)?;
-            place_at(&geometry, sorted_on(disk, geometry), *place)
+            offset_of(&geometry, sorted_on(disk, geometry), *place)
         }
         _ => None,
     }
@@ -74,9 +74,9 @@ fn sorted_on<D: Disk>(disk: &D, geometry: Geometry) -> u32
 }
 
 // Where a part of a disk begins, of this geometry, whose sorted store lies in this region.
-pub(crate) fn place_at(geometry: &Geometry, sorted: u32, place: Place) -> Option<u64>
+pub(crate) fn offset_of(geometry: &Geometry, sorted: u32, place: Place) -> Option<u64>
     requires { sorted < 2 }
-    ensures { result ≡ place_at geometry.now sorted place }
+    ensures { result ≡ offset_of geometry.now sorted place }
 {
     let row_len = geometry.row_len() as u64;
     match place {

@@ -1,5 +1,5 @@
 // The jobs on the disk of a path.
-ghost use Rattle.std.specs.Prelude.{◌≡◌, ◌≢◌, ◌⊎◌, Ok, true, IfOk, codes};
+ghost use Rattle.std.specs.Prelude.{◌≡◌, ◌≢◌, ◌⊎◌, Ok, true, IfOk, IfSome, codes};
 ghost use Rattle.std.specs.Io.KnownBytes.{Appends};
 ghost use Rattle.silt_device.specs.Disk.{GaveAny};
 ghost use Rattle.silt_device.specs.Layout.{InLimits};
@@ -8,6 +8,7 @@ ghost use Rattle.silt.specs.Notes.{IsTold};
 ghost use Rattle.silt.specs.Numbers.{shape_asked};
 
 use crate::damage::holds_store;
+use crate::failure::Watched;
 use crate::geometry::geometry_of;
 use crate::jobs::{check_on, format_on, run_on};
 use crate::notes::{FaultNotes, Notes, SourceNotes};
@@ -79,7 +80,7 @@ pub fn run_file<
     S: DiskSource,
     R: Read,
     W: Write,
-    N: SourceNotes<S::Error> + FaultNotes<<S::Disk as Disk>::Fault>,
+    N: Notes + SourceNotes<S::Error> + FaultNotes<<S::Disk as Disk>::Fault>,
 >(
     alloc: Global,
     source: S,
@@ -89,10 +90,10 @@ pub fn run_file<
     notes: &mut N,
 ) -> (Option<S::Disk>, io::Result<u8>)
 where
-    S::Disk: Served,
+    S::Disk: Served + Watched,
     ensures told { IfOk result.1 (λ status. (status ≡ 0) ⊎ ((status ≡ 1) × TellsRunFile S.Disk.Disk.content S.Disk.Disk.failures (GaveAny S.Disk.Disk.gave) (IsTold (N.told_fault notes.old notes.new path.now) (N.told_damage notes.old notes.new path.now)) (S.opened source path.now)
         (λ error. S.not_opened source path.now error × N.told_error notes.old notes.new path.now error) result.0 (R.remaining reader.old) (R.remaining reader.new) (W.contents writer.old) (W.contents writer.new))) }
-    ensures answered { result.1 ≡ Ok 0 → RunsFile S.Disk.Disk.content S.Disk.Disk.failures (GaveAny S.Disk.Disk.gave) (S.opened source path.now) result.0 (R.remaining reader.old) (R.remaining reader.new) (W.contents writer.old) (W.contents writer.new) }
+    ensures answered { result.1 ≡ Ok 0 → RunsFile S.Disk.Disk.content S.Disk.Disk.failures (GaveAny S.Disk.Disk.gave) (λ disk. IfSome (S.Disk.Watched.last_failure disk) (N.told_failure notes.old notes.new path.now)) (S.opened source path.now) result.0 (R.remaining reader.old) (R.remaining reader.new) (W.contents writer.old) (W.contents writer.new) }
 {
     match source.open(path) {
         Ok(disk) => {

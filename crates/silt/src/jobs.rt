@@ -1,19 +1,20 @@
 // The jobs on a disk of any kind.
-ghost use Rattle.std.specs.Prelude.{◌≡◌, ◌⊎◌, Ok, IfOk};
+ghost use Rattle.std.specs.Prelude.{◌≡◌, ◌⊎◌, Ok, IfOk, IfSome};
 ghost use Rattle.std.specs.Io.KnownBytes.{Appends};
 ghost use Rattle.silt_device.specs.Disk.{GaveAny};
 ghost use Rattle.silt_device.specs.Layout.{device_size};
 ghost use Rattle.silt_wire.specs.declared.sessions.SessionEnd.{SessionEnd as SessionEndOf};
 ghost use Rattle.silt_wire.specs.declared.sessions.SessionEnd.TheVariants.{End};
-ghost use Rattle.silt.specs.Jobs.{AnswersReader, BreaksRun, EndsCheck, EndsFormat, EndsRun, TellsCheck, TellsFormat, TellsOpening, formatted_line, status_of};
+ghost use Rattle.silt.specs.Jobs.{AnswersReader, BreaksRun, EndsCheck, EndsFormat, EndsRun, Tells, TellsCheck, TellsFormat, TellsOpening, formatted_line, status_of};
 ghost use Rattle.silt.specs.Notes.{IsTold};
 
 use crate::damage::damage_at;
-use crate::notes::{FaultNotes, tell_refusal};
+use crate::failure::Watched;
+use crate::notes::{FaultNotes, Notes, tell_last_failure, tell_refusal};
 use crate::refusal::refuse;
 use silt_device::{Disk, Geometry};
 use silt_recovery::{check, format};
-use silt_store_set::{Core, Refusal, Served};
+use silt_store_set::{Core, OpenFault, Refusal, Served};
 use silt_wire::{SessionEnd, session, write_report};
 use std::alloc::Global;
 use std::io::{self, Read, Write};
@@ -25,7 +26,7 @@ use std::io::{self, Read, Write};
 /// # Errors
 ///
 /// The writer's, before the first line is read, and want of memory for the text of a refusal.
-pub fn run_on<D: Served, R: Read, W: Write, N: FaultNotes<D::Fault>>(
+pub fn run_on<D: Served + Watched, R: Read, W: Write, N: Notes + FaultNotes<D::Fault>>(
     alloc: Global,
     disk: D,
     file: &str,
@@ -35,21 +36,41 @@ pub fn run_on<D: Served, R: Read, W: Write, N: FaultNotes<D::Fault>>(
 ) -> (D, io::Result<u8>)
     ensures told { IfOk result.1 (λ status. (status ≡ 0) ⊎ ((status ≡ 1) × (TellsOpening D.content (GaveAny D.gave) (IsTold (N.told_fault notes.old notes.new file.now) (N.told_damage notes.old notes.new file.now)) disk result.0 (W.contents writer.old) (W.contents writer.new)
         ⊎ BreaksRun D.content D.failures (GaveAny D.gave) disk result.0 (R.remaining reader.old) (R.remaining reader.new) (W.contents writer.old) (W.contents writer.new)))) }
+    ensures failed { result.1 ≡ Ok 0 → IfSome (D.last_failure result.0) (N.told_failure notes.old notes.new file.now) }
     ensures answered { result.1 ≡ Ok 0 → EndsRun D.content D.failures (GaveAny D.gave) End disk result.0
         (R.remaining reader.old) (R.remaining reader.new) (W.contents writer.old) (W.contents writer.new) }
 {
     match Core::open(alloc, disk) {
         Ok(mut core) => {
             let status = answer_reader(alloc, &mut core, reader, writer);
-            (core.close(), status)
+            let disk = core.close();
+            tell_last_failure(file, &disk, notes);
+            (disk, status)
         }
-        Err(fault) => {
-            let at = damage_at(&fault.disk, &fault.refusal);
-            tell_refusal(file, &fault.refusal, at, notes);
-            let status = refuse(alloc, &fault.refusal, writer);
-            (fault.disk, status)
-        }
+        Err(fault) => refuse_opening(alloc, fault, file, writer, notes),
     }
+}
+
+/// Tells why the store on the disk of a file was not taken up. Gives the disk back, and the status.
+///
+/// # Errors
+///
+/// The writer's, and want of memory for the text.
+pub fn refuse_opening<D: Disk, W: Write, N: FaultNotes<D::Fault>>(
+    alloc: Global,
+    fault: OpenFault<D>,
+    file: &str,
+    writer: &mut W,
+    notes: &mut N,
+) -> (D, io::Result<u8>)
+    ensures disk { result.0 ≡ fault.disk }
+    ensures told { IfOk result.1 (λ status. (status ≡ 1) × (Tells fault.refusal (W.contents writer.old) (W.contents writer.new)
+        × IsTold (N.told_fault notes.old notes.new file.now) (N.told_damage notes.old notes.new file.now) fault.refusal)) }
+{
+    let at = damage_at(&fault.disk, &fault.refusal);
+    tell_refusal(file, &fault.refusal, at, notes);
+    let status = refuse(alloc, &fault.refusal, writer);
+    (fault.disk, status)
 }
 
 // Writes that the store is taken up, answers the reader's lines to their end, and answers the status.

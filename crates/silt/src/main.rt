@@ -14,6 +14,7 @@
 #![tactic(auto)]
 
 mod damage;
+mod failure;
 mod files;
 mod geometry;
 mod jobs;
@@ -28,6 +29,7 @@ mod service;
 mod tests;
 mod transcript;
 mod usage;
+mod watched_file;
 
 use note_lines::NoteLines;
 use program::{program, refuse_words, status_of};
@@ -41,6 +43,7 @@ use std::process::ExitCode;
 use std::rt::{Files, Runtime};
 use std::sync::Wait;
 use std::thread::Threads;
+use watched_file::WatchedFiles;
 
 fn main(rt: HostRuntime) -> ExitCode {
     done(&rt, rt.stderr())
@@ -62,7 +65,7 @@ fn done<
         Ok(words) => program(
             rt,
             rt.alloc(),
-            FileDisks::new(rt),
+            WatchedFiles::new(FileDisks::new(rt)),
             words.as_slice(),
             &mut rt.reader(),
             &mut writer,

@@ -1,11 +1,12 @@
 // What the program tells people, as lines of a writer.
 ghost use Rattle.std.specs.Prelude.{◌≡◌, ⊤};
 
+use crate::failure::Failure;
 use crate::notes::{FaultNotes, Notes, SourceNotes};
 use crate::usage::{FORMS, complaint_of};
 use silt_store_set::Place;
 use std::fmt::Display;
-use std::io::{self, Write};
+use std::io::{self, ErrorKind, Write};
 
 /// Notes as lines of a writer, as the standard error: `silt: `, what it is of, and the words of the system. A line that cannot be
 /// written is left out.
@@ -28,6 +29,10 @@ impl<W: Write> Notes for NoteLines<W> {
 
     ghost told_store = { λ _ _ _. ⊤ };
 
+    ghost told_failure = { λ _ _ _ _. ⊤ };
+
+    ghost told_broken = { λ _ _. ⊤ };
+
     ghost told_words = { λ _ _ _. ⊤ };
 
     fn tell_port(&mut self, port: u16, error: &io::Error) {
@@ -36,6 +41,17 @@ impl<W: Write> Notes for NoteLines<W> {
 
     fn tell_store(&mut self, file: &str) {
         let _ = writeln!(self.writer, "silt: {file} held a store; it is gone");
+    }
+
+    fn tell_failure(&mut self, file: &str, failure: &Failure) {
+        let _ = writeln!(self.writer, "silt: {file}: {failure}");
+    }
+
+    // A pipe that the reader of the answers has closed needs no words.
+    fn tell_broken(&mut self, error: &io::Error) {
+        if error.kind() != ErrorKind::BrokenPipe {
+            let _ = writeln!(self.writer, "silt: {error}");
+        }
     }
 
     fn tell_words(&mut self, words: &[String]) {
@@ -54,20 +70,6 @@ impl<W: Write, E: Display> SourceNotes<E> for NoteLines<W> {
     }
 }
 
-// What is wrong with a damaged part, in words.
-fn damage_named(place: Place) -> &'static str {
-    match place {
-        Place::Header => "a number of the header is out of its limits",
-        Place::Length => "it has another length than its header says",
-        Place::Slot(_) => "a manifest slot is damaged",
-        Place::NoSlot => "no manifest slot is open",
-        Place::Log { .. } => "a row of a log is damaged",
-        Place::Hash { .. } => "a slot of a hash store is damaged",
-        Place::Sorted(_) => "an entry of the sorted store is damaged",
-        Place::Charge => "it holds more rows than it may",
-    }
-}
-
 impl<W: Write, F: Display> FaultNotes<F> for NoteLines<W> {
     ghost told_fault = { λ _ _ _ _. ⊤ };
 
@@ -78,10 +80,9 @@ impl<W: Write, F: Display> FaultNotes<F> for NoteLines<W> {
     }
 
     fn tell_damage(&mut self, file: &str, place: Place, at: Option<u64>) {
-        let damage = damage_named(place);
         let _ = match at {
-            Some(at) => writeln!(self.writer, "silt: {file}: {damage}, at byte {at}"),
-            None => writeln!(self.writer, "silt: {file}: {damage}"),
+            Some(at) => writeln!(self.writer, "silt: {file}: {place}, at byte {at}"),
+            None => writeln!(self.writer, "silt: {file}: {place}"),
         };
     }
 }

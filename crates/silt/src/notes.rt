@@ -1,26 +1,12 @@
 // What the program tells people, beside what it writes for programs.
-ghost use Rattle.std.specs.Prelude.{ℕ, List, Option, map, string_bytes};
+ghost use Rattle.std.specs.Prelude.{◌≡◌, ℕ, IfSome, IsErr, IsOk, List, Option, map, string_bytes};
 ghost use Rattle.silt_event.specs.declared.place.Place.{Place as PlaceOf};
 ghost use Rattle.silt.specs.Notes.{IsTold};
+ghost use Rattle.silt.specs.declared.failure.Failure.{Failure as FailureOf};
 
+use crate::failure::{Failure, Watched};
 use silt_store_set::{Place, Refusal};
 use std::io;
-
-/// Tells the fault of a disk, or the damage that begins there, where a refusal has one of them.
-pub fn tell_refusal<F, N: FaultNotes<F>>(
-    file: &str,
-    refusal: &Refusal<F>,
-    at: Option<u64>,
-    notes: &mut N,
-)
-    ensures { IsTold (N.told_fault notes.old notes.new file.now) (N.told_damage notes.old notes.new file.now) refusal.now }
-{
-    match refusal {
-        Refusal::Device(fault) => notes.tell_fault(file, fault),
-        Refusal::Damaged(place) => notes.tell_damage(file, *place, at),
-        _ => {}
-    }
-}
 
 /// Where people are told what does not concern one disk or its source. Nothing that is written for programs depends on a note.
 pub trait Notes {
@@ -29,6 +15,12 @@ pub trait Notes {
 
     /// It was told that a file of this name held a store, which is gone.
     ghost told_store: { Self → Self → List ℕ → Type 0 };
+
+    /// It was told which write or sync failed last on the disk of a file of this name.
+    ghost told_failure: { Self → Self → List ℕ → FailureOf → Type 0 };
+
+    /// It was told why the reader or the writer failed.
+    ghost told_broken: { Self → Self → Type 0 };
 
     /// It was told why these words name no job.
     ghost told_words: { Self → Self → List (List ℕ) → Type 0 };
@@ -41,9 +33,36 @@ pub trait Notes {
     fn tell_store(&mut self, file: &str)
         ensures { told_store self.old self.new file.now };
 
+    /// Tells which write or sync failed last on the disk of the file of this name.
+    fn tell_failure(&mut self, file: &str, failure: &Failure)
+        ensures { told_failure self.old self.new file.now failure.now };
+
+    /// Tells why the reader or the writer failed.
+    fn tell_broken(&mut self, error: &io::Error)
+        ensures { told_broken self.old self.new };
+
     /// Tells which words would name a job, and what is wrong with these.
     fn tell_words(&mut self, words: &[String])
         ensures { told_words self.old self.new (map string_bytes words.now) };
+}
+
+/// Tells which write or sync of a disk failed last, where one did.
+pub fn tell_last_failure<D: Watched, N: Notes>(file: &str, disk: &D, notes: &mut N)
+    ensures { IfSome (D.last_failure disk.now) (N.told_failure notes.old notes.new file.now) }
+{
+    if let Some(failure) = disk.last_failure() {
+        notes.tell_failure(file, &failure);
+    }
+}
+
+/// Tells why a job ended with an error of its reader or its writer, where it did.
+pub fn tell_error_of<N: Notes>(ended: &io::Result<u8>, notes: &mut N)
+    ensures told { IsErr ended.now → N.told_broken notes.old notes.new }
+    ensures quiet { IsOk ended.now → notes.new ≡ notes.old }
+{
+    if let Err(error) = ended {
+        notes.tell_broken(error);
+    }
 }
 
 /// Where people are told why there is no disk. `E` is the error of the disks' source.
@@ -71,4 +90,20 @@ pub trait FaultNotes<F> {
     /// Tells which part of the disk of the file of this name is damaged, and where it begins, if that is known.
     fn tell_damage(&mut self, file: &str, place: Place, at: Option<u64>)
         ensures { told_damage self.old self.new file.now place at };
+}
+
+/// Tells the fault of a disk, or the damage that begins there, where a refusal has one of them.
+pub fn tell_refusal<F, N: FaultNotes<F>>(
+    file: &str,
+    refusal: &Refusal<F>,
+    at: Option<u64>,
+    notes: &mut N,
+)
+    ensures { IsTold (N.told_fault notes.old notes.new file.now) (N.told_damage notes.old notes.new file.now) refusal.now }
+{
+    match refusal {
+        Refusal::Device(fault) => notes.tell_fault(file, fault),
+        Refusal::Damaged(place) => notes.tell_damage(file, *place, at),
+        _ => {}
+    }
 }

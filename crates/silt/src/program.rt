@@ -1,5 +1,5 @@
 // The program's work, over any source of disks, reader and writer.
-ghost use Rattle.std.specs.Prelude.{◌≡◌, ◌⊎◌, Ok, None, IfOk, map, string_bytes, codes};
+ghost use Rattle.std.specs.Prelude.{◌≡◌, ◌⊎◌, Ok, None, IfOk, IfSome, map, string_bytes, codes};
 ghost use Rattle.std.specs.Io.KnownBytes.{Appends};
 ghost use Rattle.std.specs.Result.{result_unwrap_or};
 ghost use Rattle.silt_device.specs.Disk.{GaveAny};
@@ -8,8 +8,9 @@ ghost use Rattle.silt_words.specs.Commands.{job_named};
 ghost use Rattle.silt.specs.Notes.{IsTold};
 ghost use Rattle.silt.specs.Programs.{Answers, EndsJob, NamesJob, TellsJob, TellsWords};
 
+use crate::failure::Watched;
 use crate::files::{check_file, format_file, run_file};
-use crate::notes::{FaultNotes, Notes, SourceNotes};
+use crate::notes::{FaultNotes, Notes, SourceNotes, tell_error_of};
 use crate::script::script;
 use crate::service::serve_file;
 use silt_device::{Disk, DiskSource};
@@ -39,14 +40,17 @@ pub fn program<
     notes: &mut N,
 ) -> u8
 where
-    S::Disk: Served,
+    S::Disk: Served + Watched,
     ensures done { result ≡ 0 → (job : JobOf) × NamesJob (map string_bytes words.now) job
-        × EndsJob S.Disk.Disk.content S.Disk.Disk.failures (GaveAny S.Disk.Disk.gave) (N.told_store notes.old notes.new) (S.opened source) (S.shared source) (S.created source) job
+        × EndsJob S.Disk.Disk.content S.Disk.Disk.failures (GaveAny S.Disk.Disk.gave) (N.told_store notes.old notes.new)
+        (λ path disk. IfSome (S.Disk.Watched.last_failure disk) (N.told_failure notes.old notes.new path)) (S.opened source) (S.shared source) (S.created source) job
         (R.remaining reader.old) (R.remaining reader.new) (W.contents writer.old) (W.contents writer.new) }
     ensures usage { result ≡ 2 → (job_named (map string_bytes words.now) ≡ None) × N.told_words notes.old notes.new (map string_bytes words.now)
         × Appends (W.contents writer.old) (W.contents writer.new) (codes "usage\n") }
 {
-    status_of(answer(rt, alloc, source, words, reader, writer, notes))
+    let ended = answer(rt, alloc, source, words, reader, writer, notes);
+    tell_error_of(&ended, notes);
+    status_of(ended)
 }
 
 /// The status that the program ends with: 1 where its reader or writer failed.
@@ -77,10 +81,11 @@ pub fn answer<
     notes: &mut N,
 ) -> io::Result<u8>
 where
-    S::Disk: Served,
+    S::Disk: Served + Watched,
     ensures { IfOk result (λ status. Answers S.Disk.Disk.content S.Disk.Disk.failures (GaveAny S.Disk.Disk.gave) (λ path. IsTold (N.told_fault notes.old notes.new path) (N.told_damage notes.old notes.new path)) (S.opened source) (λ path error. S.not_opened source path error × N.told_error notes.old notes.new path error)
         (S.shared source) (λ path error. S.not_shared source path error × N.told_error notes.old notes.new path error)
-        (S.created source) (λ path len error. S.not_created source path len error × N.told_error notes.old notes.new path error) (N.told_store notes.old notes.new) (N.told_words notes.old notes.new)
+        (S.created source) (λ path len error. S.not_created source path len error × N.told_error notes.old notes.new path error) (N.told_store notes.old notes.new)
+        (λ path disk. IfSome (S.Disk.Watched.last_failure disk) (N.told_failure notes.old notes.new path)) (N.told_words notes.old notes.new)
         (map string_bytes words.now) status (R.remaining reader.old) (R.remaining reader.new) (W.contents writer.old) (W.contents writer.new)) }
 {
     match read_words(alloc, words) {
@@ -119,12 +124,13 @@ fn do_job<
     notes: &mut N,
 ) -> io::Result<u8>
 where
-    S::Disk: Served,
+    S::Disk: Served + Watched,
     ensures told { IfOk result (λ status. (status ≡ 0) ⊎ ((status ≡ 1) × TellsJob S.Disk.Disk.content S.Disk.Disk.failures (GaveAny S.Disk.Disk.gave) (λ path. IsTold (N.told_fault notes.old notes.new path) (N.told_damage notes.old notes.new path)) (S.opened source) (λ path error. S.not_opened source path error × N.told_error notes.old notes.new path error)
         (S.shared source) (λ path error. S.not_shared source path error × N.told_error notes.old notes.new path error)
         (S.created source) (λ path len error. S.not_created source path len error × N.told_error notes.old notes.new path error)
         job.entry (R.remaining reader.old) (R.remaining reader.new) (W.contents writer.old) (W.contents writer.new))) }
-    ensures done { result ≡ Ok 0 → EndsJob S.Disk.Disk.content S.Disk.Disk.failures (GaveAny S.Disk.Disk.gave) (N.told_store notes.old notes.new) (S.opened source) (S.shared source) (S.created source)
+    ensures done { result ≡ Ok 0 → EndsJob S.Disk.Disk.content S.Disk.Disk.failures (GaveAny S.Disk.Disk.gave) (N.told_store notes.old notes.new)
+        (λ path disk. IfSome (S.Disk.Watched.last_failure disk) (N.told_failure notes.old notes.new path)) (S.opened source) (S.shared source) (S.created source)
         job.entry (R.remaining reader.old) (R.remaining reader.new) (W.contents writer.old) (W.contents writer.new) }
 {
     match job {

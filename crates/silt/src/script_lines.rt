@@ -1,5 +1,5 @@
 // Scripts: lines from a reader, divided into lives.
-ghost use Rattle.std.specs.Prelude.{◌≡◌, ◌≢◌, ◌++◌, ◌∷◌, [], ℕ, List, All, Err, OnOk, IfOk};
+ghost use Rattle.std.specs.Prelude.{◌≡◌, ◌≢◌, ◌<◌, ◌≤◌, [], ℕ, List, All, Err, OnOk, IfOk, length, take};
 ghost use Rattle.std.specs.Io.KnownBytes.{Consumes, IsAtEnd};
 ghost use Rattle.std.specs.Result.{ForOk};
 ghost use Rattle.silt_event.specs.Events.{HasValueOf};
@@ -108,24 +108,26 @@ impl Reading {
         }
     }
 
-    // Takes a byte, and the line that it ends.
-    fn take_byte(
+    // Takes bytes to the end of a line, and the line; or takes all, where they end none. Answers how many bytes were taken.
+    fn take_piece(
         &mut self,
         alloc: Global,
         value_len: usize,
         pending: &mut LineBuffer,
-        byte: u8,
-    ) -> Result<(), AllocError>
-        ensures holds { OnOk result ((p : List ℕ) → HoldsBytes pending.old p → HoldsBytes pending.new (rest_after p (byte ∷ []))) }
-        ensures takes { OnOk result ((p : List ℕ) → HoldsBytes pending.old p → TakesBytes value_len p self.old (byte ∷ []) self.new) }
+        bytes: &[u8],
+    ) -> Result<usize, AllocError>
+        requires { 0 < length bytes.now }
+        ensures count { IfOk result (λ count. (0 < count) × (count ≤ length bytes.now)) }
+        ensures holds { IfOk result (λ count. (p : List ℕ) → HoldsBytes pending.old p → HoldsBytes pending.new (rest_after p (take count bytes.now))) }
+        ensures takes { IfOk result (λ count. (p : List ℕ) → HoldsBytes pending.old p → TakesBytes value_len p self.old (take count bytes.now) self.new) }
         ensures fits { OnOk result (Fits value_len self.old → Fits value_len self.new) }
     {
-        if byte == b'\n' {
+        let taken = pending.take(bytes)?;
+        if taken.ends_line {
             self.take_line(alloc, value_len, pending)?;
             pending.clear();
-            return Ok(());
         }
-        pending.push(byte)
+        Ok(taken.count)
     }
 
     // Takes bytes, and the lines that they end.
@@ -140,8 +142,10 @@ impl Reading {
         ensures takes { OnOk result ((p : List ℕ) → HoldsBytes pending.old p → TakesBytes value_len p self.old bytes.now self.new) }
         ensures fits { OnOk result (Fits value_len self.old → Fits value_len self.new) }
     {
-        for byte in bytes {
-            self.take_byte(alloc, value_len, pending, *byte)?;
+        let mut done = 0;
+        while done < bytes.len() {
+            let (_, rest) = bytes.split_at(done);
+            done += self.take_piece(alloc, value_len, pending, rest)?;
         }
         Ok(())
     }

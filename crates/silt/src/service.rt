@@ -1,15 +1,20 @@
 // The server on the disk of a path.
-ghost use Rattle.std.specs.Prelude.{◌≡◌, ◌⊎◌, Ok, IfOk};
+ghost use Rattle.std.specs.Prelude.{◌≡◌, Ok, IfOk, IfSome};
 ghost use Rattle.silt_device.specs.Disk.{GaveAny};
-ghost use Rattle.silt_server.specs.Serving.{IsStatus, LeavesServed};
-ghost use Rattle.silt.specs.Files.{EndsServe, ServesFile, TellsServe, TellsServeFile};
+ghost use Rattle.silt_device.specs.Layout.{Shape};
+ghost use Rattle.silt_store_set.specs.CoreInvariant.{LeavesBegun};
+ghost use Rattle.silt_server.specs.Serving.{IsStatus, TellsNotServed};
+ghost use Rattle.silt.specs.Files.{EndsServe, LeavesServed, ServesFile, TellsServe, TellsServeFile};
+ghost use Rattle.silt.specs.Notes.{IsTold};
 
-use crate::notes::{Notes, SourceNotes};
+use crate::failure::Watched;
+use crate::jobs::refuse_opening;
+use crate::notes::{FaultNotes, Notes, SourceNotes, tell_last_failure};
 use crate::refusal::refuse;
 use silt_desk::{Gate, Spot};
 use silt_device::{Disk, DiskSource};
 use silt_server::{refuse_network, serve_on};
-use silt_store_set::Refusal;
+use silt_store_set::{Core, Refusal};
 use silt_words::Service;
 use std::alloc::Global;
 use std::io::{self, Write};
@@ -35,7 +40,7 @@ pub fn serve_file<
     S: DiskSource,
     H: Net<Listener = TcpListener, Stream = TcpStream> + Threads + Wait + Sync,
     W: Write,
-    N: Notes + SourceNotes<S::Error>,
+    N: Notes + SourceNotes<S::Error> + FaultNotes<<S::Disk as Disk>::Fault>,
 >(
     rt: &H,
     alloc: Global,
@@ -44,9 +49,13 @@ pub fn serve_file<
     writer: &mut W,
     notes: &mut N,
 ) -> (Option<S::Disk>, io::Result<u8>)
-    ensures told { IfOk result.1 (IsStatus (TellsServeFile S.Disk.Disk.content (GaveAny S.Disk.Disk.gave) (S.opened source service.now.file.now)
+where
+    S::Disk: Watched,
+    ensures told { IfOk result.1 (IsStatus (TellsServeFile S.Disk.Disk.content (GaveAny S.Disk.Disk.gave)
+        (IsTold (N.told_fault notes.old notes.new service.now.file.now) (N.told_damage notes.old notes.new service.now.file.now)) (S.opened source service.now.file.now)
         (λ error. S.not_opened source service.now.file.now error × N.told_error notes.old notes.new service.now.file.now error) result.0 (W.contents writer.old) (W.contents writer.new))) }
-    ensures served { result.1 ≡ Ok 0 → ServesFile S.Disk.Disk.content (GaveAny S.Disk.Disk.gave) (S.opened source service.now.file.now) service.now.audit result.0 (W.contents writer.old) (W.contents writer.new) }
+    ensures served { result.1 ≡ Ok 0 → ServesFile S.Disk.Disk.content (GaveAny S.Disk.Disk.gave) (λ disk. IfSome (S.Disk.Watched.last_failure disk) (N.told_failure notes.old notes.new service.now.file.now))
+        (S.opened source service.now.file.now) service.now.audit result.0 (W.contents writer.old) (W.contents writer.new) }
 {
     match source.open(service.file) {
         Ok(disk) => {
@@ -62,10 +71,10 @@ pub fn serve_file<
 
 // Serves the store on a disk to the connections of a port of this machine. Gives the disk back, and the status.
 fn serve_disk<
-    D: Disk,
+    D: Watched,
     H: Net<Listener = TcpListener, Stream = TcpStream> + Threads + Wait + Sync,
     W: Write,
-    N: Notes,
+    N: Notes + FaultNotes<D::Fault>,
 >(
     rt: &H,
     alloc: Global,
@@ -75,19 +84,50 @@ fn serve_disk<
     notes: &mut N,
 ) -> (D, io::Result<u8>)
     ensures served { result.1 ≡ Ok 0 → EndsServe D.content service.now.audit result.0 (W.contents writer.old) (W.contents writer.new) }
-    ensures told { IfOk result.1 (IsStatus (TellsServe D.content (GaveAny D.gave) disk result.0 (W.contents writer.old) (W.contents writer.new))) }
+    ensures failed { result.1 ≡ Ok 0 → IfSome (D.last_failure result.0) (N.told_failure notes.old notes.new service.now.file.now) }
+    ensures told { IfOk result.1 (IsStatus (TellsServe D.content (GaveAny D.gave)
+        (IsTold (N.told_fault notes.old notes.new service.now.file.now) (N.told_damage notes.old notes.new service.now.file.now)) disk result.0 (W.contents writer.old) (W.contents writer.new))) }
     ensures left { LeavesServed D.content (GaveAny D.gave) disk result.0 }
+{
+    match Core::open(alloc, disk) {
+        Ok(core) => {
+            let (disk, status) = serve_store(rt, alloc, core, service, writer, notes);
+            tell_last_failure(service.file, &disk, notes);
+            (disk, status)
+        }
+        Err(fault) => refuse_opening(alloc, fault, service.file, writer, notes),
+    }
+}
+
+// Serves a store to the connections of a port of this machine. Gives its disk back, and the status.
+fn serve_store<
+    D: Disk,
+    H: Net<Listener = TcpListener, Stream = TcpStream> + Threads + Wait + Sync,
+    W: Write,
+    N: Notes,
+>(
+    rt: &H,
+    alloc: Global,
+    core: Core<D>,
+    service: &Service<'_>,
+    writer: &mut W,
+    notes: &mut N,
+) -> (D, io::Result<u8>)
+    ensures served { result.1 ≡ Ok 0 → EndsServe D.content service.now.audit result.0 (W.contents writer.old) (W.contents writer.new) }
+    ensures told { IfOk result.1 (IsStatus (TellsNotServed D.content (GaveAny D.gave) (λ port. Unit {0}) result.0 (W.contents writer.old) (W.contents writer.new))) }
+    ensures left { (shape : Shape) × LeavesBegun (D.content result.0) shape }
+    ensures quiet { result.1 ≡ Ok 0 → notes.new ≡ notes.old }
 {
     let listener = match TcpListener::bind(rt, ("127.0.0.1", service.port)) {
         Ok(listener) => listener,
         Err(error) => {
             notes.tell_port(service.port, &error);
-            return refuse_network(alloc, disk, writer);
+            return refuse_network(core, writer);
         }
     };
     let sessions = service.sessions.unwrap_or(0);
     let calls = calls_kept(service.audit);
-    serve_on(rt, alloc, &listener, disk, calls, sessions, &Open, writer)
+    serve_on(rt, alloc, &listener, core, calls, sessions, &Open, writer)
 }
 
 // How many calls a record keeps, where there is to be one.

@@ -6,15 +6,18 @@ mod examples;
 mod files;
 mod freeze;
 mod jobs;
+mod library;
 mod lines;
 mod merge;
 mod notes;
 
 use crate::done;
+use crate::failure::{Failure, Watched};
 use crate::notes::{FaultNotes, Notes, SourceNotes};
 use crate::program::{program, refuse_words};
 use crate::script_lines::read_script;
-use silt_device::FileDisks;
+use crate::watched_file::WatchedFiles;
+use silt_device::{FaultDisk, FileDisks, MemDisk};
 use silt_event::Place;
 use silt_words::WordsError;
 use std::fs::File;
@@ -102,6 +105,10 @@ impl Notes for Counted {
 
     ghost told_store = { λ _ _ _. ⊤ };
 
+    ghost told_failure = { λ _ _ _ _. ⊤ };
+
+    ghost told_broken = { λ _ _. ⊤ };
+
     ghost told_words = { λ _ _ _. ⊤ };
 
     fn tell_port(&mut self, _port: u16, _error: &io::Error) {
@@ -112,8 +119,37 @@ impl Notes for Counted {
         self.others = self.others.wrapping_add(1);
     }
 
+    fn tell_failure(&mut self, _file: &str, _failure: &Failure) {
+        self.faults = self.faults.wrapping_add(1);
+    }
+
+    fn tell_broken(&mut self, _error: &io::Error) {
+        self.others = self.others.wrapping_add(1);
+    }
+
     fn tell_words(&mut self, _words: &[String]) {
         self.others = self.others.wrapping_add(1);
+    }
+}
+
+// Disks that keep no failure: where one failed is seen in the replies alone.
+impl Watched for MemDisk {
+    ghost use Rattle.std.specs.Prelude.{None};
+
+    ghost last_failure = { λ _. None };
+
+    fn last_failure(&self) -> Option<Failure> {
+        None
+    }
+}
+
+impl Watched for FaultDisk {
+    ghost use Rattle.std.specs.Prelude.{None};
+
+    ghost last_failure = { λ _. None };
+
+    fn last_failure(&self) -> Option<Failure> {
+        None
     }
 }
 
@@ -167,7 +203,7 @@ pub(crate) fn answers<
     let code = program(
         rt,
         rt.alloc(),
-        FileDisks::new(rt),
+        WatchedFiles::new(FileDisks::new(rt)),
         words.as_slice(),
         &mut reader,
         &mut out,
@@ -224,7 +260,7 @@ fn answers_any_pieces(rt: HostRuntime) -> Result<(), Fail> {
             program(
                 &rt,
                 rt.alloc(),
-                FileDisks::new(&rt),
+                WatchedFiles::new(FileDisks::new(&rt)),
                 words.as_slice(),
                 &mut reader,
                 &mut out,
@@ -253,7 +289,7 @@ fn ends_by_a_reader_that_fails(rt: HostRuntime) -> Result<(), Fail> {
         program(
             &rt,
             rt.alloc(),
-            FileDisks::new(&rt),
+            WatchedFiles::new(FileDisks::new(&rt)),
             words.as_slice(),
             &mut reader,
             &mut out,
@@ -292,7 +328,7 @@ fn ends_by_a_writer_that_fails(rt: HostRuntime) -> Result<(), Fail> {
             program(
                 &rt,
                 rt.alloc(),
-                FileDisks::new(&rt),
+                WatchedFiles::new(FileDisks::new(&rt)),
                 words.as_slice(),
                 &mut reader,
                 &mut writer,

@@ -4,18 +4,19 @@ use silt_wire::number_of;
 use std::fmt;
 
 /// The forms of all jobs, with what each value may be.
-pub const FORMS: &str = "silt format FILE V B CAP NL NH S
-silt script V B CAP NL NH S
-silt run FILE
-silt check FILE
-silt serve FILE PORT [--audit N] [--sessions M]
+pub const FORMS: &str =
+    "silt format FILE V B CAP NL NH S                 makes an empty store in a file
+silt run FILE                                    answers the lines of the standard input
+silt check FILE                                  tells what the store in a file consists of
+silt script V B CAP NL NH S                      runs the lives of the standard input in memory
+silt serve FILE PORT [--audit N] [--sessions M]  answers the lines of a port's connections
 
 V    bytes of a value, 1 to 4096
-B    buckets of a log, a power of two, 2 to 32768
+B    buckets of a log's table, a power of two, 2 to 32768
 CAP  rows of a log, 1 to 4 times B
 NL   log regions, 2 to 8
 NH   hash regions, 1 to 16
-S    entries of the sorted store, 1 to 16777216
+S    put rows of the store, and entries of a sorted region, 1 to 16777216
 PORT a port of this machine, at most 65535; 0 lets the system choose
 N    calls that are recorded, at most 4294967295
 M    sessions to serve, at most 4294967295; 0 has no end

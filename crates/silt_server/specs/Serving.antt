@@ -5,10 +5,8 @@ use Rattle.silt_device.specs.Disk.{Content}
 use Rattle.silt_device.specs.Layout.{Shape}
 use Rattle.silt_event.specs.declared.refusal.Refusal.{Refusal}
 use Rattle.silt_event.specs.declared.refusal.Refusal.TheVariants.{NoMemory}
-use Rattle.silt_recovery.specs.Opening.{LeavesNoOther}
 use Rattle.silt_store_set.specs.CoreInvariant.{LeavesBegun}
 use Rattle.silt_store_set.specs.CoreState.{CoreState, EntriesCause}
-use Rattle.silt_store_set.specs.Opening.{OpeningCause}
 use Rattle.silt_desk.specs.History.{count_accepted}
 use Rattle.silt_desk.specs.Seeing.{seen}
 use Rattle.silt_desk.specs.Traces.{IsHistory, Keeping}
@@ -66,24 +64,14 @@ BreaksServing has_port before after =
     ⊎ ((port : ℕ) × has_port port × (Appends before after (head_text port ++ no_memory_text) ⊎ Appends before after (head_text port ++ network_text))))
 
 module _ {D F : Type 0} (content : D → Content) (gave : D → F → Type 0) where
-  -- it was written that the store was not taken up from the disk, for its cause
-  abbrev pub TellsNotOpened : D → D → Option (List ℕ) → Option (List ℕ) → Type 0
-  TellsNotOpened old new before after = (refusal : Refusal F) × OpeningCause content gave (content old) new refusal × Appends before after (refused_text refusal)
-
   -- it was written that the entries of the store on the disk could not be kept, for their cause
   abbrev pub TellsEntries : D → Option (List ℕ) → Option (List ℕ) → Type 0
   TellsEntries disk before after =
       (core : CoreState D) × (core.disk ≡ disk) × ((refusal : Refusal F) × EntriesCause gave core refusal × Appends before after (refused_text refusal))
 
   -- it was written why the store is not served to the end
-  abbrev pub TellsNotServed : (ℕ → Type 0) → D → D → Option (List ℕ) → Option (List ℕ) → Type 0
-  TellsNotServed has_port old new before after =
-      TellsNotOpened old new before after ⊎ (TellsEntries new before after ⊎ BreaksServing has_port before after)
-
-  -- what a server gives back, however it ends: each image that a stop may leave might have been left before or stands for what was shown, or all
-  -- stand for one map after a beginning of one list of commands
-  abbrev pub LeavesServed : D → D → Type 0
-  LeavesServed old new = LeavesNoOther (content old) (content new) ⊎ ((shape : Shape) × LeavesBegun (content new) shape)
+  abbrev pub TellsNotServed : (ℕ → Type 0) → D → Option (List ℕ) → Option (List ℕ) → Type 0
+  TellsNotServed has_port disk before after = TellsEntries disk before after ⊎ BreaksServing has_port before after
 
 -- the status is 0, or 1 and this is so
 abbrev pub IsStatus : Type 0 → ℕ → Type 0

@@ -1,9 +1,9 @@
 //! One store for many clients, over the network.
 //!
-//! [`serve_on`] takes a store up from any disk and serves it on a listener: one thread a session, in which the lines of the connection
-//! are answered in order. What a session only reads it looks up itself, side by side with the others. What changes the store it puts as a
-//! [`Job`] into the inbox of the one [`writer`], which takes all jobs that wait, does each, flushes once and only then replies: so one
-//! flush settles the commands of many sessions. Beside them the converter and the merger do their steps while the store wants them.
+//! [`serve_on`] serves a store on a listener: one thread a session, in which the lines of the connection are answered in order. What
+//! a session only reads it looks up itself, side by side with the others. What changes the store it puts as a [`Job`] into the inbox
+//! of the one [`writer`], which takes all jobs that wait, does each, flushes once and only then replies: so one flush settles the
+//! commands of many sessions. Beside them the converter and the merger do their steps while the store wants them.
 //!
 //! A session's fault ends that session alone. What is replied to a batch of jobs is stated by the contract of [`serve_batch`]; that a
 //! socket carries it, that threads run, and that messages come is not.

@@ -3,13 +3,11 @@ ghost use Rattle.std.specs.Prelude.{◌≡◌, ◌⊎◌, ◌++◌, Ok, IfOk, If
 ghost use Rattle.std.specs.Io.KnownBytes.{Appends};
 ghost use Rattle.silt_device.specs.Disk.{GaveAny};
 ghost use Rattle.silt_device.specs.Layout.{Shape};
-ghost use Rattle.silt_recovery.specs.Opening.{LeavesNoOther};
 ghost use Rattle.silt_store_set.specs.CoreInvariant.{LeavesBegun};
 ghost use Rattle.silt_store_set.specs.CoreState.{CoreState};
 ghost use Rattle.silt_desk.specs.Seeing.{seen};
-ghost use Rattle.silt_server.specs.Serving.{BreaksServing, IsStatus, LeavesServed, ServesAt, ServesKept, TellsCalls, TellsEntries};
-ghost use Rattle.silt_server.specs.Serving.{TellsNotServed, TellsNotOpened, TellsServed, head_text, network_text, no_memory_text};
-ghost use Rattle.silt_server.specs.Texts.{refused_text};
+ghost use Rattle.silt_server.specs.Serving.{BreaksServing, IsStatus, ServesAt, ServesKept, TellsCalls, TellsNotServed};
+ghost use Rattle.silt_server.specs.Serving.{TellsServed, head_text, network_text, no_memory_text};
 
 use crate::admission::accept_clients;
 use crate::crew::Crew;
@@ -23,7 +21,7 @@ use silt_desk::{Count, Desk, Gate, Kept, Naming, Seat, Shared, Trace, converter,
 use silt_device::Disk;
 use silt_event::Refusal;
 use silt_inbox::{Inbox, Post, Taker};
-use silt_store_set::{Core, OpenFault};
+use silt_store_set::Core;
 use std::alloc::Global;
 use std::io::{self, Write};
 use std::marker::Brand;
@@ -37,12 +35,12 @@ const MOST_SESSIONS: u64 = 64;
 /// How many seats the workers have.
 const WORKERS: u64 = 3;
 
-/// Serves the store on a disk to the connections of a listener: so many sessions, or without end at 0. With `audit` every call is
-/// recorded, at most so many; without it they are counted.
+/// Serves a store to the connections of a listener: so many sessions, or without end at 0. With `audit` every call is recorded, at
+/// most so many; without it they are counted.
 ///
 /// Writes `opened` and `listening` with the listener's port, and when the last session has ended and all that the store still wanted is
-/// done `calls` with the number of recorded calls. Gives the disk back, and the status: 0 after that, 1 where nothing is served, and
-/// where the network fails.
+/// done `calls` with the number of recorded calls. Gives the store's disk back, and the status: 0 after that, 1 where nothing is
+/// served, and where the network fails.
 ///
 /// # Errors
 ///
@@ -51,7 +49,7 @@ pub fn serve_on<L: Listens, D: Disk, G: Gate + Sync, R: Threads + Wait + Sync, W
     rt: &R,
     alloc: Global,
     listener: &L,
-    disk: D,
+    core: Core<D>,
     audit: Option<u64>,
     sessions: u32,
     gate: &G,
@@ -59,47 +57,25 @@ pub fn serve_on<L: Listens, D: Disk, G: Gate + Sync, R: Threads + Wait + Sync, W
 ) -> (D, io::Result<u8>)
     ensures served { result.1 ≡ Ok 0 → ServesAt (L.has_port listener.now) (D.content result.0) (W.contents out.old) (W.contents out.new) }
     ensures kept { result.1 ≡ Ok 0 → IfSome audit (λ _. ServesKept D.content (L.has_port listener.now) result.0 (W.contents out.old) (W.contents out.new)) }
-    ensures told { IfOk result.1 (IsStatus (TellsNotServed D.content (GaveAny D.gave) (L.has_port listener.now) disk result.0 (W.contents out.old) (W.contents out.new))) }
-    ensures left { LeavesServed D.content (GaveAny D.gave) disk result.0 }
+    ensures told { IfOk result.1 (IsStatus (TellsNotServed D.content (GaveAny D.gave) (L.has_port listener.now) result.0 (W.contents out.old) (W.contents out.new))) }
+    ensures left { (shape : Shape) × LeavesBegun (D.content result.0) shape }
 {
-    let core = match Core::open(alloc, disk) {
-        Ok(core) => core,
-        Err(fault) => return refuse_opening(alloc, fault, out),
-    };
     match audit {
         Some(most) => serve_kept(rt, alloc, listener, core, most, sessions, gate, out),
         None => serve_counted(rt, alloc, listener, core, sessions, gate, out),
     }
 }
 
-/// Tells that the network failed where a disk was to be served: behind `opened`, where a store stands on it. Gives the disk back, and the
-/// status.
+/// Tells that the network failed where a store was to be served. Gives the store's disk back, and the status.
 ///
 /// # Errors
 ///
-/// The writer's, and want of memory for the text of a line.
-pub fn refuse_network<D: Disk, W: Write>(alloc: Global, disk: D, out: &mut W) -> (D, io::Result<u8>)
-    ensures told { IfOk result.1 (λ status. (status ≡ 1) × (TellsNotOpened D.content (GaveAny D.gave) disk result.0 (W.contents out.old) (W.contents out.new)
-        ⊎ Appends (W.contents out.old) (W.contents out.new) (codes "opened\n" ++ network_text))) }
-    ensures left { LeavesNoOther (D.content disk) (D.content result.0) }
+/// The writer's.
+pub fn refuse_network<D: Disk, W: Write>(core: Core<D>, out: &mut W) -> (D, io::Result<u8>)
+    ensures told { IfOk result.1 (λ status. (status ≡ 1) × Appends (W.contents out.old) (W.contents out.new) (codes "opened\n" ++ network_text)) }
+    ensures left { (shape : Shape) × LeavesBegun (D.content result.0) shape }
 {
-    match Core::open(alloc, disk) {
-        Ok(core) => (core.close(), write_no_network(out)),
-        Err(fault) => refuse_opening(alloc, fault, out),
-    }
-}
-
-// Tells why the store was not taken up. Gives the disk back, and the status.
-fn refuse_opening<D: Disk, W: Write>(
-    alloc: Global,
-    fault: OpenFault<D>,
-    out: &mut W,
-) -> (D, io::Result<u8>)
-    ensures disk { result.0 ≡ fault.disk }
-    ensures told { IfOk result.1 (λ status. (status ≡ 1) × Appends (W.contents out.old) (W.contents out.new) (refused_text fault.refusal)) }
-{
-    let status = refuse(alloc, &fault.refusal, out);
-    (fault.disk, status)
+    (core.close(), write_no_network(out))
 }
 
 // Writes that the store is taken up and that the network failed, and answers the status.
@@ -144,8 +120,7 @@ fn serve_kept<L: Listens, D: Disk, G: Gate + Sync, R: Threads + Wait + Sync, W: 
 ) -> (D, io::Result<u8>)
     ensures served { result.1 ≡ Ok 0 → ServesAt (L.has_port listener.now) (D.content result.0) (W.contents out.old) (W.contents out.new) }
     ensures kept { result.1 ≡ Ok 0 → ServesKept D.content (L.has_port listener.now) result.0 (W.contents out.old) (W.contents out.new) }
-    ensures told { IfOk result.1 (IsStatus (TellsEntries D.content (GaveAny D.gave) result.0 (W.contents out.old) (W.contents out.new)
-        ⊎ BreaksServing (L.has_port listener.now) (W.contents out.old) (W.contents out.new))) }
+    ensures told { IfOk result.1 (IsStatus (TellsNotServed D.content (GaveAny D.gave) (L.has_port listener.now) result.0 (W.contents out.old) (W.contents out.new))) }
     ensures left { (shape : Shape) × LeavesBegun (D.content result.0) shape }
 {
     match Kept::new(alloc, &core, most) {

@@ -13,6 +13,7 @@ use crate::{Listens, serve_on};
 use silt_desk::{Gate, Spot};
 use silt_device::{Disk, Geometry, MemDisk};
 use silt_recovery::format;
+use silt_store_set::Core;
 use std::alloc::Global;
 use std::io::{self, ErrorKind, Read, Write};
 use std::net::{Net, Shutdown, SocketAddr, TcpListener, TcpStream};
@@ -100,6 +101,7 @@ pub(crate) fn serve_beside<
     let listener = TcpListener::bind(rt, ("127.0.0.1", 0u16))?;
     let addr = listener.local_addr()?;
     let listener = Patient { rt, listener };
+    let core = Core::open(alloc, disk).ok().ok_or("a store")?;
     let mut written = Vec::new(alloc);
     let (served, got) = thread::join(
         rt,
@@ -107,7 +109,7 @@ pub(crate) fn serve_beside<
             rt,
             alloc,
             &listener,
-            disk,
+            core,
             audit,
             sessions,
             gate,

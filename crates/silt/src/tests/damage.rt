@@ -1,6 +1,6 @@
 // Where a damaged part begins, byte by byte, and what people are told of it.
 
-use crate::damage::place_at;
+use crate::damage::offset_of;
 use crate::tests::notes::{make_folder, tells};
 use silt_device::{BadGeometry, Geometry};
 use silt_event::Place;
@@ -38,7 +38,7 @@ fn tells_where_parts_begin(rt: HostRuntime) -> Result<(), Fail> {
         (Place::Sorted(8), None),
         (Place::Charge, None),
     ] {
-        assert!(rt; place_at(&geometry, 1, place) == at, "{place:?}");
+        assert!(rt; offset_of(&geometry, 1, place) == at, "{place:?}");
     }
     Ok(())
 }
@@ -59,6 +59,7 @@ fn tells_damage_with_its_offset(rt: HostRuntime) -> Result<(), Fail> {
     let row = "silt: damage/disk: a row of a log is damaged, at byte 16384\n";
     tells(&rt, "silt run damage/disk", 1, row)?;
     tells(&rt, "silt check damage/disk", 1, row)?;
+    tells(&rt, "silt serve damage/disk 0", 1, row)?;
     write_at(&rt, "damage/disk", 8192, &[167])?;
     let slot = "silt: damage/disk: a manifest slot is damaged, at byte 8192\n";
     tells(&rt, "silt check damage/disk", 1, slot)?;

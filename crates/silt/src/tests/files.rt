@@ -4,6 +4,7 @@ use crate::program::program;
 use crate::tests::freeze::{FIVE_PUTS, with_keys};
 use crate::tests::lines::{BAD_KEYS, BAD_LINES, BAD_VALUES};
 use crate::tests::{Counted, Pieces, Short, answers, words};
+use crate::watched_file::WatchedFiles;
 use silt_device::{Disk, FileDisk, FileDisks};
 use std::fs::{self, File};
 use std::io::{self, Cursor};
@@ -52,7 +53,7 @@ fn formats_a_file_again(rt: HostRuntime) -> Result<(), Fail> {
             program(
                 &rt,
                 rt.alloc(),
-                FileDisks::new(&rt),
+                WatchedFiles::new(FileDisks::new(&rt)),
                 words.as_slice(),
                 &mut reader,
                 &mut out,
@@ -224,7 +225,7 @@ fn ends_a_life_by_a_fault(rt: HostRuntime) -> Result<(), Fail> {
         program(
             &rt,
             rt.alloc(),
-            FileDisks::new(&rt),
+            WatchedFiles::new(FileDisks::new(&rt)),
             words.as_slice(),
             &mut reader,
             &mut out,
@@ -244,7 +245,7 @@ fn ends_a_life_by_a_fault(rt: HostRuntime) -> Result<(), Fail> {
             program(
                 &rt,
                 rt.alloc(),
-                FileDisks::new(&rt),
+                WatchedFiles::new(FileDisks::new(&rt)),
                 words.as_slice(),
                 &mut reader,
                 &mut writer,

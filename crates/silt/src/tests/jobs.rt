@@ -1,5 +1,6 @@
 // The jobs on a disk in memory, letter for letter, as they are done on files.
 
+use crate::failure::Watched;
 use crate::files::{check_file, format_file, run_file};
 use crate::jobs::{check_on, format_on, run_on};
 use crate::tests::Counted;
@@ -34,7 +35,7 @@ fn formats<S: AllocGlobal + Abort, D: Disk>(
 }
 
 // Runs one life on a disk, and compares the status and what is written.
-fn runs<S: AllocGlobal + Abort, D: Served>(
+fn runs<S: AllocGlobal + Abort, D: Served + Watched>(
     rt: &S,
     disk: D,
     text: &[u8],

@@ -1,12 +1,14 @@
 // What people are told, on files and by words, and one owner for a file. Each test has a folder of its own.
 
+use crate::files::run_file;
 use crate::note_lines::NoteLines;
 use crate::program::program;
 use crate::tests::{answers, words};
 use crate::usage::{FORMS, complaint_of};
-use silt_device::{FileDisk, FileDisks};
+use crate::watched_file::WatchedFiles;
+use silt_device::{DiskSource, FileDisk, FileDisks, FileSystem};
 use std::fs::{self, File};
-use std::io::{self, Cursor};
+use std::io::{self, Cursor, Write};
 use std::net::{Net, TcpListener, TcpStream};
 use std::process::Abort;
 use std::rt::Files;
@@ -37,7 +39,7 @@ pub(crate) fn tells<
     let code = program(
         rt,
         rt.alloc(),
-        FileDisks::new(rt),
+        WatchedFiles::new(FileDisks::new(rt)),
         words.as_slice(),
         &mut Cursor::new(b"".as_slice()),
         &mut Vec::new(rt.alloc()),
@@ -102,6 +104,113 @@ fn checks_share_a_file(rt: HostRuntime) -> Result<(), Fail> {
     answers(&rt, "silt run looked/disk", b"", 1, b"refused 5 Device\n")?;
     drop(reader);
     fs::remove_dir_all(&rt, "looked")?;
+    Ok(())
+}
+
+/// The files of a system, each opened to be read alone, so that each write fails.
+#[derive(Drop)]
+struct ReadFiles<S> {
+    files: FileDisks<S>,
+}
+
+impl<S> DiskSource for ReadFiles<S>
+where
+    S: FileSystem<File = File> + AllocGlobal + Drop,
+{
+    ghost use Rattle.std.specs.Prelude.{⊤};
+
+    type Disk = FileDisk;
+
+    type Error = io::Error;
+
+    ghost opened = { λ _ _ _. ⊤ };
+
+    ghost not_opened = { λ _ _ _. ⊤ };
+
+    ghost shared = { λ _ _ _. ⊤ };
+
+    ghost not_shared = { λ _ _ _. ⊤ };
+
+    ghost created = { λ _ _ _ _. ⊤ };
+
+    ghost not_created = { λ _ _ _ _. ⊤ };
+
+    fn open(self, path: &str) -> io::Result<FileDisk> {
+        self.files.open_shared(path)
+    }
+
+    fn open_shared(self, path: &str) -> io::Result<FileDisk> {
+        self.files.open_shared(path)
+    }
+
+    fn create(self, path: &str, len: u64) -> io::Result<FileDisk> {
+        self.files.create(path, len)
+    }
+}
+
+// A write that fails within a session is told behind it, once; what is told is the last one that failed.
+#[test]
+fn tells_a_failed_write(rt: HostRuntime) -> Result<(), Fail> {
+    make_folder(&rt, "failing")?;
+    let format = "silt format failing/disk 2 2 4 2 2 8";
+    answers(&rt, format, b"", 0, b"formatted 45056\n")?;
+    let files = WatchedFiles::new(ReadFiles {
+        files: FileDisks::new(&rt),
+    });
+    let mut reader = Cursor::new(b"get =a\nput =a 0102\nput =b 0102\nflush\n".as_slice());
+    let mut out = Vec::new(rt.alloc());
+    let mut notes = Vec::new(rt.alloc());
+    let mut lines = NoteLines::new(&mut notes);
+    let (_, status) = run_file(
+        rt.alloc(),
+        files,
+        "failing/disk",
+        &mut reader,
+        &mut out,
+        &mut lines,
+    );
+    assert_eq!(rt; status?, 0);
+    let output = b"opened\nabsent\nrefused 5 Device\nrefused 9 Failed\nrefused 9 Failed\n";
+    assert_eq!(rt; out.as_slice(), output.as_slice());
+    let told = b"silt: failing/disk: a write at 16384: Bad file descriptor (os error 9)\n";
+    assert_eq!(rt; notes.as_slice(), told.as_slice());
+    fs::remove_dir_all(&rt, "failing")?;
+    Ok(())
+}
+
+/// A writer of a device with no space left.
+#[derive(Drop)]
+struct FullWriter;
+
+impl Write for FullWriter {
+    fn write(&mut self, _buf: &[u8]) -> io::Result<usize> {
+        Err(io::Error::from_raw_os_error(28))
+    }
+
+    fn flush(&mut self) -> io::Result<()> {
+        Ok(())
+    }
+}
+
+// Answers that cannot be written are told.
+#[test]
+fn tells_why_answers_are_not_written(rt: HostRuntime) -> Result<(), Fail> {
+    let words = words(&rt, "silt prune")?;
+    let mut notes = Vec::new(rt.alloc());
+    let code = program(
+        &rt,
+        rt.alloc(),
+        WatchedFiles::new(FileDisks::new(&rt)),
+        words.as_slice(),
+        &mut Cursor::new(b"".as_slice()),
+        &mut FullWriter,
+        &mut NoteLines::new(&mut notes),
+    );
+    assert_eq!(rt; code, 1);
+    let told = format!(in rt.alloc();
+        "silt: there is no job 'prune'\n{FORMS}silt: No space left on device (os error 28)\n"
+    )?;
+    assert_eq!(rt; notes.as_slice(), told.as_bytes());
     Ok(())
 }
 

@@ -4,6 +4,7 @@ use crate::tests::{Open, small};
 use crate::{Listens, refuse_network, serve_on};
 use silt_device::{Disk, MemDisk};
 use silt_recovery::check;
+use silt_store_set::Core;
 use std::alloc::Global;
 use std::io::{self, ErrorKind};
 use std::net::TcpStream;
@@ -28,6 +29,12 @@ impl Listens for Deaf {
     }
 }
 
+// The empty store on a small disk.
+fn open_small(alloc: Global) -> Result<Core<MemDisk>, Fail> {
+    let core = Core::open(alloc, small(alloc)?).ok().ok_or("a store")?;
+    Ok(core)
+}
+
 // An empty store is on the disk.
 fn is_empty<D: Disk, R: Abort>(rt: &R, alloc: Global, disk: &D) -> Result<(), Fail> {
     let report = check(alloc, disk).ok().ok_or("a report")?;
@@ -47,7 +54,7 @@ fn tells_that_its_port_is_not_known(rt: HostRuntime) -> Result<(), Fail> {
         &rt,
         alloc,
         &deaf,
-        small(alloc)?,
+        open_small(alloc)?,
         None,
         1,
         &Open,
@@ -67,7 +74,7 @@ fn tells_that_nobody_can_connect(rt: HostRuntime) -> Result<(), Fail> {
         &rt,
         alloc,
         &deaf,
-        small(alloc)?,
+        open_small(alloc)?,
         Some(10),
         1,
         &Open,
@@ -85,33 +92,8 @@ fn tells_that_nobody_can_connect(rt: HostRuntime) -> Result<(), Fail> {
 fn refuses_without_a_network(rt: HostRuntime) -> Result<(), Fail> {
     let alloc = rt.alloc();
     let mut written = Vec::new(alloc);
-    let (disk, status) = refuse_network(alloc, small(alloc)?, &mut written);
+    let (disk, status) = refuse_network(open_small(alloc)?, &mut written);
     assert_eq!(rt; status?, 1);
     assert_eq!(rt; written.as_slice(), b"opened\nnetwork fault\n".as_slice());
     is_empty(&rt, alloc, &disk)
-}
-
-#[test]
-fn refuses_what_is_no_store(rt: HostRuntime) -> Result<(), Fail> {
-    let alloc = rt.alloc();
-    let mut written = Vec::new(alloc);
-    let (disk, status) = refuse_network(alloc, MemDisk::new(alloc, 45_056)?, &mut written);
-    assert_eq!(rt; status?, 1);
-    assert_eq!(rt; written.as_slice(), b"refused 1 NotFormatted\n".as_slice());
-    let (_, status) = serve_on(
-        &rt,
-        alloc,
-        &Deaf { port: None },
-        disk,
-        None,
-        1,
-        &Open,
-        &mut written,
-    );
-    assert_eq!(rt; status?, 1);
-    assert_eq!(rt;
-        written.as_slice(),
-        b"refused 1 NotFormatted\nrefused 1 NotFormatted\n".as_slice()
-    );
-    Ok(())
 }

@@ -1,10 +1,13 @@
 use Rattle.std.proofs.Common.{arith, map, refl, string_bytes}
-use Rattle.silt.proofs.Endings.{at_status, done_at_0, usage_at_2}
+use Rattle.silt.proofs.Endings.{at_status, done_at_0, usage_at_2, was_ok}
 use Rattle.silt.proofs.program.program.Goals as goal
 
 pub returns-clause-done : goal.returns-clause-done
-returns-clause-done g c = λ is. done_at_0 _ _ _ _ 0 _ _ refl (at_status _ c.answer.result c.status_of.result 0 c.status_of.ensures (λ no. omega (arith, no)) is c.answer.ensures)
+returns-clause-done g c =
+    λ is. rw (c.tell_error_of.ensures.quiet (was_ok c.answer-ended.result c.status_of.result 0 c.status_of.ensures (λ no. omega (arith, no)) is))
+    (done_at_0 _ _ _ _ 0 _ _ refl (at_status _ c.answer-ended.result c.status_of.result 0 c.status_of.ensures (λ no. omega (arith, no)) is c.answer-ended.ensures))
 
 pub returns-clause-usage : goal.returns-clause-usage
 returns-clause-usage g c =
-    λ is. usage_at_2 _ _ _ (g.N.Notes.told_words c.args.notes.now c.answer.new.notes) (map string_bytes c.args.words.now) 2 _ _ refl (at_status _ c.answer.result c.status_of.result 2 c.status_of.ensures (λ no. omega (arith, no)) is c.answer.ensures)
+    λ is. rw (c.tell_error_of.ensures.quiet (was_ok c.answer-ended.result c.status_of.result 2 c.status_of.ensures (λ no. omega (arith, no)) is))
+    (usage_at_2 _ _ _ (g.N.Notes.told_words c.args.notes.now c.answer-ended.new.notes) (map string_bytes c.args.words.now) 2 _ _ refl (at_status _ c.answer-ended.result c.status_of.result 2 c.status_of.ensures (λ no. omega (arith, no)) is c.answer-ended.ensures))

@@ -1,19 +1,25 @@
 use Rattle.std.proofs.Common.{inl, inr}
-use Rattle.silt.proofs.Services.{never_done, status_told}
+use Rattle.silt.proofs.Services.{never_done, status_of_file, status_told}
 use Rattle.silt.proofs.service.serve_disk.Goals as goal
 
+pub returns-in-Ok-clause-failed : goal.returns-in-Ok-clause-failed
+returns-in-Ok-clause-failed g c = λ is. rw (c.serve_store-disk.ensures.quiet is) at c.tell_last_failure.ensures
+
+pub returns-in-Ok-clause-told : goal.returns-in-Ok-clause-told
+returns-in-Ok-clause-told g c = status_of_file c.serve_store-disk.result.1 (λ told. inr told) c.serve_store-disk.ensures.told
+
+pub returns-in-Ok-clause-left : goal.returns-in-Ok-clause-left
+returns-in-Ok-clause-left g c = inr c.serve_store-disk.ensures.left
+
 pub returns-in-Err-clause-served : goal.returns-in-Err-clause-served
-returns-in-Err-clause-served g c = never_done _ c.refuse_network.result.1 c.refuse_network.ensures.told
+returns-in-Err-clause-served g c = never_done _ c.refuse_opening.result.1 c.refuse_opening.ensures.told
+
+pub returns-in-Err-clause-failed : goal.returns-in-Err-clause-failed
+returns-in-Err-clause-failed g c = never_done _ c.refuse_opening.result.1 c.refuse_opening.ensures.told
 
 pub returns-in-Err-clause-told : goal.returns-in-Err-clause-told
 returns-in-Err-clause-told g c =
-    status_told c.refuse_network.result.1 (λ told. elim told [
-      | inl opening ↦ inl opening
-      | inr broken ↦ inr (inr (inr (inl broken)))
-    ]) c.refuse_network.ensures.told
+    status_told c.refuse_opening.result.1 (λ told. inl (c.in-Err.fault.refusal, rw (← c.refuse_opening.ensures.disk) at c.in-Err.ensures.cause, told.0, told.1)) c.refuse_opening.ensures.told
 
 pub returns-in-Err-clause-left : goal.returns-in-Err-clause-left
-returns-in-Err-clause-left g c = inl c.refuse_network.ensures.left
-
-pub returns-clause-served : goal.returns-clause-served
-returns-clause-served g c = λ is. (c.serve_on.ensures.served is, rw (c.calls_kept-calls.ensures) at (c.serve_on.ensures.kept is))
+returns-in-Err-clause-left g c = inl (rw (← c.refuse_opening.ensures.disk) at c.in-Err.ensures.images)

@@ -1,0 +1,158 @@
+// Files as disks that keep which write or sync of theirs failed last.
+ghost use Rattle.std.specs.Prelude.{◌≡◌, ◌+◌, ◌%◌, ◌^◌, ◌≤◌, Some, None, IfErr, MatchResult, length};
+ghost use Rattle.silt_device.specs.Disk.{size};
+ghost use Rattle.silt_device.specs.declared.disk.Call.TheVariants.{Write, Sync};
+
+use crate::failure::{Failure, Watched};
+use silt_device::{Call, CallAt, Disk, DiskSource, FileDisk};
+use silt_event::{Event, Reply};
+use silt_store_set::{Core, Served};
+use std::alloc::Global;
+
+// The fault of a disk in a file.
+type FileFault = <FileDisk as Disk>::Fault;
+
+/// A disk in a file that keeps which of its writes and syncs failed last.
+#[derive(Drop)]
+pub struct WatchedFile {
+    disk: FileDisk,
+    last: Option<Failure>,
+}
+
+impl Disk for WatchedFile {
+    ghost use Rattle.silt_device.specs.File.{file_content, file_gave};
+    ghost use Rattle.silt_device.specs.Gathering.{gathering_content, gathering_gave};
+
+    type Fault = FileFault;
+
+    ghost content = { λ watched. gathering_content file_content watched.disk.inner };
+
+    ghost failures = { λ watched. watched.disk.inner.failures };
+
+    ghost gave = { λ watched. gathering_gave file_gave watched.disk.inner };
+
+    fn len(&self) -> u64 {
+        self.disk.len()
+    }
+
+    fn read(&self, at: u64, buf: &mut [u8]) -> Result<(), FileFault> {
+        self.disk.read(at, buf)
+    }
+
+    fn write(&mut self, at: u64, buf: &[u8]) -> Result<(), FileFault>
+        requires { at + length buf.now ≤ size (gathering_content file_content self.old.disk.inner) }
+        ensures size { size (gathering_content file_content self.new.disk.inner) ≡ size (gathering_content file_content self.old.disk.inner) }
+        ensures failures { MatchResult result (λ _. self.new.disk.inner.failures ≡ self.old.disk.inner.failures)
+            (λ fault. (self.new.disk.inner.failures ≡ (self.old.disk.inner.failures + 1) % 2 ^ 64)
+            × gathering_gave file_gave self.new.disk.inner fault Write at (length buf.now)) }
+        ensures last { IfErr result (λ fault. self.new.last ≡ Some (record { call = record { call = Write; at = at }; error = fault.inner.error })) }
+    {
+        match self.disk.write(at, buf) {
+            Ok(()) => Ok(()),
+            Err(fault) => Err(self.keep(Call::Write, at, fault)),
+        }
+    }
+
+    fn sync(&mut self) -> Result<(), FileFault>
+        ensures size { size (gathering_content file_content self.new.disk.inner) ≡ size (gathering_content file_content self.old.disk.inner) }
+        ensures failures { MatchResult result (λ _. self.new.disk.inner.failures ≡ self.old.disk.inner.failures)
+            (λ fault. (self.new.disk.inner.failures ≡ (self.old.disk.inner.failures + 1) % 2 ^ 64)
+            × gathering_gave file_gave self.new.disk.inner fault Sync 0 (size (gathering_content file_content self.new.disk.inner))) }
+        ensures last { IfErr result (λ fault. self.new.last ≡ Some (record { call = record { call = Sync; at = 0 }; error = fault.inner.error })) }
+    {
+        match self.disk.sync() {
+            Ok(()) => Ok(()),
+            Err(fault) => Err(self.keep(Call::Sync, 0, fault)),
+        }
+    }
+}
+
+impl WatchedFile {
+    // Keeps what failed with this fault, and gives the fault back.
+    fn keep(&mut self, call: Call, at: u64, fault: FileFault) -> FileFault
+        ensures fault { result ≡ fault }
+        ensures disk { self.new.disk ≡ self.old.disk }
+        ensures last { self.new.last ≡ Some (record { call = record { call = call; at = at }; error = fault.inner.error }) }
+    {
+        self.last = Some(Failure {
+            call: CallAt { call, at },
+            error: fault.inner().error(),
+        });
+        fault
+    }
+}
+
+impl Watched for WatchedFile {
+    ghost last_failure = { λ watched. watched.last };
+
+    fn last_failure(&self) -> Option<Failure> {
+        self.last
+    }
+}
+
+impl Served for WatchedFile {
+    fn answer_on(core: &mut Core<Self>, alloc: Global, event: &Event) -> Reply<()> {
+        core.answer(alloc, event).plain()
+    }
+}
+
+/// The files of a source, each a disk that keeps which of its writes and syncs failed last.
+#[derive(Drop)]
+pub struct WatchedFiles<S> {
+    files: S,
+}
+
+impl<S> WatchedFiles<S> {
+    /// The files of this source.
+    pub fn new(files: S) -> Self
+        ensures { result.files ≡ files }
+    {
+        WatchedFiles { files }
+    }
+}
+
+// The disk in a file on which no call has failed.
+fn watched(disk: FileDisk) -> WatchedFile
+    ensures { (result.disk ≡ disk) × (result.last ≡ None) }
+{
+    WatchedFile { disk, last: None }
+}
+
+impl<S: DiskSource<Disk = FileDisk>> DiskSource for WatchedFiles<S> {
+    type Disk = WatchedFile;
+
+    type Error = S::Error;
+
+    ghost opened = { λ source path watched. S.opened source.files path watched.disk };
+
+    ghost not_opened = { λ source path error. S.not_opened source.files path error };
+
+    ghost shared = { λ source path watched. S.shared source.files path watched.disk };
+
+    ghost not_shared = { λ source path error. S.not_shared source.files path error };
+
+    ghost created = { λ source path len watched. S.created source.files path len watched.disk };
+
+    ghost not_created = { λ source path len error. S.not_created source.files path len error };
+
+    fn open(self, path: &str) -> Result<WatchedFile, S::Error> {
+        match self.files.open(path) {
+            Ok(disk) => Ok(watched(disk)),
+            Err(error) => Err(error),
+        }
+    }
+
+    fn open_shared(self, path: &str) -> Result<WatchedFile, S::Error> {
+        match self.files.open_shared(path) {
+            Ok(disk) => Ok(watched(disk)),
+            Err(error) => Err(error),
+        }
+    }
+
+    fn create(self, path: &str, len: u64) -> Result<WatchedFile, S::Error> {
+        match self.files.create(path, len) {
+            Ok(disk) => Ok(watched(disk)),
+            Err(error) => Err(error),
+        }
+    }
+}
