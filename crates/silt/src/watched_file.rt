@@ -21,15 +21,15 @@ pub struct WatchedFile {
 
 impl Disk for WatchedFile {
     ghost use Rattle.silt_device.specs.File.{file_content, file_gave};
-    ghost use Rattle.silt_device.specs.Gathering.{gathering_content, gathering_gave};
+    ghost use Rattle.silt_device.specs.Buffered.{buffered_content, buffered_gave};
 
     type Fault = FileFault;
 
-    ghost content = { λ watched. gathering_content file_content watched.disk.inner };
+    ghost content = { λ watched. buffered_content file_content watched.disk.inner };
 
     ghost failures = { λ watched. watched.disk.inner.failures };
 
-    ghost gave = { λ watched. gathering_gave file_gave watched.disk.inner };
+    ghost gave = { λ watched. buffered_gave file_gave watched.disk.inner };
 
     fn len(&self) -> u64 {
         self.disk.len()
@@ -40,11 +40,11 @@ impl Disk for WatchedFile {
     }
 
     fn write(&mut self, at: u64, buf: &[u8]) -> Result<(), FileFault>
-        requires { at + length buf.now ≤ size (gathering_content file_content self.old.disk.inner) }
-        ensures size { size (gathering_content file_content self.new.disk.inner) ≡ size (gathering_content file_content self.old.disk.inner) }
+        requires { at + length buf.now ≤ size (buffered_content file_content self.old.disk.inner) }
+        ensures size { size (buffered_content file_content self.new.disk.inner) ≡ size (buffered_content file_content self.old.disk.inner) }
         ensures failures { MatchResult result (λ _. self.new.disk.inner.failures ≡ self.old.disk.inner.failures)
             (λ fault. (self.new.disk.inner.failures ≡ (self.old.disk.inner.failures + 1) % 2 ^ 64)
-            × gathering_gave file_gave self.new.disk.inner fault Write at (length buf.now)) }
+            × buffered_gave file_gave self.new.disk.inner fault Write at (length buf.now)) }
         ensures last { IfErr result (λ fault. self.new.last ≡ Some (record { call = record { call = Write; at = at }; error = fault.inner.error })) }
     {
         match self.disk.write(at, buf) {
@@ -54,10 +54,10 @@ impl Disk for WatchedFile {
     }
 
     fn sync(&mut self) -> Result<(), FileFault>
-        ensures size { size (gathering_content file_content self.new.disk.inner) ≡ size (gathering_content file_content self.old.disk.inner) }
+        ensures size { size (buffered_content file_content self.new.disk.inner) ≡ size (buffered_content file_content self.old.disk.inner) }
         ensures failures { MatchResult result (λ _. self.new.disk.inner.failures ≡ self.old.disk.inner.failures)
             (λ fault. (self.new.disk.inner.failures ≡ (self.old.disk.inner.failures + 1) % 2 ^ 64)
-            × gathering_gave file_gave self.new.disk.inner fault Sync 0 (size (gathering_content file_content self.new.disk.inner))) }
+            × buffered_gave file_gave self.new.disk.inner fault Sync 0 (size (buffered_content file_content self.new.disk.inner))) }
         ensures last { IfErr result (λ fault. self.new.last ≡ Some (record { call = record { call = Sync; at = 0 }; error = fault.inner.error })) }
     {
         match self.disk.sync() {

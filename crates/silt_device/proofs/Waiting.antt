@@ -5,7 +5,7 @@ use Rattle.std.proofs.lemmas.List.Edits.{length-between, get_or-between}
 use Rattle.std.proofs.lemmas.Bool.{cases_lt, cases_Bool, cond-true, cond-false}
 use Rattle.std.proofs.lemmas.Bool.Decides.{nat_tests}
 use Rattle.silt_device.specs.Disk.{Content, Torn, Left, Tears, Writes, Settles, Stays, Rests, Restarts, size, splice, within}
-use Rattle.silt_device.specs.Gathering.{GatheredBytes, GatheringState, gathering_content, takes, grown, emptied, waits, image_over, length-image_over, byte_elsewhere, byte_there, content_over, neither, holds, LaidOver}
+use Rattle.silt_device.specs.Buffered.{BufferedBytes, BufferedState, buffered_content, takes, grown, emptied, waits, image_over, length-image_over, byte_elsewhere, byte_there, content_over, neither, holds, LaidOver}
 use Rattle.std.specs.Prelude.{Result, Ok, Err, IfOk}
 use Rattle.silt_device.specs.File.{IsOpened, file_content}
 use Rattle.silt_device.specs.declared.file.RandomAccessDisk.{RandomAccessDisk}
@@ -50,15 +50,15 @@ stays_settles a b c stays settles = record {
 -- ---- images with bytes that wait
 
 -- where none waits, none waits anywhere
-none_waits : (g : GatheredBytes) (place : ℕ) → length g.bytes ≡ 0 → waits g place ≡ false
+none_waits : (g : BufferedBytes) (place : ℕ) → length g.bytes ≡ 0 → waits g place ≡ false
 none_waits g place none = grind (arith, nat_tests)
 
 -- and the image is as it is
-pub none_over : (g : GatheredBytes) (image : List ℕ) → length g.bytes ≡ 0 → image_over g image ≡ image
+pub none_over : (g : BufferedBytes) (image : List ℕ) → length g.bytes ≡ 0 → image_over g image ≡ image
 none_over g image none = ext_get_or 0 _ _ (length-image_over g image) (λ place inside. byte_elsewhere g image place (none_waits g place none))
 
 -- the byte of a place stays where the image's does
-byte_stays : (g : GatheredBytes) (old new : List ℕ) (place : ℕ) → length new ≡ length old → get_or new place 0 ≡ get_or old place 0 → get_or (image_over g new) place 0 ≡ get_or (image_over g old) place 0
+byte_stays : (g : BufferedBytes) (old new : List ℕ) (place : ℕ) → length new ≡ length old → get_or new place 0 ≡ get_or old place 0 → get_or (image_over g new) place 0 ≡ get_or (image_over g old) place 0
 byte_stays g old new place size same = elim (cases_Bool (waits g place)) [
   | inl there ↦ elim (cases_lt place (length old)) [
     | inl inside ↦ byte_there g new place there (omega arith) ∙ sym (byte_there g old place there inside)
@@ -68,15 +68,15 @@ byte_stays g old new place size same = elim (cases_Bool (waits g place)) [
 ]
 
 -- a place where none waits lies before or behind those that do
-apart : (g : GatheredBytes) (place : ℕ) → waits g place ≡ false → (place < g.at → ⊥) → g.at + length g.bytes ≤ place
+apart : (g : BufferedBytes) (place : ℕ) → waits g place ≡ false → (place < g.at → ⊥) → g.at + length g.bytes ≤ place
 apart g place elsewhere high = grind (arith, nat_tests)
 
 -- a place where one waits lies in their range
-within_range : (g : GatheredBytes) (place : ℕ) → waits g place ≡ true → (g.at ≤ place) × (place < g.at + length g.bytes)
+within_range : (g : BufferedBytes) (place : ℕ) → waits g place ≡ true → (g.at ≤ place) × (place < g.at + length g.bytes)
 within_range g place there = grind (arith, nat_tests)
 
 -- an image torn in their range alone shows no difference
-pub torn_under : (g : GatheredBytes) (old new : List ℕ) → Torn g.at (length g.bytes) old new → image_over g new ≡ image_over g old
+pub torn_under : (g : BufferedBytes) (old new : List ℕ) → Torn g.at (length g.bytes) old new → image_over g new ≡ image_over g old
 torn_under g old new torn = ext_get_or 0 _ _ (length-image_over g new ∙ torn.size ∙ sym (length-image_over g old)) (λ place inside. elim (cases_Bool (waits g place)) [
   | inl there ↦
       byte_there g new place there (omega (arith, length-image_over g new)) ∙ sym (byte_there g old place there (omega (arith, length-image_over g new, torn.size)))
@@ -87,7 +87,7 @@ torn_under g old new torn = ext_get_or 0 _ _ (length-image_over g new ∙ torn.s
 ])
 
 -- once they are written the image has them
-pub written_over : (g : GatheredBytes) (image : List ℕ) → g.at + length g.bytes ≤ length image → image_over g image ≡ splice g.at g.bytes image
+pub written_over : (g : BufferedBytes) (image : List ℕ) → g.at + length g.bytes ≤ length image → image_over g image ≡ splice g.at g.bytes image
 written_over g image fits =
     let torn = torn_splice g.at g.bytes image fits in
     ext_get_or 0 _ _ (length-image_over g image ∙ sym torn.size) (λ place inside. elim (cases_Bool (waits g place)) [
@@ -105,7 +105,7 @@ written_over g image fits =
 -- ---- calls of the inner disk
 
 -- a call that changes nothing
-pub stays_over : (g : GatheredBytes) (old new : Content) → Stays old new → Stays (content_over g old) (content_over g new)
+pub stays_over : (g : BufferedBytes) (old new : Content) → Stays old new → Stays (content_over g old) (content_over g new)
 stays_over g old new stays = record {
   honest = stays.honest;
   shown = λ honest. ap (image_over g) (stays.shown honest);
@@ -138,7 +138,7 @@ or_none true b none = refl
 or_none false b none = none
 
 -- a write, Ok or Err
-pub tears_over : (g : GatheredBytes) (at count : ℕ) (old new : Content) → Tears at count old new → Tears at count (content_over g old) (content_over g new)
+pub tears_over : (g : BufferedBytes) (at count : ℕ) (old new : Content) → Tears at count old new → Tears at count (content_over g old) (content_over g new)
 tears_over g at count old new tears = record {
   honest = tears.honest;
   shown = λ honest.
@@ -153,14 +153,14 @@ tears_over g at count old new tears = record {
 }
 
 -- a write that is answered Ok, where none waits
-pub writes_over : (g : GatheredBytes) (at : ℕ) (bytes : List ℕ) (old new : Content) → length g.bytes ≡ 0 → Writes at bytes old new → Writes at bytes (content_over g old) (content_over g new)
+pub writes_over : (g : BufferedBytes) (at : ℕ) (bytes : List ℕ) (old new : Content) → length g.bytes ≡ 0 → Writes at bytes old new → Writes at bytes (content_over g old) (content_over g new)
 writes_over g at bytes old new none writes = record {
   honest = writes.honest;
   shown = λ honest. none_over g new.shown none ∙ writes.shown honest ∙ ap (splice at bytes) (sym (none_over g old.shown none));
 }
 
 -- a sync that is answered Ok, where none waits
-pub settles_over : (g : GatheredBytes) (old new : Content) → length g.bytes ≡ 0 → Settles old new → Settles (content_over g old) (content_over g new)
+pub settles_over : (g : BufferedBytes) (old new : Content) → length g.bytes ≡ 0 → Settles old new → Settles (content_over g old) (content_over g new)
 settles_over g old new none settles = record {
   honest = settles.honest;
   shown = λ honest. none_over g new.shown none ∙ settles.shown honest ∙ sym (none_over g old.shown none);
@@ -171,7 +171,7 @@ settles_over g old new none settles = record {
 }
 
 -- a write of those that wait, answered Ok: none waits any longer, and nothing is changed
-pub written_out : (g : GatheredBytes) (old new : Content) → g.at + length g.bytes ≤ size old → Tears g.at (length g.bytes) old new → Writes g.at g.bytes old new → Stays (content_over g old) (content_over (emptied g) new)
+pub written_out : (g : BufferedBytes) (old new : Content) → g.at + length g.bytes ≤ size old → Tears g.at (length g.bytes) old new → Writes g.at g.bytes old new → Stays (content_over g old) (content_over (emptied g) new)
 written_out g old new fits tears writes = record {
   honest = tears.honest;
   shown = λ honest. none_over (emptied g) new.shown refl ∙ writes.shown honest ∙ sym (written_over g old.shown fits);
@@ -180,7 +180,7 @@ written_out g old new fits tears writes = record {
 }
 
 -- answered Err: they wait still, and nothing is changed
-pub not_written_out : (g : GatheredBytes) (old new : Content) → Tears g.at (length g.bytes) old new → Stays (content_over g old) (content_over g new)
+pub not_written_out : (g : BufferedBytes) (old new : Content) → Tears g.at (length g.bytes) old new → Stays (content_over g old) (content_over g new)
 not_written_out g old new tears = record {
   honest = tears.honest;
   shown = λ honest. torn_under g old.shown new.shown (tears.shown honest);
@@ -189,7 +189,7 @@ not_written_out g old new tears = record {
 }
 
 -- a stop: those that wait are gone
-pub restarts_over : (g : GatheredBytes) (old new : Content) → Restarts old new → Restarts (content_over g old) (content_over (emptied g) new)
+pub restarts_over : (g : BufferedBytes) (old new : Content) → Restarts old new → Restarts (content_over g old) (content_over (emptied g) new)
 restarts_over g old new restarts =
     let now = none_over (emptied g) new.shown refl in
     record {
@@ -209,7 +209,7 @@ restarts_over g old new restarts =
 -- ---- more bytes that wait
 
 -- they continue those that wait, where any does
-continues : (g : GatheredBytes) (from count : ℕ) → IsTrue (takes g from count) → 0 < length g.bytes → from ≡ g.at + length g.bytes
+continues : (g : BufferedBytes) (from count : ℕ) → IsTrue (takes g from count) → 0 < length g.bytes → from ≡ g.at + length g.bytes
 continues g from count room some = grind (arith, nat_tests)
 
 -- the places of both
@@ -219,7 +219,7 @@ within_both at n from m place next = elim (cases_lt 0 n) [
   | inr none ↦ grind (arith, nat_tests)
 ]
 
-module _ (g : GatheredBytes) (from : ℕ) (bytes image : List ℕ) (room : IsTrue (takes g from (length bytes))) (fits : from + length bytes ≤ length image) where
+module _ (g : BufferedBytes) (from : ℕ) (bytes image : List ℕ) (room : IsTrue (takes g from (length bytes))) (fits : from + length bytes ≤ length image) where
   -- a place waits that waited before, or is one of theirs
   waits_grown : (place : ℕ) → waits (grown g from bytes) place ≡ (waits g place || within from (length bytes) place)
   waits_grown place =
@@ -282,7 +282,7 @@ module _ (g : GatheredBytes) (from : ℕ) (bytes image : List ℕ) (room : IsTru
       ])
 
 -- more bytes wait: the disk as after a write
-pub grown_tears : (g : GatheredBytes) (from : ℕ) (bytes : List ℕ) (inner : Content) → IsTrue (takes g from (length bytes)) → from + length bytes ≤ size inner → Tears from (length bytes) (content_over g inner) (content_over (grown g from bytes) inner)
+pub grown_tears : (g : BufferedBytes) (from : ℕ) (bytes : List ℕ) (inner : Content) → IsTrue (takes g from (length bytes)) → from + length bytes ≤ size inner → Tears from (length bytes) (content_over g inner) (content_over (grown g from bytes) inner)
 grown_tears g from bytes inner room fits = record {
   honest = refl;
   shown = λ honest. torn_grown g from bytes inner.shown room fits;
@@ -291,7 +291,7 @@ grown_tears g from bytes inner room fits = record {
 }
 
 -- that is answered Ok
-pub grown_writes : (g : GatheredBytes) (from : ℕ) (bytes : List ℕ) (inner : Content) → IsTrue (takes g from (length bytes)) → from + length bytes ≤ size inner → Writes from bytes (content_over g inner) (content_over (grown g from bytes) inner)
+pub grown_writes : (g : BufferedBytes) (from : ℕ) (bytes : List ℕ) (inner : Content) → IsTrue (takes g from (length bytes)) → from + length bytes ≤ size inner → Writes from bytes (content_over g inner) (content_over (grown g from bytes) inner)
 grown_writes g from bytes inner room fits = record {
   honest = refl;
   shown = λ honest. written_grown g from bytes inner.shown room fits;
@@ -300,7 +300,7 @@ grown_writes g from bytes inner room fits = record {
 -- ---- reads
 
 -- the bytes of an image, with those that wait in their places, are the bytes of the image with those that wait
-pub laid_shows : (g : GatheredBytes) (at : ℕ) (image old new : List ℕ) → LaidOver g at old new → at + length old ≤ length image → old ≡ slice_range image at (at + length old) → new ≡ slice_range (image_over g image) at (at + length old)
+pub laid_shows : (g : BufferedBytes) (at : ℕ) (image old new : List ℕ) → LaidOver g at old new → at + length old ≤ length image → old ≡ slice_range image at (at + length old) → new ≡ slice_range (image_over g image) at (at + length old)
 laid_shows g at image old new laid fits is =
     let in_over : at + length old ≤ length (image_over g image) = omega (arith, length-image_over g image) in
     ext_get_or 0 _ _ (laid.size ∙ sym (omega (arith, length-between (image_over g image) at (at + length old) in_over))) (λ place inside.
@@ -315,7 +315,7 @@ laid_shows g at image old new laid fits is =
     ]))
 
 -- whatever the image, where all of them wait
-pub laid_whole : (g : GatheredBytes) (at : ℕ) (image old new : List ℕ) → LaidOver g at old new → at + length old ≤ length image → IsTrue (holds g at (length old)) → new ≡ slice_range (image_over g image) at (at + length old)
+pub laid_whole : (g : BufferedBytes) (at : ℕ) (image old new : List ℕ) → LaidOver g at old new → at + length old ≤ length image → IsTrue (holds g at (length old)) → new ≡ slice_range (image_over g image) at (at + length old)
 laid_whole g at image old new laid fits all =
     let in_over : at + length old ≤ length (image_over g image) = omega (arith, length-image_over g image) in
     ext_get_or 0 _ _ (laid.size ∙ sym (omega (arith, length-between (image_over g image) at (at + length old) in_over))) (λ place inside.
@@ -325,14 +325,14 @@ laid_whole g at image old new laid fits all =
     ∙ sym (get_or-between (image_over g image) at (at + length old) place 0 (omega arith) ∙ byte_there g image (at + place) there (omega arith)))
 
 -- those that wait lie apart from the bytes
-pub laid_nowhere : (g : GatheredBytes) (at : ℕ) (old : List ℕ) → ((place : ℕ) → place < length old → waits g (at + place) ≡ false) → LaidOver g at old old
+pub laid_nowhere : (g : BufferedBytes) (at : ℕ) (old : List ℕ) → ((place : ℕ) → place < length old → waits g (at + place) ≡ false) → LaidOver g at old old
 laid_nowhere g at old none = record {
   size = refl;
   byte = λ place inside. sym (cond-false _ _ _ (none place inside));
 }
 
 -- or some of them stand there
-module _ (g : GatheredBytes) (at start end : ℕ) (old part : List ℕ) (a : g.at ≤ start) (b : at ≤ start) (c : start ≤ end) (d : end ≤ g.at + length g.bytes) (e : end ≤ at + length old)
+module _ (g : BufferedBytes) (at start end : ℕ) (old part : List ℕ) (a : g.at ≤ start) (b : at ≤ start) (c : start ≤ end) (d : end ≤ g.at + length g.bytes) (e : end ≤ at + length old)
     (first : g.at < start → start ≡ at) (last : end < g.at + length g.bytes → end ≡ at + length old) (is : part ≡ slice_range g.bytes (start - g.at) (end - g.at)) where
   part_size : length part ≡ end - start
   part_size = ap length is ∙ omega (arith, length-between g.bytes (start - g.at) (end - g.at) (omega arith))
@@ -374,39 +374,39 @@ module _ (g : GatheredBytes) (at start end : ℕ) (old part : List ℕ) (a : g.a
 -- ---- sizes and places
 
 -- bytes that wait change no size
-pub size_over : (g : GatheredBytes) (inner : Content) → size (content_over g inner) ≡ size inner
+pub size_over : (g : BufferedBytes) (inner : Content) → size (content_over g inner) ≡ size inner
 size_over g inner = length-image_over g inner.shown
 
 -- more bytes that wait have their places where the last of them has
-pub grown_places : (g : GatheredBytes) (from : ℕ) (bytes : List ℕ) (size : ℕ) → IsTrue (takes g from (length bytes)) → from + length bytes ≤ size → (grown g from bytes).at + length (grown g from bytes).bytes ≤ size
+pub grown_places : (g : BufferedBytes) (from : ℕ) (bytes : List ℕ) (size : ℕ) → IsTrue (takes g from (length bytes)) → from + length bytes ≤ size → (grown g from bytes).at + length (grown g from bytes).bytes ≤ size
 grown_places g from bytes size room fits =
     let before : length g.bytes ≤ from = elim (cases_lt 0 (length g.bytes)) [ inl some ↦ omega (arith, continues g from (length bytes) room some) | inr none ↦ omega arith ] in
     omega (arith, before, length-append g.bytes bytes)
 
 -- a range of the disk is one of its inner disk
-pub fits_inner : (g : GatheredBytes) (inner : Content) (end : ℕ) → end ≤ size (content_over g inner) → end ≤ size inner
+pub fits_inner : (g : BufferedBytes) (inner : Content) (end : ℕ) → end ≤ size (content_over g inner) → end ≤ size inner
 fits_inner g inner end fits = omega (arith, fits, size_over g inner)
 
 -- ---- exits of a call, where the bytes that wait and their place were asked for
 
 -- those that wait were written
-pub out_at : (g : GatheredBytes) (at : ℕ) (bytes : List ℕ) (old new : Content) → at ≡ g.at → bytes ≡ g.bytes → g.at + length g.bytes ≤ size old → Tears at (length bytes) old new → Writes at bytes old new → Stays (content_over g old) (content_over (emptied g) new)
+pub out_at : (g : BufferedBytes) (at : ℕ) (bytes : List ℕ) (old new : Content) → at ≡ g.at → bytes ≡ g.bytes → g.at + length g.bytes ≤ size old → Tears at (length bytes) old new → Writes at bytes old new → Stays (content_over g old) (content_over (emptied g) new)
 out_at g at bytes old new same_at same_bytes fits tears writes =
     written_out g old new fits (subst (λ (n : ℕ). Tears n (length g.bytes) old new) same_at (subst (λ (l : List ℕ). Tears at (length l) old new) same_bytes tears))
     (subst (λ (n : ℕ). Writes n g.bytes old new) same_at (subst (λ (l : List ℕ). Writes at l old new) same_bytes writes))
 
 -- or they were not
-pub not_out_at : (g : GatheredBytes) (at : ℕ) (bytes : List ℕ) (old new : Content) → at ≡ g.at → bytes ≡ g.bytes → Tears at (length bytes) old new → Stays (content_over g old) (content_over g new)
+pub not_out_at : (g : BufferedBytes) (at : ℕ) (bytes : List ℕ) (old new : Content) → at ≡ g.at → bytes ≡ g.bytes → Tears at (length bytes) old new → Stays (content_over g old) (content_over g new)
 not_out_at g at bytes old new same_at same_bytes tears =
     not_written_out g old new (subst (λ (n : ℕ). Tears n (length g.bytes) old new) same_at (subst (λ (l : List ℕ). Tears at (length l) old new) same_bytes tears))
 
 -- ---- a disk in a file
 
--- the length of a disk that was opened or made is that of the disk that gathers for it
-opened_size : {F : Type 0} (len : ℕ) (disk : GatheringState (RandomAccessDisk F)) → IsOpened len disk.inner → size (gathering_content file_content disk) ≡ len
-opened_size len disk opened = size_over disk.gathered (file_content disk.inner) ∙ opened.bytes
+-- the length of a disk that was opened or made is that of the disk that buffers for it
+opened_size : {F : Type 0} (len : ℕ) (disk : BufferedState (RandomAccessDisk F)) → IsOpened len disk.inner → size (buffered_content file_content disk) ≡ len
+opened_size len disk opened = size_over disk.buffer (file_content disk.inner) ∙ opened.bytes
 
 -- where there is one
-pub opened_sizes : {E : Type 0} (len : ℕ) (answer : Result FileDisk E) → IfOk answer (λ disk. IsOpened len disk.inner.inner) → IfOk answer (λ disk. size (gathering_content file_content disk.inner) ≡ len)
+pub opened_sizes : {E : Type 0} (len : ℕ) (answer : Result FileDisk E) → IfOk answer (λ disk. IsOpened len disk.inner.inner) → IfOk answer (λ disk. size (buffered_content file_content disk.inner) ≡ len)
 opened_sizes len (Ok disk) opened = opened_size len disk.inner opened
 opened_sizes len (Err error) opened = opened

@@ -1,7 +1,7 @@
 pub mod Disk
 pub mod Fault
 pub mod File
-pub mod Gathering
+pub mod Buffered
 pub mod Layout
 pub mod Lives
 pub mod Memory

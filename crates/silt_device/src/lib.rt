@@ -20,29 +20,29 @@
 //! what its bytes are.
 //!
 //! `MemDisk` is a disk in memory that stops at a chosen write or sync, and is then restarted with what such a stop could leave.
-//! On a `FaultDisk` one chosen call fails. A `GatheringDisk` gathers adjacent writes for another disk. `FileDisk` is a disk in a file of the system,
+//! On a `FaultDisk` one chosen call fails. A `BufferedDisk` buffers adjacent writes for another disk. `FileDisk` is a disk in a file of the system,
 //! and `RandomAccessDisk` one in any file. A `DiskSource` opens or makes the disk of a path: a file's with
 //! `FileDisks`, or the one of a `NamedDisk`. `write_synced` is a write with the sync that settles
 //! it: on it stands nearly all that changes a device. `Geometry` is the six numbers of a store, with the place of each of its
 //! parts on a device.
 #![tactic(auto)]
 
+mod buffered_disk;
 mod disk;
 mod fault;
 mod file;
-mod gathered;
-mod gathering;
 mod geometry;
 mod life;
 mod memory;
 mod source;
 mod system;
 mod system_disk;
+mod write_buffer;
 
+pub use buffered_disk::{BufferFault, BufferedDisk};
 pub use disk::{Call, CallAt, Disk, Stoppable, ranges_outside_stay, write_synced};
 pub use fault::FaultDisk;
 pub use file::{FileFault, RandomAccessDisk};
-pub use gathering::{GatherFault, GatheringDisk};
 pub use geometry::{BadGeometry, Geometry, REGIONS_AT, SECTOR, regions_lie_apart, slot_start};
 pub use life::{Fill, Stop};
 pub use memory::{MemDisk, MemFault};
@@ -51,8 +51,8 @@ pub use system::{FileSystem, RandomAccessFile};
 pub use system_disk::FileDisk;
 
 #[cfg(test)]
-mod file_tests;
+mod buffered_disk_tests;
 #[cfg(test)]
-mod gathering_tests;
+mod file_tests;
 #[cfg(test)]
 mod tests;

@@ -2,20 +2,20 @@
 ghost use Rattle.std.specs.Prelude.{⊤, ◌≡◌, ◌≤◌, ◌^◌, IfOk, OnOk, IsErr};
 
 use crate::Disk;
+use crate::buffered_disk::{BufferFault, BufferedDisk};
 use crate::file::{FileFault, RandomAccessDisk};
-use crate::gathering::{GatherFault, GatheringDisk};
 use crate::system::FileSystem;
 #[cfg(test)]
 use std::alloc::Global;
 use std::fs::File;
 use std::io;
 
-/// A disk in a file of the system, whose length never changes: it gathers adjacent writes for the random-access disk of one of std's files.
+/// A disk in a file of the system, whose length never changes: it buffers adjacent writes for the random-access disk of one of std's files.
 /// So all that is proved of these two, over any disks and any files, holds of it; of the calls that std's files were given nothing
 /// can be said here.
 #[derive(Drop)]
 pub struct FileDisk {
-    inner: GatheringDisk<RandomAccessDisk<File>>,
+    inner: BufferedDisk<RandomAccessDisk<File>>,
 }
 
 impl FileDisk {
@@ -30,7 +30,7 @@ impl FileDisk {
     ///
     /// The error of the system, where the file cannot be opened or locked, and then nothing in it is changed, or where it or its
     /// folder cannot be sized or synced. The file may then be there, at its old length or at the new one. A length of 2^63 or more
-    /// is always an error. Where the bytes that it gathers find no memory, an error of that kind.
+    /// is always an error. Where the bytes that it buffers find no memory, an error of that kind.
     pub fn create<R: FileSystem<File = File> + AllocGlobal>(
         system: &R,
         path: &str,
@@ -42,7 +42,7 @@ impl FileDisk {
         ensures too_long { 2 ^ 63 ≤ len → IsErr result }
     {
         let disk = RandomAccessDisk::create(system, path, len)?;
-        let inner = GatheringDisk::new(system.alloc(), disk)?;
+        let inner = BufferedDisk::new(system.alloc(), disk)?;
         Ok(FileDisk { inner })
     }
 
@@ -52,7 +52,7 @@ impl FileDisk {
     /// # Errors
     ///
     /// The error of the system, where the file is not there, another open of it has a lock, or it cannot be read, written, measured
-    /// or synced, or where the bytes that it gathers find no memory.
+    /// or synced, or where the bytes that it buffers find no memory.
     pub fn open<R: FileSystem<File = File> + AllocGlobal>(
         system: &R,
         path: &str,
@@ -60,12 +60,12 @@ impl FileDisk {
         ensures opened { IfOk result (λ disk. IsOpenedFile (R.opened system.now path.now) (R.locked system.now) (λ _ _. ⊤) (λ _. ⊤) disk.inner.inner) }
     {
         let disk = RandomAccessDisk::open(system, path)?;
-        let inner = GatheringDisk::new(system.alloc(), disk)?;
+        let inner = BufferedDisk::new(system.alloc(), disk)?;
         Ok(FileDisk { inner })
     }
 
     /// Opens a file that is there, to read alone, at the length that it has. It shares the file's lock with others that do so, and
-    /// syncs nothing. It gathers nothing: each write on the disk is an error.
+    /// syncs nothing. It buffers nothing: each write on the disk is an error.
     ///
     /// # Errors
     ///
@@ -78,46 +78,46 @@ impl FileDisk {
         ensures opened { IfOk result (λ disk. IsSharedFile (R.opened_to_read system.now path.now) (R.shared system.now) (λ _ _. ⊤) disk.inner.inner) }
     {
         let disk = RandomAccessDisk::open_shared(system, path)?;
-        let inner = GatheringDisk::with_room(system.alloc(), disk, 0)?;
+        let inner = BufferedDisk::with_room(system.alloc(), disk, 0)?;
         Ok(FileDisk { inner })
     }
 
-    // The disk in an open file, of this length, that gathers nothing.
+    // The disk in an open file, of this length, that buffers nothing.
     #[cfg(test)]
     pub(crate) fn of_len(alloc: Global, file: File, len: u64) -> io::Result<FileDisk>
         ensures { IfOk result (λ disk. IsOpened len disk.inner.inner) }
     {
         let disk = RandomAccessDisk::of_len(file, len);
-        let inner = GatheringDisk::with_room(alloc, disk, 0)?;
+        let inner = BufferedDisk::with_room(alloc, disk, 0)?;
         Ok(FileDisk { inner })
     }
 }
 
 impl Disk for FileDisk {
     ghost use Rattle.silt_device.specs.File.{file_content, file_gave};
-    ghost use Rattle.silt_device.specs.Gathering.{gathering_content, gathering_gave};
+    ghost use Rattle.silt_device.specs.Buffered.{buffered_content, buffered_gave};
 
-    type Fault = GatherFault<FileFault>;
+    type Fault = BufferFault<FileFault>;
 
-    ghost content = { λ disk. gathering_content file_content disk.inner };
+    ghost content = { λ disk. buffered_content file_content disk.inner };
 
     ghost failures = { λ disk. disk.inner.failures };
 
-    ghost gave = { λ disk. gathering_gave file_gave disk.inner };
+    ghost gave = { λ disk. buffered_gave file_gave disk.inner };
 
     fn len(&self) -> u64 {
         self.inner.len()
     }
 
-    fn read(&self, at: u64, buf: &mut [u8]) -> Result<(), GatherFault<FileFault>> {
+    fn read(&self, at: u64, buf: &mut [u8]) -> Result<(), BufferFault<FileFault>> {
         self.inner.read(at, buf)
     }
 
-    fn write(&mut self, at: u64, buf: &[u8]) -> Result<(), GatherFault<FileFault>> {
+    fn write(&mut self, at: u64, buf: &[u8]) -> Result<(), BufferFault<FileFault>> {
         self.inner.write(at, buf)
     }
 
-    fn sync(&mut self) -> Result<(), GatherFault<FileFault>> {
+    fn sync(&mut self) -> Result<(), BufferFault<FileFault>> {
         self.inner.sync()
     }
 }

@@ -25,7 +25,7 @@ use Rattle.silt_event.specs.declared.damage.Finding.{Finding}
 use Rattle.silt_event.specs.declared.damage.Finding.TheVariants as finding
 use Rattle.silt_event.specs.declared.place.Place.TheVariants.{Hash}
 use Rattle.silt_event.proofs.Findings.{nothing_both, nothing_first, nothing_second, nothing_where_passes, passes_where_nothing}
-use Rattle.silt_log_store.specs.declared.store.Found.{Found}
+use Rattle.silt_log_store.specs.declared.log_store.Found.{Found}
 use Rattle.silt_log_store.proofs.Named.{kind_of_byte}
 use Rattle.silt_hash_store.specs.Lookup.{FindsRow}
 use Rattle.silt_hash_store.specs.Rebuild.{AddsSound, IsFirstUnsound, IsGrown, IsRebuiltHash, IsRefusedHash, TagsKey, TakesAdded}

@@ -8,8 +8,8 @@ ghost use Rattle.silt_hash_store.specs.Slots.{hash_rows};
 ghost use Rattle.silt_log.specs.State.{all_rows};
 ghost use Rattle.silt_log_store.specs.State.{IsHeldStore, IsIndexed};
 
+use crate::hash_store::HashStore;
 use crate::region::HashRegion;
-use crate::store::HashStore;
 use crate::tags::Tags;
 use silt_device::Disk;
 use silt_log_store::LogStore;

@@ -12,14 +12,15 @@
 #![tactic(auto)]
 
 mod conversion;
+mod hash_store;
 mod laws;
 mod lookup;
 mod rebuild;
 mod region;
-mod store;
 mod tags;
 
 pub use conversion::{Conversion, StepError};
+pub use hash_store::HashStore;
 pub use laws::{
     converted_charge_law, converted_map_law, converted_sound_law, hash_elsewhere_law,
     written_elsewhere_law,
@@ -27,7 +28,6 @@ pub use laws::{
 pub use rebuild::{RebuildError, Rebuilt};
 pub use region::row_in;
 pub use silt_log_store::Found;
-pub use store::HashStore;
 
 #[cfg(test)]
 mod tests;

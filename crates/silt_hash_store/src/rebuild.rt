@@ -7,8 +7,8 @@ ghost use Rattle.silt_hash_store.specs.Rebuild.{AddsSound, IsFirstUnsound, IsGro
 ghost use Rattle.silt_hash_store.specs.Slots.{HeadSays, is_sound_slot, slot_row};
 ghost use Rattle.silt_hash_store.specs.State.{IsHeldHash, IsTagged};
 
+use crate::hash_store::HashStore;
 use crate::region::{HashRegion, Head};
-use crate::store::HashStore;
 use crate::tags::Tags;
 use silt_cuckoo::key_buckets;
 use silt_device::Disk;

@@ -3,7 +3,7 @@ use Rattle.std.specs.Prelude.{◌≡◌, ◌≢◌, ℕ, ◌<◌, if◌then◌el
 use Rattle.std.specs.Option.{option_and_then}
 use Rattle.silt_frame.specs.Frame.{is_put, kind_byte}
 use Rattle.silt_frame.specs.Rows.{StoredRow, keys_of}
-use Rattle.silt_log_store.specs.declared.store.Found.{Found}
+use Rattle.silt_log_store.specs.declared.log_store.Found.{Found}
 
 -- the row of this number is this one, it has the key, and no later row has it
 pub record IsLastRow (rows : List StoredRow) (key : List ℕ) (place : ℕ) (row : StoredRow) : Type 0 where

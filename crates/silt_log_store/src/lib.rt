@@ -13,15 +13,15 @@
 
 mod index;
 mod laws;
+mod log_store;
 mod lookup;
 mod placement;
 mod rebuild;
-mod store;
 
 pub use laws::{entry_law, log_sound_law};
+pub use log_store::{Found, LogStore};
 pub use placement::Placing;
 pub use rebuild::RebuildError;
-pub use store::{Found, LogStore};
 
 #[cfg(test)]
 mod tests;

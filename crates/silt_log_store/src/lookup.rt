@@ -13,7 +13,7 @@ ghost use Rattle.silt_log.specs.State.{all_rows};
 ghost use Rattle.silt_log_store.specs.declared.lookup.Match.{Match};
 ghost use Rattle.silt_log_store.specs.Lookup.{IsFirstMatch, candidate_of, kind_for, kind_with_key};
 
-use crate::store::Found;
+use crate::log_store::Found;
 use silt_cuckoo::{Candidate, Table, key_buckets};
 use silt_device::Disk;
 use silt_frame::{Key, Kind};

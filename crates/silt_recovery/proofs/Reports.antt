@@ -15,8 +15,8 @@ use Rattle.silt_log.specs.Rows.{log_rows}
 use Rattle.silt_log_store.specs.State.{LogStoreState}
 use Rattle.silt_manifest.specs.Body.{is_well_formed}
 use Rattle.silt_manifest.specs.declared.body.Body.{Body}
-use Rattle.silt_stores.specs.Standing.{shown_stores}
-use Rattle.silt_stores.specs.State.{StoresState, region_of}
+use Rattle.silt_tiers.specs.Standing.{shown_stores}
+use Rattle.silt_tiers.specs.State.{TiersState, region_of}
 use Rattle.silt_recovery.specs.Logs.{IsReadLog}
 use Rattle.silt_recovery.specs.Opening.{CountsHashRows, Holds, IsReported}
 use Rattle.silt_recovery.proofs.Examinations.{HasRegions, named_regions}
@@ -46,7 +46,7 @@ counts_read content shape (store ∷ stores) h read =
     ∙ sym (sum_by-cons part_count (log_part shape content.shown store.log.region) (map (log_part shape content.shown) (map region_of stores)))
 
 -- the numbers of the stores that are held
-pub reported : (content : Content) (s : StoresState) (body : Body) (hash_rows : ℕ) → Holds content s → CountsHashRows content s hash_rows → body ≡ s.manifest.ruling → IsTrue content.honest → IsReported content.shown (record {
+pub reported : (content : Content) (s : TiersState) (body : Body) (hash_rows : ℕ) → Holds content s → CountsHashRows content s hash_rows → body ≡ s.manifest.ruling → IsTrue content.honest → IsReported content.shown (record {
   generation = body.generation;
   active = body.active;
   active_rows = s.active.log.used;
@@ -100,7 +100,7 @@ few_rows content shape stores limits read =
     omega (arith, room, limits.log_capacity_most, bucket_count_most shape.buckets limits.buckets)) stores read
 
 -- the same of numbers that are named in another way
-pub reported_so : (content : Content) (s : StoresState) (body : Body) (rows frozen older hashes hash_rows : ℕ) → Holds content s → CountsHashRows content s hash_rows → body ≡ s.manifest.ruling → rows ≡ s.active.log.used → frozen ≡ length body.frozen → older ≡ sum_by used_rows s.frozen → hashes ≡ length body.hashed
+pub reported_so : (content : Content) (s : TiersState) (body : Body) (rows frozen older hashes hash_rows : ℕ) → Holds content s → CountsHashRows content s hash_rows → body ≡ s.manifest.ruling → rows ≡ s.active.log.used → frozen ≡ length body.frozen → older ≡ sum_by used_rows s.frozen → hashes ≡ length body.hashed
     → IsTrue content.honest → IsReported content.shown (record {
       generation = body.generation;
       active = body.active;
@@ -130,7 +130,7 @@ reported_so content s body rows frozen older hashes hash_rows holds counts same 
     (subst (λ (n : ℕ). IsReported content.shown (told s.active.log.used (length body.frozen) (sum_by used_rows s.frozen) n)) (sym are_hashes) (reported content s body hash_rows holds counts same h))))
 
 -- no more logs are frozen than a device can have
-pub few_frozen : (content : Content) (s : StoresState) (slot : ℕ) → Holds content s → is_well_formed s.manifest.shape slot s.manifest.ruling ≡ true → length s.frozen ≤ 7
+pub few_frozen : (content : Content) (s : TiersState) (slot : ℕ) → Holds content s → is_well_formed s.manifest.shape slot s.manifest.ruling ≡ true → length s.frozen ≤ 7
 few_frozen content s slot holds sound =
     let all : HasRegions s.manifest.shape s.manifest.ruling = named_regions s.manifest.shape slot s.manifest.ruling holds.limits sound in
     omega (arith, all.few, ap length holds.whole.frozen_regions, length-map s.frozen region_of)

@@ -32,11 +32,11 @@ use Rattle.silt_log_store.specs.Calls.{SealsStore}
 use Rattle.silt_log_store.specs.State.{LogStoreState}
 use Rattle.silt_manifest.proofs.Laws.{rules_elsewhere}
 use Rattle.silt_merge.specs.State.{MergeState}
-use Rattle.silt_stores.specs.Standing.{HasGathered, IsFrozen, IsLocated, Stands, base_map, shown_stores}
+use Rattle.silt_tiers.specs.Standing.{HasGathered, IsFrozen, IsLocated, Stands, base_map, shown_stores}
 use Rattle.silt_sorted_store.specs.State.{SortedState}
 use Rattle.silt_sorted_store.proofs.Elsewhere.{indexed_elsewhere}
-use Rattle.silt_stores.proofs.Elsewhere.{entries_behind_log}
-use Rattle.silt_stores.specs.State.{AreWhole, IsHashOf, IsMerging, IsUnderWay, StoresState, oldest_log, region_of}
+use Rattle.silt_tiers.proofs.Elsewhere.{entries_behind_log}
+use Rattle.silt_tiers.specs.State.{AreWhole, IsHashOf, IsMerging, IsUnderWay, TiersState, oldest_log, region_of}
 use Rattle.silt_recovery.specs.Logs.{IsReadLog}
 use Rattle.silt_recovery.specs.Opening.{Holds, IsUnwritten, IsUnwrittenUnlessFailed, LeavesNoOther, TakesUp}
 use Rattle.silt_recovery.specs.Refusals.{IsFound, IsRefusedLook}
@@ -139,7 +139,7 @@ hash_stands between new shape log store exists fits changes is stands =
     (inl (subst (λ (x : Shape). gates_at shape log + log_size shape ≤ hash_at x store.region) (sym is.has_shape) before)) changes stands
 
 -- the index of entries is theirs while a log region alone is changed
-index_stands : (between new : Content) (s : StoresState) (log : ℕ) → log < s.manifest.shape.logs → device_size s.manifest.shape ≤ size between → ChangesWithin (gates_at s.manifest.shape log) (log_size s.manifest.shape) between new
+index_stands : (between new : Content) (s : TiersState) (log : ℕ) → log < s.manifest.shape.logs → device_size s.manifest.shape ≤ size between → ChangesWithin (gates_at s.manifest.shape log) (log_size s.manifest.shape) between new
     → AreWhole s → IsLocated between s → IsLocated new s
 index_stands between new s log exists fits changes whole located =
     let is_shape : s.manifest.shape ≡ s.sorted.shape = ap (λ (t : SortedState). t.shape) (sym whole.sorted) in
@@ -148,22 +148,22 @@ index_stands between new s log exists fits changes whole located =
     (entries_behind_log s.manifest.shape log s.sorted.region exists)) changes located
 
 -- where no conversion is under way, nothing is asked of one
-none_converts : (s : StoresState) → s.converting ≡ None → IfSome s.converting (IsUnderWay s)
+none_converts : (s : TiersState) → s.converting ≡ None → IfSome s.converting (IsUnderWay s)
 none_converts s none = subst (λ (converting : Option ConversionState). IfSome converting (IsUnderWay s)) (sym none) tt
 
-none_written : (content : Content) (s : StoresState) → s.converting ≡ None → IfSome s.converting (HasWritten content (oldest_log s))
+none_written : (content : Content) (s : TiersState) → s.converting ≡ None → IfSome s.converting (HasWritten content (oldest_log s))
 none_written content s none = subst (λ (converting : Option ConversionState). IfSome converting (HasWritten content (oldest_log s))) (sym none) tt
 
 -- and where no merge is, nothing of one
-none_merges : (s : StoresState) → s.merging ≡ None → IfSome s.merging (IsMerging s)
+none_merges : (s : TiersState) → s.merging ≡ None → IfSome s.merging (IsMerging s)
 none_merges s none = subst (λ (merging : Option MergeState). IfSome merging (IsMerging s)) (sym none) tt
 
-none_gathered : (content : Content) (s : StoresState) → s.merging ≡ None → IfSome s.merging (HasGathered content s)
+none_gathered : (content : Content) (s : TiersState) → s.merging ≡ None → IfSome s.merging (HasGathered content s)
 none_gathered content s none = subst (λ (merging : Option MergeState). IfSome merging (HasGathered content s)) (sym none) tt
 
 -- ---- where the active log was sealed
 
-module _ (old between new : Content) (s : StoresState) (settles : Settles old between) (holds : Holds between s)
+module _ (old between new : Content) (s : TiersState) (settles : Settles old between) (holds : Holds between s)
     (seals_within : ChangesWithin (gates_at s.active.log.shape s.active.log.region + s.active.log.used + 1) (s.active.log.shape.log_capacity - (s.active.log.used + 1)) between new)
     (images : LeavesOnly new (λ image. log_rows s.active.log.shape s.active.log.region image ≡ log_rows s.active.log.shape s.active.log.region between.shown)) where
   changes : ChangesWithin (gates_at s.active.log.shape s.active.log.region) (log_size s.active.log.shape) between new

@@ -9,16 +9,16 @@ use Rattle.silt_log_store.specs.Parts.{known_rows}
 use Rattle.silt_image.specs.Stores.{Stores, image_stores}
 use Rattle.silt_event.specs.declared.report.Report.{Report}
 use Rattle.silt_manifest.specs.Standing.{Rules}
-use Rattle.silt_stores.specs.Calls.{IsQuiet, SameDisk}
-use Rattle.silt_stores.specs.Standing.{IsLocated, Stands, base_map, shown_stores}
-use Rattle.silt_stores.specs.State.{StoresState, AreWhole}
+use Rattle.silt_tiers.specs.Calls.{IsQuiet, SameDisk}
+use Rattle.silt_tiers.specs.Standing.{IsLocated, Stands, base_map, shown_stores}
+use Rattle.silt_tiers.specs.State.{TiersState, AreWhole}
 use Rattle.silt_recovery.specs.Logs.{IsReadLog}
 use Rattle.silt_recovery.specs.declared.examination.Holding.{Holding}
 use Rattle.silt_recovery.specs.declared.fault.OpenError.{OpenError}
 use Rattle.silt_recovery.specs.declared.fault.OpenError.TheVariants.{Device}
 
 -- the stores that are held in memory, with no conversion and no merge under way
-abbrev pub held_stores : Holding → StoresState
+abbrev pub held_stores : Holding → TiersState
 held_stores held = record {
   manifest = held.manifest;
   active = held.active;
@@ -32,7 +32,7 @@ held_stores held = record {
 }
 
 -- what is held in memory of a device in which nothing is found: the stores that it shows
-pub record Holds (content : Content) (s : StoresState) : Type 0 where
+pub record Holds (content : Content) (s : TiersState) : Type 0 where
   pub limits : InLimits s.manifest.shape
   pub has_size : size content ≡ device_size s.manifest.shape
   pub whole : AreWhole s
@@ -49,7 +49,7 @@ pub record Holds (content : Content) (s : StoresState) : Type 0 where
   pub counted : IsTrue content.honest → s.charge ≡ charge_of (shown_stores content s)
 
 -- so many rows of known kinds have the hash stores that are shown, together
-abbrev pub CountsHashRows : Content → StoresState → ℕ → Type 0
+abbrev pub CountsHashRows : Content → TiersState → ℕ → Type 0
 CountsHashRows content s count = IsTrue content.honest → count ≡ sum_by (λ part. length (known_rows part)) (shown_stores content s).hashes
 
 -- these are the numbers of the stores of an image, in which nothing is found
@@ -75,7 +75,7 @@ IsUnwrittenUnlessFailed old new error = IsUnwritten old new
 
 -- stores were taken up: they stand on the disk with no row waiting and no conversion and no merge under way, for the map of the image
 -- that was shown, which is good
-pub record TakesUp (old new : Content) (s : StoresState) : Type 0 where
+pub record TakesUp (old new : Content) (s : TiersState) : Type 0 where
   pub disk : SameDisk old new
   pub stands : Stands new s
   pub quiet : IsQuiet new s

@@ -3,19 +3,19 @@ ghost use Rattle.std.specs.Prelude.{◌≡◌, IsTrue, IfOk, IfErr, MatchResult}
 ghost use Rattle.silt_device.specs.Disk.{GaveAny};
 ghost use Rattle.silt_recovery.specs.Opening.{IsUnwrittenUnlessFailed, LeavesNoOther, TakesUp};
 ghost use Rattle.silt_recovery.specs.Refusals.{IsFound, IsRefusedLook};
-ghost use Rattle.silt_stores.specs.Calls.{SameDisk};
+ghost use Rattle.silt_tiers.specs.Calls.{SameDisk};
 
 use crate::examination::examine;
 use crate::fault::{OpenError, OpenFault};
 use silt_device::Disk;
-use silt_stores::Stores;
+use silt_tiers::Tiers;
 use std::alloc::Global;
 
 /// A device that was opened, and its stores in memory.
 #[derive(Drop)]
 pub struct Opened<D: Disk> {
     pub disk: D,
-    pub stores: Stores,
+    pub tiers: Tiers,
 }
 
 /// Takes up a device: settles what it shows, looks at it, and closes the gates of the active log past its first closed one, where one
@@ -27,7 +27,7 @@ pub struct Opened<D: Disk> {
 /// was written. `Device` with the fault of a read, a write or a sync: whatever a stop leaves then might have been left before, or
 /// stands for the same map.
 pub fn open<D: Disk>(alloc: Global, mut disk: D) -> Result<Opened<D>, OpenFault<D>>
-    ensures ok { IfOk result (λ opened. TakesUp (D.content disk) (D.content opened.disk) opened.stores) }
+    ensures ok { IfOk result (λ opened. TakesUp (D.content disk) (D.content opened.disk) opened.tiers) }
     ensures same { MatchResult result (λ opened. SameDisk (D.content disk) (D.content opened.disk)) (λ fault. SameDisk (D.content disk) (D.content fault.disk)) }
     ensures cause { IfErr result (λ fault. IsRefusedLook
         (λ finding. IsTrue (D.content disk).honest → IsFound (D.content disk).shown finding)
@@ -36,14 +36,14 @@ pub fn open<D: Disk>(alloc: Global, mut disk: D) -> Result<Opened<D>, OpenFault<
     ensures images { MatchResult result (λ opened. LeavesNoOther (D.content disk) (D.content opened.disk)) (λ fault. LeavesNoOther (D.content disk) (D.content fault.disk)) }
 {
     match take_up(alloc, &mut disk) {
-        Ok(stores) => Ok(Opened { disk, stores }),
+        Ok(tiers) => Ok(Opened { disk, tiers }),
         Err(error) => Err(OpenFault { disk, error }),
     }
 }
 
 // Settles what the device shows, reads what it holds, and seals its active log.
-fn take_up<D: Disk>(alloc: Global, disk: &mut D) -> Result<Stores, OpenError<D::Fault>>
-    ensures ok { IfOk result (λ stores. TakesUp (D.content disk.old) (D.content disk.new) stores) }
+fn take_up<D: Disk>(alloc: Global, disk: &mut D) -> Result<Tiers, OpenError<D::Fault>>
+    ensures ok { IfOk result (λ tiers. TakesUp (D.content disk.old) (D.content disk.new) tiers) }
     ensures same { SameDisk (D.content disk.old) (D.content disk.new) }
     ensures cause { IfErr result (IsRefusedLook
         (λ finding. IsTrue (D.content disk.old).honest → IsFound (D.content disk.old).shown finding)
@@ -59,7 +59,7 @@ fn take_up<D: Disk>(alloc: Global, disk: &mut D) -> Result<Stores, OpenError<D::
         Err(error) => return Err(error),
     };
     match held.active.seal(disk) {
-        Ok(()) => Ok(Stores::new(
+        Ok(()) => Ok(Tiers::new(
             held.manifest,
             held.active,
             held.frozen,

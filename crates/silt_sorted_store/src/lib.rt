@@ -9,13 +9,13 @@ mod laws;
 mod rebuild;
 mod region;
 mod sorted_entries;
-mod store;
+mod sorted_store;
 
 pub use laws::{entries_elsewhere_law, entries_law, indexed_elsewhere_law, rising_law};
 pub use rebuild::RebuildError;
 pub use region::SortedRegion;
 pub use sorted_entries::SortedEntries;
-pub use store::SortedStore;
+pub use sorted_store::SortedStore;
 
 #[cfg(test)]
 mod tests;

@@ -4,11 +4,11 @@ use Rattle.silt_device.specs.Disk.{Content, LeavesOnly}
 use Rattle.silt_device.specs.Layout.{device_size}
 use Rattle.silt_event.specs.Commands.{Command, Map, map_after}
 use Rattle.silt_image.specs.Meaning.{image_map, StandsFor}
-use Rattle.silt_stores.specs.Calls.{Advances, Breaks, HasBegun, SameDisk}
-use Rattle.silt_stores.specs.Laws.{IsGoodWith}
-use Rattle.silt_stores.specs.Standing.{Stands, base_map, full_image, waiting_commands}
-use Rattle.silt_stores.specs.State.{StoresState}
-use Rattle.silt_stores.proofs.Meaning.{meaning}
+use Rattle.silt_tiers.specs.Calls.{Advances, Breaks, HasBegun, SameDisk}
+use Rattle.silt_tiers.specs.Laws.{IsGoodWith}
+use Rattle.silt_tiers.specs.Standing.{Stands, base_map, full_image, waiting_commands}
+use Rattle.silt_tiers.specs.State.{TiersState}
+use Rattle.silt_tiers.proofs.Meaning.{meaning}
 use Rattle.silt_event.specs.declared.event.Event.{Event}
 use Rattle.silt_event.specs.declared.event.Event.TheVariants.{Put, Delete, Flush, Get, Convert, Merge}
 use Rattle.silt_event.specs.declared.refusal.Refusal.{Refusal}
@@ -21,7 +21,7 @@ use Rattle.silt_store_set.specs.CoreState.{CoreState, map_of, Cause, LeavesNoneW
 use Rattle.silt_store_set.proofs.Maps.{append_nil, map_after-append}
 
 -- what contracts see of a store with these fields
-abbrev pub seen : {D : Type 0} → (D → Content) → D → StoresState → ℕ → Bool → CoreState D
+abbrev pub seen : {D : Type 0} → (D → Content) → D → TiersState → ℕ → Bool → CoreState D
 seen content disk stores count failed = record {
   disk = disk;
   shape = stores.manifest.shape;
@@ -43,7 +43,7 @@ pub record Standing {D : Type 0} (content : D → Content) (core : CoreState D) 
   pub safe : LeavesOnly (content core.disk) (StandsFor core.shape core.base)
 
 -- a store that is not failed stands
-pub stands_seen : {D : Type 0} (content : D → Content) (disk : D) (stores : StoresState) (count : ℕ) (failed : Bool) → Stands (content disk) stores → Standing content (seen content disk stores count failed)
+pub stands_seen : {D : Type 0} (content : D → Content) (disk : D) (stores : TiersState) (count : ℕ) (failed : Bool) → Stands (content disk) stores → Standing content (seen content disk stores count failed)
 stands_seen content disk stores count failed stands = record {
   numbers = (meaning (content disk) stores stands).numbers;
   has_map = λ h. (meaning (content disk) stores stands).full h ∙ ap (λ m. map_after m (waiting_commands (content disk) stores)) (sym ((meaning (content disk) stores stands).shown h));
@@ -53,20 +53,20 @@ stands_seen content disk stores count failed stands = record {
 }
 
 -- of a store as contracts see it, each image stands for the base as long as it is not failed
-pub safe_seen : {D : Type 0} (content : D → Content) (disk : D) (stores : StoresState) (count : ℕ) (failed : Bool) (core : CoreState D) → seen content disk stores count failed ≡ core
+pub safe_seen : {D : Type 0} (content : D → Content) (disk : D) (stores : TiersState) (count : ℕ) (failed : Bool) (core : CoreState D) → seen content disk stores count failed ≡ core
     → IsCore (content disk) stores count failed → core.failed ≡ false → LeavesOnly (content core.disk) (StandsFor core.shape core.base)
 safe_seen {D} content disk stores count failed core is holds =
     subst (λ (c : CoreState D). c.failed ≡ false → LeavesOnly (content c.disk) (StandsFor c.shape c.base)) is (λ working. (stands_seen content disk stores count failed (holds.stands working)).safe)
 
 -- and its map is the base after the waiting commands
-pub map_seen : {D : Type 0} (content : D → Content) (disk : D) (stores : StoresState) (count : ℕ) (failed : Bool) (core : CoreState D) → seen content disk stores count failed ≡ core
+pub map_seen : {D : Type 0} (content : D → Content) (disk : D) (stores : TiersState) (count : ℕ) (failed : Bool) (core : CoreState D) → seen content disk stores count failed ≡ core
     → IsCore (content disk) stores count failed → core.failed ≡ false → IsTrue (content core.disk).honest → map_of core ≡ map_after core.base core.waiting
 map_seen {D} content disk stores count failed core is holds =
     subst (λ (c : CoreState D). c.failed ≡ false → IsTrue (content c.disk).honest → map_of c ≡ map_after c.base c.waiting) is
     (λ working. (stands_seen content disk stores count failed (holds.stands working)).has_map)
 
 -- each image stands for the base after a beginning of what waits, where the store is failed and where it is not
-pub left_seen : {D : Type 0} (content : D → Content) (disk : D) (stores : StoresState) (count : ℕ) (failed : Bool) → IsCore (content disk) stores count failed → LeavesBegun (content disk) stores.manifest.shape
+pub left_seen : {D : Type 0} (content : D → Content) (disk : D) (stores : TiersState) (count : ℕ) (failed : Bool) → IsCore (content disk) stores count failed → LeavesBegun (content disk) stores.manifest.shape
 left_seen content disk stores count failed holds =
     let go : (b : Bool) → failed ≡ b → LeavesBegun (content disk) stores.manifest.shape = elim [
       | true ↦ λ fails. holds.left fails
@@ -85,7 +85,7 @@ left_seen content disk stores count failed holds =
     go failed refl
 
 -- what is true of a store after a failed write or sync
-pub core_broke : (old new : Content) (stores after : StoresState) (count : ℕ) (failed : Bool) → IsCore old stores count failed → SameDisk old new → after.manifest.shape ≡ stores.manifest.shape → Breaks old new stores
+pub core_broke : (old new : Content) (stores after : TiersState) (count : ℕ) (failed : Bool) → IsCore old stores count failed → SameDisk old new → after.manifest.shape ≡ stores.manifest.shape → Breaks old new stores
     → IsCore new after count true
 core_broke old new stores after count failed holds same shape breaks = record {
   has_size = same.size ∙ holds.has_size ∙ ap device_size (sym shape);
@@ -149,7 +149,7 @@ module _ {D F : Type 0} (content : D → Content) (failures : D → ℕ) (gave :
       (λ f. absurd (let no : false ≡ true = sym f ∙ failed in cc))
 
   -- a store that is not failed refuses, for another cause than a failure, and is as it was
-  pub refused : (disk : D) (stores : StoresState) (count : ℕ) (failed : Bool) (event : Event) (refusal : Refusal F) → failed ≡ false → Stands (content disk) stores → is_failed (Refused refusal) ≡ false
+  pub refused : (disk : D) (stores : TiersState) (count : ℕ) (failed : Bool) (event : Event) (refusal : Refusal F) → failed ≡ false → Stands (content disk) stores → is_failed (Refused refusal) ≡ false
       → Cause content failures gave (seen content disk stores count failed) (seen content disk stores count failed) event (Refused refusal)
       → Does content failures gave (seen content disk stores count failed) (seen content disk stores count failed) event (Refused refusal)
   refused disk stores count failed event refusal working stands other cause =
@@ -157,7 +157,7 @@ module _ {D F : Type 0} (content : D → Content) (failures : D → ℕ) (gave :
       (λ _ _. step_refused (image_map (full_image (content disk) stores)) event refusal) (none_refused event refusal) (λ _. tt) (λ _. stands_seen content disk stores count failed stands)
 
   -- a store that is not failed answers without a change
-  pub answered : (disk : D) (stores : StoresState) (count : ℕ) (failed : Bool) (event : Event) (reply : Reply F)
+  pub answered : (disk : D) (stores : TiersState) (count : ℕ) (failed : Bool) (event : Event) (reply : Reply F)
       → failed ≡ false → Stands (content disk) stores → Counts count reply count → is_failed reply ≡ false → accepted_command event reply ≡ []
       → Cause content failures gave (seen content disk stores count failed) (seen content disk stores count failed) event reply
       → (IsTrue (content disk).honest → Step (image_map (full_image (content disk) stores)) event reply (image_map (full_image (content disk) stores)))
@@ -169,7 +169,7 @@ module _ {D F : Type 0} (content : D → Content) (failures : D → ℕ) (gave :
 
   -- ---- calls that write
 
-  module _ (disk new : D) (stores after : StoresState) (same : SameDisk (content disk) (content new)) (stands : Stands (content disk) stores) where
+  module _ (disk new : D) (stores after : TiersState) (same : SameDisk (content disk) (content new)) (stands : Stands (content disk) stores) where
     there : IsTrue (content disk).honest → IsTrue (content new).honest
     there h = same.honest ∙ h
 

@@ -7,9 +7,9 @@ use Rattle.silt_device.specs.Disk.{Content}
 use Rattle.silt_event.specs.Rows.{command_of}
 use Rattle.silt_log.specs.Rows.{row_at, rows_from}
 use Rattle.silt_log.specs.State.{LogState, waiting_rows}
-use Rattle.silt_stores.specs.Calls.{Advances, Breaks, IsQuiet, Remaps, SameDisk}
-use Rattle.silt_stores.specs.Standing.{Stands}
-use Rattle.silt_stores.specs.State.{StoresState}
+use Rattle.silt_tiers.specs.Calls.{Advances, Breaks, IsQuiet, Remaps, SameDisk}
+use Rattle.silt_tiers.specs.Standing.{Stands}
+use Rattle.silt_tiers.specs.State.{TiersState}
 use Rattle.silt_event.specs.declared.event.Event.TheVariants.{Flush}
 use Rattle.silt_event.specs.declared.refusal.Refusal.TheVariants.{Device}
 use Rattle.silt_event.specs.declared.reply.Reply.TheVariants.{Acknowledged, Refused}
@@ -27,7 +27,7 @@ some_wait content log waits none =
     let len : length (waiting_rows content log) ≡ log.used - log.settled = length-map-range_with_len (row_at log.shape log.region content.shown) log.settled (log.used - log.settled) in
     omega (arith, waits, len, length-map (waiting_rows content log) command_of, ap length none)
 
-module _ {D F : Type 0} (content : D → Content) (failures : D → ℕ) (gave : D → F → Type 0) (disk : D) (stores : StoresState) (count : ℕ) (stands : Stands (content disk) stores) where
+module _ {D F : Type 0} (content : D → Content) (failures : D → ℕ) (gave : D → F → Type 0) (disk : D) (stores : TiersState) (count : ℕ) (stands : Stands (content disk) stores) where
   -- where no row waits nothing is done
   pub flushed_none : (failed : _) → failed ≡ false → nat_lt stores.active.log.settled stores.active.log.used ≡ false
       → Does content failures gave (seen content disk stores count failed) (seen content disk stores count failed) Flush (Acknowledged count)
@@ -37,7 +37,7 @@ module _ {D F : Type 0} (content : D → Content) (failures : D → ℕ) (gave :
       (λ _. ap (map command_of) (none_wait (content disk) stores.active.log settled))
 
   -- the waiting rows are settled
-  pub flushed : (new : D) (after : StoresState) → nat_lt stores.active.log.settled stores.active.log.used ≡ true → SameDisk (content disk) (content new) → Advances [] (content disk) (content new) stores after → IsQuiet (content new) after
+  pub flushed : (new : D) (after : TiersState) → nat_lt stores.active.log.settled stores.active.log.used ≡ true → SameDisk (content disk) (content new) → Advances [] (content disk) (content new) stores after → IsQuiet (content new) after
       → after.manifest ≡ stores.manifest → after.converting ≡ stores.converting → after.merging ≡ stores.merging → failures new ≡ failures disk
       → Does content failures gave (seen content disk stores count false) (seen content new after count false) Flush (Acknowledged count)
   flushed new after some same goes quiet manifest converting merging counted =
@@ -47,7 +47,7 @@ module _ {D F : Type 0} (content : D → Content) (failures : D → ℕ) (gave :
       (λ _ _. ap (λ m. m.ruling) manifest) (λ _. converting) (λ _. merging) (λ _. quiet.none_wait) counted
 
   -- a sync or the write of the gates failed
-  pub flush_broke : (new : D) (after : StoresState) (fault : F) → SameDisk (content disk) (content new) → Breaks (content disk) (content new) stores → Remaps [] (content disk) (content new) stores after
+  pub flush_broke : (new : D) (after : TiersState) (fault : F) → SameDisk (content disk) (content new) → Breaks (content disk) (content new) stores → Remaps [] (content disk) (content new) stores after
       → after.manifest ≡ stores.manifest → gave new fault → failures new ≡ (failures disk + 1) % 2 ^ 64
       → Does content failures gave (seen content disk stores count false) (seen content new after count true) Flush (Refused (Device fault))
   flush_broke new after fault same breaks remaps manifest given counted =

@@ -5,9 +5,9 @@ use Rattle.silt_device.specs.Disk.{Content}
 use Rattle.silt_frame.specs.declared.key.Key.{Key}
 use Rattle.silt_event.specs.Commands.{Map}
 use Rattle.silt_image.specs.Meaning.{image_map}
-use Rattle.silt_stores.specs.Standing.{Stands, current_map, full_image}
-use Rattle.silt_stores.specs.State.{StoresState}
-use Rattle.silt_stores.proofs.Meaning.{meaning}
+use Rattle.silt_tiers.specs.Standing.{Stands, current_map, full_image}
+use Rattle.silt_tiers.specs.State.{TiersState}
+use Rattle.silt_tiers.proofs.Meaning.{meaning}
 use Rattle.silt_event.specs.declared.event.Event.TheVariants.{Get}
 use Rattle.silt_event.specs.declared.refusal.Refusal.{Refusal}
 use Rattle.silt_event.specs.declared.refusal.Refusal.TheVariants.{Device, NoMemory}
@@ -16,7 +16,7 @@ use Rattle.silt_store_set.specs.CoreState.{Does}
 use Rattle.silt_store_set.specs.Replies.{ReadCause, get_reply}
 use Rattle.silt_store_set.proofs.Calls.{seen, answered, refused}
 
-module _ {D F : Type 0} (content : D → Content) (failures : D → ℕ) (gave : D → F → Type 0) (disk : D) (stores : StoresState) (count : ℕ) (failed : Bool) (key : Key) (working : failed ≡ false) (stands : Stands (content disk) stores) where
+module _ {D F : Type 0} (content : D → Content) (failures : D → ℕ) (gave : D → F → Type 0) (disk : D) (stores : TiersState) (count : ℕ) (failed : Bool) (key : Key) (working : failed ≡ false) (stands : Stands (content disk) stores) where
   -- the map that lookups answer from is that of the full image
   looked_up : (value : Option (List ℕ)) → (IsTrue (content disk).honest → get (current_map (content disk) stores) key.0 ≡ value) → IsTrue (content disk).honest → get (image_map (full_image (content disk) stores)) key.0 ≡ value
   looked_up value found h = ap (λ (m : Map). get m key.0) ((meaning (content disk) stores stands).full h) ∙ found h

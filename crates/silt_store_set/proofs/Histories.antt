@@ -16,7 +16,7 @@ use Rattle.silt_store_set.specs.CoreState.{CoreState, map_of, Runs, Opens}
 use Rattle.silt_store_set.specs.CoreInvariant.{IsSafe}
 use Rattle.silt_image.specs.Header.{shape_of}
 use Rattle.silt_image.specs.Meaning.{StandsFor}
-use Rattle.silt_stores.specs.Calls.{SameDisk}
+use Rattle.silt_tiers.specs.Calls.{SameDisk}
 use Rattle.silt_recovery.specs.Opening.{LeavesNoOther}
 use Rattle.silt_store_set.specs.Opening.{OpeningCause}
 use Rattle.silt_store_set.proofs.Keeps.{keeps_runs, nines}

@@ -3,7 +3,7 @@ use Rattle.std.proofs.Common.{◌≡◌, ◌≢◌, ℕ, inl, inr, List, [], ◌
 use Rattle.std.specs.declared.alloc.Global.{Global}
 use Rattle.silt_device.specs.Disk.{Content, Restarts}
 use Rattle.silt_recovery.specs.Opening.{LeavesNoOther}
-use Rattle.silt_stores.specs.Calls.{SameDisk}
+use Rattle.silt_tiers.specs.Calls.{SameDisk}
 use Rattle.silt_event.specs.declared.event.Event.{Event}
 use Rattle.silt_event.specs.declared.reply.LifeReply.{LifeReply}
 use Rattle.silt_event.specs.declared.reply.LifeReply.TheVariants.{NotOpened, Opened}

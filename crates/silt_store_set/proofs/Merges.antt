@@ -15,12 +15,12 @@ use Rattle.silt_event.specs.declared.reply.Reply.TheVariants.{Progress, Refused}
 use Rattle.silt_merge.specs.Merging.{TakesMemory}
 use Rattle.silt_merge.specs.Rows.{key_count, merged_rows}
 use Rattle.silt_merge.specs.State.{MergeState, is_done, oldest_stores, steps_of}
-use Rattle.silt_stores.specs.Calls.{Advances, Breaks, IsLastGeneration, Remaps, SameDisk}
-use Rattle.silt_stores.specs.Conversion.{is_work}
-use Rattle.silt_stores.specs.Merge.{EndsMerged, HasMergedEntries, IsDoneBySteps, IsNextMerge, MayLackMemory, Merges, MergesOn, full_stores, merge_progress, merge_sources, merge_turn, merged_body}
-use Rattle.silt_stores.specs.Standing.{Stands}
-use Rattle.silt_stores.specs.State.{IsMerging, StoresState, hash_region_of}
-use Rattle.silt_stores.proofs.Meaning.{meaning}
+use Rattle.silt_tiers.specs.Calls.{Advances, Breaks, IsLastGeneration, Remaps, SameDisk}
+use Rattle.silt_tiers.specs.Conversion.{is_work}
+use Rattle.silt_tiers.specs.Merge.{EndsMerged, HasMergedEntries, IsDoneBySteps, IsNextMerge, MayLackMemory, Merges, MergesOn, full_stores, merge_progress, merge_sources, merge_turn, merged_body}
+use Rattle.silt_tiers.specs.Standing.{Stands}
+use Rattle.silt_tiers.specs.State.{IsMerging, TiersState, hash_region_of}
+use Rattle.silt_tiers.proofs.Meaning.{meaning}
 use Rattle.silt_store_set.specs.CoreState.{CoreState, Does, GathersNext, IsMergeDue, MergeGoesOn, MergeLacksMemory, has_decided, merge_due, merge_work}
 use Rattle.silt_store_set.proofs.Calls.{seen, advanced, answered, broke, refused}
 
@@ -42,12 +42,12 @@ slot_below : (store stores slot slots : ℕ) → store < stores → slot < slots
 slot_below store stores slot slots store_in slot_in = subst (λ (n : ℕ). store * slots + slot < n) (mul_comm slots stores) (mul-add-lt store slots slot stores store_in slot_in)
 
 -- a step in memory as contracts see it
-goes_on : (s : StoresState) (before : Option MergeState) (after : MergeState) → length s.hashes ≡ length s.manifest.ruling.hashed → IsNextMerge s before after
+goes_on : (s : TiersState) (before : Option MergeState) (after : MergeState) → length s.hashes ≡ length s.manifest.ruling.hashed → IsNextMerge s before after
     → MergeGoesOn s.manifest.ruling (merge_work before) (merge_work (Some after))
 goes_on s None after named step = (step.0 ∙ named, step.1)
 goes_on s (Some before) after named step = (step.0.stores, step.1)
 
-module _ {D F : Type 0} (content : D → Content) (failures : D → ℕ) (gave : D → F → Type 0) (disk : D) (stores : StoresState) (count : ℕ) (stands : Stands (content disk) stores) where
+module _ {D F : Type 0} (content : D → Content) (failures : D → ℕ) (gave : D → F → Type 0) (disk : D) (stores : TiersState) (count : ℕ) (stands : Stands (content disk) stores) where
   -- the store before
   abbrev before : CoreState D
   before = seen content disk stores count false
@@ -96,12 +96,12 @@ module _ {D F : Type 0} (content : D → Content) (failures : D → ℕ) (gave :
       let named : stores.sorted.region ≡ stores.manifest.ruling.sorted = ap (λ s. s.region) stands.whole.sorted in
       omega (arith, is.apart, is.held.there, stands.whole.held.region, named)
 
-  entries_are : (new : D) (after : StoresState) (merge : MergeState) → stores.merging ≡ Some merge → HasMergedEntries (content disk) (content new) stores after
+  entries_are : (new : D) (after : TiersState) (merge : MergeState) → stores.merging ≡ Some merge → HasMergedEntries (content disk) (content new) stores after
       → (full_stores (content new) after).entries ≡ merged_rows (merge_sources merge.stores (full_stores (content disk) stores))
   entries_are new after merge was has =
       subst (λ (o : Option MergeState). IfSome o (λ m. (full_stores (content new) after).entries ≡ merged_rows (merge_sources m.stores (full_stores (content disk) stores)))) was has
 
-  pub stepped : (progress : ProgressOf) (new : D) (after : StoresState) → SameDisk (content disk) (content new) → Advances [] (content disk) (content new) stores after
+  pub stepped : (progress : ProgressOf) (new : D) (after : TiersState) → SameDisk (content disk) (content new) → Advances [] (content disk) (content new) stores after
       → Merges progress stores after → (progress ≡ Finished → IsTrue (content disk).honest → HasMergedEntries (content disk) (content new) stores after)
       → (is_work progress ≡ false → new ≡ disk) → failures new ≡ failures disk
       → Does content failures gave before (seen content new after count false) Merge (Progress progress)
@@ -110,11 +110,11 @@ module _ {D F : Type 0} (content : D → Content) (failures : D → ℕ) (gave :
   stepped Waiting new after same goes merges entries quiet counted = absurd merges.done
   stepped Moved new after same goes merges entries quiet counted =
       let moves : MergesOn stores after = merges.done in
-      let ruling : after.manifest.ruling ≡ stores.manifest.ruling = ap (λ (s : StoresState). s.manifest.ruling) moves.is in
-      let merging : after.merging ≡ Some moves.merge = ap (λ (s : StoresState). s.merging) moves.is in
+      let ruling : after.manifest.ruling ≡ stores.manifest.ruling = ap (λ (s : TiersState). s.manifest.ruling) moves.is in
+      let merging : after.merging ≡ Some moves.merge = ap (λ (s : TiersState). s.merging) moves.is in
       let on : MergeGoesOn stores.manifest.ruling (merge_work stores.merging) (merge_work after.merging) = rw merging (goes_on stores stores.merging moves.merge hash_count moves.step) in
       advanced content failures gave disk new stores after same stands [] count count Merge (Progress Moved) goes refl refl refl refl
-      (refl, due Moved merges.due, (ruling, on), counted) (λ m to e. e) (λ _ _. ruling) (λ _. ap (λ (s : StoresState). s.converting) moves.is) (λ other. absurd (cc)) (λ _. tt) counted
+      (refl, due Moved merges.due, (ruling, on), counted) (λ m to e. e) (λ _ _. ruling) (λ _. ap (λ (s : TiersState). s.converting) moves.is) (λ other. absurd (cc)) (λ _. tt) counted
   stepped Finished new after same goes merges entries quiet counted =
       let ends : EndsMerged stores after = merges.done in
       let region : ends.merge.region ≡ 1 - stores.manifest.ruling.sorted = other_region stores.merging stands.whole.merging ends.merge ends.was in
@@ -135,12 +135,12 @@ module _ {D F : Type 0} (content : D → Content) (failures : D → ℕ) (gave :
 
   -- ---- a step was refused
 
-  pub step_unread : (new : D) (after : StoresState) (fault : F) → after ≡ stores → new ≡ disk → merge_turn stores ≡ Moved → gave disk fault
+  pub step_unread : (new : D) (after : TiersState) (fault : F) → after ≡ stores → new ≡ disk → merge_turn stores ≡ Moved → gave disk fault
       → Does content failures gave before (seen content new after count false) Merge (Refused (Device fault))
   step_unread new after fault same same_disk turn given =
       rw (same_disk, same) (refused content failures gave disk stores count false Merge (Device fault) refl stands refl (inl (due Moved (sym turn), record { given = given; working = refl; same = refl })))
 
-  pub step_spent : (new : D) (after : StoresState) → after ≡ stores → new ≡ disk → merge_turn stores ≡ Finished → IsLastGeneration stores
+  pub step_spent : (new : D) (after : TiersState) → after ≡ stores → new ≡ disk → merge_turn stores ≡ Finished → IsLastGeneration stores
       → Does content failures gave before (seen content new after count false) Merge (Refused Spent)
   step_spent new after same same_disk turn last = rw (same_disk, same) (refused content failures gave disk stores count false Merge Spent refl stands refl (refl, due Finished (sym turn), last))
 
@@ -158,13 +158,13 @@ module _ {D F : Type 0} (content : D → Content) (failures : D → ℕ) (gave :
   lacks (inl (turn, may)) = inl (due Moved (sym turn), gathers stores.merging stands.whole.merging may)
   lacks (inr (turn, more)) = inr (due Finished (sym turn), more)
 
-  pub step_no_memory : (new : D) (after : StoresState) → after ≡ stores → new ≡ disk
+  pub step_no_memory : (new : D) (after : TiersState) → after ≡ stores → new ≡ disk
       → ((merge_turn stores ≡ Moved) × MayLackMemory (content disk) stores) ⊎ ((merge_turn stores ≡ Finished) × (IsLastGeneration stores → ⊥))
       → Does content failures gave before (seen content new after count false) Merge (Refused NoMemory)
   step_no_memory new after same same_disk why = rw (same_disk, same) (refused content failures gave disk stores count false Merge NoMemory refl stands refl (refl, lacks why))
 
   -- a write or a sync failed
-  pub step_broke : (new : D) (after : StoresState) (fault : F) → SameDisk (content disk) (content new) → is_work (merge_turn stores) ≡ true → Breaks (content disk) (content new) stores
+  pub step_broke : (new : D) (after : TiersState) (fault : F) → SameDisk (content disk) (content new) → is_work (merge_turn stores) ≡ true → Breaks (content disk) (content new) stores
       → Remaps [] (content disk) (content new) stores after → after.manifest.shape ≡ stores.manifest.shape → gave new fault → failures new ≡ (failures disk + 1) % 2 ^ 64
       → Does content failures gave before (seen content new after count true) Merge (Refused (Device fault))
   step_broke new after fault same work breaks remaps shape given counted =

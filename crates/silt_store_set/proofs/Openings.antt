@@ -9,9 +9,9 @@ use Rattle.silt_recovery.specs.Opening.{IsUnwrittenUnlessFailed, TakesUp}
 use Rattle.silt_recovery.specs.Refusals.{IsFound, IsRefusedLook}
 use Rattle.silt_recovery.specs.declared.fault.OpenError.{OpenError}
 use Rattle.silt_recovery.specs.declared.fault.OpenError.TheVariants.{NotFormatted, Damaged, Crowded, Device, NoMemory}
-use Rattle.silt_stores.specs.Standing.{waiting_commands}
-use Rattle.silt_stores.specs.State.{StoresState}
-use Rattle.silt_stores.proofs.Meaning.{meaning}
+use Rattle.silt_tiers.specs.Standing.{waiting_commands}
+use Rattle.silt_tiers.specs.State.{TiersState}
+use Rattle.silt_tiers.proofs.Meaning.{meaning}
 use Rattle.silt_store_set.specs.CoreState.{Opens, convert_work, merge_work}
 use Rattle.silt_event.specs.Events.{IsOpeningRefusal}
 use Rattle.silt_store_set.specs.Opening.{OpeningCause}
@@ -55,7 +55,7 @@ none_wait content log settled =
     rw none refl
 
 -- a store that was taken up
-pub opened : {D : Type 0} (content : D → Content) (old : Content) (disk : D) (stores : StoresState) → TakesUp old (content disk) stores → Opens content old (seen content disk stores 0 false)
+pub opened : {D : Type 0} (content : D → Content) (old : Content) (disk : D) (stores : TiersState) → TakesUp old (content disk) stores → Opens content old (seen content disk stores 0 false)
 opened content old disk stores takes =
     let means = meaning (content disk) stores takes.stands in
     let there : IsTrue old.honest → IsTrue (content disk).honest = λ h. takes.disk.honest ∙ h in

@@ -11,12 +11,12 @@ use Rattle.silt_log.specs.Rows.{log_rows}
 use Rattle.silt_frame.specs.Rows.{stored_row, StoredRow}
 use Rattle.silt_log.specs.State.{all_rows}
 use Rattle.silt_manifest.specs.declared.body.Body.{Body}
-use Rattle.silt_stores.specs.Calls.{Advances, HasNoFreeLog as AllInUse, Breaks, CannotTake, IsLastGeneration, Remaps, SameDisk}
-use Rattle.silt_stores.specs.NextLog.{IsLowestFree, next_body}
-use Rattle.silt_stores.specs.Standing.{Stands, full_image, waiting_commands}
-use Rattle.silt_stores.specs.State.{StoresState, region_of}
-use Rattle.silt_stores.specs.RowWrite.{NeedsNext, WritesKey}
-use Rattle.silt_stores.proofs.Meaning.{meaning}
+use Rattle.silt_tiers.specs.Calls.{Advances, HasNoFreeLog as AllInUse, Breaks, CannotTake, IsLastGeneration, Remaps, SameDisk}
+use Rattle.silt_tiers.specs.NextLog.{IsLowestFree, next_body}
+use Rattle.silt_tiers.specs.Standing.{Stands, full_image, waiting_commands}
+use Rattle.silt_tiers.specs.State.{TiersState, region_of}
+use Rattle.silt_tiers.specs.RowWrite.{NeedsNext, WritesKey}
+use Rattle.silt_tiers.proofs.Meaning.{meaning}
 use Rattle.silt_event.specs.declared.event.Event.TheVariants.{Put, Delete}
 use Rattle.silt_event.specs.declared.refusal.Refusal.{Refusal}
 use Rattle.silt_event.specs.declared.refusal.Refusal.TheVariants.{Device, NoMemory, NoRoom, Spent}
@@ -36,7 +36,7 @@ freezes logs old new region lowest is =
     let active : region ≡ new.active = sym (ap (λ (b : Body). b.active) is) in
     record { lowest = subst (IsLowestFree logs old) active lowest; is = is ∙ ap (next_body old) active }
 
-module _ {D F : Type 0} (content : D → Content) (failures : D → ℕ) (gave : D → F → Type 0) (disk : D) (stores : StoresState) (count : ℕ) (stands : Stands (content disk) stores) where
+module _ {D F : Type 0} (content : D → Content) (failures : D → ℕ) (gave : D → F → Type 0) (disk : D) (stores : TiersState) (count : ℕ) (stands : Stands (content disk) stores) where
   -- the store before
   abbrev before : CoreState D
   before = seen content disk stores count false
@@ -58,7 +58,7 @@ module _ {D F : Type 0} (content : D → Content) (failures : D → ℕ) (gave :
   has_free : (AllInUse stores → ⊥) → HasFreeLog before
   has_free free = λ all. free (ap (λ (n : ℕ). n + 1) frozen_count ∙ all)
 
-  takes : (new : D) (after : StoresState) (next : ℕ) (key : List ℕ) (command : Command) → SameDisk (content disk) (content new) → Stands (content new) after
+  takes : (new : D) (after : TiersState) (next : ℕ) (key : List ℕ) (command : Command) → SameDisk (content disk) (content new) → Stands (content new) after
       → WritesKey (content disk) (content new) stores after key command → Takes content failures gave before (seen content new after next false) key command
   takes new after next key command same stood (inl stays) = inl (
     (stays.ruling, λ h cannot. stays.has_place h (subst (λ (rows : List StoredRow). CannotTake stores.manifest.shape rows key) (sym (rows_are h)) cannot)),
@@ -82,7 +82,7 @@ module _ {D F : Type 0} (content : D → Content) (failures : D → ℕ) (gave :
 
   -- ---- the row was taken
 
-  pub row_taken : (new : D) (after : StoresState) (k : Kind) (key : Key) (value : List ℕ) → MayWrite k before → SameDisk (content disk) (content new)
+  pub row_taken : (new : D) (after : TiersState) (k : Kind) (key : Key) (value : List ℕ) → MayWrite k before → SameDisk (content disk) (content new)
       → Advances (command_of (stored_row k key value) ∷ []) (content disk) (content new) stores after → WritesKey (content disk) (content new) stores after key.0 (command_of (stored_row k key value)) → after.converting ≡ stores.converting → after.merging ≡ stores.merging → failures new ≡ failures disk
       → Does content failures gave before (seen content new after (count + 1) false) (row_event k key value) (Accepted (count + 1))
   row_taken new after kind.Put key value may same goes taken converting merging counted =
@@ -102,7 +102,7 @@ module _ {D F : Type 0} (content : D → Content) (failures : D → ℕ) (gave :
   read_cause next kind.Put key value fault may fails = (may, inl fails)
   read_cause next kind.Delete key value fault may fails = (may, inl fails)
 
-  pub row_broke : (new : D) (after : StoresState) (k : Kind) (key : Key) (value : List ℕ) (fault : F) → MayWrite k before → SameDisk (content disk) (content new)
+  pub row_broke : (new : D) (after : TiersState) (k : Kind) (key : Key) (value : List ℕ) (fault : F) → MayWrite k before → SameDisk (content disk) (content new)
       → Breaks (content disk) (content new) stores → Remaps [] (content disk) (content new) stores after → after.manifest.shape ≡ stores.manifest.shape
       → gave new fault → failures new ≡ (failures disk + 1) % 2 ^ 64
       → Does content failures gave before (seen content new after count true) (row_event k key value) (Refused (Device fault))
@@ -113,13 +113,13 @@ module _ {D F : Type 0} (content : D → Content) (failures : D → ℕ) (gave :
   -- ---- the row was refused
 
   -- nothing was changed
-  kept : (new : D) (after : StoresState) (k : Kind) (key : Key) (value : List ℕ) (refusal : Refusal F) → after ≡ stores → new ≡ disk → is_failed (Refused refusal) ≡ false
+  kept : (new : D) (after : TiersState) (k : Kind) (key : Key) (value : List ℕ) (refusal : Refusal F) → after ≡ stores → new ≡ disk → is_failed (Refused refusal) ≡ false
       → Cause content failures gave before before (row_event k key value) (Refused refusal)
       → Does content failures gave before (seen content new after count false) (row_event k key value) (Refused refusal)
   kept new after k key value refusal same_stores same_disk other cause =
       rw (same_stores, same_disk) (refused content failures gave disk stores count false (row_event k key value) refusal refl stands other cause)
 
-  pub row_unread : (new : D) (after : StoresState) (k : Kind) (key : Key) (value : List ℕ) (fault : F) → MayWrite k before → after ≡ stores → new ≡ disk → gave disk fault
+  pub row_unread : (new : D) (after : TiersState) (k : Kind) (key : Key) (value : List ℕ) (fault : F) → MayWrite k before → after ≡ stores → new ≡ disk → gave disk fault
       → Does content failures gave before (seen content new after count false) (row_event k key value) (Refused (Device fault))
   row_unread new after k key value fault may same_stores same_disk given =
       kept new after k key value (Device fault) same_stores same_disk refl (read_cause before k key value fault may (record { given = given; working = refl; same = refl }))
@@ -128,7 +128,7 @@ module _ {D F : Type 0} (content : D → Content) (failures : D → ℕ) (gave :
   no_room_cause kind.Put key value may needs all = (may, (stopped before key.0 needs, all_in_use all))
   no_room_cause kind.Delete key value may needs all = (may, (stopped before key.0 needs, all_in_use all))
 
-  pub row_no_room : (new : D) (after : StoresState) (k : Kind) (key : Key) (value : List ℕ) → MayWrite k before → after ≡ stores → new ≡ disk → NeedsNext (content disk) stores key.0 → AllInUse stores
+  pub row_no_room : (new : D) (after : TiersState) (k : Kind) (key : Key) (value : List ℕ) → MayWrite k before → after ≡ stores → new ≡ disk → NeedsNext (content disk) stores key.0 → AllInUse stores
       → Does content failures gave before (seen content new after count false) (row_event k key value) (Refused NoRoom)
   row_no_room new after k key value may same_stores same_disk needs all = kept new after k key value NoRoom same_stores same_disk refl (no_room_cause k key value may needs all)
 
@@ -136,7 +136,7 @@ module _ {D F : Type 0} (content : D → Content) (failures : D → ℕ) (gave :
   spent_cause kind.Put key value may needs free last = (refl, inr (may, (stopped before key.0 needs, has_free free, last)))
   spent_cause kind.Delete key value may needs free last = (refl, inr (may, (stopped before key.0 needs, has_free free, last)))
 
-  pub row_spent : (new : D) (after : StoresState) (k : Kind) (key : Key) (value : List ℕ) → MayWrite k before → after ≡ stores → new ≡ disk → NeedsNext (content disk) stores key.0 → (AllInUse stores → ⊥) → IsLastGeneration stores
+  pub row_spent : (new : D) (after : TiersState) (k : Kind) (key : Key) (value : List ℕ) → MayWrite k before → after ≡ stores → new ≡ disk → NeedsNext (content disk) stores key.0 → (AllInUse stores → ⊥) → IsLastGeneration stores
       → Does content failures gave before (seen content new after count false) (row_event k key value) (Refused Spent)
   row_spent new after k key value may same_stores same_disk needs free last = kept new after k key value Spent same_stores same_disk refl (spent_cause k key value may needs free last)
 
@@ -144,6 +144,6 @@ module _ {D F : Type 0} (content : D → Content) (failures : D → ℕ) (gave :
   memory_cause kind.Put key value may needs free more = (may, (stopped before key.0 needs, has_free free, more))
   memory_cause kind.Delete key value may needs free more = (may, (stopped before key.0 needs, has_free free, more))
 
-  pub row_no_memory : (new : D) (after : StoresState) (k : Kind) (key : Key) (value : List ℕ) → MayWrite k before → after ≡ stores → new ≡ disk → NeedsNext (content disk) stores key.0 → (AllInUse stores → ⊥) → (IsLastGeneration stores → ⊥)
+  pub row_no_memory : (new : D) (after : TiersState) (k : Kind) (key : Key) (value : List ℕ) → MayWrite k before → after ≡ stores → new ≡ disk → NeedsNext (content disk) stores key.0 → (AllInUse stores → ⊥) → (IsLastGeneration stores → ⊥)
       → Does content failures gave before (seen content new after count false) (row_event k key value) (Refused NoMemory)
   row_no_memory new after k key value may same_stores same_disk needs free more = kept new after k key value NoMemory same_stores same_disk refl (memory_cause k key value may needs free more)

@@ -16,11 +16,11 @@ use Rattle.silt_frame.specs.Rows.{StoredRow}
 use Rattle.silt_manifest.specs.declared.body.Body.{Body}
 use Rattle.silt_merge.specs.Rows.{key_count, merged_rows}
 use Rattle.silt_merge.specs.State.{MergeState, steps_of}
-use Rattle.silt_stores.specs.Calls.{CannotTake, HasBegun, SameDisk}
-use Rattle.silt_stores.specs.Conversion.{IsLowestFreeHash, converted_body, is_work, progress_due}
-use Rattle.silt_stores.specs.Merge.{merge_progress, merge_sources, merged_body}
-use Rattle.silt_stores.specs.NextLog.{IsLowestFree, next_body}
-use Rattle.silt_stores.specs.Laws.{IsGoodWith}
+use Rattle.silt_tiers.specs.Calls.{CannotTake, HasBegun, SameDisk}
+use Rattle.silt_tiers.specs.Conversion.{IsLowestFreeHash, converted_body, is_work, progress_due}
+use Rattle.silt_tiers.specs.Merge.{merge_progress, merge_sources, merged_body}
+use Rattle.silt_tiers.specs.NextLog.{IsLowestFree, next_body}
+use Rattle.silt_tiers.specs.Laws.{IsGoodWith}
 use Rattle.silt_event.specs.declared.event.Event.{Event}
 use Rattle.silt_event.specs.declared.event.Event.TheVariants.{Put, Delete, Flush, Get, Convert, Merge}
 use Rattle.silt_event.specs.declared.progress.Progress.{Progress as ProgressOf}

@@ -2,7 +2,7 @@
 use Rattle.std.specs.Prelude.{Vec, ◌≡◌, ◌≢◌, ◌⊎◌, ℕ, List, [], ◌∷◌}
 use Rattle.std.specs.declared.alloc.Global.{Global}
 use Rattle.silt_device.specs.Disk.{Content, Restarts}
-use Rattle.silt_stores.specs.Calls.{SameDisk}
+use Rattle.silt_tiers.specs.Calls.{SameDisk}
 use Rattle.silt_recovery.specs.Opening.{LeavesNoOther}
 use Rattle.silt_event.specs.declared.event.Event.{Event}
 use Rattle.silt_event.specs.declared.reply.LifeReply.{LifeReply}

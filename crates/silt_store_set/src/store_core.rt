@@ -7,7 +7,7 @@ use crate::replies::{accepted, copied, is_work, progressed, zeros};
 use crate::{Event, Progress, Refusal, Reply};
 use silt_device::{Disk, Geometry};
 use silt_frame::{Key, Kind, Value};
-use silt_stores::{ConvertError, EntriesError, MergeError, Stores, WriteError};
+use silt_tiers::{ConvertError, EntriesError, MergeError, Tiers, WriteError};
 use std::alloc::{AllocError, Global};
 use std::collections::BTreeMap;
 use std::marker::Model;
@@ -29,7 +29,7 @@ pub struct OpenFault<D: Disk> {
 #[derive(Drop)]
 pub struct Core<D: Disk> {
     disk: D,
-    stores: Stores,
+    tiers: Tiers,
     // How many commands this life has accepted.
     count: u64,
     failed: bool,
@@ -39,7 +39,7 @@ impl<D: Disk> Model for Core<D> {
     ghost use Rattle.std.specs.Coded.{codes};
     ghost use Rattle.silt_event.specs.Commands.{map_code};
     ghost use Rattle.silt_image.specs.Meaning.{image_map};
-    ghost use Rattle.silt_stores.specs.Standing.{full_image, waiting_commands};
+    ghost use Rattle.silt_tiers.specs.Standing.{full_image, waiting_commands};
     ghost use Rattle.silt_store_set.specs.CoreState.{CoreState, convert_work, merge_work};
     ghost use Rattle.silt_store_set.specs.CoreInvariant.{IsCore};
 
@@ -49,19 +49,19 @@ impl<D: Disk> Model for Core<D> {
 
     ghost view = { λ a. record {
       disk = a.disk;
-      shape = a.stores.manifest.shape;
-      body = a.stores.manifest.ruling;
-      full = full_image (D.content a.disk) a.stores;
+      shape = a.tiers.manifest.shape;
+      body = a.tiers.manifest.ruling;
+      full = full_image (D.content a.disk) a.tiers;
       base = image_map (D.content a.disk).shown;
-      waiting = waiting_commands (D.content a.disk) a.stores;
-      converting = convert_work a.stores.converting;
-      merging = merge_work a.stores.merging;
-      charge = a.stores.charge;
+      waiting = waiting_commands (D.content a.disk) a.tiers;
+      converting = convert_work a.tiers.converting;
+      merging = merge_work a.tiers.merging;
+      charge = a.tiers.charge;
       count = a.count;
       failed = a.failed;
     } };
 
-    ghost invariant = { λ a. IsCore (D.content a.disk) a.stores a.count a.failed };
+    ghost invariant = { λ a. IsCore (D.content a.disk) a.tiers a.count a.failed };
 }
 
 impl<D: Disk> Core<D> {
@@ -73,7 +73,7 @@ impl<D: Disk> Core<D> {
     ghost use Rattle.silt_recovery.specs.Opening.{LeavesNoOther};
     ghost use Rattle.silt_event.specs.Commands.{map_after};
     ghost use Rattle.silt_image.specs.Meaning.{StandsFor};
-    ghost use Rattle.silt_stores.specs.Calls.{SameDisk};
+    ghost use Rattle.silt_tiers.specs.Calls.{SameDisk};
     ghost use Rattle.silt_store_set.specs.CoreInvariant.{LeavesBegun};
     ghost use Rattle.silt_frame.specs.Rows.{key_cmp};
     ghost use Rattle.silt_store_set.specs.CoreState.{CoreState, Does, Runs, Opens, EntriesCause, StandsKept, map_of, MayWrite, row_event, wants_convert, wants_merge};
@@ -97,7 +97,7 @@ impl<D: Disk> Core<D> {
         match silt_recovery::open(alloc, disk) {
             Ok(opened) => Ok(Core {
                 disk: opened.disk,
-                stores: opened.stores,
+                tiers: opened.tiers,
                 count: 0,
                 failed: false,
             }),
@@ -112,7 +112,7 @@ impl<D: Disk> Core<D> {
     pub fn geometry(&self) -> Geometry
         ensures { result ≡ self.now.shape }
     {
-        self.stores.geometry()
+        self.tiers.geometry()
     }
 
     /// How many commands this life has accepted.
@@ -148,7 +148,7 @@ impl<D: Disk> Core<D> {
         if self.count == MOST_COMMANDS {
             return Err(Refusal::Spent);
         }
-        if self.stores.charge() == self.stores.geometry().sorted_capacity() {
+        if self.tiers.charge() == self.tiers.geometry().sorted_capacity() {
             return Err(Refusal::StoreFull);
         }
         self.write_row(alloc, Kind::Put, key, value)
@@ -166,7 +166,7 @@ impl<D: Disk> Core<D> {
         if self.count == MOST_COMMANDS {
             return Err(Refusal::Spent);
         }
-        let zeros = zeros(self.stores.geometry().value_len());
+        let zeros = zeros(self.tiers.geometry().value_len());
         self.write_row(alloc, Kind::Delete, key, zeros)
     }
 
@@ -183,7 +183,7 @@ impl<D: Disk> Core<D> {
         requires zeros { IsValueOf kind value.now }
         ensures { Does D.content D.failures (GaveAny D.gave) self.old self.new (row_event kind key.now value.now) (change_reply result) }
     {
-        match self.stores.write(alloc, &mut self.disk, kind, key, value) {
+        match self.tiers.write(alloc, &mut self.disk, kind, key, value) {
             Ok(()) => {
                 self.count += 1;
                 Ok(self.count)
@@ -206,10 +206,10 @@ impl<D: Disk> Core<D> {
         if self.failed {
             return Err(Refusal::Failed);
         }
-        if !self.stores.has_waiting() {
+        if !self.tiers.has_waiting() {
             return Ok(self.count);
         }
-        match self.stores.flush(&mut self.disk) {
+        match self.tiers.flush(&mut self.disk) {
             Ok(()) => Ok(self.count),
             Err(fault) => {
                 self.failed = true; // some of the gates may be open
@@ -228,7 +228,7 @@ impl<D: Disk> Core<D> {
         if self.failed {
             return Err(Refusal::Failed);
         }
-        match self.stores.get(&self.disk, key, out) {
+        match self.tiers.get(&self.disk, key, out) {
             Ok(found) => Ok(found),
             Err(fault) => Err(Refusal::Device(fault)),
         }
@@ -243,8 +243,8 @@ impl<D: Disk> Core<D> {
             return Err(Refusal::Failed);
         }
         let mut longest = [0; MOST_VALUE_LEN];
-        let out = &mut longest[..self.stores.geometry().value_len() as usize];
-        match self.stores.get(&self.disk, key, out) {
+        let out = &mut longest[..self.tiers.geometry().value_len() as usize];
+        match self.tiers.get(&self.disk, key, out) {
             Ok(true) => match copied(alloc, out) {
                 Ok(value) => Ok(Some(value)),
                 Err(_) => Err(Refusal::NoMemory),
@@ -266,7 +266,7 @@ impl<D: Disk> Core<D> {
         if self.failed {
             return Err(Refusal::Failed);
         }
-        match self.stores.convert(alloc, &mut self.disk) {
+        match self.tiers.convert(alloc, &mut self.disk) {
             Ok(progress) => Ok(progress),
             Err(ConvertError::Write(fault)) => {
                 self.failed = true; // a slot or the manifest may stand in part
@@ -291,7 +291,7 @@ impl<D: Disk> Core<D> {
         if self.failed {
             return Err(Refusal::Failed);
         }
-        match self.stores.merge(alloc, &mut self.disk) {
+        match self.tiers.merge(alloc, &mut self.disk) {
             Ok(merged) => Ok(merged),
             Err(MergeError::Write(fault)) => {
                 self.failed = true; // an entry or the manifest may stand in part
@@ -308,7 +308,7 @@ impl<D: Disk> Core<D> {
     pub fn wants_convert(&self) -> bool
         ensures { result ≡ wants_convert self.now }
     {
-        !self.failed && is_work(self.stores.convert_turn())
+        !self.failed && is_work(self.tiers.convert_turn())
     }
 
     /// Whether the store is not failed, and there is a step of merging to be done: its answer is `Moved` or `Finished` where nothing
@@ -316,7 +316,7 @@ impl<D: Disk> Core<D> {
     pub fn wants_merge(&self) -> bool
         ensures { result ≡ wants_merge self.now }
     {
-        !self.failed && is_work(self.stores.merge_turn())
+        !self.failed && is_work(self.tiers.merge_turn())
     }
 
     /// Does one event. A get whose value finds no memory is refused with `NoMemory`.
@@ -380,7 +380,7 @@ impl<D: Disk> Core<D> {
         if self.failed {
             return Err(Refusal::Failed);
         }
-        match self.stores.entries(alloc, &self.disk) {
+        match self.tiers.entries(alloc, &self.disk) {
             Ok(entries) => Ok(entries),
             Err(EntriesError::Device(fault)) => Err(Refusal::Device(fault)),
             Err(EntriesError::NoMemory) => Err(Refusal::NoMemory),
@@ -396,7 +396,7 @@ impl<D: Disk> Core<D> {
     {
         let Core {
             disk,
-            stores: _,
+            tiers: _,
             count: _,
             failed: _,
         } = self;

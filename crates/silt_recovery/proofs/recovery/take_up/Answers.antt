@@ -1,6 +1,6 @@
 use Rattle.std.proofs.Common.{subst, sym}
 use Rattle.silt_device.specs.Disk.{GaveAny}
-use Rattle.silt_stores.specs.State.{StoresState}
+use Rattle.silt_tiers.specs.State.{TiersState}
 use Rattle.silt_recovery.specs.Opening.{TakesUp, held_stores}
 use Rattle.silt_recovery.proofs.Takings.{looked_up, parts_whole, sealed_images, settled_image, taken_up, unsettled, unwritten}
 use Rattle.silt_recovery.proofs.recovery.take_up.Goals as goal
@@ -20,23 +20,23 @@ returns-in-Err-examine-clause-images g c = settled_image (g.D.Disk.content c.arg
 
 pub new-requires-clause-whole : goal.new-requires-clause-whole
 new-requires-clause-whole g c =
-    let held : StoresState = held_stores c.in-Ok.held in
+    let held : TiersState = held_stores c.in-Ok.held in
     parts_whole (g.D.Disk.content c.args.disk.now) (g.D.Disk.content c.sync.new.self) (g.D.Disk.content c.seal.new.disk) held c.in_default.ensures.settled c.in-Ok.ensures.holds c.seal.ensures.changes c.seal.ensures.images
     c.seal.new.self c.seal.ensures.size c.sync.ensures.size c.in-Ok-seal.ensures.ok
 
 pub returns-in-Ok-seal-clause-ok : goal.returns-in-Ok-seal-clause-ok
 returns-in-Ok-seal-clause-ok g c =
-    let held : StoresState = held_stores c.in-Ok.held in
+    let held : TiersState = held_stores c.in-Ok.held in
     subst (TakesUp (g.D.Disk.content c.args.disk.now) (g.D.Disk.content c.seal.new.disk)) (sym c.new.ensures)
     (taken_up (g.D.Disk.content c.args.disk.now) (g.D.Disk.content c.sync.new.self) (g.D.Disk.content c.seal.new.disk) held c.in_default.ensures.settled c.in-Ok.ensures.holds c.seal.ensures.changes c.seal.ensures.images
     c.seal.new.self c.seal.ensures.size c.sync.ensures.size c.in-Ok-seal.ensures.ok)
 
 pub returns-in-Ok-seal-clause-images : goal.returns-in-Ok-seal-clause-images
 returns-in-Ok-seal-clause-images g c =
-    let held : StoresState = held_stores c.in-Ok.held in
+    let held : TiersState = held_stores c.in-Ok.held in
     sealed_images (g.D.Disk.content c.args.disk.now) (g.D.Disk.content c.sync.new.self) (g.D.Disk.content c.seal.new.disk) held c.in_default.ensures.settled c.in-Ok.ensures.holds c.seal.ensures.changes c.seal.ensures.images
 
 pub returns-in-Err-seal-clause-images : goal.returns-in-Err-seal-clause-images
 returns-in-Err-seal-clause-images g c =
-    let held : StoresState = held_stores c.in-Ok.held in
+    let held : TiersState = held_stores c.in-Ok.held in
     sealed_images (g.D.Disk.content c.args.disk.now) (g.D.Disk.content c.sync.new.self) (g.D.Disk.content c.seal.new.disk) held c.in_default.ensures.settled c.in-Ok.ensures.holds c.seal.ensures.changes c.seal.ensures.images

@@ -1,7 +1,7 @@
 use Rattle.std.proofs.Common.{ap, sym, ◌∙◌}
 use Rattle.std.specs.FinMap.{get}
 use Rattle.silt_event.specs.Commands.{Map}
-use Rattle.silt_stores.proofs.Meaning.{meaning}
+use Rattle.silt_tiers.proofs.Meaning.{meaning}
 use Rattle.silt_store_set.proofs.store_core.Core.entries.Goals as goal
 
 pub returns-in-Ok-clause-entries : goal.returns-in-Ok-clause-entries

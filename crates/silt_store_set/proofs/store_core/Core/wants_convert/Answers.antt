@@ -1,6 +1,6 @@
 use Rattle.std.proofs.Common.{ap, sym, ◌∙◌}
 use Rattle.silt_device.specs.Disk.{GaveAny}
-use Rattle.silt_stores.specs.Conversion.{is_work}
+use Rattle.silt_tiers.specs.Conversion.{is_work}
 use Rattle.silt_store_set.proofs.Converts.{due_same}
 use Rattle.silt_store_set.proofs.store_core.Core.wants_convert.Goals as goal
 

@@ -1,0 +1,219 @@
+// A disk that buffers adjacent writes for another disk.
+ghost use Rattle.std.specs.Prelude.{◌≡◌, ◌+◌, ◌≤◌, ◌%◌, ◌^◌, ◌==◌, IfOk, OnOk, IfErr, MatchResult, IsTrue, length, []};
+ghost use Rattle.silt_device.specs.Disk.{GaveAny, Stays, Tears, Writes, size};
+
+use crate::write_buffer::WriteBuffer;
+use crate::{Call, Disk, Stoppable};
+use std::alloc::{AllocError, Global};
+use std::error::Error;
+use std::fmt;
+use std::marker::Model;
+
+// How many bytes a disk buffers where nothing else is asked for.
+const ROOM: usize = 65_536;
+
+/// The fault of one call of a disk that buffers: the call, its range, how many calls had failed then, and the fault of the inner
+/// disk, whose call may have been a write of bytes that were buffered before. Only a disk makes one, and nothing copies it.
+#[derive(Debug, Drop)]
+pub struct BufferFault<F> {
+    call: Call,
+    at: u64,
+    count: u64,
+    failures: u64,
+    inner: F,
+}
+
+impl<F> BufferFault<F> {
+    /// The fault of the inner disk.
+    pub fn inner(&self) -> &F
+        ensures { result.now ≡ self.now.inner }
+    {
+        &self.inner
+    }
+}
+
+// Counts a failed write or sync, modulo 2^64, and makes its fault of the inner disk's.
+fn count_fault<F>(failures: &mut u64, call: Call, at: u64, count: u64, inner: F) -> BufferFault<F>
+    ensures counted { failures.new ≡ (failures.old + 1) % 2 ^ 64 }
+    ensures fault { result ≡ record { call = call; at = at; count = count; failures = failures.new; inner = inner } }
+{
+    *failures = failures.wrapping_add(1);
+    BufferFault {
+        call,
+        at,
+        count,
+        failures: *failures,
+        inner,
+    }
+}
+
+// What failed on the inner disk.
+impl<F: fmt::Display> fmt::Display for BufferFault<F> {
+    fn fmt<W: fmt::Write>(&self, f: &mut fmt::Formatter<W>) -> fmt::Result {
+        self.inner.fmt(f)
+    }
+}
+
+impl<F: Error> Error for BufferFault<F> {}
+
+/// A disk that buffers adjacent writes, and gives them to another disk by one write.
+///
+/// A write that continues the bytes that were buffered, and finds room, is buffered too. Before any other write, and before a sync, they
+/// are written to the inner disk. A write that finds no room at all goes there by itself. A read shows the buffered bytes over the inner disk's, and asks that one for nothing where they are all that is
+/// wanted. Where they cannot be written they stay buffered, so that what is shown stays, and the call is told the fault. The
+/// bytes of a write that is told so are given to the inner disk all the same, so that their range is pending there.
+///
+/// It is proved that this is a disk as good as the inner one: what is shown, what a stop may leave, and what is counted follow from
+/// the inner disk's contract alone, honest or not.
+#[derive(Drop)]
+pub struct BufferedDisk<D: Disk> {
+    inner: D,
+    buffer: WriteBuffer,
+    failures: u64,
+}
+
+impl<D: Disk> Model for BufferedDisk<D> {
+    ghost use Rattle.silt_device.specs.Buffered.{BufferedState, HasPlaces};
+
+    ghost Value = { BufferedState D };
+
+    ghost view = { λ a. record { inner = a.inner; buffer = a.buffer; failures = a.failures } };
+
+    ghost invariant = { λ a. HasPlaces D.content a.inner a.buffer };
+}
+
+impl<D: Disk> BufferedDisk<D> {
+    /// Buffers writes for this disk, up to 65,536 bytes at a time.
+    ///
+    /// # Errors
+    ///
+    /// Where the bytes find no memory.
+    pub fn new(alloc: Global, inner: D) -> Result<Self, AllocError>
+        ensures { IfOk result (λ disk. disk ≡ record { inner = inner; buffer = record { at = 0; bytes = []; room = 65536 }; failures = 0 }) }
+    {
+        BufferedDisk::with_room(alloc, inner, ROOM)
+    }
+
+    /// Buffers writes for this disk, up to this many bytes at a time. With room for none each write goes to the disk by itself.
+    ///
+    /// # Errors
+    ///
+    /// Where the bytes find no memory.
+    pub fn with_room(alloc: Global, inner: D, room: usize) -> Result<Self, AllocError>
+        ensures { IfOk result (λ disk. disk ≡ record { inner = inner; buffer = record { at = 0; bytes = []; room = room }; failures = 0 }) }
+    {
+        Ok(BufferedDisk {
+            inner,
+            buffer: WriteBuffer::new(alloc, room)?,
+            failures: 0,
+        })
+    }
+
+    /// The inner disk, as it stands. What was buffered and not written is gone.
+    pub fn into_inner(self) -> D
+        ensures { result ≡ self.inner }
+    {
+        self.inner
+    }
+}
+
+impl<D: Disk> Disk for BufferedDisk<D> {
+    ghost use Rattle.silt_device.specs.Buffered.{buffered_content, buffered_gave};
+
+    type Fault = BufferFault<D::Fault>;
+
+    ghost content = { buffered_content D.content };
+
+    ghost failures = { λ disk. disk.failures };
+
+    ghost gave = { buffered_gave D.gave };
+
+    #[tactic(auto, using(crate::proofs::Waiting::size_over))]
+    fn len(&self) -> u64 {
+        self.inner.len()
+    }
+
+    #[tactic(auto, using(crate::proofs::Waiting::size_over, crate::proofs::Waiting::laid_shows, crate::proofs::Waiting::laid_whole))]
+    fn read(&self, at: u64, buf: &mut [u8]) -> Result<(), BufferFault<D::Fault>> {
+        let _size = self.inner.len();
+        if self.buffer.holds(at, buf.len()) {
+            self.buffer.lay_over(at, buf);
+            return Ok(());
+        }
+        let count = buf.len() as u64;
+        match self.inner.read(at, buf) {
+            Ok(()) => {
+                self.buffer.lay_over(at, buf);
+                Ok(())
+            }
+            Err(inner) => Err(BufferFault {
+                call: Call::Read,
+                at,
+                count,
+                failures: self.failures,
+                inner,
+            }),
+        }
+    }
+
+    #[tactic(auto, using(crate::proofs::Waiting::size_over, crate::proofs::Waiting::grown_places))]
+    fn write(&mut self, at: u64, buf: &[u8]) -> Result<(), BufferFault<D::Fault>> {
+        let _size = self.inner.len();
+        let count = buf.len() as u64;
+        if self.buffer.takes(at, buf.len()) {
+            self.buffer.append(at, buf);
+            return Ok(());
+        }
+        if self.buffer.is_empty() {
+            return match self.inner.write(at, buf) {
+                Ok(()) => Ok(()),
+                Err(inner) => Err(count_fault(&mut self.failures, Call::Write, at, count, inner)),
+            };
+        }
+        if let Err(inner) = self.inner.write(self.buffer.at(), self.buffer.bytes()) {
+            // The bytes are given to the inner disk all the same, so that their range is pending there.
+            let _ = self.inner.write(at, buf);
+            return Err(count_fault(&mut self.failures, Call::Write, at, count, inner));
+        }
+        self.buffer.empty();
+        if self.buffer.takes(at, buf.len()) {
+            self.buffer.append(at, buf);
+            return Ok(());
+        }
+        match self.inner.write(at, buf) {
+            Ok(()) => Ok(()),
+            Err(inner) => Err(count_fault(&mut self.failures, Call::Write, at, count, inner)),
+        }
+    }
+
+    #[tactic(auto, using(crate::proofs::Waiting::size_over))]
+    fn sync(&mut self) -> Result<(), BufferFault<D::Fault>> {
+        let size = self.inner.len();
+        if !self.buffer.is_empty() {
+            if let Err(inner) = self.inner.write(self.buffer.at(), self.buffer.bytes()) {
+                return Err(count_fault(&mut self.failures, Call::Sync, 0, size, inner));
+            }
+            self.buffer.empty();
+            return match self.inner.sync() {
+                Ok(()) => Ok(()),
+                Err(inner) => Err(count_fault(&mut self.failures, Call::Sync, 0, size, inner)),
+            };
+        }
+        match self.inner.sync() {
+            Ok(()) => Ok(()),
+            Err(inner) => Err(count_fault(&mut self.failures, Call::Sync, 0, size, inner)),
+        }
+    }
+}
+
+impl<D: Stoppable> Stoppable for BufferedDisk<D> {
+    #[tactic(auto, using(crate::proofs::Waiting::size_over, crate::proofs::Waiting::restarts_over))]
+    fn restart(mut self) -> Self {
+        self.buffer.empty();
+        BufferedDisk {
+            inner: self.inner.restart(),
+            buffer: self.buffer,
+            failures: self.failures,
+        }
+    }
+}

@@ -1,0 +1,221 @@
+-- The end of a conversion: the body that names the hash store, and the stores once it rules.
+use Rattle.std.proofs.Common.{inr, ◌≡◌, ◌≤◌, ◌<◌, ℕ, ◌-◌, IsTrue, List, [], ◌∷◌, ◌++◌, length, map, take, Option, Some, None, refl, ap, sym, ◌∙◌, subst, arith}
+use Rattle.std.specs.Prelude.{All, IfSome}
+use Rattle.std.proofs.lemmas.List.{length-map, take-map}
+use Rattle.std.proofs.lemmas.List.Elements.{All-cons, All-take}
+use Rattle.silt_cuckoo.specs.Slots.{IsBucketCount}
+use Rattle.silt_device.specs.Disk.{Content, LeavesOnly, Rests, Torn, size}
+use Rattle.silt_device.specs.Layout.{Shape, device_size, slot_at}
+use Rattle.silt_device.proofs.Images.{left_at_rest}
+use Rattle.silt_log.specs.Rows.{log_rows}
+use Rattle.silt_frame.specs.Rows.{StoredRow, put_count}
+use Rattle.silt_log.specs.State.{all_rows}
+use Rattle.silt_log.specs.Calls.{KeepsRows}
+use Rattle.silt_log.proofs.Elsewhere.{log_rows_elsewhere}
+use Rattle.silt_log_store.specs.State.{IsFrozenStore}
+use Rattle.silt_log_store.proofs.Buckets.{bucket_count_is}
+use Rattle.silt_manifest.specs.Standing.{ManifestState, spare_slot}
+use Rattle.silt_manifest.specs.declared.body.Body.{Body}
+use Rattle.silt_image.specs.Stores.{Stores, stores_named}
+use Rattle.silt_image.specs.Meaning.{IsSound, rows_of, with_log_rows}
+use Rattle.silt_event.specs.Rows.{command_of}
+use Rattle.silt_image.proofs.Named.{whole_law}
+use Rattle.silt_hash_store.specs.Conversion.{ConversionState, HasWritten}
+use Rattle.silt_hash_store.specs.State.{IsHashStore, IsHeldHash, HashState}
+use Rattle.silt_hash_store.proofs.Writing.{store_stands}
+use Rattle.silt_merge.specs.State.{MergeState}
+use Rattle.silt_merge.specs.Merging.{HasMerged}
+use Rattle.silt_merge.proofs.Elsewhere.{oldest_stores_law}
+use Rattle.silt_sorted_store.specs.State.{SortedState}
+use Rattle.silt_tiers.specs.State.{AreWhole, IsHashOf, IsMerging, IsSettled, IsUnderWay, TiersState, oldest_log, region_of, sorted_named}
+use Rattle.silt_tiers.specs.Standing.{HasGathered, IsFrozen, Stands, shown_stores}
+use Rattle.silt_tiers.specs.Calls.{Advances}
+use Rattle.silt_tiers.specs.Succession.{MayRule, NowRules}
+use Rattle.silt_tiers.specs.Conversion.{EndsConversion, MayReplace, converted_body, oldest_replaced, store_of}
+use Rattle.silt_tiers.proofs.Named.{named_shape}
+use Rattle.silt_tiers.proofs.Facts.{shown_named}
+use Rattle.silt_tiers.proofs.Elsewhere.{frozen_named, indexed_same, named_below, outside_slot, scanned_all}
+use Rattle.silt_tiers.proofs.Standing.{Fits}
+use Rattle.silt_tiers.proofs.Wholes.{merging_in}
+use Rattle.silt_tiers.proofs.ConvertCounting.{may_end}
+use Rattle.silt_tiers.proofs.Remains.{active_stays, frozen_stays, hashed_stays, located_stays, merged_stays, slot_below, waiting_stays, written_stays}
+use Rattle.silt_tiers.proofs.NextBodies.{now_named, succeeds}
+use Rattle.silt_tiers.proofs.ConvertStores.{converted_named, converted_ruling, converted_shape}
+use Rattle.silt_tiers.proofs.ConvertDone.{ending_counted, ending_full_sound, ending_map, ending_slots, ending_sound, ending_stores, oldest_frozen, oldest_shape, oldest_stands, way}
+
+-- ---- the body that names the hash store
+
+module _ (old : Content) (s : TiersState) (body : Body) (stands : Stands old s) (rests : Rests old) (ends : EndsConversion s body) where
+  under_way : IsUnderWay s ends.conversion
+  under_way = way old s stands ends.conversion ends.was
+
+  -- the stores under it
+  abbrev converted_stores : Stores
+  converted_stores = ending_stores old s stands ends.conversion ends.was
+
+  some_ids : 0 < length s.manifest.ruling.frozen
+  some_ids = omega (arith, under_way.some_frozen, length-map s.frozen region_of, ap length stands.whole.frozen_regions)
+
+  -- it names them in whatever a stop leaves, since nothing is pending
+  names : LeavesOnly old (λ image. stores_named s.manifest.shape body image ≡ converted_stores)
+  names = record {
+    each = λ h image left.
+        ap (λ (shown : List ℕ). stores_named s.manifest.shape body shown) (left_at_rest rests h image left)
+        ∙ ap (λ (b : Body). stores_named s.manifest.shape b old.shown) ends.is
+        ∙ converted_named s.manifest.shape s.manifest.ruling ends.conversion.region _ old.shown some_ids (ending_slots old s stands ends.conversion ends.was ends.done h);
+  }
+
+  pub converted_may_rule : MayRule old s body
+  converted_may_rule = record {
+    follows = λ sound. may_end s body sound stands.whole ends;
+    stores = converted_stores;
+    has_shape = converted_shape _ _ _ ∙ named_shape s.manifest.shape s.manifest.ruling old.shown;
+    has_body = converted_ruling _ _ _ ∙ sym ends.is;
+    names = names;
+    sound = ending_sound old s stands ends.conversion ends.was;
+    same_map = ending_map old s stands ends.conversion ends.was;
+    waiting = inr (ap (λ (b : Body). b.active) ends.is);
+  }
+
+  -- ---- once it rules
+
+  module _ (new : Content) (sizes : size new ≡ size old) (m : ManifestState) (now : NowRules old new s body m) where
+    back : IsTrue new.honest → IsTrue old.honest
+    back h = subst IsTrue now.changes.honest h
+
+    -- the stores in memory afterwards
+    abbrev after : TiersState
+    after = oldest_replaced s m ends.conversion
+
+    ruling_is : m.ruling ≡ converted_body s.manifest.ruling ends.conversion.region
+    ruling_is = now.has_body ∙ ends.is
+
+    ids : length s.manifest.ruling.frozen ≡ length s.frozen
+    ids = ap length (sym stands.whole.frozen_regions) ∙ length-map s.frozen region_of
+
+    -- they are those that the body names
+    held_of : IsHeldHash (store_of ends.conversion) → IsHashOf s.manifest.shape (store_of ends.conversion)
+    held_of held = record { has_shape = under_way.has_shape; held = held }
+
+    whole : IsHeldHash (store_of ends.conversion) → AreWhole (oldest_replaced s m ends.conversion)
+    whole held = record {
+      has_shape = stands.whole.has_shape ∙ sym now.has_shape;
+      active_region = stands.whole.active_region ∙ ap (λ (b : Body). b.active) (sym ruling_is);
+      frozen_regions =
+          sym (take-map region_of (length s.frozen - 1) s.frozen)
+          ∙ ap (take (length s.frozen - 1)) stands.whole.frozen_regions
+          ∙ ap (λ (n : ℕ). take (n - 1) s.manifest.ruling.frozen) (sym ids)
+          ∙ ap (λ (b : Body). b.frozen) (sym ruling_is);
+      settled = subst (λ (sh : Shape). All (IsSettled sh) (take (length s.frozen - 1) s.frozen)) (sym now.has_shape) (All-take (IsSettled s.manifest.shape) (length s.frozen - 1) s.frozen stands.whole.settled);
+      hash_regions = ap (λ (l : List ℕ). ends.conversion.region ∷ l) stands.whole.hash_regions ∙ ap (λ (b : Body). b.hashed) (sym ruling_is);
+      hashed = subst (λ (sh : Shape). All (IsHashOf sh) (store_of ends.conversion ∷ s.hashes)) (sym now.has_shape) (All-cons (IsHashOf s.manifest.shape) (store_of ends.conversion) s.hashes (held_of held) stands.whole.hashed);
+      sorted =
+          stands.whole.sorted ∙ ap (λ (sh : Shape). sorted_named sh s.manifest.ruling) (sym now.has_shape)
+          ∙ ap (λ (n : ℕ). let t : SortedState = record { shape = m.shape; region = n; count = s.manifest.ruling.sorted_count } in t) (ap (λ (b : Body). b.sorted) (sym ruling_is))
+          ∙ ap (λ (n : ℕ). let t : SortedState = record { shape = m.shape; region = m.ruling.sorted; count = n } in t) (ap (λ (b : Body). b.sorted_count) (sym ruling_is));
+      held = stands.whole.held;
+      under_way = tt;
+      merging = merging_in s after s.merging now.has_shape refl (omega arith) stands.whole.merging;
+      most = subst (λ (sh : Shape). s.charge - ((oldest_log s).puts - ends.conversion.puts) ≤ sh.sorted_capacity) (sym now.has_shape) (let most = stands.whole.most in omega (arith, most));
+    }
+
+    pub may_replace : MayReplace s m
+    may_replace = record { conversion = ends.conversion; was = ends.was; done = ends.done; whole = whole }
+
+    -- the active log is as it was
+    keeps : KeepsRows old new s.active.log s.active.log
+    keeps = active_stays old new s stands sizes now.changes
+
+    -- and so is what the conversion wrote
+    slots_stay : HasWritten new (oldest_log s) ends.conversion
+    slots_stay = subst (λ (o : Option ConversionState). IfSome o (HasWritten new (oldest_log s))) ends.was (written_stays old new s stands sizes now.changes)
+
+    -- the oldest log is as it was in whatever a stop leaves
+    last_inside : length s.frozen - 1 < length s.frozen
+    last_inside = omega (arith, under_way.some_frozen)
+
+    log_shape : (oldest_log s).log.shape ≡ s.manifest.shape
+    log_shape = oldest_shape old s stands under_way.some_frozen
+
+    log_rows_stay : IsTrue new.honest → (first image : List ℕ) → length first ≡ size old → Torn (slot_at (spare_slot s.manifest)) 4096 first image
+        → log_rows (oldest_log s).log.shape (oldest_log s).log.region image ≡ log_rows (oldest_log s).log.shape (oldest_log s).log.region first
+    log_rows_stay h first image long torn =
+        let there_is = named_below old s stands (back h) (oldest_log s).log.region (frozen_named s stands.whole.frozen_regions (length s.frozen - 1) s.active last_inside) in
+        let fits : device_size (oldest_log s).log.shape ≡ length first = ap device_size log_shape ∙ sym stands.has_size ∙ sym long in
+        log_rows_elsewhere (oldest_log s).log.shape (oldest_log s).log.region (slot_at (spare_slot s.manifest)) 4096 first image
+        (subst (λ (sh : Shape). (oldest_log s).log.region < sh.logs) (sym log_shape) there_is) (omega (arith, fits))
+        (outside_slot (oldest_log s).log.shape (oldest_log s).log.region (spare_slot s.manifest) (slot_below old new s stands sizes now.changes)) torn
+
+    oldest_stays : IsFrozenStore new (oldest_log s)
+    oldest_stays =
+        let is : IsFrozen new (oldest_log s) = frozen_stays old new s stands sizes now.changes (length s.frozen - 1) s.active last_inside in
+        let was : IsFrozen old (oldest_log s) = oldest_frozen old s stands under_way.some_frozen in
+        let log_stands : IsFrozenStore old (oldest_log s) = oldest_stands old s stands under_way.some_frozen in
+        record {
+          images = record {
+            each = λ h image left.
+                let from = now.changes.left (back h) image left in
+                log_rows_stay h from.0 image (from.1.size ∙ sym old.sizes) from.2
+                ∙ log_stands.images.each (back h) from.0 from.1
+                ∙ scanned_all old (oldest_log s).log (was.rows (back h))
+                ∙ sym (log_rows_stay h old.shown new.shown refl (now.changes.shown (back h)))
+                ∙ sym (scanned_all new (oldest_log s).log (is.rows h));
+          };
+          index = is.indexed;
+        }
+
+    -- the new hash store stands
+    count : IsTrue new.honest → IsBucketCount ends.conversion.shape.buckets
+    count h =
+        let limits = (whole_law old.shown (shown_stores old s) (shown_named old s stands (back h))).limits in
+        subst (λ (sh : Shape). IsBucketCount sh.buckets) (named_shape s.manifest.shape s.manifest.ruling old.shown ∙ sym under_way.has_shape) (bucket_count_is (shown_stores old s).shape.buckets limits.buckets)
+
+    store_is : IsHashStore new (store_of ends.conversion)
+    store_is = record {
+      sound = λ h. (store_stands new (oldest_log s) ends.conversion (count h) ends.done oldest_stays slots_stay).sound h;
+      tagged = λ h. (store_stands new (oldest_log s) ends.conversion (count h) ends.done oldest_stays slots_stay).tagged h;
+      counted = λ h. (store_stands new (oldest_log s) ends.conversion (count h) ends.done oldest_stays slots_stay).counted h;
+    }
+
+    -- a merge has gathered and written what it had: its stores are the oldest ones still
+    gathered_stays : IfSome s.merging (HasGathered new after)
+    gathered_stays = in_front s.merging stands.whole.merging (merged_stays old new s stands sizes now.changes)
+      where
+        in_front : (o : Option MergeState) → IfSome o (IsMerging s) → IfSome o (HasGathered new s) → IfSome o (HasGathered new after)
+        in_front None merging merged = tt
+        in_front (Some merge) merging merged =
+            let way : IsMerging s merge = merging in
+            subst (λ (l : List HashState). HasMerged new l s.sorted merge) (sym (oldest_stores_law (store_of ends.conversion ∷ []) s.hashes merge.stores way.most)) merged
+
+    fits : AreWhole (oldest_replaced s m ends.conversion) → Fits new after converted_stores
+    unfolding converted_may_rule
+    fits is_whole = record {
+      has_size = sizes ∙ stands.has_size ∙ ap device_size (sym now.has_shape);
+      whole = is_whole;
+      idle = now.idle;
+      rules = now.rules;
+      active = record { log = keeps.stands; index = indexed_same old new s.active back (λ h. keeps.all (back h)) stands.indexed };
+      frozen = All-take (IsFrozen new) (length s.frozen - 1) s.frozen (frozen_stays old new s stands sizes now.changes);
+      hashed = All-cons (IsHashStore new) (store_of ends.conversion) s.hashes store_is (hashed_stays old new s stands sizes now.changes);
+      located = located_stays old new s stands sizes now.changes;
+      written = tt;
+      merged = gathered_stays;
+      same_shape = converted_may_rule.has_shape ∙ sym now.has_shape;
+      same_body = converted_may_rule.has_body ∙ sym now.has_body;
+      named = now_named old new s body stands converted_may_rule sizes m now;
+      sound = λ h.
+          subst (λ (n : ℕ). IsSound (with_log_rows n (all_rows new s.active.log) converted_stores)) (ap (λ (b : Body). b.active) (sym ruling_is))
+          (subst (λ (rows : List StoredRow). IsSound (with_log_rows s.manifest.ruling.active rows converted_stores)) (sym (keeps.all (back h)))
+          (ending_full_sound old s stands ends.conversion ends.was (back h)));
+      counted = λ h.
+          ending_counted old s stands ends.conversion ends.was ends.done (back h) (s.charge - ((oldest_log s).puts - ends.conversion.puts)) refl
+          ∙ ap (λ (rows : List StoredRow). put_count (rows_of converted_stores ++ rows)) (sym (waiting_stays old new s stands sizes now.changes (back h)));
+    }
+
+    -- and stand on
+    pub converted_advances : (finished : TiersState) → AreWhole finished → finished ≡ oldest_replaced s m ends.conversion → Advances [] old new s finished
+    unfolding converted_may_rule
+    converted_advances finished is_whole is =
+        let whole_after : AreWhole (oldest_replaced s m ends.conversion) = subst AreWhole is is_whole in
+        subst (λ (t : TiersState). Advances [] old new s t) (sym is)
+        (succeeds old new s body stands converted_may_rule sizes m now after (fits whole_after) now.has_shape (λ h. ap (map command_of) (waiting_stays old new s stands sizes now.changes h)))

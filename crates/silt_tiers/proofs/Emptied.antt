@@ -1,0 +1,61 @@
+-- The region of the new log, cleared.
+use Rattle.std.proofs.Common.{◌≡◌, ℕ, false, [], ap, sym, ◌∙◌, subst}
+use Rattle.silt_device.specs.Disk.{ChangesWithin, Content, size}
+use Rattle.silt_device.specs.Layout.{Shape, gates_at}
+use Rattle.silt_log.specs.Rows.{log_rows}
+use Rattle.silt_log.specs.State.{LogState}
+use Rattle.silt_log_store.specs.State.{IsLogStore, LogStoreState}
+use Rattle.silt_log_store.specs.Calls.{EmptiesStore}
+use Rattle.silt_tiers.specs.declared.next_log.NextLog.{NextLog}
+use Rattle.silt_tiers.specs.State.{TiersState}
+use Rattle.silt_tiers.specs.Standing.{Stands}
+use Rattle.silt_tiers.specs.Calls.{Advances, Breaks, Remaps}
+use Rattle.silt_tiers.specs.NextLog.{IsEmptied, IsNextLog}
+use Rattle.silt_tiers.proofs.Freezes.{cleared, cleared_breaks, cleared_map}
+
+module _ (old new : Content) (s : TiersState) (next : NextLog) where
+  store_shape : IsNextLog s next → next.store.log.shape ≡ s.manifest.shape
+  store_shape is = ap (λ (t : LogStoreState). t.log.shape) is.store
+
+  store_region : (is : IsNextLog s next) → next.store.log.region ≡ is.region
+  store_region is = ap (λ (t : LogStoreState). t.log.region) is.store
+
+  module _ (stands : Stands old s) (is : IsNextLog s next) (sizes : size new ≡ size old)
+      (changes : ChangesWithin (gates_at next.store.log.shape next.store.log.region) next.store.log.shape.log_capacity old new) where
+    gates : ChangesWithin (gates_at s.manifest.shape is.region) s.manifest.shape.log_capacity old new
+    gates =
+        subst (λ (n : ℕ). ChangesWithin (gates_at s.manifest.shape n) s.manifest.shape.log_capacity old new) (store_region is)
+        (subst (λ (sh : Shape). ChangesWithin (gates_at sh next.store.log.region) sh.log_capacity old new) (store_shape is) changes)
+
+    pub clear_advances : Advances [] old new s s
+    clear_advances = cleared old new s is.region stands is.lowest.below is.lowest.free sizes gates
+
+    pub clear_map : Remaps [] old new s s
+    clear_map = cleared_map old new s is.region stands is.lowest.below is.lowest.free sizes gates
+
+    pub clear_breaks : Breaks old new s
+    clear_breaks = cleared_breaks old new s is.region stands is.lowest.below is.lowest.free sizes gates
+
+  -- the new log is as it was in memory, and its region is empty
+  module _ (is : IsNextLog s next) (after : LogStoreState) (empties : EmptiesStore new next.store after) where
+    pub same_store : after ≡ next.store
+    same_store =
+        let log : after.log ≡ next.store.log = empties.log.log ∙ sym (
+        ap (λ (t : LogStoreState). t.log) is.store
+        ∙ ap (λ (t : LogStoreState). record t.log { settled = 0; used = 0; loose = false }) (sym is.store)
+        ) in
+        ap (λ (l : LogState). let r : LogStoreState = record { log = l; table = after.table; puts = after.puts } in r) log
+        ∙ ap (λ t. let r : LogStoreState = record { log = next.store.log; table = t; puts = after.puts } in r) empties.table
+        ∙ ap (λ (n : ℕ). let r : LogStoreState = record { log = next.store.log; table = next.store.table; puts = n } in r) empties.puts
+
+    pub clear_emptied : (now : NextLog) → now ≡ record next { store = after } → IsEmptied new s now
+    clear_emptied now now_is =
+        let same : now ≡ next = now_is ∙ ap (λ (t : LogStoreState). record next { store = t }) same_store in
+        let emptied : IsEmptied new s next = record {
+          follows = is;
+          stands = subst (IsLogStore new) same_store empties.stands;
+          images = record {
+            each = λ h image left. ap (λ (sh : Shape). log_rows sh next.store.log.region image) (sym (store_shape is)) ∙ empties.log.images.each h image left;
+          };
+        } in
+        subst (λ (n : NextLog). IsEmptied new s n) (sym same) emptied

@@ -1,0 +1,147 @@
+-- A change of the manifest: whatever a stop leaves has the stores that were, or those that the next body names.
+use Rattle.std.proofs.Common.{◌≡◌, ◌<◌, ◌⊎◌, ℕ, ◌+◌, true, IsTrue, List, [], Some, None, Ok, inl, inr, refl, ap, sym, ◌∙◌, subst, arith}
+use Rattle.std.proofs.lemmas.List.{append-nil}
+use Rattle.silt_device.specs.Disk.{ChangesWithin, Content, Left, LeavesOnly, Torn, size}
+use Rattle.silt_device.specs.Layout.{Shape, slot_at}
+use Rattle.silt_device.proofs.Images.{shown_left, within_trans, within_wider}
+use Rattle.silt_manifest.specs.Ruling.{ruling_manifest}
+use Rattle.silt_manifest.specs.Standing.{ManifestState, Rules, RulesOldOrNew, spare_slot}
+use Rattle.silt_manifest.specs.declared.body.Body.{Body}
+use Rattle.silt_image.specs.Meaning.{StandsFor, image_map, rows_of}
+use Rattle.silt_event.specs.Rows.{map_of_rows}
+use Rattle.silt_image.specs.Stores.{Stores, image_stores}
+use Rattle.silt_tiers.specs.State.{TiersState}
+use Rattle.silt_tiers.specs.Standing.{Stands, base_map, shown_stores, waiting_commands}
+use Rattle.silt_tiers.specs.Calls.{Advances, Breaks, Remaps}
+use Rattle.silt_tiers.specs.Succession.{MayRule, NowRules}
+use Rattle.silt_tiers.proofs.Facts.{active_is, base_is, base_stands}
+use Rattle.silt_tiers.proofs.Freezes.{below_two}
+use Rattle.silt_tiers.proofs.Named.{named_shape, stands_for, stores_map}
+use Rattle.silt_tiers.proofs.Standing.{Fits, fits_stand, shown_are}
+use Rattle.silt_tiers.proofs.Turns.{begun_none, quiet_remap, ruled_named, same_named, waiting_remap}
+
+-- the body that was prepared
+same_some : (a b : Body) → Some a ≡ Some b → a ≡ b
+same_some a b e = cc
+
+-- in an image the body that ruled rules, or this one
+abbrev EitherRules : TiersState → Body → List ℕ → Type 0
+EitherRules s body image = (ruling_manifest s.manifest.shape image ≡ Some s.manifest.ruling) ⊎ (ruling_manifest s.manifest.shape image ≡ Some body)
+
+-- ---- the two steps
+
+-- before the gate the body rules that ruled
+pub before_gate : (new : Content) (s : TiersState) (body : Body) → LeavesOnly new (λ image. ruling_manifest s.manifest.shape image ≡ Some s.manifest.ruling) → LeavesOnly new (EitherRules s body)
+before_gate new s body each = record { each = λ h image left. inl (each.each h image left) }
+
+module _ (s : TiersState) (body : Body) (m : ManifestState) (is : m ≡ record s.manifest { spare_closed = true; prepared = Some body }) where
+  -- at the gate either
+  pub at_gate : (new : Content) → LeavesOnly new (RulesOldOrNew m) → LeavesOnly new (EitherRules s body)
+  at_gate new each = subst (λ (n : ManifestState). LeavesOnly new (RulesOldOrNew n)) is each
+
+  -- both steps change the spare slot alone
+  pub both_steps : (old middle new : Content) → ChangesWithin (slot_at (spare_slot s.manifest)) 4096 old middle → ChangesWithin (slot_at (spare_slot m)) 1 middle new → ChangesWithin (slot_at (spare_slot s.manifest)) 4096 old new
+  both_steps old middle new first second =
+      let same : spare_slot m ≡ spare_slot s.manifest = ap (λ (n : ManifestState). spare_slot n) is in
+      let gate : ChangesWithin (slot_at (spare_slot s.manifest)) 1 middle new = subst (λ (slot : ℕ). ChangesWithin (slot_at slot) 1 middle new) same second in
+      within_trans first (within_wider (slot_at (spare_slot s.manifest)) 4096 (omega arith) (omega arith) gate)
+
+  -- after them the next body rules
+  pub now_rules : (old middle new : Content) (after : ManifestState) → ChangesWithin (slot_at (spare_slot s.manifest)) 4096 old middle → ChangesWithin (slot_at (spare_slot m)) 1 middle new
+      → Rules after new → after.shape ≡ m.shape → Some after.ruling ≡ m.prepared → after.prepared ≡ None → NowRules old new s body after
+  now_rules old middle new after first second rules same_shape opened idle = record {
+    rules = rules;
+    has_shape = same_shape ∙ ap (λ (n : ManifestState). n.shape) is;
+    has_body = same_some after.ruling body (opened ∙ ap (λ (n : ManifestState). n.prepared) is);
+    idle = idle;
+    changes = both_steps old middle new first second;
+  }
+
+-- ---- at every exit
+
+module _ (old new : Content) (s : TiersState) (body : Body) (stands : Stands old s) (may : MayRule old s body) (sizes : size new ≡ size old)
+    (changes : ChangesWithin (slot_at (spare_slot s.manifest)) 4096 old new) where
+  slot_below : spare_slot s.manifest < 2
+  slot_below = below_two (s.manifest.ruling.generation + 1)
+
+  back : IsTrue new.honest → IsTrue old.honest
+  back h = subst IsTrue changes.honest h
+
+  there : IsTrue old.honest → IsTrue new.honest
+  there h = subst IsTrue (sym changes.honest) h
+
+  -- an image in which the body rules has the stores that it names
+  next_named : (h : IsTrue new.honest) (before image : List ℕ) → Left old before → Torn (slot_at (spare_slot s.manifest)) 4096 before image → ruling_manifest s.manifest.shape image ≡ Some body → image_stores image ≡ Ok may.stores
+  next_named h before image left torn rules =
+      ruled_named old new s (spare_slot s.manifest) slot_below stands sizes changes h before image body (stands.named.each (back h) before left) torn rules
+      ∙ ap Ok (may.names.each (back h) before left)
+
+  module _ (each : LeavesOnly new (EitherRules s body)) where
+    -- each image has the stores that were or these
+    old_or_new : LeavesOnly new (λ image. (image_stores image ≡ Ok (shown_stores old s)) ⊎ (image_stores image ≡ Ok may.stores))
+    old_or_new = record {
+      each = λ h image left.
+          let from = changes.left (back h) image left in
+          elim (each.each h image left) [
+            | inl stays ↦ inl (same_named old new s (spare_slot s.manifest) slot_below stands sizes changes h from.0 image (stands.named.each (back h) from.0 from.1) from.2 stays)
+            | inr turns ↦ inr (next_named h from.0 image from.1 from.2 turns)
+          ];
+    }
+
+    next_stands : IsTrue old.honest → (image : List ℕ) → image_stores image ≡ Ok may.stores → StandsFor s.manifest.shape (base_map old s) image
+    next_stands h image is = stands_for s.manifest.shape may.stores (base_map old s) image is may.has_shape (may.sound h) (may.same_map h)
+
+    -- whatever a stop leaves stands for the base
+    pub manifest_breaks : Breaks old new s
+    manifest_breaks = record {
+      each = λ h image left. elim (old_or_new.each h image left) [
+        | inl stays ↦ begun_none old s image (base_stands old s stands (back h) image stays)
+        | inr turns ↦ begun_none old s image (next_stands (back h) image turns)
+      ];
+    }
+
+    -- the map of what is shown
+    shown_base : IsTrue old.honest → image_map new.shown ≡ base_map old s
+    shown_base h = elim (old_or_new.each (there h) new.shown (shown_left new)) [
+      | inl stays ↦ stores_map (shown_stores old s) new.shown stays ∙ sym (base_is old s)
+      | inr turns ↦ stores_map may.stores new.shown turns ∙ may.same_map h
+    ]
+
+    -- and of the full image: no row waits, or the same rows wait in the same log
+    pub manifest_map : Remaps [] old new s s
+    manifest_map h = elim may.waiting [
+      | inl quiet ↦ quiet_remap old new s (spare_slot s.manifest) slot_below stands sizes changes quiet s quiet.settled h (shown_base h)
+      | inr same ↦ elim (old_or_new.each (there h) new.shown (shown_left new)) [
+        | inl stays ↦ waiting_remap old new s (spare_slot s.manifest) slot_below stands sizes changes s (shown_stores old s) refl
+            (named_shape s.manifest.shape s.manifest.ruling old.shown) (active_is old s stands) h stays (sym (base_is old s))
+        | inr turns ↦ waiting_remap old new s (spare_slot s.manifest) slot_below stands sizes changes s may.stores refl
+            may.has_shape (ap (λ (b : Body). b.active) may.has_body ∙ same) h turns (may.same_map h)
+      ]
+    ]
+
+-- ---- once the body rules
+
+module _ (old new : Content) (s : TiersState) (body : Body) (stands : Stands old s) (may : MayRule old s body) (sizes : size new ≡ size old) (m : ManifestState) (now : NowRules old new s body m) where
+  -- each image has the stores that it names
+  pub now_named : LeavesOnly new (λ image. image_stores image ≡ Ok may.stores)
+  now_named = record {
+    each = λ h image left.
+        let from = now.changes.left (subst IsTrue now.changes.honest h) image left in
+        next_named old new s body stands may sizes now.changes h from.0 image from.1 from.2
+        (ap (λ (sh : Shape). ruling_manifest sh image) (sym now.has_shape) ∙ (now.rules.each h image left).rules ∙ ap Some now.has_body);
+  }
+
+  -- stores that fit the disk with them, in which the same rows wait, stand
+  pub succeeds : (after : TiersState) → Fits new after may.stores → after.manifest.shape ≡ s.manifest.shape → (IsTrue old.honest → waiting_commands new after ≡ waiting_commands old s) → Advances [] old new s after
+  succeeds after fits same_shape waiting = record {
+    stands = fits_stand new after may.stores fits;
+    shape = same_shape;
+    moves = λ h. record {
+      moved = [];
+      rest = waiting h ∙ sym (append-nil (waiting_commands old s));
+      base =
+          base_is new after
+          ∙ ap (λ (t : Stores). map_of_rows (rows_of t)) (shown_are new after may.stores fits.same_shape fits.same_body fits.named (subst IsTrue (sym now.changes.honest) h))
+          ∙ may.same_map h;
+    };
+  }

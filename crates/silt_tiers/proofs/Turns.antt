@@ -1,0 +1,76 @@
+-- A change of a slot of the manifest, in whose images the body that ruled rules or another one.
+use Rattle.std.proofs.Common.{◌≡◌, ◌<◌, ℕ, IsTrue, List, [], map, Some, Ok, refl, ap, sym, ◌∙◌, subst}
+use Rattle.silt_device.specs.Disk.{ChangesWithin, Content, LiesOutside, Torn, size}
+use Rattle.silt_device.specs.Layout.{Shape, device_size, gates_at, log_len, slot_at}
+use Rattle.silt_frame.specs.Rows.{StoredRow}
+use Rattle.silt_log.specs.Calls.{KeepsRows}
+use Rattle.silt_log.specs.State.{LogState, waiting_rows}
+use Rattle.silt_log.specs.State as log
+use Rattle.silt_log.proofs.Waiting.{waiting_kept}
+use Rattle.silt_manifest.specs.Ruling.{manifest_found, ruling_manifest}
+use Rattle.silt_manifest.specs.declared.body.Body.{Body}
+use Rattle.silt_image.specs.Stores.{Stores, image_stores, stores_named}
+use Rattle.silt_event.specs.Commands.{Map, map_after}
+use Rattle.silt_image.specs.Meaning.{StandsFor, image_map, rows_of}
+use Rattle.silt_event.specs.Rows.{command_of, map_of_rows}
+use Rattle.silt_image.proofs.Frame.{manifest_law}
+use Rattle.silt_tiers.specs.State.{TiersState}
+use Rattle.silt_tiers.specs.Standing.{Stands, base_map, full_image, shown_stores, waiting_commands}
+use Rattle.silt_tiers.specs.Calls.{HasBegun, IsQuiet}
+use Rattle.silt_tiers.proofs.Named.{named_body, named_here, named_shape}
+use Rattle.silt_tiers.proofs.Facts.{full_map, opened_map}
+use Rattle.silt_tiers.proofs.Elsewhere.{outside_slot}
+use Rattle.silt_tiers.proofs.Freezes.{IsApart, found_ruling, full_quiet, kept, quiet_map, slot_apart}
+
+-- an image that stands for the base stands for it after none of what waited
+pub begun_none : (content : Content) (s : TiersState) (image : List ℕ) → StandsFor s.manifest.shape (base_map content s) image → HasBegun s.manifest.shape (base_map content s) (waiting_commands content s) image
+begun_none content s image stands = record { kept = []; begins = record { rest = waiting_commands content s; is = refl }; stands = stands }
+
+-- the active log lies outside the slots
+active_outside : (s : TiersState) (slot : ℕ) → slot < 2 → LiesOutside (gates_at s.active.log.shape s.active.log.region) (log_len s.active.log.shape) (slot_at slot) 4096
+active_outside s slot below = outside_slot s.active.log.shape s.active.log.region slot below
+
+module _ (old new : Content) (s : TiersState) (slot : ℕ) (below : slot < 2) (stands : Stands old s) (sizes : size new ≡ size old) (changes : ChangesWithin (slot_at slot) 4096 old new) where
+  back : IsTrue new.honest → IsTrue old.honest
+  back h = subst IsTrue changes.honest h
+
+  there : IsTrue old.honest → IsTrue new.honest
+  there h = subst IsTrue (sym changes.honest) h
+
+  apart : IsTrue old.honest → IsApart s.manifest.shape s.manifest.ruling (slot_at slot) 4096
+  apart h = slot_apart s.manifest.shape s.manifest.ruling slot below
+
+  -- the active log stands as before
+  pub active_kept : KeepsRows old new s.active.log s.active.log
+  active_kept = kept old new s (slot_at slot) 4096 stands sizes changes apart (active_outside s slot below)
+
+  -- an image in which this body rules has the stores that it names in an earlier image
+  pub ruled_named : (h : IsTrue new.honest) (before image : List ℕ) (body : Body) → image_stores before ≡ Ok (shown_stores old s) → Torn (slot_at slot) 4096 before image
+      → ruling_manifest s.manifest.shape image ≡ Some body → image_stores image ≡ Ok (stores_named s.manifest.shape body before)
+  ruled_named h before image body named torn rules =
+      let t : Stores = shown_stores old s in
+      let t_shape : t.shape ≡ s.manifest.shape = named_shape s.manifest.shape s.manifest.ruling old.shown in
+      manifest_law before image t slot body named below torn (ap (λ (sh : Shape). manifest_found sh image) t_shape ∙ found_ruling (manifest_found s.manifest.shape image) body rules)
+      ∙ ap (λ (sh : Shape). Ok (stores_named sh body before)) t_shape
+
+  -- where the body rules that ruled, the stores are those that were
+  pub same_named : (h : IsTrue new.honest) (before image : List ℕ) → image_stores before ≡ Ok (shown_stores old s) → Torn (slot_at slot) 4096 before image
+      → ruling_manifest s.manifest.shape image ≡ Some s.manifest.ruling → image_stores image ≡ Ok (shown_stores old s)
+  same_named h before image named torn rules =
+      ruled_named h before image s.manifest.ruling named torn rules
+      ∙ ap Ok (named_here s.manifest.shape s.manifest.ruling (shown_stores old s) before named (named_shape s.manifest.shape s.manifest.ruling old.shown) (named_body s.manifest.shape s.manifest.ruling old.shown))
+
+  -- the map of the full image, where nothing waited and nothing waits
+  pub quiet_remap : IsQuiet old s → (after : TiersState) → after.active.log.settled ≡ after.active.log.used → IsTrue old.honest → image_map new.shown ≡ base_map old s → image_map (full_image new after) ≡ image_map (full_image old s)
+  quiet_remap is_quiet after settled h same = ap image_map (full_quiet new after settled) ∙ same ∙ sym (quiet_map old s is_quiet) ∙ sym (full_map old s stands h)
+
+  -- and where the same rows wait in the same log, with stores that have it and the same map
+  pub waiting_remap : (after : TiersState) (t : Stores) → after.active.log ≡ s.active.log → t.shape ≡ s.manifest.shape → t.body.active ≡ s.manifest.ruling.active → IsTrue old.honest
+      → image_stores new.shown ≡ Ok t → map_of_rows (rows_of t) ≡ base_map old s → image_map (full_image new after) ≡ image_map (full_image old s)
+  waiting_remap after t same_log same_shape same_active h named same_map =
+      let l : LogState = s.active.log in
+      ap (λ (other : LogState). image_map (log.opened_image new other)) same_log
+      ∙ opened_map new l t active_kept.stands (sizes ∙ stands.has_size ∙ ap device_size (sym stands.whole.has_shape)) (same_shape ∙ sym stands.whole.has_shape) (same_active ∙ sym stands.whole.active_region) (there h) named
+      ∙ ap (λ (m : Map). map_after m (map command_of (waiting_rows new l))) same_map
+      ∙ ap (λ (rows : List StoredRow). map_after (base_map old s) (map command_of rows)) (waiting_kept old new l l stands.active h active_kept)
+      ∙ sym (full_map old s stands h)

@@ -1,0 +1,17 @@
+-- The stores as their record.
+use Rattle.silt_tiers.specs.State.{TiersState}
+use Rattle.silt_tiers.specs.declared.tiers.Tiers.TheInside.{Inside}
+
+-- what the stores are seen as
+abbrev pub state_of : Inside → TiersState
+state_of a = record {
+  manifest = a.manifest;
+  active = a.active;
+  frozen = a.frozen.items;
+  hashes = a.hashes.items;
+  sorted = a.sorted.sorted;
+  index = a.sorted.index;
+  converting = a.converting;
+  merging = a.merging;
+  charge = a.charge;
+}

@@ -1,0 +1,11 @@
+use Rattle.std.proofs.Common.{IsTrue, drop, map}
+use Rattle.silt_log_store.specs.Parts.{oldest_first}
+use Rattle.silt_tiers.specs.Entries.{DoesRows}
+use Rattle.silt_tiers.proofs.Lookups.{rows_in}
+use Rattle.silt_tiers.proofs.tiers.Tiers.entries.Given as goal
+
+-- the rows of the older logs are done
+abbrev pub invariant-loop-index : goal.invariant-loop-index
+invariant-loop-index g l =
+    IsTrue (g.D.Disk.content l.disk).honest
+    → DoesRows (oldest_first (map (rows_in (g.D.Disk.content l.disk)) (drop l.index l.self-inside.frozen.items))) l.initial.entries l.entries

@@ -1,0 +1,16 @@
+use Rattle.std.proofs.Common.{ap, ◌∙◌}
+use Rattle.silt_tiers.specs.State.{TiersState}
+use Rattle.silt_tiers.proofs.Walks.{found_here, log_passed}
+use Rattle.silt_tiers.proofs.tiers.Tiers.find_frozen.Goals as goal
+
+pub returns-in-Some-clause-found : goal.returns-in-Some-clause-found
+returns-in-Some-clause-found g c = λ stands honest.
+    let are = c.deref-log-items.ensures.value ∙ ap (λ (v : TiersState). v.frozen) c.self.view_is in
+    found_here (g.D.Disk.content c.args.disk.now) c.args.self.now c.deref-log-items.result.now c.loop-index.index c.log-item.result c.args.key.now.0 _ c.in-Some.found
+    are c.loop-index-test.true c.log-item.is stands honest c.in_ok-found.ensures.last c.in-Some.is (c.loop-index.invariant stands honest)
+
+pub loop-index-preserved : goal.loop-index-preserved
+loop-index-preserved g c = λ stands honest.
+    let are = c.deref-log-items.ensures.value ∙ ap (λ (v : TiersState). v.frozen) c.self.view_is in
+    log_passed (g.D.Disk.content c.args.disk.now) c.args.self.now c.deref-log-items.result.now c.loop-index.index c.log-item.result c.args.key.now.0 _
+    are c.loop-index-test.true c.log-item.is stands honest c.in_ok-found.ensures.last c.in_default.not-Some (c.loop-index.invariant stands honest)

@@ -1,0 +1,16 @@
+use Rattle.std.proofs.Common.{ap, ◌∙◌}
+use Rattle.silt_tiers.specs.State.{TiersState}
+use Rattle.silt_tiers.proofs.Walks.{hash_here, hash_passed}
+use Rattle.silt_tiers.proofs.tiers.Tiers.find_hashed.Goals as goal
+
+pub returns-in-Some-clause-found : goal.returns-in-Some-clause-found
+returns-in-Some-clause-found g c = λ stands honest.
+    let are = c.deref-store-items.ensures.value ∙ ap (λ (v : TiersState). v.hashes) c.self.view_is in
+    hash_here (g.D.Disk.content c.args.disk.now) c.args.self.now c.deref-store-items.result.now c.loop-index.index c.store-item.result c.args.key.now.0 _ c.in-Some.found
+    are c.loop-index-test.true c.store-item.is stands honest c.in_ok-found.ensures.finds c.in-Some.is (c.loop-index.invariant stands honest)
+
+pub loop-index-preserved : goal.loop-index-preserved
+loop-index-preserved g c = λ stands honest.
+    let are = c.deref-store-items.ensures.value ∙ ap (λ (v : TiersState). v.hashes) c.self.view_is in
+    hash_passed (g.D.Disk.content c.args.disk.now) c.args.self.now c.deref-store-items.result.now c.loop-index.index c.store-item.result c.args.key.now.0 _
+    are c.loop-index-test.true c.store-item.is stands honest c.in_ok-found.ensures.finds c.in_default.not-Some (c.loop-index.invariant stands honest)

@@ -1,0 +1,24 @@
+use Rattle.std.proofs.Common.{◌≡◌, ap, sym, ◌∙◌, subst}
+use Rattle.silt_event.specs.declared.progress.Progress.TheVariants.{Finished}
+use Rattle.silt_manifest.specs.declared.body.Body.{Body}
+use Rattle.silt_tiers.specs.Merge.{merge_turn, merged_body}
+use Rattle.silt_tiers.specs.State.{TiersState}
+use Rattle.silt_tiers.proofs.Holdings.{before_last}
+use Rattle.silt_tiers.proofs.MergeDone.{may_end}
+use Rattle.silt_tiers.proofs.MergeSteps.{is_finished}
+use Rattle.silt_tiers.proofs.Viewing.{state_of}
+use Rattle.silt_tiers.proofs.tiers.Tiers.finish_merge.Goals as goal
+
+pub end_merge-requires-clause-ends : goal.end_merge-requires-clause-ends
+end_merge-requires-clause-ends g c κs within =
+    let stores : TiersState = state_of c.self.inside in
+    let turn = subst (λ (v : TiersState). merge_turn v ≡ Finished) (sym c.self.view_is) c.requires.turn in
+    let unspent = before_last stores.manifest.shape _ stores.manifest.ruling c.ruling-ruling.ensures.sound (λ e. c.if-ruling-eq-LAST_GENERATION.false (ap (λ (b : Body). b.generation) c.ruling-ruling.ensures.value ∙ e)) in
+    let count = c.stores-count.ensures.value in
+    let region = c.region.ensures.value ∙ ap (λ t. t.region) c.in-Ok.ensures.store in
+    let written = c.len.ensures.value ∙ ap (λ t. t.count) c.in-Ok.ensures.store in
+    let body = c.merged_body-body.ensures ∙ ap (λ (b : Body). merged_body b c.stores-count.result c.region.result c.len.result) c.ruling-ruling.ensures.value
+    ∙ ap (λ n. merged_body stores.manifest.ruling n c.region.result c.len.result) count
+    ∙ ap (λ n. merged_body stores.manifest.ruling c.in-Some.merge.stores n c.len.result) region
+    ∙ ap (λ n. merged_body stores.manifest.ruling c.in-Some.merge.stores c.in-Some.merge.region n) written in
+    rw (← c.self.view_is) (may_end stores c.merged_body-body.result c.in-Some.merge c.in-Ok.sorted c.in-Some.is (is_finished stores c.in-Some.merge c.in-Some.is turn) unspent c.in-Ok.ensures.store body c.in-Ok.ensures.indexed)

@@ -1,0 +1,77 @@
+-- What the calls of the stores do.
+use Rattle.std.specs.Prelude.{◌≡◌, ◌+◌, ◌^◌, ◌-◌, ◌⊎◌, ℕ, IsTrue, List, [], ◌∷◌, ◌++◌, length, Some, None}
+use Rattle.std.specs.FinMap.{get}
+use Rattle.silt_cuckoo.specs.Index.{index_of_keys}
+use Rattle.silt_device.specs.Disk.{Content, LeavesOnly, size}
+use Rattle.silt_device.specs.Layout.{Shape}
+use Rattle.silt_event.specs.Commands.{Command, Map, map_after, Begins}
+use Rattle.silt_image.specs.Meaning.{StandsFor, image_map}
+use Rattle.silt_frame.specs.Rows.{keys_of, StoredRow}
+use Rattle.silt_tiers.specs.State.{TiersState}
+use Rattle.silt_tiers.specs.Standing.{Stands, base_map, current_map, full_image, waiting_commands}
+
+-- the disk is as long and as honest as before
+pub record SameDisk (old new : Content) : Type 0 where
+  pub size : size new ≡ size old
+  pub honest : new.honest ≡ old.honest
+
+-- but for the active log and the charge all is as it was in memory
+pub record StaysBehind (before after : TiersState) : Type 0 where
+  pub manifest : after.manifest ≡ before.manifest
+  pub frozen : after.frozen ≡ before.frozen
+  pub hashes : after.hashes ≡ before.hashes
+  pub sorted : after.sorted ≡ before.sorted
+  pub index : after.index ≡ before.index
+  pub converting : after.converting ≡ before.converting
+  pub merging : after.merging ≡ before.merging
+
+-- a beginning of what waited, and these commands behind it, went into the base
+pub record MovesIntoBase (adds : List Command) (old new : Content) (before after : TiersState) : Type 0 where
+  pub moved : List Command
+  pub rest : moved ++ waiting_commands new after ≡ waiting_commands old before ++ adds
+  pub base : base_map new after ≡ map_after (base_map old before) moved
+
+-- the stores stand on, and the commands that waited, and these behind them, wait or are in the base
+pub record Advances (adds : List Command) (old new : Content) (before after : TiersState) : Type 0 where
+  pub stands : Stands new after
+  pub shape : after.manifest.shape ≡ before.manifest.shape
+  pub moves : IsTrue old.honest → MovesIntoBase adds old new before after
+
+-- an image stands for the base after a beginning of the commands that waited
+pub record HasBegun (shape : Shape) (base : Map) (waiting : List Command) (image : List ℕ) : Type 0 where
+  pub kept : List Command
+  pub begins : Begins kept waiting
+  pub stands : StandsFor shape (map_after base kept) image
+
+-- whatever a stop leaves stands for the base after a beginning of what waited
+abbrev pub Breaks : Content → Content → TiersState → Type 0
+Breaks old new s = LeavesOnly new (HasBegun s.manifest.shape (base_map old s) (waiting_commands old s))
+
+-- with the gates of the waiting rows open, what is shown stands for its map of before, after these commands
+abbrev pub Remaps : List Command → Content → Content → TiersState → TiersState → Type 0
+Remaps adds old new before after = IsTrue old.honest → image_map (full_image new after) ≡ map_after (image_map (full_image old before)) adds
+
+-- no command waits
+pub record IsQuiet (content : Content) (s : TiersState) : Type 0 where
+  pub settled : s.active.log.settled ≡ s.active.log.used
+  pub none_wait : waiting_commands content s ≡ []
+
+-- a lookup of a key: its value, or none
+abbrev pub Finds : Content → TiersState → List ℕ → List ℕ → Type 0
+Finds content s key value = IsTrue content.honest → get (current_map content s) key ≡ Some value
+
+-- a lookup finds no value of the key
+abbrev pub FindsNone : Content → TiersState → List ℕ → Type 0
+FindsNone content s key = IsTrue content.honest → get (current_map content s) key ≡ None
+
+-- a log with these rows cannot take a row of this key: it is full, or the keys with this one have no table
+abbrev pub CannotTake : Shape → List StoredRow → List ℕ → Type 0
+CannotTake shape rows key = (length rows ≡ shape.log_capacity) ⊎ (index_of_keys shape.buckets (keys_of rows ++ key ∷ []) ≡ None)
+
+-- every log region is in use
+abbrev pub HasNoFreeLog : TiersState → Type 0
+HasNoFreeLog s = length s.frozen + 1 ≡ s.manifest.shape.logs
+
+-- the last generation rules
+abbrev pub IsLastGeneration : TiersState → Type 0
+IsLastGeneration s = s.manifest.ruling.generation ≡ 2 ^ 63 - 1

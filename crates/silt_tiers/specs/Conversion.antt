@@ -1,0 +1,135 @@
+-- The conversion of the oldest frozen log into a hash store, step by step.
+use Rattle.std.specs.Prelude.{◌≡◌, ◌<◌, ◌+◌, ◌-◌, ◌*◌, ◌^◌, ◌==◌, ℕ, Bool, true, false, if◌then◌else◌, length, take, [], ◌∷◌, Option, Some, None}
+use Rattle.silt_device.specs.Disk.{Content}
+use Rattle.silt_hash_store.specs.Conversion.{ConversionState}
+use Rattle.silt_hash_store.specs.State.{HashState, IsHeldHash}
+use Rattle.silt_hash_store.specs.declared.conversion.StepError.{StepError}
+use Rattle.silt_hash_store.specs.declared.conversion.StepError.TheVariants as step_error
+use Rattle.silt_manifest.specs.Standing.{ManifestState}
+use Rattle.silt_manifest.specs.declared.body.Body.{Body}
+use Rattle.silt_tiers.specs.declared.conversion.ConvertError.{ConvertError}
+use Rattle.silt_tiers.specs.declared.conversion.ConvertError.TheVariants.{Spent, NoMemory, Read, Write}
+use Rattle.silt_event.specs.declared.progress.Progress.{Progress}
+use Rattle.silt_event.specs.declared.progress.Progress.TheVariants.{Idle, Waiting, Moved, Finished}
+use Rattle.silt_tiers.specs.State.{AreWhole, TiersState, names_hash, oldest_log}
+use Rattle.silt_tiers.specs.Calls.{Breaks, IsLastGeneration, Remaps}
+
+-- the next progress, with so many frozen logs, hash stores and hash regions, where so many of all slots are written: none where no
+-- conversion is under way
+abbrev pub progress_due : ℕ → ℕ → ℕ → ℕ → Option ℕ → Progress
+progress_due frozen hashes regions slots (Some written) = if written == slots then Finished else Moved
+progress_due frozen hashes regions slots None = if frozen == 0 then Idle else if hashes == regions then Waiting else Moved
+
+-- how many slots a conversion has written
+abbrev pub written_by : Option ConversionState → Option ℕ
+written_by None = None
+written_by (Some conversion) = Some conversion.next
+
+-- the next progress of conversion
+abbrev pub convert_turn : TiersState → Progress
+convert_turn s = progress_due (length s.frozen) (length s.hashes) s.manifest.shape.hashes (4 * s.manifest.shape.buckets) (written_by s.converting)
+
+-- there is a step to be done
+abbrev pub is_work : Progress → Bool
+is_work Moved = true
+is_work Finished = true
+is_work progress = false
+
+-- the lowest of so many hash regions that the body does not name
+pub record IsLowestFreeHash (hashes : ℕ) (body : Body) (region : ℕ) : Type 0 where
+  pub below : region < hashes
+  pub free : names_hash body region ≡ false
+  pub lowest : (earlier : ℕ) → earlier < region → names_hash body earlier ≡ true
+
+-- the body names all of so many hash regions
+abbrev pub AreAllHashesNamed : ℕ → Body → Type 0
+AreAllHashesNamed hashes body = (region : ℕ) → region < hashes → names_hash body region ≡ true
+
+-- the body without the oldest frozen log, and with this hash region in front of the others
+abbrev pub converted_body : Body → ℕ → Body
+converted_body body region = record body { generation = body.generation + 1; frozen = take (length body.frozen - 1) body.frozen; hashed = region ∷ body.hashed }
+
+-- one more slot is written, or the first slot of the lowest free region
+abbrev pub IsNextStep : TiersState → Option ConversionState → ConversionState → Type 0
+IsNextStep s (Some before) after = (after.region ≡ before.region) × (after.next ≡ before.next + 1)
+IsNextStep s None after = IsLowestFreeHash s.manifest.shape.hashes s.manifest.ruling after.region × (after.next ≡ 1)
+
+-- a conversion went one step on, and nothing else is changed
+pub record MovesOn (before after : TiersState) : Type 0 where
+  pub conversion : ConversionState
+  pub is : after ≡ record before { converting = Some conversion }
+  pub step : IsNextStep before before.converting conversion
+
+-- a conversion is finished: the next body rules, without the oldest log and with the hash store in front of the others
+pub record Finishes (before after : TiersState) : Type 0 where
+  pub conversion : ConversionState
+  pub was : before.converting ≡ Some conversion
+  pub none : after.converting ≡ None
+  pub shape : after.manifest.shape ≡ before.manifest.shape
+  pub ruling : after.manifest.ruling ≡ converted_body before.manifest.ruling conversion.region
+  pub active : after.active ≡ before.active
+  pub frozen : after.frozen ≡ take (length before.frozen - 1) before.frozen
+  pub sorted : after.sorted ≡ before.sorted
+  pub index : after.index ≡ before.index
+  pub merging : after.merging ≡ before.merging
+
+-- what a step changes in memory
+abbrev pub StepsOn : Progress → TiersState → TiersState → Type 0
+StepsOn Idle before after = after ≡ before
+StepsOn Waiting before after = after ≡ before
+StepsOn Moved before after = MovesOn before after
+StepsOn Finished before after = Finishes before after
+
+-- a step answered its progress, which was due, and did it
+pub record Converts (progress : Progress) (before after : TiersState) : Type 0 where
+  pub due : progress ≡ convert_turn before
+  pub done : StepsOn progress before after
+
+-- the error that tells why a slot was not written
+abbrev pub refusal_of_step : {F : Type 0} → StepError F → ConvertError F
+refusal_of_step (step_error.Read fault) = Read fault
+refusal_of_step (step_error.Write fault) = Write fault
+
+module _ {D F : Type 0} (content : D → Content) (gave : D → F → Type 0) (counted : D → D → F → Type 0) (old new : D) (before after : TiersState) where
+  -- why a step was not done, and what was changed
+  abbrev pub ConvertErrorCause : ConvertError F → Type 0
+  ConvertErrorCause Spent = (after ≡ before) × (new ≡ old) × (convert_turn before ≡ Finished) × IsLastGeneration before
+  ConvertErrorCause NoMemory = (after ≡ before) × (new ≡ old) × (convert_turn before ≡ Moved) × (before.converting ≡ None)
+  ConvertErrorCause (Read fault) = (after ≡ before) × (new ≡ old) × (convert_turn before ≡ Moved) × gave old fault
+  ConvertErrorCause (Write fault) = (is_work (convert_turn before) ≡ true) × counted old new fault × Breaks (content old) (content new) before × Remaps [] (content old) (content new) before after
+
+-- ---- between the steps
+
+-- the body that ends a conversion, all of whose slots are written
+pub record EndsConversion (s : TiersState) (body : Body) : Type 0 where
+  pub conversion : ConversionState
+  pub was : s.converting ≡ Some conversion
+  pub done : conversion.next ≡ 4 * conversion.shape.buckets
+  pub unspent : s.manifest.ruling.generation < 2 ^ 63 - 1
+  pub is : body ≡ converted_body s.manifest.ruling conversion.region
+
+-- the hash store of a conversion
+abbrev pub store_of : ConversionState → HashState
+store_of conversion = record { shape = conversion.shape; region = conversion.region; tags = conversion.tags; puts = conversion.puts }
+
+-- in memory: under this manifest, the hash store of this conversion stands in front of the others, and the oldest log is gone with
+-- the puts that the hash store does not have
+abbrev pub oldest_replaced : TiersState → ManifestState → ConversionState → TiersState
+oldest_replaced s manifest conversion = record {
+  manifest = manifest;
+  active = s.active;
+  frozen = take (length s.frozen - 1) s.frozen;
+  hashes = store_of conversion ∷ s.hashes;
+  sorted = s.sorted;
+  index = s.index;
+  converting = None;
+  merging = s.merging;
+  charge = s.charge - ((oldest_log s).puts - conversion.puts);
+}
+
+-- the conversion, all of whose slots are written, may replace the oldest log under this manifest
+pub record MayReplace (s : TiersState) (manifest : ManifestState) : Type 0 where
+  pub conversion : ConversionState
+  pub was : s.converting ≡ Some conversion
+  pub done : conversion.next ≡ 4 * conversion.shape.buckets
+  pub whole : IsHeldHash (store_of conversion) → AreWhole (oldest_replaced s manifest conversion)

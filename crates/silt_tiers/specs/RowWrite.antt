@@ -1,0 +1,50 @@
+-- A put or a delete as a whole, and why it is refused.
+use Rattle.std.specs.Prelude.{◌≡◌, ◌⊎◌, ℕ, IsTrue, List, [], ◌∷◌, ◌++◌}
+use Rattle.silt_device.specs.Disk.{Content}
+use Rattle.silt_event.specs.Commands.{Command, WaitsAlone, WaitsBehind}
+use Rattle.silt_log.specs.State.{all_rows}
+use Rattle.silt_tiers.specs.declared.row_write.WriteError.{WriteError}
+use Rattle.silt_tiers.specs.declared.row_write.WriteError.TheVariants.{Read, Write, NoRoom, Spent, NoMemory}
+use Rattle.silt_tiers.specs.State.{TiersState}
+use Rattle.silt_tiers.specs.Standing.{base_map, waiting_commands}
+use Rattle.silt_tiers.specs.Calls.{HasNoFreeLog, Breaks, CannotTake, IsLastGeneration, Remaps}
+use Rattle.silt_tiers.specs.NextLog.{IsLowestFree, next_body}
+
+-- the active log cannot take a row of this key
+abbrev pub NeedsNext : Content → TiersState → List ℕ → Type 0
+NeedsNext content s key = IsTrue content.honest → CannotTake s.manifest.shape (all_rows content s.active.log) key
+
+-- the active log can take a row of this key
+abbrev pub HasPlace : Content → TiersState → List ℕ → Type 0
+HasPlace content s key = IsTrue content.honest → CannotTake s.manifest.shape (all_rows content s.active.log) key → ⊥
+
+-- the active log took a row of this key, under the same body
+pub record StaysFor (old new : Content) (before after : TiersState) (key : List ℕ) (command : Command) : Type 0 where
+  pub has_place : HasPlace old before key
+  pub ruling : after.manifest.ruling ≡ before.manifest.ruling
+  pub waits : IsTrue old.honest → WaitsBehind command (base_map old before) (base_map new after) (waiting_commands old before) (waiting_commands new after)
+
+-- the active log was frozen for a row of this key: the body that then rules is the next one, with the lowest free region
+pub record TurnsFor (old new : Content) (before after : TiersState) (key : List ℕ) (command : Command) : Type 0 where
+  pub needs : NeedsNext old before key
+  pub region : ℕ
+  pub lowest : IsLowestFree before.manifest.shape.logs before.manifest.ruling region
+  pub ruling : after.manifest.ruling ≡ next_body before.manifest.ruling region
+  pub waits : IsTrue old.honest → WaitsAlone command (base_map old before) (base_map new after) (waiting_commands old before) (waiting_commands new after)
+
+-- a row of this key, which does this command, was taken: by the log that was active or by the next one
+abbrev pub WritesKey : Content → Content → TiersState → TiersState → List ℕ → Command → Type 0
+WritesKey old new before after key command = StaysFor old new before after key command ⊎ TurnsFor old new before after key command
+
+module _ {D F : Type 0} (content : D → Content) (gave : D → F → Type 0) (counted : D → D → F → Type 0) (old new : D) (before after : TiersState) (key : List ℕ) where
+  -- nothing was changed
+  abbrev pub Unchanged : Type 0
+  Unchanged = (after ≡ before) × (new ≡ old)
+
+  -- why a row of this key was not taken, and what was changed
+  abbrev pub WriteCause : WriteError F → Type 0
+  WriteCause (Read fault) = Unchanged × gave old fault
+  WriteCause (Write fault) = counted old new fault × Breaks (content old) (content new) before × Remaps [] (content old) (content new) before after
+  WriteCause NoRoom = Unchanged × NeedsNext (content old) before key × HasNoFreeLog before
+  WriteCause Spent = Unchanged × NeedsNext (content old) before key × (HasNoFreeLog before → ⊥) × IsLastGeneration before
+  WriteCause NoMemory = Unchanged × NeedsNext (content old) before key × (HasNoFreeLog before → ⊥) × (IsLastGeneration before → ⊥)

@@ -1,0 +1,76 @@
+-- How the stores in memory stand on a disk.
+use Rattle.std.specs.Prelude.{◌≡◌, ℕ, IsTrue, List, ◌++◌, All, map, IfSome, None, Ok}
+use Rattle.silt_device.specs.Disk.{Content, LeavesOnly, size}
+use Rattle.silt_device.specs.Layout.{device_size}
+use Rattle.silt_hash_store.specs.Conversion.{HasWritten}
+use Rattle.silt_hash_store.specs.State.{IsHashStore}
+use Rattle.silt_event.specs.Commands.{Command, Map, map_after}
+use Rattle.silt_image.specs.Stores.{Stores, image_stores, stores_named}
+use Rattle.silt_image.specs.Meaning.{IsSound, rows_of, with_log_rows}
+use Rattle.silt_event.specs.Rows.{command_of, map_of_rows}
+use Rattle.silt_frame.specs.Rows.{put_count}
+use Rattle.silt_log.specs.Rows.{open_count}
+use Rattle.silt_log.specs.State.{IsLog, all_rows, waiting_rows}
+use Rattle.silt_log.specs.State as log
+use Rattle.silt_log_store.specs.State.{LogStoreState, IsIndexed}
+use Rattle.silt_manifest.specs.Standing.{Rules}
+use Rattle.silt_merge.specs.Merging.{HasMerged}
+use Rattle.silt_merge.specs.State.{MergeState, oldest_stores}
+use Rattle.silt_sorted_store.specs.Index.{HasIndex}
+use Rattle.silt_tiers.specs.State.{TiersState, AreWhole, oldest_log}
+
+-- ---- what they mean
+
+-- the stores that the disk shows, as the manifest in memory names them
+abbrev pub shown_stores : Content → TiersState → Stores
+shown_stores content s = stores_named s.manifest.shape s.manifest.ruling content.shown
+
+-- the map of the settled rows
+unfoldable pub base_map : Content → TiersState → Map
+base_map content s = map_of_rows (rows_of (shown_stores content s))
+
+-- the commands of the rows that wait, in order
+abbrev pub waiting_commands : Content → TiersState → List Command
+waiting_commands content s = map command_of (waiting_rows content s.active.log)
+
+-- the map from which lookups answer
+abbrev pub current_map : Content → TiersState → Map
+current_map content s = map_after (base_map content s) (waiting_commands content s)
+
+-- what is shown, with the gates of the waiting rows open
+abbrev pub full_image : Content → TiersState → List ℕ
+full_image content s = log.opened_image content s.active.log
+
+-- ---- how they stand
+
+-- a frozen log has the rows before the first closed gate, and their table
+pub record IsFrozen (content : Content) (store : LogStoreState) : Type 0 where
+  pub rows : IsTrue content.honest → store.log.used ≡ open_count store.log.shape store.log.region content.shown
+  pub indexed : IsIndexed content store
+
+-- the index is that of the sorted store's entries
+abbrev pub IsLocated : Content → TiersState → Type 0
+IsLocated content s = HasIndex content s.sorted s.index
+
+-- a merge has gathered and written what is due so far, of the oldest hash stores and the sorted store
+abbrev pub HasGathered : Content → TiersState → MergeState → Type 0
+HasGathered content s merge = HasMerged content (oldest_stores merge.stores s.hashes) s.sorted merge
+
+-- The stores fit their disk: whatever a stop leaves has the stores that are shown, and nothing is found in these, also once the
+-- waiting rows are settled. The tables, the tags and the index in memory are those of what is shown. A conversion and a merge have
+-- written what is due so far.
+pub record Stands (content : Content) (s : TiersState) : Type 0 where
+  pub has_size : size content ≡ device_size s.manifest.shape
+  pub whole : AreWhole s
+  pub idle : s.manifest.prepared ≡ None
+  pub rules : Rules s.manifest content
+  pub active : IsLog content s.active.log
+  pub indexed : IsIndexed content s.active
+  pub frozen : All (IsFrozen content) s.frozen
+  pub hashed : All (IsHashStore content) s.hashes
+  pub located : IsLocated content s
+  pub written : IfSome s.converting (HasWritten content (oldest_log s))
+  pub merged : IfSome s.merging (HasGathered content s)
+  pub named : LeavesOnly content (λ image. image_stores image ≡ Ok (shown_stores content s))
+  pub sound : IsTrue content.honest → IsSound (with_log_rows s.active.log.region (all_rows content s.active.log) (shown_stores content s))
+  pub counted : IsTrue content.honest → s.charge ≡ put_count (rows_of (shown_stores content s) ++ waiting_rows content s.active.log)

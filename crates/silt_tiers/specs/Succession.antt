@@ -1,0 +1,33 @@
+-- The manifest's next body: when it may rule, and what holds once it does.
+use Rattle.std.specs.Prelude.{◌≡◌, ◌⊎◌, true, IsTrue, None}
+use Rattle.silt_device.specs.Disk.{ChangesWithin, Content, LeavesOnly}
+use Rattle.silt_device.specs.Layout.{slot_at}
+use Rattle.silt_image.specs.Meaning.{IsSound, rows_of}
+use Rattle.silt_event.specs.Rows.{map_of_rows}
+use Rattle.silt_image.specs.Stores.{Stores, stores_named}
+use Rattle.silt_manifest.specs.Body.{is_well_formed}
+use Rattle.silt_manifest.specs.Standing.{IsNext, ManifestState, Rules, ruling_slot, spare_slot}
+use Rattle.silt_manifest.specs.declared.body.Body.{Body}
+use Rattle.silt_tiers.specs.State.{TiersState}
+use Rattle.silt_tiers.specs.Standing.{base_map}
+use Rattle.silt_tiers.specs.Calls.{IsQuiet}
+
+-- The body follows the one that rules, which is well formed. In whatever a stop leaves it names these stores: nothing is found in
+-- them, and their map is the base. No row waits, or the same log is active.
+pub record MayRule (content : Content) (s : TiersState) (body : Body) : Type 0 where
+  pub follows : is_well_formed s.manifest.shape (ruling_slot s.manifest) s.manifest.ruling ≡ true → IsNext s.manifest body
+  pub stores : Stores
+  pub has_shape : stores.shape ≡ s.manifest.shape
+  pub has_body : stores.body ≡ body
+  pub names : LeavesOnly content (λ image. stores_named s.manifest.shape body image ≡ stores)
+  pub sound : IsTrue content.honest → IsSound stores
+  pub same_map : IsTrue content.honest → map_of_rows (rows_of stores) ≡ base_map content s
+  pub waiting : IsQuiet content s ⊎ (body.active ≡ s.manifest.ruling.active)
+
+-- by this manifest the body rules in whatever a stop leaves, and but for its slot the disk is as it was
+pub record NowRules (old new : Content) (s : TiersState) (body : Body) (manifest : ManifestState) : Type 0 where
+  pub rules : Rules manifest new
+  pub has_shape : manifest.shape ≡ s.manifest.shape
+  pub has_body : manifest.ruling ≡ body
+  pub idle : manifest.prepared ≡ None
+  pub changes : ChangesWithin (slot_at (spare_slot s.manifest)) 4096 old new

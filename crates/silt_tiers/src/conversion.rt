@@ -1,0 +1,266 @@
+// The conversion of the oldest frozen log into a hash store, one slot a step.
+ghost use Rattle.std.specs.Prelude.{◌≡◌, ◌<◌, ◌*◌, ◌-◌, ◌^◌, [], length, false, true, None, IsSome, IsTrue, IfOk, IfErr, IfSome, IfNone, OnOk, OnErr, MatchResult};
+ghost use Rattle.silt_device.specs.Disk.{CountsFault, GaveAny, Rests};
+ghost use Rattle.silt_tiers.specs.Calls.{Advances, Breaks, Remaps, SameDisk};
+ghost use Rattle.silt_tiers.specs.Conversion.{AreAllHashesNamed, ConvertErrorCause, Converts, EndsConversion, Finishes, IsLowestFreeHash};
+ghost use Rattle.silt_tiers.specs.Conversion.{MayReplace, convert_turn, converted_body, is_work, oldest_replaced};
+ghost use Rattle.silt_event.specs.declared.progress.Progress.TheVariants.{Finished, Moved};
+ghost use Rattle.silt_tiers.specs.State.{AreWhole, names_hash};
+ghost use Rattle.silt_tiers.specs.Standing.{Stands, shown_stores};
+
+use crate::tiers::{LAST_GENERATION, Tiers};
+use silt_device::Disk;
+use silt_event::Progress;
+use silt_hash_store::{Conversion, StepError};
+use silt_manifest::{Body, Manifest};
+use std::alloc::Global;
+
+/// Why a step of conversion was not done.
+#[derive(Debug, Drop)]
+pub enum ConvertError<F> {
+    /// The manifest is to be written, and its last generation rules. Nothing was changed.
+    Spent,
+    /// The tags of the hash store or the bytes of a row find no memory. Nothing was changed.
+    NoMemory,
+    /// A read failed. Nothing was changed.
+    Read(F),
+    /// A write or a sync failed.
+    Write(F),
+}
+
+impl<F> From<StepError<F>> for ConvertError<F> {
+    ghost from_gives = { λ error converted. converted ≡ Rattle.silt_tiers.specs.Conversion.refusal_of_step error };
+
+    fn from(error: StepError<F>) -> Self {
+        match error {
+            StepError::Read(fault) => ConvertError::Read(fault),
+            StepError::Write(fault) => ConvertError::Write(fault),
+        }
+    }
+}
+
+// Whether a hash store of the body has this region.
+fn names_hash(body: &Body, region: u32) -> bool
+    ensures { result ≡ names_hash body.now region }
+{
+    body.hashed.as_slice().contains(&region)
+}
+
+// The lowest of so many hash regions that the body does not name.
+fn lowest_free_hash(hashes: u32, body: &Body) -> Option<u32>
+    ensures none { IfNone result (AreAllHashesNamed hashes body.now) }
+    ensures some { IfSome result (IsLowestFreeHash hashes body.now) }
+{
+    for region in 0..hashes {
+        if !names_hash(body, region) {
+            return Some(region);
+        }
+    }
+    None
+}
+
+// The body without the oldest frozen log, and with this hash region in front of the others.
+fn converted_body(body: &Body, region: u32) -> Body
+    requires frozen { 0 < length body.now.frozen }
+    requires hashed { length body.now.hashed < 16 }
+    requires unspent { body.now.generation < 2 ^ 63 - 1 }
+    ensures { result ≡ converted_body body.now region }
+{
+    let mut frozen = body.frozen;
+    frozen.truncate(body.frozen.len() - 1);
+    let mut hashed = body.hashed;
+    hashed.push_front(region);
+    Body {
+        generation: body.generation + 1,
+        frozen,
+        hashed,
+        ..*body
+    }
+}
+
+impl Tiers {
+    /// The progress that the next step of conversion makes, where nothing refuses it.
+    pub fn convert_turn(&self) -> Progress
+        ensures { result ≡ convert_turn self.now }
+    {
+        let geometry = self.manifest.geometry();
+        match &self.converting {
+            Some(conversion) if conversion.is_done() => Progress::Finished,
+            Some(_) => Progress::Moved,
+            None if self.frozen.is_empty() => Progress::Idle,
+            None if self.hashes.len() == geometry.hashes() as usize => Progress::Waiting,
+            None => Progress::Moved,
+        }
+    }
+
+    // Takes up the conversion of the oldest frozen log into the lowest hash region that is free, and writes its first slot.
+    fn begin_conversion<D: Disk>(
+        &mut self,
+        alloc: Global,
+        disk: &mut D,
+    ) -> Result<Progress, ConvertError<D::Fault>>
+        requires stands { Stands (D.content disk.old) self.old }
+        requires none { self.old.converting ≡ None }
+        ensures same { SameDisk (D.content disk.old) (D.content disk.new) }
+        ensures shape { self.new.manifest.shape ≡ self.old.manifest.shape }
+        ensures failures { OnOk result (D.failures disk.new ≡ D.failures disk.old) }
+        ensures ok { OnOk result (Advances [] (D.content disk.old) (D.content disk.new) self.old self.new) }
+        ensures map { OnOk result (Remaps [] (D.content disk.old) (D.content disk.new) self.old self.new) }
+        ensures converts { IfOk result (λ progress. Converts progress self.old self.new) }
+        ensures quiet { IfOk result (λ progress. is_work progress ≡ false → disk.new ≡ disk.old) }
+        ensures err { IfErr result (ConvertErrorCause D.content (GaveAny D.gave) (CountsFault D.failures D.gave) disk.old disk.new self.old self.new) }
+    {
+        let Some(oldest) = self.frozen.last() else {
+            return Ok(Progress::Idle);
+        };
+        let geometry = self.manifest.geometry();
+        let Some(region) = lowest_free_hash(geometry.hashes(), &self.manifest.ruling()) else {
+            return Ok(Progress::Waiting);
+        };
+        let Ok(mut conversion) = Conversion::start(alloc, oldest, region) else {
+            return Err(ConvertError::NoMemory);
+        };
+        conversion.step(oldest, disk)?;
+        self.converting = Some(conversion);
+        Ok(Progress::Moved)
+    }
+
+    // Writes the next slot, from the oldest log.
+    fn step_conversion<D: Disk>(&mut self, disk: &mut D) -> Result<Progress, ConvertError<D::Fault>>
+        requires stands { Stands (D.content disk.old) self.old }
+        requires some { IsSome self.old.converting }
+        requires turn { convert_turn self.old ≡ Moved }
+        ensures same { SameDisk (D.content disk.old) (D.content disk.new) }
+        ensures shape { self.new.manifest.shape ≡ self.old.manifest.shape }
+        ensures failures { OnOk result (D.failures disk.new ≡ D.failures disk.old) }
+        ensures ok { OnOk result (Advances [] (D.content disk.old) (D.content disk.new) self.old self.new) }
+        ensures map { OnOk result (Remaps [] (D.content disk.old) (D.content disk.new) self.old self.new) }
+        ensures converts { IfOk result (λ progress. Converts progress self.old self.new) }
+        ensures err { IfErr result (ConvertErrorCause D.content (GaveAny D.gave) (CountsFault D.failures D.gave) disk.old disk.new self.old self.new) }
+    {
+        let Some(conversion) = &mut self.converting else {
+            unreachable!()
+        };
+        let Some(log) = self.frozen.last() else {
+            unreachable!()
+        };
+        conversion.step(log, disk)?;
+        Ok(Progress::Moved)
+    }
+
+    // Syncs what a conversion or a merge has written, so that whatever a stop leaves has it.
+    pub(crate) fn settle_work<D: Disk>(&self, disk: &mut D) -> Result<(), D::Fault>
+        requires stands { Stands (D.content disk.old) self.now }
+        ensures same { SameDisk (D.content disk.old) (D.content disk.new) }
+        ensures failures { MatchResult result (λ _. D.failures disk.new ≡ D.failures disk.old) (CountsFault D.failures D.gave disk.old disk.new) }
+        ensures ok { OnOk result (Advances [] (D.content disk.old) (D.content disk.new) self.now self.now) }
+        ensures map { Remaps [] (D.content disk.old) (D.content disk.new) self.now self.now }
+        ensures rests { OnOk result (Rests (D.content disk.new)) }
+        ensures stores { OnOk result (IsTrue (D.content disk.old).honest → shown_stores (D.content disk.new) self.now ≡ shown_stores (D.content disk.old) self.now) }
+        ensures err { OnErr result (Breaks (D.content disk.old) (D.content disk.new) self.now) }
+    {
+        disk.sync()?;
+        Ok(())
+    }
+
+    // Takes a manifest that names the hash store of the conversion, which then stands in front of the others in place of the oldest
+    // log. The puts that went away no longer count.
+    fn replace_oldest(&mut self, manifest: Manifest)
+        requires { MayReplace self.old manifest }
+        ensures replaced { IfSome self.old.converting (λ conversion. self.new ≡ oldest_replaced self.old manifest conversion) }
+        ensures whole { AreWhole self.new }
+    {
+        let Some(conversion) = self.converting.take() else {
+            unreachable!()
+        };
+        let Some(oldest) = self.frozen.pop() else {
+            unreachable!()
+        };
+        let dropped = oldest.puts().saturating_sub(conversion.puts()); // no more than there are, on an honest disk
+        self.charge = self.charge.saturating_sub(dropped);
+        let Ok(()) = self.hashes.insert(0, conversion.into_store()) else {
+            unreachable!()
+        };
+        self.manifest = manifest;
+    }
+
+    // Ends the conversion, all of whose slots are written: syncs them, and then has the manifest name the hash store.
+    fn end_conversion<D: Disk>(&mut self, disk: &mut D, body: &Body) -> Result<(), D::Fault>
+        requires stands { Stands (D.content disk.old) self.old }
+        requires ends { EndsConversion self.old body.now }
+        ensures same { SameDisk (D.content disk.old) (D.content disk.new) }
+        ensures failures { MatchResult result (λ _. D.failures disk.new ≡ D.failures disk.old) (CountsFault D.failures D.gave disk.old disk.new) }
+        ensures ok { OnOk result (Advances [] (D.content disk.old) (D.content disk.new) self.old self.new) }
+        ensures map { Remaps [] (D.content disk.old) (D.content disk.new) self.old self.new }
+        ensures finishes { OnOk result (Finishes self.old self.new) }
+        ensures shape { self.new.manifest.shape ≡ self.old.manifest.shape }
+        ensures err { OnErr result (Breaks (D.content disk.old) (D.content disk.new) self.old) }
+    {
+        self.settle_work(disk)?;
+        let manifest = self.change_manifest(disk, body)?;
+        self.replace_oldest(manifest);
+        Ok(())
+    }
+
+    // Finishes the conversion, all of whose slots are written, where the manifest has a generation left.
+    fn finish_conversion<D: Disk>(
+        &mut self,
+        disk: &mut D,
+    ) -> Result<Progress, ConvertError<D::Fault>>
+        requires stands { Stands (D.content disk.old) self.old }
+        requires turn { convert_turn self.old ≡ Finished }
+        ensures same { SameDisk (D.content disk.old) (D.content disk.new) }
+        ensures shape { self.new.manifest.shape ≡ self.old.manifest.shape }
+        ensures failures { OnOk result (D.failures disk.new ≡ D.failures disk.old) }
+        ensures ok { OnOk result (Advances [] (D.content disk.old) (D.content disk.new) self.old self.new) }
+        ensures map { OnOk result (Remaps [] (D.content disk.old) (D.content disk.new) self.old self.new) }
+        ensures converts { IfOk result (λ progress. Converts progress self.old self.new) }
+        ensures err { IfErr result (ConvertErrorCause D.content (GaveAny D.gave) (CountsFault D.failures D.gave) disk.old disk.new self.old self.new) }
+    {
+        let ruling = self.manifest.ruling();
+        if ruling.generation == LAST_GENERATION {
+            return Err(ConvertError::Spent);
+        }
+        let Some(conversion) = &self.converting else {
+            unreachable!()
+        };
+        let _limits = self.manifest.geometry().hashes(); // so that the body has room for one hash store more
+        let body = converted_body(&ruling, conversion.region());
+        match self.end_conversion(disk, &body) {
+            Ok(()) => Ok(Progress::Finished),
+            Err(fault) => Err(ConvertError::Write(fault)),
+        }
+    }
+
+    /// One step of conversion: where none is under way, and there are a frozen log and a free hash region, the conversion of the oldest
+    /// log into the lowest such region begins. Each step writes one slot. The step after the last slot syncs the slots and writes the
+    /// manifest's next body, which names the hash store in front of the others and the log no longer.
+    ///
+    /// # Errors
+    ///
+    /// `Spent` before anything else, where the manifest is to be written; then `NoMemory`, where a conversion begins; `Read`, and then
+    /// nothing was changed; `Write` with the fault of a write or of a sync.
+    pub fn convert<D: Disk>(
+        &mut self,
+        alloc: Global,
+        disk: &mut D,
+    ) -> Result<Progress, ConvertError<D::Fault>>
+        requires stands { Stands (D.content disk.old) self.old }
+        ensures same { SameDisk (D.content disk.old) (D.content disk.new) }
+        ensures shape { self.new.manifest.shape ≡ self.old.manifest.shape }
+        ensures failures { OnOk result (D.failures disk.new ≡ D.failures disk.old) }
+        ensures ok { OnOk result (Advances [] (D.content disk.old) (D.content disk.new) self.old self.new) }
+        ensures map { OnOk result (Remaps [] (D.content disk.old) (D.content disk.new) self.old self.new) }
+        ensures converts { IfOk result (λ progress. Converts progress self.old self.new) }
+        ensures quiet { IfOk result (λ progress. is_work progress ≡ false → disk.new ≡ disk.old) }
+        ensures err { IfErr result (ConvertErrorCause D.content (GaveAny D.gave) (CountsFault D.failures D.gave) disk.old disk.new self.old self.new) }
+    {
+        let Some(conversion) = &self.converting else {
+            return self.begin_conversion(alloc, disk);
+        };
+        if conversion.is_done() {
+            return self.finish_conversion(disk);
+        }
+        self.step_conversion(disk)
+    }
+}

@@ -1,0 +1,41 @@
+//! The stores of a device as they are held in memory: the manifest, the active log, the frozen logs behind it, the hash stores
+//! behind these, the sorted store with the index of its entries, a conversion and a merge under way, and the charge.
+//!
+//! A put or a delete is a row behind the rows of the **active log**. It waits there, behind a closed gate, until a flush settles it.
+//! A log that cannot take a further row is **frozen**: what waits in it is settled, a log with no rows in a region that was free
+//! takes its place, and the manifest's next body names that one first. So no row moves, and no gate that rules is ever closed.
+//!
+//! The oldest frozen log is **converted** into a hash store, one slot a step, in a hash region that the manifest does not name. The
+//! last step syncs the slots, and then writes the manifest's next body, which names the hash store in front of the others and the log
+//! no longer.
+//!
+//! All hash stores and the sorted store are **merged** into the sorted region that the manifest does not name, one slot or one key a
+//! step. The last step makes the index of the new entries in memory, syncs the entries, and then writes the manifest's next body, which
+//! names the new sorted store and the merged hash stores no longer; one that a conversion finished meanwhile stays in front. Work under
+//! way is lost by a stop and begun anew, and no answer depends on it.
+//!
+//! A lookup goes through the active log, the frozen ones and the hash stores, each the newest first, and then the sorted store, whose
+//! index names the one entry that is read. The first row of the key that it finds decides: a delete ends it as well as a put.
+//!
+//! Each call that writes says what a stop may leave of the device at each of its exits: an image that stands for the map of the
+//! settled rows, after a beginning of those that waited.
+#![tactic(auto)]
+
+mod conversion;
+mod entries;
+mod laws;
+mod location;
+mod lookup;
+mod merge;
+mod next_log;
+mod row_write;
+mod tiers;
+
+pub use crate::tiers::Tiers;
+pub use conversion::ConvertError;
+pub use entries::EntriesError;
+pub use laws::{converts_law, merges_law, standing_law};
+pub use location::Location;
+pub use merge::MergeError;
+pub use next_log::{NextLog, NoNextLog};
+pub use row_write::WriteError;

@@ -1,0 +1,255 @@
+// The merge of the hash stores and the sorted store into a new sorted store, one slot or one key a step.
+ghost use Rattle.std.specs.Prelude.{◌≡◌, ◌<◌, ◌≤◌, ◌-◌, ◌^◌, [], length, false, true, None, IsSome, IsTrue, IfOk, IfErr, IfSome, OnOk, OnErr, MatchResult};
+ghost use Rattle.silt_device.specs.Disk.{CountsFault, GaveAny, Rests};
+ghost use Rattle.silt_event.specs.declared.progress.Progress.TheVariants.{Finished, Moved};
+ghost use Rattle.silt_tiers.specs.Calls.{Advances, Breaks, Remaps, SameDisk};
+ghost use Rattle.silt_tiers.specs.Conversion.{is_work};
+ghost use Rattle.silt_tiers.specs.Merge.{EndsMerge, EndsMerged, HasMergedEntries, MayStandFor, MergeErrorCause, Merges, merge_turn, merged_body, puts_in, sorted_replaced};
+ghost use Rattle.silt_tiers.specs.State.{AreWhole};
+ghost use Rattle.silt_tiers.specs.Standing.{Stands};
+
+use crate::tiers::{LAST_GENERATION, Tiers};
+use silt_device::Disk;
+use silt_event::Progress;
+use silt_hash_store::HashStore;
+use silt_manifest::{Body, Manifest};
+use silt_merge::{Merge, StepError};
+use silt_sorted_store::SortedStore;
+use std::alloc::Global;
+
+/// Why a step of merging was not done.
+#[derive(Debug, Drop)]
+pub enum MergeError<F> {
+    /// The manifest is to be written, and its last generation rules. Nothing was changed.
+    Spent,
+    /// A row that is to wait for its key finds no memory, or what the merge or the new sorted store keeps. Nothing was changed.
+    NoMemory,
+    /// A read failed. Nothing was changed.
+    Read(F),
+    /// A write or a sync failed.
+    Write(F),
+}
+
+impl<F> From<StepError<F>> for MergeError<F> {
+    ghost from_gives = { λ error merged. merged ≡ Rattle.silt_tiers.specs.Merge.refusal_of_step error };
+
+    fn from(error: StepError<F>) -> Self {
+        match error {
+            StepError::NoMemory => MergeError::NoMemory,
+            StepError::Read(fault) => MergeError::Read(fault),
+            StepError::Write(fault) => MergeError::Write(fault),
+        }
+    }
+}
+
+// The body without so many of the oldest hash stores, and with so many entries in this sorted region.
+fn merged_body(body: &Body, count: usize, region: u32, written: u32) -> Body
+    requires count { count ≤ length body.now.hashed }
+    requires unspent { body.now.generation < 2 ^ 63 - 1 }
+    ensures { result ≡ merged_body body.now count region written }
+{
+    let mut hashed = body.hashed;
+    hashed.truncate(body.hashed.len() - count);
+    Body {
+        generation: body.generation + 1,
+        hashed,
+        sorted: region,
+        sorted_count: written,
+        ..*body
+    }
+}
+
+// A charge without the puts of these hash stores.
+fn without_puts(charge: u32, stores: &[HashStore]) -> u32
+    ensures { result ≡ charge - puts_in stores.now }
+{
+    let mut left = charge;
+    for store in stores {
+        left = left.saturating_sub(store.puts());
+    }
+    left
+}
+
+impl Tiers {
+    /// The progress that the next step of merging makes, where nothing refuses it.
+    pub fn merge_turn(&self) -> Progress
+        ensures { result ≡ merge_turn self.now }
+    {
+        match &self.merging {
+            Some(merge) if merge.is_done(self.sorted.entries()) => Progress::Finished,
+            Some(_) => Progress::Moved,
+            None if self.hashes.is_empty() => Progress::Idle,
+            None => Progress::Moved,
+        }
+    }
+
+    // Takes up the merge of all hash stores and the sorted store into the other sorted region, and does its first step.
+    fn begin_merge<D: Disk>(
+        &mut self,
+        alloc: Global,
+        disk: &mut D,
+    ) -> Result<Progress, MergeError<D::Fault>>
+        requires stands { Stands (D.content disk.old) self.old }
+        requires none { self.old.merging ≡ None }
+        ensures same { SameDisk (D.content disk.old) (D.content disk.new) }
+        ensures shape { self.new.manifest.shape ≡ self.old.manifest.shape }
+        ensures failures { OnOk result (D.failures disk.new ≡ D.failures disk.old) }
+        ensures ok { OnOk result (Advances [] (D.content disk.old) (D.content disk.new) self.old self.new) }
+        ensures map { OnOk result (Remaps [] (D.content disk.old) (D.content disk.new) self.old self.new) }
+        ensures merges { IfOk result (λ progress. Merges progress self.old self.new) }
+        ensures moves { IfOk result (λ progress. progress ≡ Finished → ⊥) }
+        ensures quiet { IfOk result (λ progress. is_work progress ≡ false → disk.new ≡ disk.old) }
+        ensures err { IfErr result (MergeErrorCause D.content (GaveAny D.gave) (CountsFault D.failures D.gave) disk.old disk.new self.old self.new) }
+    {
+        if self.hashes.is_empty() {
+            return Ok(Progress::Idle);
+        }
+        let _sound = self.manifest.ruling(); // so there are no more hash stores than regions
+        let _limits = self.manifest.geometry().hashes();
+        let region = 1 - self.sorted.region();
+        let sorted = self.sorted.entries();
+        let Ok(mut merge) = Merge::start(alloc, &self.hashes, sorted, region) else {
+            return Err(MergeError::NoMemory);
+        };
+        merge.step(&self.hashes, sorted, disk)?;
+        self.merging = Some(merge);
+        Ok(Progress::Moved)
+    }
+
+    // Gathers the next slot, or decides the next key.
+    fn step_merge<D: Disk>(&mut self, disk: &mut D) -> Result<Progress, MergeError<D::Fault>>
+        requires stands { Stands (D.content disk.old) self.old }
+        requires some { IsSome self.old.merging }
+        requires turn { merge_turn self.old ≡ Moved }
+        ensures same { SameDisk (D.content disk.old) (D.content disk.new) }
+        ensures shape { self.new.manifest.shape ≡ self.old.manifest.shape }
+        ensures failures { OnOk result (D.failures disk.new ≡ D.failures disk.old) }
+        ensures ok { OnOk result (Advances [] (D.content disk.old) (D.content disk.new) self.old self.new) }
+        ensures map { OnOk result (Remaps [] (D.content disk.old) (D.content disk.new) self.old self.new) }
+        ensures merges { IfOk result (λ progress. Merges progress self.old self.new) }
+        ensures moves { IfOk result (λ progress. progress ≡ Moved) }
+        ensures err { IfErr result (MergeErrorCause D.content (GaveAny D.gave) (CountsFault D.failures D.gave) disk.old disk.new self.old self.new) }
+    {
+        let Some(merge) = &mut self.merging else {
+            unreachable!()
+        };
+        merge.step(&self.hashes, self.sorted.entries(), disk)?;
+        Ok(Progress::Moved)
+    }
+
+    // Takes a manifest that names the sorted store of the merge, which then stands in place of the one that was and of the hash stores
+    // that were merged. Its entries count, and their puts no longer do.
+    fn replace_sorted(&mut self, manifest: Manifest, sorted: SortedStore)
+        requires { MayStandFor self.old manifest sorted }
+        ensures replaced { IfSome self.old.merging (λ merge. self.new ≡ sorted_replaced self.old manifest merge.stores sorted) }
+        ensures whole { AreWhole self.new }
+    {
+        let Some(merge) = self.merging.take() else {
+            unreachable!()
+        };
+        let newer = self.hashes.len() - merge.stores() as usize;
+        let left = without_puts(self.charge, &self.hashes[newer..]).saturating_sub(
+            self.sorted.len(),
+        );
+        let gone = self.charge - left;
+        self.charge -= gone.saturating_sub(sorted.len()); // no more than went away, on an honest disk
+        self.hashes.truncate(newer);
+        self.sorted = sorted;
+        self.manifest = manifest;
+    }
+
+    // Ends the merge, all of whose keys are decided: syncs the entries, and then has the manifest name the new sorted store.
+    fn end_merge<D: Disk>(
+        &mut self,
+        disk: &mut D,
+        body: &Body,
+        sorted: SortedStore,
+    ) -> Result<(), D::Fault>
+        requires stands { Stands (D.content disk.old) self.old }
+        requires ends { EndsMerge self.old body.now sorted }
+        ensures same { SameDisk (D.content disk.old) (D.content disk.new) }
+        ensures failures { MatchResult result (λ _. D.failures disk.new ≡ D.failures disk.old) (CountsFault D.failures D.gave disk.old disk.new) }
+        ensures ok { OnOk result (Advances [] (D.content disk.old) (D.content disk.new) self.old self.new) }
+        ensures map { Remaps [] (D.content disk.old) (D.content disk.new) self.old self.new }
+        ensures ends { OnOk result (EndsMerged self.old self.new) }
+        ensures entries { OnOk result (IsTrue (D.content disk.old).honest → HasMergedEntries (D.content disk.old) (D.content disk.new) self.old self.new) }
+        ensures shape { self.new.manifest.shape ≡ self.old.manifest.shape }
+        ensures err { OnErr result (Breaks (D.content disk.old) (D.content disk.new) self.old) }
+    {
+        self.settle_work(disk)?;
+        let manifest = self.change_manifest(disk, body)?;
+        self.replace_sorted(manifest, sorted);
+        Ok(())
+    }
+
+    // Finishes the merge, all of whose keys are decided, where the manifest has a generation left: the index of the new entries is made
+    // first, so that want of memory leaves the merge as it was.
+    fn finish_merge<D: Disk>(
+        &mut self,
+        alloc: Global,
+        disk: &mut D,
+    ) -> Result<Progress, MergeError<D::Fault>>
+        requires stands { Stands (D.content disk.old) self.old }
+        requires turn { merge_turn self.old ≡ Finished }
+        ensures same { SameDisk (D.content disk.old) (D.content disk.new) }
+        ensures shape { self.new.manifest.shape ≡ self.old.manifest.shape }
+        ensures failures { OnOk result (D.failures disk.new ≡ D.failures disk.old) }
+        ensures ok { OnOk result (Advances [] (D.content disk.old) (D.content disk.new) self.old self.new) }
+        ensures map { OnOk result (Remaps [] (D.content disk.old) (D.content disk.new) self.old self.new) }
+        ensures merges { IfOk result (λ progress. Merges progress self.old self.new) }
+        ensures entries { OnOk result (IsTrue (D.content disk.old).honest → HasMergedEntries (D.content disk.old) (D.content disk.new) self.old self.new) }
+        ensures finishes { IfOk result (λ progress. progress ≡ Finished) }
+        ensures err { IfErr result (MergeErrorCause D.content (GaveAny D.gave) (CountsFault D.failures D.gave) disk.old disk.new self.old self.new) }
+    {
+        let ruling = self.manifest.ruling();
+        if ruling.generation == LAST_GENERATION {
+            return Err(MergeError::Spent);
+        }
+        let Some(merge) = &self.merging else {
+            unreachable!()
+        };
+        let Ok(sorted) = merge.finish(alloc) else {
+            return Err(MergeError::NoMemory);
+        };
+        let count = merge.stores() as usize;
+        let body = merged_body(&ruling, count, sorted.region(), sorted.len());
+        match self.end_merge(disk, &body, sorted) {
+            Ok(()) => Ok(Progress::Finished),
+            Err(fault) => Err(MergeError::Write(fault)),
+        }
+    }
+
+    /// One step of merging: where none is under way, and there are hash stores, the merge of all of them and of the sorted store into
+    /// the other sorted region begins. A step gathers one slot of a hash store, or decides one key. The step after the last key syncs
+    /// the entries and writes the manifest's next body, which names the new sorted store, and the merged hash stores no longer. A hash
+    /// store that came meanwhile stays in front.
+    ///
+    /// # Errors
+    ///
+    /// `Spent` before anything else, where the manifest is to be written; `Read` and `NoMemory`, and then nothing was changed; `Write`
+    /// with the fault of a write or of a sync.
+    pub fn merge<D: Disk>(
+        &mut self,
+        alloc: Global,
+        disk: &mut D,
+    ) -> Result<Progress, MergeError<D::Fault>>
+        requires stands { Stands (D.content disk.old) self.old }
+        ensures same { SameDisk (D.content disk.old) (D.content disk.new) }
+        ensures shape { self.new.manifest.shape ≡ self.old.manifest.shape }
+        ensures failures { OnOk result (D.failures disk.new ≡ D.failures disk.old) }
+        ensures ok { OnOk result (Advances [] (D.content disk.old) (D.content disk.new) self.old self.new) }
+        ensures map { OnOk result (Remaps [] (D.content disk.old) (D.content disk.new) self.old self.new) }
+        ensures merges { IfOk result (λ progress. Merges progress self.old self.new) }
+        ensures entries { IfOk result (λ progress. progress ≡ Finished → IsTrue (D.content disk.old).honest → HasMergedEntries (D.content disk.old) (D.content disk.new) self.old self.new) }
+        ensures quiet { IfOk result (λ progress. is_work progress ≡ false → disk.new ≡ disk.old) }
+        ensures err { IfErr result (MergeErrorCause D.content (GaveAny D.gave) (CountsFault D.failures D.gave) disk.old disk.new self.old self.new) }
+    {
+        let Some(merge) = &self.merging else {
+            return self.begin_merge(alloc, disk);
+        };
+        if merge.is_done(self.sorted.entries()) {
+            return self.finish_merge(alloc, disk);
+        }
+        self.step_merge(disk)
+    }
+}
