@@ -6,7 +6,7 @@ use Rattle.std.proofs.lemmas.List.FromFn.{length-map-range_with_len, get_or-map-
 use Rattle.std.proofs.lemmas.List.Edits.{length-between, get_or-between}
 use Rattle.std.proofs.lemmas.Bool.{cases_lt, cases_Bool, cond-true, cond-false}
 use Rattle.std.proofs.lemmas.Bool.Decides.{nat_tests}
-use Rattle.silt_device.specs.Disk.{Content, Torn, Left, LeavesOnly, Shows, Tears, Writes, Settles, Stays, Rests, Restarts, ChangesWithin, LiesOutside, size, splice, within}
+use Rattle.silt_device.specs.Disk.{Content, Torn, Left, LeavesOnly, Shows, Tears, Writes, Settles, Stays, Rests, Restarts, ChangesWithin, size, splice, within}
 
 -- ---- one image
 
@@ -31,14 +31,6 @@ torn_slice_after at count old new torn from to above fits =
     (λ place inside.
     let near : from + place < to = omega (arith, inside, length-between new from to in_new) in
     get_or-between new from to place 0 near ∙ torn.after (from + place) (omega arith) ∙ sym (get_or-between old from to place 0 near))
-
--- a range that a torn one lies outside of has its bytes
-pub torn_outside : (start len at count : ℕ) (old new : List ℕ) → LiesOutside start len at count → start + len ≤ length old → Torn at count old new
-    → slice_range new start (start + len) ≡ slice_range old start (start + len)
-torn_outside start len at count old new outside fits torn = elim outside [
-  | inl before ↦ torn_slice_after at count old new torn start (start + len) before fits
-  | inr behind ↦ torn_slice_before at count old new torn start (start + len) behind fits
-]
 
 -- a write that is done
 pub length-splice : (at : ℕ) (bytes image : List ℕ) → at + length bytes ≤ length image → length (splice at bytes image) ≡ length image

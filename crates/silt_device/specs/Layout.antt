@@ -1,5 +1,6 @@
 -- The layout of a device: where each region begins, and how long the device is.
-use Rattle.std.specs.Prelude.{◌≡◌, ℕ, ◌+◌, ◌*◌, ◌/◌, ◌<◌, ◌≤◌, Bool, ◌||◌, ◌==◌, IsTrue}
+use Rattle.std.specs.Prelude.{◌≡◌, ℕ, ◌+◌, ◌-◌, ◌*◌, ◌/◌, ◌<◌, ◌≤◌, Bool, ◌||◌, ◌==◌, IsTrue}
+use Rattle.silt_frame.specs.Frame.{head_len, key_len}
 
 -- the six numbers
 pub record Shape : Type 0 where
@@ -10,9 +11,25 @@ pub record Shape : Type 0 where
   pub hashes : ℕ
   pub sorted_capacity : ℕ
 
+-- the length of a sector: each part of a device begins with one, and the header and each manifest slot are one
+abbrev pub sector : ℕ
+sector = 4096
+
+-- where the log regions begin, behind the header and the two manifest slots
+abbrev pub regions_at : ℕ
+regions_at = 12288
+
+-- the most bytes of a value
+abbrev pub most_value_len : ℕ
+most_value_len = 4096
+
+-- the most entries of a sorted region
+abbrev pub most_sorted_capacity : ℕ
+most_sorted_capacity = 16777216
+
 -- n rounded up to whole sectors
 abbrev pub up : ℕ → ℕ
-up n = (n + 4095) / 4096 * 4096
+up n = (n + (sector - 1)) / sector * sector
 
 -- a power of two from 2 to 32,768
 abbrev pub is_bucket_count : ℕ → Bool
@@ -23,7 +40,7 @@ is_bucket_count n =
 -- each of the six numbers lies within its limits
 pub record InLimits (shape : Shape) : Type 0 where
   pub value_len_least : 1 ≤ shape.value_len
-  pub value_len_most : shape.value_len ≤ 4096
+  pub value_len_most : shape.value_len ≤ most_value_len
   pub buckets : IsTrue (is_bucket_count shape.buckets)
   pub log_capacity_least : 1 ≤ shape.log_capacity
   pub log_capacity_most : shape.log_capacity ≤ 4 * shape.buckets
@@ -32,35 +49,35 @@ pub record InLimits (shape : Shape) : Type 0 where
   pub hashes_least : 1 ≤ shape.hashes
   pub hashes_most : shape.hashes ≤ 16
   pub sorted_capacity_least : 1 ≤ shape.sorted_capacity
-  pub sorted_capacity_most : shape.sorted_capacity ≤ 16777216
+  pub sorted_capacity_most : shape.sorted_capacity ≤ most_sorted_capacity
 
 -- the length of a row on the device: kind, key and value
 abbrev pub row_len : Shape → ℕ
-row_len s = 21 + s.value_len
+row_len s = head_len + s.value_len
 
 -- the length of a sorted entry on the device: key and value
 abbrev pub entry_len : Shape → ℕ
-entry_len s = 20 + s.value_len
+entry_len s = key_len + s.value_len
 
 -- where a manifest slot begins, after the header's sector
 abbrev pub slot_at : ℕ → ℕ
-slot_at slot = 4096 + 4096 * slot
+slot_at slot = sector + sector * slot
 
 -- the length of a log region: a gate for each row, then from the next sector on the rows' bodies
 abbrev pub log_size : Shape → ℕ
-log_size s = up s.log_capacity + up (s.log_capacity * (21 + s.value_len))
+log_size s = up s.log_capacity + up (s.log_capacity * row_len s)
 
 -- the length of a hash region: four rows a bucket
 abbrev pub hash_size : Shape → ℕ
-hash_size s = up (4 * s.buckets * (21 + s.value_len))
+hash_size s = up (4 * s.buckets * row_len s)
 
 -- the length of a sorted region
 abbrev pub sorted_size : Shape → ℕ
-sorted_size s = up (s.sorted_capacity * (20 + s.value_len))
+sorted_size s = up (s.sorted_capacity * entry_len s)
 
 -- where the gates of a log region begin
 abbrev pub gates_at : Shape → ℕ → ℕ
-gates_at s region = 12288 + region * log_size s
+gates_at s region = regions_at + region * log_size s
 
 -- where the bodies of a log region begin
 abbrev pub bodies_at : Shape → ℕ → ℕ
@@ -80,11 +97,11 @@ entries_len s = s.sorted_capacity * entry_len s
 
 -- where a hash region begins
 abbrev pub hash_at : Shape → ℕ → ℕ
-hash_at s region = 12288 + s.logs * log_size s + region * hash_size s
+hash_at s region = regions_at + s.logs * log_size s + region * hash_size s
 
 -- where a sorted region begins
 abbrev pub sorted_at : Shape → ℕ → ℕ
-sorted_at s region = 12288 + s.logs * log_size s + s.hashes * hash_size s + region * sorted_size s
+sorted_at s region = regions_at + s.logs * log_size s + s.hashes * hash_size s + region * sorted_size s
 
 -- the length of the device: the end of its last region
 abbrev pub device_size : Shape → ℕ
@@ -93,9 +110,9 @@ device_size s = sorted_at s 2
 -- The regions lie apart and within the device: each part ends before or where the next one begins, and the last one where the
 -- device ends. `later` is the number of a later region of the same kind, or the count of the regions.
 pub record RegionsApart (s : Shape) : Type 0 where
-  pub header : 4096 ≤ slot_at 0
-  pub slots : slot_at 0 + 4096 ≤ slot_at 1
-  pub manifests : (region : ℕ) → slot_at 1 + 4096 ≤ gates_at s region
+  pub header : sector ≤ slot_at 0
+  pub slots : slot_at 0 + sector ≤ slot_at 1
+  pub manifests : (region : ℕ) → slot_at 1 + sector ≤ gates_at s region
   pub gates : (region : ℕ) → gates_at s region + s.log_capacity ≤ bodies_at s region
   pub bodies : (region later : ℕ) → region < later → bodies_at s region + s.log_capacity * row_len s ≤ gates_at s later
   pub logs : (region : ℕ) → gates_at s s.logs ≤ hash_at s region

@@ -12,7 +12,7 @@ memory_content disk = record {
   honest = true;
   shown = disk.shown.items;
   settled = disk.settled.items;
-  pending = λ place. get_or disk.pending.items place false;
+  pending = λ place. get_or disk.pending place false;
   sizes = disk.sizes;
   agrees = disk.agrees;
 }
@@ -30,4 +30,4 @@ pub record IsFresh (bytes : List ℕ) (disk : MemDisk) : Type 0 where
 
 -- this image has, at each place that is pending on the disk, what the fill of its life leaves there
 pub record IsFilled (disk : MemDisk) (image : List ℕ) : Type 0 where
-  pub place : (place : ℕ) → get_or disk.pending.items place false ≡ true → get_or image place 0 ≡ filled disk.lives.life.fill place (get_or disk.shown.items place 0) (get_or disk.settled.items place 0)
+  pub place : (place : ℕ) → get_or disk.pending place false ≡ true → get_or image place 0 ≡ filled disk.lives.life.fill place (get_or disk.shown.items place 0) (get_or disk.settled.items place 0)

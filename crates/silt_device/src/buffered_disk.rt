@@ -58,10 +58,11 @@ impl<F: Error> Error for BufferFault<F> {}
 
 /// A disk that buffers adjacent writes, and gives them to another disk by one write.
 ///
-/// A write that continues the bytes that were buffered, and finds room, is buffered too. Before any other write, and before a sync, they
-/// are written to the inner disk. A write that finds no room at all goes there by itself. A read shows the buffered bytes over the inner disk's, and asks that one for nothing where they are all that is
-/// wanted. Where they cannot be written they stay buffered, so that what is shown stays, and the call is told the fault. The
-/// bytes of a write that is told so are given to the inner disk all the same, so that their range is pending there.
+/// A write that continues the bytes that were buffered, and finds room, is buffered too. Before any other write, and before a sync,
+/// they are written to the inner disk. A write that finds no room at all goes there by itself. A read shows the buffered bytes over
+/// the inner disk's, and asks that one for nothing where they are all that is wanted. Where they cannot be written they stay
+/// buffered, so that what is shown stays, and the call is told the fault. The bytes of a write that is told so are given to the
+/// inner disk all the same, so that their range is pending there.
 ///
 /// It is proved that this is a disk as good as the inner one: what is shown, what a stop may leave, and what is counted follow from
 /// the inner disk's contract alone, honest or not.

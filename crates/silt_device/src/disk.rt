@@ -2,7 +2,7 @@
 ghost use Rattle.std.specs.Prelude.{◌≡◌, ◌+◌, ◌%◌, ◌^◌, ◌≤◌, ◌⊎◌, ℕ, length, slice_range, IfErr, OnOk, OnErr, MatchResult, IsTrue};
 ghost use Rattle.silt_device.specs.declared.disk.Call.{Call};
 ghost use Rattle.silt_device.specs.declared.disk.Call.TheVariants.{Read, Write, Sync};
-ghost use Rattle.silt_device.specs.Disk.{Content, Tears, Writes, Settles, Stays, Rests, Restarts, ChangesWithin, OutsideLaw, size};
+ghost use Rattle.silt_device.specs.Disk.{Content, Tears, Writes, Settles, Stays, Rests, Restarts, ChangesWithin, size};
 
 use std::fmt;
 
@@ -88,12 +88,6 @@ pub trait Stoppable: Disk {
         ensures content { Restarts (Self.content self) (Self.content result) }
         ensures failures { Self.failures result ≡ Self.failures self };
 }
-
-/// The law of ranges: a write, done, done in part or not done, leaves the bytes of each range that it lies outside of.
-#[tactic(auto, using(crate::proofs::Images::torn_outside))]
-pub fn ranges_outside_stay()
-    ensures { OutsideLaw }
-{}
 
 /// Writes bytes from `at` on and syncs. After Ok all that the disk shows is settled. After a fault of either call each image that
 /// a stop may leave is one that it might have left before, but for the bytes of the range.

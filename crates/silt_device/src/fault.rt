@@ -41,7 +41,7 @@ impl FaultDisk {
         }
     }
 
-    /// The disk in memory, as it stands.
+    /// The disk in memory, as it stands: for tests that restart it after the fault.
     pub fn into_disk(self) -> MemDisk
         ensures { result ≡ self.disk }
     {

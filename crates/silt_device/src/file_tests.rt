@@ -1,6 +1,7 @@
 // What no clause says of a disk in a file: the bytes that the file holds, and which errors it gives. Each test has a folder or a
 // file of its own, in the folder that it runs in, and takes it away at its end.
 use super::*;
+use std::alloc::{AllocError, Global};
 use std::fs::{self, File};
 use std::io::{self, ErrorKind};
 use std::test::Fail;
@@ -17,32 +18,47 @@ fn make_folder(runtime: &HostRuntime, name: &str) -> io::Result<()> {
     fs::create_dir(runtime, name)
 }
 
-// The kind of the error, where there is one.
-fn kind_of(answer: io::Result<FileDisk>) -> Option<ErrorKind> {
-    answer.err().map(|error| error.kind())
+// The length of the disk, or the kind of the error.
+fn len_of(answer: io::Result<FileDisk>) -> Result<u64, ErrorKind> {
+    match answer {
+        Ok(disk) => Ok(disk.len()),
+        Err(error) => Err(error.kind()),
+    }
+}
+
+// Writes FIRST at 1 of a disk of nine bytes and syncs it, then SECOND over its end and one byte at the disk's. Whether all that was done.
+fn write_parts<D: Disk>(disk: &mut D) -> bool {
+    disk.len() == 9
+        && write_synced(disk, 1, &FIRST).is_ok()
+        && disk.write(3, &SECOND).is_ok()
+        && disk.write(8, &[0x31]).is_ok()
+        && disk.sync().is_ok()
+}
+
+// The bytes of a disk of nine.
+fn nine_of<D: Disk>(disk: &D) -> Option<[u8; 9]> {
+    let mut read = [0xFF; 9];
+    if disk.len() != 9 {
+        return None;
+    }
+    disk.read(0, &mut read).ok()?;
+    Some(read)
 }
 
 // What was written stands there on a second disk in the same file, and places that were never written hold zeros.
 #[test]
 fn a_file_keeps_what_was_written(rt: HostRuntime) -> Result<(), Fail> {
+    const WRITTEN: [u8; 9] = [0, 0x11, 0x12, 0x23, 0x24, 0x25, 0, 0, 0x31];
     make_folder(&rt, "kept")?;
     let mut disk = FileDisk::create(&rt, "kept/disk", 9)?;
-    assert_eq!(rt; disk.len(), 9);
-    write_synced(&mut disk, 1, &FIRST)?;
-    disk.write(3, &SECOND)?;
-    disk.write(8, &[0x31])?;
-    disk.sync()?;
-    let written = [0, 0x11, 0x12, 0x23, 0x24, 0x25, 0, 0, 0x31];
-    let mut read = [0xFF; 9];
-    disk.read(0, &mut read)?;
-    assert_eq!(rt; read, written);
+    assert!(rt; write_parts(&mut disk));
+    assert_eq!(rt; nine_of(&disk), Some(WRITTEN));
     drop(disk);
     let disk = FileDisk::open(&rt, "kept/disk")?;
     assert_eq!(rt; disk.len(), 9);
-    let mut part = [0xFF; 4];
-    disk.read(5, &mut part)?;
-    assert_eq!(rt; part, [0x25, 0, 0, 0x31]);
-    assert_eq!(rt; fs::read(&rt, "kept/disk")?.as_slice(), written.as_slice());
+    assert_eq!(rt; four_at(&disk, 5), Some([0x25, 0, 0, 0x31]));
+    drop(disk);
+    assert_eq!(rt; fs::read(&rt, "kept/disk")?.as_slice(), WRITTEN.as_slice());
     fs::remove_dir_all(&rt, "kept")?;
     Ok(())
 }
@@ -60,12 +76,11 @@ fn create_gives_the_length(rt: HostRuntime) -> Result<(), Fail> {
         (0, &[]),
     ];
     for (len, held) in table {
-        let disk = FileDisk::create(&rt, "sized/disk", len)?;
-        assert_eq!(rt; disk.len(), len);
-        drop(disk);
+        let made = len_of(FileDisk::create(&rt, "sized/disk", len));
+        assert_eq!(rt; made, Ok(len));
         let bytes = fs::read(&rt, "sized/disk")?;
         assert_eq!(rt; bytes.as_slice(), held, "at {len}");
-        assert_eq!(rt; FileDisk::open(&rt, "sized/disk")?.len(), len);
+        assert_eq!(rt; len_of(FileDisk::open(&rt, "sized/disk")), Ok(len));
     }
     fs::remove_dir_all(&rt, "sized")?;
     Ok(())
@@ -74,8 +89,7 @@ fn create_gives_the_length(rt: HostRuntime) -> Result<(), Fail> {
 // The folder of a bare name is the one that the test runs in.
 #[test]
 fn a_bare_name_is_a_path(rt: HostRuntime) -> Result<(), Fail> {
-    let disk = FileDisk::create(&rt, "bare_name_disk", 1)?;
-    assert_eq!(rt; disk.len(), 1);
+    assert_eq!(rt; len_of(FileDisk::create(&rt, "bare_name_disk", 1)), Ok(1));
     fs::remove_file(&rt, "bare_name_disk")?;
     Ok(())
 }
@@ -83,19 +97,28 @@ fn a_bare_name_is_a_path(rt: HostRuntime) -> Result<(), Fail> {
 #[test]
 fn a_path_with_no_file_is_an_error(rt: HostRuntime) -> Result<(), Fail> {
     make_folder(&rt, "wrong")?;
-    let missing = Some(ErrorKind::NotFound);
-    assert_eq!(rt; kind_of(FileDisk::open(&rt, "wrong/disk")), missing);
+    assert_eq!(rt;
+        len_of(FileDisk::open(&rt, "wrong/disk")),
+        Err(ErrorKind::NotFound)
+    );
     assert!(rt; !fs::exists(&rt, "wrong/disk")?);
     assert_eq!(rt;
-        kind_of(FileDisk::create(&rt, "wrong/folder/disk", 8)),
-        missing
+        len_of(FileDisk::open(&rt, "wrong")),
+        Err(ErrorKind::IsADirectory)
     );
-    assert_eq!(rt; kind_of(FileDisk::create(&rt, "", 8)), missing);
-    let folder = Some(ErrorKind::IsADirectory);
-    assert_eq!(rt; kind_of(FileDisk::open(&rt, "wrong")), folder);
-    assert_eq!(rt; kind_of(FileDisk::create(&rt, "wrong", 8)), folder);
-    let too_long = kind_of(FileDisk::create(&rt, "wrong/disk", 1 << 63));
-    assert_eq!(rt; too_long, Some(ErrorKind::InvalidInput));
+    let table = [
+        ("wrong/folder/disk", 8, ErrorKind::NotFound),
+        ("", 8, ErrorKind::NotFound),
+        ("wrong", 8, ErrorKind::IsADirectory),
+        ("wrong/disk", 1 << 63, ErrorKind::InvalidInput),
+    ];
+    for (path, len, kind) in table {
+        assert_eq!(rt;
+            len_of(FileDisk::create(&rt, path, len)),
+            Err(kind),
+            "{path}"
+        );
+    }
     fs::remove_dir_all(&rt, "wrong")?;
     Ok(())
 }
@@ -170,21 +193,29 @@ fn a_sync_of_no_file_fails(rt: HostRuntime) -> Result<(), Fail> {
     Ok(())
 }
 
+// What each kind of opening gives: to own the file, to give it two bytes, and to read it alone.
+fn openings(rt: &HostRuntime, path: &str) -> [Result<u64, ErrorKind>; 3] {
+    [
+        len_of(FileDisk::open(rt, path)),
+        len_of(FileDisk::create(rt, path, 2)),
+        len_of(FileDisk::open_shared(rt, path)),
+    ]
+}
+
+const BUSY: Result<u64, ErrorKind> = Err(ErrorKind::WouldBlock);
+
 // While a disk is there, no other open of its file gets a disk that could change it, and nothing in the file is changed.
 #[test]
 fn a_file_has_one_owner(rt: HostRuntime) -> Result<(), Fail> {
     make_folder(&rt, "owned")?;
-    let busy = Some(ErrorKind::WouldBlock);
     let owner = FileDisk::create(&rt, "owned/disk", 3)?;
-    assert_eq!(rt; kind_of(FileDisk::open(&rt, "owned/disk")), busy);
-    assert_eq!(rt; kind_of(FileDisk::create(&rt, "owned/disk", 2)), busy);
-    assert_eq!(rt; kind_of(FileDisk::open_shared(&rt, "owned/disk")), busy);
+    assert_eq!(rt; openings(&rt, "owned/disk"), [BUSY; 3]);
+    drop(owner);
     assert_eq!(rt; fs::metadata(&rt, "owned/disk")?.len(), 3);
-    drop(owner);
     let owner = FileDisk::open(&rt, "owned/disk")?;
-    assert_eq!(rt; kind_of(FileDisk::open_shared(&rt, "owned/disk")), busy);
+    assert_eq!(rt; openings(&rt, "owned/disk"), [BUSY; 3]);
     drop(owner);
-    assert_eq!(rt; FileDisk::open(&rt, "owned/disk")?.len(), 3);
+    assert_eq!(rt; len_of(FileDisk::open(&rt, "owned/disk")), Ok(3));
     fs::remove_dir_all(&rt, "owned")?;
     Ok(())
 }
@@ -195,21 +226,15 @@ fn readers_share_a_file(rt: HostRuntime) -> Result<(), Fail> {
     make_folder(&rt, "shared")?;
     fs::write(&rt, "shared/disk", FIRST.as_slice())?;
     let mut first = FileDisk::open_shared(&rt, "shared/disk")?;
-    let second = FileDisk::open_shared(&rt, "shared/disk")?;
-    assert_eq!(rt; (first.len(), second.len()), (4, 4));
-    let busy = Some(ErrorKind::WouldBlock);
-    assert_eq!(rt; kind_of(FileDisk::open(&rt, "shared/disk")), busy);
-    assert_eq!(rt; kind_of(FileDisk::create(&rt, "shared/disk", 2)), busy);
-    let refused = first.write(0, &SECOND).err();
+    assert_eq!(rt; openings(&rt, "shared/disk"), [BUSY, BUSY, Ok(4)]);
     assert_eq!(rt;
-        refused.and_then(|fault| fault.inner().error().raw_os_error()),
+        write_fault(&mut first, &SECOND).and_then(|fault| fault.inner().error().raw_os_error()),
         Some(9)
     );
-    let mut read = [0; 4];
-    second.read(0, &mut read)?;
-    assert_eq!(rt; read, FIRST);
-    let missing = Some(ErrorKind::NotFound);
-    assert_eq!(rt; kind_of(FileDisk::open_shared(&rt, "shared/none")), missing);
+    assert_eq!(rt; four_at(&first, 0), Some(FIRST));
+    drop(first);
+    let missing = len_of(FileDisk::open_shared(&rt, "shared/none"));
+    assert_eq!(rt; missing, Err(ErrorKind::NotFound));
     fs::remove_dir_all(&rt, "shared")?;
     Ok(())
 }
@@ -221,6 +246,11 @@ fn len_from<S: DiskSource>(source: S, path: &str, made: Option<u64>) -> Option<u
         None => source.open(path),
     };
     Some(disk.ok()?.len())
+}
+
+// A disk of four bytes under the name `disk`.
+fn named_disk(alloc: Global) -> Result<NamedDisk<MemDisk>, AllocError> {
+    Ok(NamedDisk::new(String::from_str(alloc, "disk")?, MemDisk::new(alloc, 4)?))
 }
 
 // A source of files gives the disk of the path, and one of a named disk gives it under its name and at its length alone.
@@ -242,10 +272,12 @@ fn a_source_gives_the_disk_of_its_path(rt: HostRuntime) -> Result<(), Fail> {
         ("dis", None, None),
         ("disks", Some(4), None),
     ];
-    let alloc = rt.alloc();
     for (path, made, len) in table {
-        let named = NamedDisk::new(String::from_str(alloc, "disk")?, MemDisk::new(alloc, 4)?);
-        assert_eq!(rt; len_from(named, path, made), len, "{path}");
+        assert_eq!(rt;
+            len_from(named_disk(rt.alloc())?, path, made),
+            len,
+            "{path}"
+        );
     }
     Ok(())
 }

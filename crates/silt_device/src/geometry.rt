@@ -1,6 +1,6 @@
 // The layout of a device: where each region begins, and how long the device is.
 ghost use Rattle.std.specs.Prelude.{◌≡◌, ◌+◌, ◌*◌, ◌^◌, ◌<◌, ◌≤◌, IsTrue, ◌↔◌, MatchResult};
-ghost use Rattle.silt_device.specs.Layout.{Shape, InLimits, RegionsApart, is_bucket_count, slot_at, up};
+ghost use Rattle.silt_device.specs.Layout.{Shape, InLimits, RegionsApart, is_bucket_count, sector, slot_at, up};
 
 use silt_frame::{HEAD_LEN, KEY_LEN};
 use std::marker::Model;
@@ -91,7 +91,8 @@ pub fn slot_start(slot: u32) -> u64
     SECTOR + SECTOR * u64::from(slot)
 }
 
-/// The law of the layout: in every geometry the regions lie apart, and within the device.
+/// The law of the layout, for whoever reads or writes a device by its offsets: in every geometry the regions lie apart, and within
+/// the device.
 #[tactic(auto, using(crate::proofs::Regions::regions_apart))]
 pub fn regions_lie_apart()
     ensures { (shape : Shape) → RegionsApart shape }
@@ -253,7 +254,7 @@ impl Geometry {
     pub fn slot_at(&self, slot: u32) -> u64
         requires { slot < 2 }
         ensures value { result ≡ slot_at slot }
-        ensures fits { slot_at slot + 4096 ≤ device_size self.now }
+        ensures fits { slot_at slot + sector ≤ device_size self.now }
     {
         slot_start(slot)
     }

@@ -24,7 +24,7 @@
 //! and `RandomAccessDisk` one in any file. A `DiskSource` opens or makes the disk of a path: a file's with
 //! `FileDisks`, or the one of a `NamedDisk`. `write_synced` is a write with the sync that settles
 //! it: on it stands nearly all that changes a device. `Geometry` is the six numbers of a store, with the place of each of its
-//! parts on a device.
+//! parts on a device, and the header of a device has these numbers in its bytes.
 #![tactic(auto)]
 
 mod buffered_disk;
@@ -32,7 +32,9 @@ mod disk;
 mod fault;
 mod file;
 mod geometry;
+mod header;
 mod life;
+mod marks;
 mod memory;
 mod source;
 mod system;
@@ -40,10 +42,11 @@ mod system_disk;
 mod write_buffer;
 
 pub use buffered_disk::{BufferFault, BufferedDisk};
-pub use disk::{Call, CallAt, Disk, Stoppable, ranges_outside_stay, write_synced};
+pub use disk::{Call, CallAt, Disk, Stoppable, write_synced};
 pub use fault::FaultDisk;
 pub use file::{FileFault, RandomAccessDisk};
 pub use geometry::{BadGeometry, Geometry, REGIONS_AT, SECTOR, regions_lie_apart, slot_start};
+pub use header::{HEADER_LEN, geometry_of, header_bytes, is_formatted};
 pub use life::{Fill, Stop};
 pub use memory::{MemDisk, MemFault};
 pub use source::{DiskSource, FileDisks, NamedDisk, NoSuchDisk};

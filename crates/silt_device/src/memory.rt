@@ -1,9 +1,10 @@
 // A disk in memory that can stop at a chosen write or sync, and then holds what such a stop could leave.
-ghost use Rattle.std.specs.Prelude.{◌≡◌, ◌+◌, ◌≤◌, ◌%◌, ◌^◌, ◌||◌, ℕ, true, false, length, get_or};
+ghost use Rattle.std.specs.Prelude.{◌≡◌, ◌+◌, ◌≤◌, ◌%◌, ◌^◌, ◌||◌, ℕ, true, false, length, get_or, slice_range};
 ghost use Rattle.silt_device.specs.Disk.{splice, within};
 ghost use Rattle.silt_device.specs.Lives.{filled};
 
 use crate::life::{Fill, Lives, Stop, filled_byte};
+use crate::marks::Marks;
 use crate::{Call, CallAt, Disk, Stoppable};
 use std::alloc::{AllocError, Global};
 use std::error::Error;
@@ -38,35 +39,36 @@ impl Error for MemFault {}
 pub struct MemDisk {
     shown: Vec<u8>,
     settled: Vec<u8>,
-    pending: Vec<bool>,
+    pending: Marks,
     failures: u64,
     lives: Lives,
     ghost sizes: { length shown.items ≡ length settled.items },
-    ghost pending_size: { length pending.items ≡ length shown.items },
-    ghost agrees: { (place : ℕ) → get_or pending.items place false ≡ false
+    ghost pending_size: { length pending ≡ length shown.items },
+    ghost agrees: { (place : ℕ) → get_or pending place false ≡ false
         → get_or shown.items place 0 ≡ get_or settled.items place 0 },
 }
 
-// Marks a range.
-fn mark(pending: &mut [bool], at: usize, count: usize)
-    requires { at + count ≤ length pending.old }
-    ensures marks { (place : ℕ) → get_or pending.new place false
-        ≡ (get_or pending.old place false || within at count place) }
-{
-    let end = at + count;
-    pending[at..end].fill(true);
-}
-
 // Writes bytes, and marks their range.
-fn overwrite(shown: &mut [u8], pending: &mut [bool], at: usize, bytes: &[u8])
+fn overwrite(shown: &mut [u8], pending: &mut Marks, at: usize, bytes: &[u8])
     requires fits { at + length bytes.now ≤ length shown.old }
     requires sizes { length pending.old ≡ length shown.old }
     ensures bytes { shown.new ≡ splice at bytes.now shown.old }
     ensures marks { (place : ℕ) → get_or pending.new place false
         ≡ (get_or pending.old place false || within at (length bytes.now) place) }
+    ensures size { length pending.new ≡ length pending.old }
 {
-    mark(pending, at, bytes.len());
+    pending.mark(at, bytes.len());
     shown[at..at + bytes.len()].copy_from_slice(bytes);
+}
+
+// Settles the bytes of a range.
+fn settle_range(settled: &mut [u8], shown: &[u8], from: usize, to: usize)
+    requires sizes { length settled.old ≡ length shown.now }
+    requires order { from ≤ to }
+    requires fits { to ≤ length shown.now }
+    ensures { settled.new ≡ splice from (slice_range shown.now from to) settled.old }
+{
+    settled[from..to].copy_from_slice(&shown[from..to]);
 }
 
 // Fills the pending places.
@@ -98,13 +100,13 @@ impl MemDisk {
         Ok(MemDisk {
             shown: vec![in alloc; 0u8; len]?,
             settled: vec![in alloc; 0u8; len]?,
-            pending: vec![in alloc; false; len]?,
+            pending: Marks::new(alloc, len)?,
             failures: 0,
             lives: Lives::endless(alloc),
         })
     }
 
-    /// A disk that shows these bytes, with nothing pending, on which no call fails.
+    /// A disk that shows these bytes, with nothing pending, on which no call fails: for tests of images that were made byte by byte.
     pub fn with_bytes(alloc: Global, bytes: &[u8]) -> Result<Self, AllocError>
         ensures { IfOk result (IsFresh bytes.now) }
     {
@@ -162,7 +164,7 @@ impl MemDisk {
         ensures failures { self.new.failures ≡ (self.old.failures + 1) % 2 ^ 64 }
         ensures gave { memory_gave self.new result Call.Write at count }
     {
-        mark(&mut self.pending, at as usize, count);
+        self.pending.mark(at as usize, count);
         self.lives.count_call();
         self.fail(Call::Write, at, count)
     }
@@ -185,8 +187,9 @@ impl MemDisk {
         ensures lives { self.new.lives ≡ self.old.lives }
         ensures failures { self.new.failures ≡ self.old.failures }
     {
-        self.settled.copy_from_slice(&self.shown);
-        self.pending.fill(false);
+        let (from, to) = self.pending.range();
+        settle_range(&mut self.settled, &self.shown, from, to);
+        self.pending.clear();
     }
 
     // Leaves what this stop leaves.
@@ -199,7 +202,7 @@ impl MemDisk {
         fill_pending(
             &mut self.shown,
             &self.settled,
-            &self.pending,
+            self.pending.as_slice(),
             self.lives.fill(),
         );
         self.settle()

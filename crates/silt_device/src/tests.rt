@@ -59,26 +59,35 @@ fn one_stop(alloc: Global, k: u32, fill: Fill) -> Result<Vec<Stop>, AllocError> 
     Ok(stops)
 }
 
+fn armed(alloc: Global, k: u32, fill: Fill) -> Result<MemDisk, AllocError> {
+    Ok(MemDisk::new(alloc, 8)?.arm(one_stop(alloc, k, fill)?))
+}
+
+// The bytes of a disk of eight. None: the read fails.
+fn eight_of<D: Disk>(disk: &D) -> Option<[u8; 8]> {
+    let mut read = [0; 8];
+    if disk.len() != 8 {
+        return None;
+    }
+    disk.read(0, &mut read).ok()?;
+    Some(read)
+}
+
 // Each call in turn fails, and every call after it, reads too. A failed write's bytes count as shown.
 #[test]
 fn each_stop_leaves_its_image(rt: HostRuntime) -> Result<(), Fail> {
     let alloc = rt.alloc();
     for (k, fill, left) in LEFT {
-        let mut disk = MemDisk::new(alloc, 8)?.arm(one_stop(alloc, k, fill)?);
+        let mut disk = armed(alloc, k, fill)?;
         assert_eq!(rt; disk.len(), 8);
         let stopped = 0 < k && k < 5;
         let mut done = 0;
         assert_eq!(rt; run(&mut disk, &mut done).is_err(), stopped, "at {k}");
         assert_eq!(rt; done, if stopped { k - 1 } else { 4 }, "at {k}");
-        let mut read = [0; 8];
-        assert_eq!(rt; disk.read(0, &mut read).is_err(), stopped, "at {k}");
-        if stopped {
-            assert!(rt; disk.sync().is_err(), "at {k}");
-        }
+        assert_eq!(rt; eight_of(&disk).is_none(), stopped, "at {k}");
+        assert!(rt; !stopped || disk.sync().is_err(), "at {k}");
         let disk = disk.restart();
-        assert_eq!(rt; disk.len(), 8);
-        assert!(rt; disk.read(0, &mut read).is_ok());
-        assert_eq!(rt; read, left, "{fill:?} at {k}");
+        assert_eq!(rt; eight_of(&disk), Some(left), "{fill:?} at {k}");
         assert_eq!(rt; disk.shown(), left.as_slice(), "{fill:?} at {k}");
     }
     Ok(())

@@ -5,6 +5,14 @@ use Rattle.silt_frame.specs.declared.key.Key.{Key}
 use Rattle.silt_frame.specs.declared.key.Kind.{Kind}
 use Rattle.silt_frame.specs.declared.key.Kind.TheVariants.{Put, Delete}
 
+-- how many bytes a key has
+abbrev pub key_len : ℕ
+key_len = 20
+
+-- how many bytes the head of a row has: the kind in one, and the key
+abbrev pub head_len : ℕ
+head_len = 21
+
 -- whether a kind is a put's
 abbrev pub is_put : Kind → Bool
 is_put Put = true
@@ -23,7 +31,7 @@ kind_of byte = if byte == 1 then Some Put else if byte == 2 then Some Delete els
 abbrev pub head_bytes : Kind → Key → List ℕ
 head_bytes kind key = kind_byte kind ∷ key.0
 
--- what the 21 bytes of a head say
+-- what the bytes of a head say
 abbrev pub head_of : List ℕ → Option (Kind × Key)
 head_of bytes = option_map (λ kind. (kind, record { 0 = drop 1 bytes })) (kind_of (slice_index bytes 0))
 
@@ -33,7 +41,7 @@ entry_bytes key value = key.0 ++ value
 
 -- the key and the value of an entry
 abbrev pub entry_of : List ℕ → Key × List ℕ
-entry_of bytes = (record { 0 = take 20 bytes }, drop 20 bytes)
+entry_of bytes = (record { 0 = take key_len bytes }, drop key_len bytes)
 
 -- what is written as a head reads back, and a head that reads is what would be written
 abbrev pub HeadLaw : Type 0
@@ -44,5 +52,5 @@ HeadLaw =
 -- an entry reads back, and what reads is what would be written
 abbrev pub EntryLaw : Type 0
 EntryLaw =
-    ((key : Key) (value : List ℕ) → length key.0 ≡ 20 → entry_of (entry_bytes key value) ≡ (key, value))
+    ((key : Key) (value : List ℕ) → length key.0 ≡ key_len → entry_of (entry_bytes key value) ≡ (key, value))
     × ((bytes : List ℕ) → entry_bytes (entry_of bytes).0 (entry_of bytes).1 ≡ bytes)

@@ -4,7 +4,7 @@ use Rattle.std.specs.Option.{is_some}
 use Rattle.std.specs.Ordering.{nat_cmp}
 use Rattle.std.specs.declared.cmp.Ordering.{Ordering}
 use Rattle.std.specs.Cmp.Lexicographic.{slice_cmp}
-use Rattle.silt_frame.specs.Frame.{kind_byte, kind_of}
+use Rattle.silt_frame.specs.Frame.{head_len, key_len, kind_byte, kind_of}
 use Rattle.silt_frame.specs.declared.key.Key.{Key}
 use Rattle.silt_frame.specs.declared.key.Kind.{Kind}
 use Rattle.silt_frame.specs.declared.key.Kind.TheVariants.{Put, Delete}
@@ -15,9 +15,9 @@ pub record StoredRow : Type 0 where
   pub key : List ℕ
   pub value : List ℕ
 
--- the row that these bytes hold: the kind in one byte, the key in 20, and the value
+-- the row that these bytes hold: the kind in one byte, the key, and the value
 abbrev pub row_of : List ℕ → StoredRow
-row_of body = record { kind = slice_index body 0; key = slice_range body 1 21; value = drop 21 body }
+row_of body = record { kind = slice_index body 0; key = slice_range body 1 head_len; value = drop head_len body }
 
 -- the row that is written for this kind, key and value
 abbrev pub stored_row : Kind → Key → List ℕ → StoredRow
@@ -33,7 +33,7 @@ is_put_row row = row.kind == kind_byte Put
 
 -- the put that the bytes of a sorted entry stand for
 abbrev pub entry_row : List ℕ → StoredRow
-entry_row bytes = record { kind = 1; key = take 20 bytes; value = drop 20 bytes }
+entry_row bytes = record { kind = kind_byte Put; key = take key_len bytes; value = drop key_len bytes }
 
 -- the keys of some rows, in their order
 abbrev pub keys_of : List StoredRow → List (List ℕ)

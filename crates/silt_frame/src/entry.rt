@@ -1,12 +1,13 @@
 // An entry of a sorted region: a key and its value.
 ghost use Rattle.std.specs.Prelude.{◌≡◌, ◌+◌, ◌<◌, ◌≤◌, length};
-ghost use Rattle.silt_frame.specs.Frame.{entry_bytes, entry_of, EntryLaw};
+ghost use Rattle.silt_frame.specs.Frame.{entry_bytes, entry_of, key_len, EntryLaw};
 
 use crate::{KEY_LEN, Key};
 
-/// Writes the bytes of an entry, the key and then the value, over a buffer of just that length.
+/// Writes the bytes of an entry, the key and then the value, over a buffer of just that length: the other way of `entry_of`, for whoever
+/// makes a region's bytes outside of a store.
 pub fn write_entry(key: &Key, value: &[u8], out: &mut [u8])
-    requires { length out.old ≡ 20 + length value.now }
+    requires { length out.old ≡ key_len + length value.now }
     ensures { out.new ≡ entry_bytes key.now value.now }
 {
     let (head, rest) = out.split_at_mut(KEY_LEN);
@@ -16,7 +17,7 @@ pub fn write_entry(key: &Key, value: &[u8], out: &mut [u8])
 
 /// The key and the value of an entry of at least 20 bytes.
 pub fn entry_of(bytes: &[u8]) -> (Key, &[u8])
-    requires { 20 ≤ length bytes.now }
+    requires { key_len ≤ length bytes.now }
     ensures { (result.0, result.1.now) ≡ entry_of bytes.now }
 {
     let (head, value) = bytes.split_at(KEY_LEN);
@@ -25,7 +26,7 @@ pub fn entry_of(bytes: &[u8]) -> (Key, &[u8])
     (Key(key), value)
 }
 
-/// An entry reads back as what was written, and no other bytes read as the same.
+/// The law of entries: one reads back as what was written, and no other bytes read as the same. It is what the stores above may rely on.
 pub fn entry_reads_back()
     ensures { EntryLaw }
 {}

@@ -27,7 +27,7 @@ pub fn head_of(bytes: &[u8; HEAD_LEN]) -> Option<(Kind, Key)>
     Some((kind, Key(key)))
 }
 
-/// A head reads back as what was written, and no other bytes read as the same.
+/// The law of heads: one reads back as what was written, and no other bytes read as the same. It is what the stores above may rely on.
 pub fn head_reads_back()
     ensures { HeadLaw }
 {}

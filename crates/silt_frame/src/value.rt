@@ -29,12 +29,4 @@ impl Value {
     {
         self.bytes.as_slice()
     }
-
-    /// Its bytes, taken out.
-    pub fn into_vec(self) -> Vec<u8>
-        ensures { result.items ≡ self }
-    {
-        let Value { bytes } = self;
-        bytes
-    }
 }

@@ -3,13 +3,13 @@ use Rattle.std.specs.Prelude.{◌≡◌, ◌≢◌, ◌≤◌, ◌<◌, ◌↔�
 use Rattle.std.specs.List.{list_any, list_all}
 use Rattle.std.specs.FinMap.{empty}
 use Rattle.silt_device.specs.Disk.{Torn}
-use Rattle.silt_device.specs.Layout.{Shape, InLimits, device_size, slot_at, gates_at, hash_at, sorted_at, log_size, hash_size, sorted_size}
+use Rattle.silt_device.specs.Layout.{Shape, InLimits, device_size, slot_at, gates_at, hash_at, sorted_at, log_size, hash_size, sorted_size, sector}
 use Rattle.silt_log.specs.Rows.{log_rows}
 use Rattle.silt_frame.specs.Rows.{StoredRow, has_known_kind}
 use Rattle.silt_manifest.specs.Body.{first_body, is_well_formed}
 use Rattle.silt_manifest.specs.Ruling.{manifest_found, open_body}
 use Rattle.silt_manifest.specs.declared.body.Body.{Body}
-use Rattle.silt_image.specs.Header.{FitsHeader, IsHeader, header_bytes, header_of, header_shape, is_in_limits, shape_of}
+use Rattle.silt_device.specs.Header.{FitsHeader, IsHeader, header_bytes, header_of, header_shape, is_in_limits, shape_of}
 use Rattle.silt_log_store.specs.Parts.{Part}
 use Rattle.silt_image.specs.Stores.{Stores, image_stores, shape_found, stores_named}
 use Rattle.silt_image.specs.Meaning.{HasActive, IsGood, IsSound, StandsFor, charge_of, image_charge, image_fits, image_map}
@@ -125,7 +125,7 @@ FreeSortedLaw =
 -- after a change in a manifest slot the stores are those that the body then ruling names
 abbrev pub ManifestLaw : Type 0
 ManifestLaw =
-    (before after : List ℕ) (s : Stores) (slot : ℕ) (body : Body) → image_stores before ≡ Ok s → slot < 2 → Torn (slot_at slot) 4096 before after
+    (before after : List ℕ) (s : Stores) (slot : ℕ) (body : Body) → image_stores before ≡ Ok s → slot < 2 → Torn (slot_at slot) sector before after
     → manifest_found s.shape after ≡ Ok body → image_stores after ≡ Ok (stores_named s.shape body before)
 
 -- a body freezes the active log of another: it has a new one, and the old one in front of the frozen ones

@@ -1,4 +1,3 @@
-pub mod Header
 pub mod Stores
 pub mod Meaning
 pub mod Laws

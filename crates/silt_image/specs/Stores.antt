@@ -6,7 +6,7 @@ use Rattle.silt_manifest.specs.Ruling.{manifest_found}
 use Rattle.silt_manifest.specs.declared.body.Body.{Body}
 use Rattle.silt_manifest.specs.declared.slot.Damage.{Damage}
 use Rattle.silt_manifest.specs.declared.slot.Damage.TheVariants as damage
-use Rattle.silt_image.specs.Header.{header_of, header_shape, is_formatted, is_in_limits}
+use Rattle.silt_device.specs.Header.{header_of, header_shape, is_formatted, is_in_limits, header_len}
 use Rattle.silt_event.specs.declared.damage.Finding.{Finding}
 use Rattle.silt_event.specs.declared.damage.Finding.TheVariants.{NotFormatted, Damaged}
 use Rattle.silt_event.specs.declared.place.Place.TheVariants.{Header, Length, Slot, NoSlot}
@@ -36,7 +36,7 @@ stores_named shape body image = record {
 -- the six numbers of a device of this length with this header, or what is found in their place
 unfoldable pub shape_found : ℕ → List ℕ → Result Shape Finding
 shape_found len header =
-    if not (nat_le 37 len && is_formatted header) then Err NotFormatted
+    if not (nat_le header_len len && is_formatted header) then Err NotFormatted
     else if not (is_in_limits (header_shape header)) then Err (Damaged Header)
     else if not (len == device_size (header_shape header)) then Err (Damaged Length)
     else Ok (header_shape header)

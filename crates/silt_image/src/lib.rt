@@ -6,8 +6,7 @@
 //!
 //! Here are the definitions, in `specs/`, and the laws that the layers above stand on, each as a function whose contract it is:
 //! which bytes count, what a write in a region leaves, when one row more is fine. What the rows of one region are, and what is found in them,
-//! its own crate says: here they are folded. Of an
-//! image's bytes only the header is read and written here.
+//! its own crate says: here they are folded. The header's bytes stand beside the layout, in silt_device: here is what is found in them.
 #![tactic(auto)]
 
 mod damage;
@@ -17,7 +16,7 @@ mod laws;
 mod tests;
 
 pub use damage::finding_of;
-pub use header::{HEADER_LEN, header_bytes, read_header};
+pub use header::read_header;
 pub use laws::{
     again_law, append_law, beginning_law, charge_found_law, charge_law, empty_law, first_entry_law,
     first_finding_law, first_slot_law, formatted_law, frame_law, free_hash_law, free_sorted_law,

@@ -1,6 +1,6 @@
 // Worked headers.
 use super::*;
-use silt_device::Geometry;
+use silt_device::{Geometry, HEADER_LEN, header_bytes};
 use silt_event::{Finding, Place};
 use silt_manifest::Damage;
 

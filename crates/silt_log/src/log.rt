@@ -43,6 +43,7 @@ impl Log {
     ghost use Rattle.std.specs.Prelude.{◌^◌};
     ghost use Rattle.silt_log.specs.State.{LogState, InBounds, IsLog, IsScanned, settled_rows};
     ghost use Rattle.silt_log.specs.Calls.{Empties, Appends, KeepsRows, OpensGates, OpensSome, Seals};
+    ghost use Rattle.silt_frame.specs.Frame.{head_len};
 
     /// A log of this region with no rows. It is `prepare`d or scanned before it is used.
     ///
@@ -373,12 +374,12 @@ impl Log {
         out: &mut [u8],
     ) -> Result<Option<(Kind, Key)>, D::Fault>
         requires place { place < self.now.shape.log_capacity }
-        requires least { 21 ≤ length out.old }
+        requires least { head_len ≤ length out.old }
         requires most { length out.old ≤ row_len self.now.shape }
         requires size { device_size self.now.shape ≤ size (D.content disk.now) }
         ensures head { IsTrue (D.content disk.now).honest → IfOk result (λ head. head ≡ row_head (row_at self.now.shape self.now.region (D.content disk.now).shown place)) }
         ensures value { IsTrue (D.content disk.now).honest → length out.old ≡ row_len self.now.shape
-            → OnOk result (drop 21 out.new ≡ (row_at self.now.shape self.now.region (D.content disk.now).shown place).value) }
+            → OnOk result (drop head_len out.new ≡ (row_at self.now.shape self.now.region (D.content disk.now).shown place).value) }
         ensures fault { IfErr result (GaveAny D.gave disk.now) }
     {
         let at = self.body_at(place);

@@ -5,6 +5,7 @@ ghost use Rattle.silt_device.specs.Disk.{GaveAny, size};
 ghost use Rattle.silt_log.specs.Rows.{AreRows, FirstUnknown, IsRow, body_row};
 ghost use Rattle.silt_frame.specs.Rows.{has_known_kind};
 ghost use Rattle.silt_log.specs.Scans.{IsScanRefused};
+ghost use Rattle.silt_frame.specs.Frame.{head_len};
 
 use silt_device::Disk;
 use silt_frame::{HEAD_LEN, Row, head_of};
@@ -29,7 +30,7 @@ pub fn read_rows<D: Disk>(
     row_len: u64,
     count: u32,
 ) -> Result<Vec<Row>, ScanError<D::Fault>>
-    requires len { 21 ≤ row_len }
+    requires len { head_len ≤ row_len }
     requires fits { bodies + count * row_len ≤ size (D.content disk.now) }
     ensures len { IfOk result (λ rows. vec_len rows ≡ count) }
     ensures rows { IsTrue (D.content disk.now).honest → IfOk result (λ rows. AreRows rows.items (map (body_row bodies row_len (D.content disk.now).shown) (range_with_len 0 count))) }
@@ -51,7 +52,7 @@ fn read_row<D: Disk>(
     row_len: u64,
     place: u32,
 ) -> Result<Row, ScanError<D::Fault>>
-    requires len { 21 ≤ row_len }
+    requires len { head_len ≤ row_len }
     requires fits { bodies + place * row_len + row_len ≤ size (D.content disk.now) }
     ensures row { IsTrue (D.content disk.now).honest → IfOk result (IsRow place (body_row bodies row_len (D.content disk.now).shown place)) }
     ensures err { IfErr result (IsScanRefused (λ damaged. (damaged ≡ place)

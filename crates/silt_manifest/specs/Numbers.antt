@@ -1,11 +1,8 @@
--- Numbers as bytes, big-endian, and lists of them.
-use Rattle.std.specs.Prelude.{ℕ, ◌+◌, ◌-◌, ◌*◌, List, [], ◌∷◌, ◌++◌, length, map, replicate, slice_range}
+-- Lists of numbers as bytes, big-endian.
+use Rattle.std.specs.Prelude.{ℕ, ◌+◌, ◌-◌, ◌*◌, List, [], ◌∷◌, ◌++◌, length, map, replicate}
 use Rattle.std.specs.List.{range_with_len}
-use Rattle.byteorder.specs.Endian.{big_number, big_bytes}
-
--- the number in the n bytes from place i
-abbrev pub number_at : ℕ → ℕ → List ℕ → ℕ
-number_at n i bytes = big_number n (slice_range bytes i (i + n))
+use Rattle.byteorder.specs.Endian.{big_bytes}
+use Rattle.silt_device.specs.Numbers.{number_at}
 
 -- numbers of four bytes, one after the other
 abbrev pub id_bytes : List ℕ → List ℕ

@@ -1,7 +1,7 @@
 -- Which body rules, in an image of a device.
-use Rattle.std.specs.Prelude.{◌≡◌, ℕ, ◌+◌, ◌<◌, ◌≤◌, nat_lt, Bool, true, not, if◌then◌else◌, List, length, slice_index, slice_range, Option, Some, None, Result, Ok, Err}
+use Rattle.std.specs.Prelude.{◌≡◌, ℕ, ◌+◌, ◌<◌, ◌≤◌, nat_lt, Bool, true, not, if◌then◌else◌, List, length, slice_index, slice_range, Option, Some, None, Result, Ok, Err, ◌*◌}
 use Rattle.silt_device.specs.Disk.{LiesOutside, Torn}
-use Rattle.silt_device.specs.Layout.{Shape, slot_at}
+use Rattle.silt_device.specs.Layout.{Shape, slot_at, sector}
 use Rattle.silt_frame.specs.Gate.{is_open}
 use Rattle.silt_manifest.specs.Body.{body_of, is_well_formed}
 use Rattle.silt_manifest.specs.declared.body.Body.{Body}
@@ -65,11 +65,11 @@ pub record HasSlot (s : Shape) (slot : ℕ) (body : Option Body) (image : List �
 -- What a closed slot holds does not count: any change in a slot that is closed before and after.
 abbrev pub ClosedSlotLaw : Type 0
 ClosedSlotLaw =
-    (s : Shape) (slot : ℕ) (before after : List ℕ) → slot < 2 → slot_at 1 + 4096 ≤ length before → Torn (slot_at slot) 4096 before after
+    (s : Shape) (slot : ℕ) (before after : List ℕ) → slot < 2 → slot_at 1 + sector ≤ length before → Torn (slot_at slot) sector before after
     → open_body before slot ≡ None → open_body after slot ≡ None → manifest_found s after ≡ manifest_found s before
 
 -- Nor does what the other regions hold: any change before the slots or behind them.
 abbrev pub OtherRegionsLaw : Type 0
 OtherRegionsLaw =
-    (s : Shape) (at count : ℕ) (before after : List ℕ) → slot_at 1 + 4096 ≤ length before → LiesOutside (slot_at 0) 8192 at count
+    (s : Shape) (at count : ℕ) (before after : List ℕ) → slot_at 1 + sector ≤ length before → LiesOutside (slot_at 0) (2 * sector) at count
     → Torn at count before after → manifest_found s after ≡ manifest_found s before

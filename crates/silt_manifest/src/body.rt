@@ -1,7 +1,7 @@
 // What a manifest slot says behind its gate.
 ghost use Rattle.std.specs.Prelude.{◌≡◌, ◌+◌, ◌*◌, ◌<◌, ◌≤◌, ◌++◌, ◌⊎◌, true, false, length, replicate, take, IfSome, IfNone};
 ghost use Rattle.silt_manifest.specs.Numbers.{ids_bytes};
-ghost use Rattle.silt_manifest.specs.Body.{BodyLaw, FitsSlot, all_below, body_bytes, body_of, first_body, has_sound_hashes, has_sound_logs, is_distinct, is_well_formed};
+ghost use Rattle.silt_manifest.specs.Body.{FitsSlot, all_below, body_bytes, body_of, first_body, has_sound_hashes, has_sound_logs, is_distinct, is_well_formed};
 ghost use Rattle.byteorder.specs.Endian.{big_bytes};
 
 use crate::ids::Ids;
@@ -187,8 +187,3 @@ impl Body {
         }
     }
 }
-
-/// The law of the body's bytes: behind whatever gate, they read back.
-pub fn body_reads_back()
-    ensures { BodyLaw }
-{}

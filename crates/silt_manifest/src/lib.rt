@@ -23,7 +23,7 @@ mod ids;
 mod manifest;
 mod slot;
 
-pub use body::{Body, body_reads_back};
+pub use body::Body;
 pub use ids::Ids;
 pub use manifest::{
     Manifest, closed_slots_do_not_count, other_regions_do_not_count, read_current, write_first,

@@ -1,7 +1,7 @@
 // The manifest in memory, and the calls that read and write it.
 ghost use Rattle.std.specs.Prelude.{◌≡◌, ◌+◌, ◌<◌, ◌≤◌, ◌↔◌, IsTrue, Some, None, true, false, IfOk, IfErr, OnOk, OnErr, MatchResult};
 ghost use Rattle.silt_device.specs.Disk.{ChangesWithin, CountsFault, GaveAny, LeavesOnly, Rests, Shows, size};
-ghost use Rattle.silt_device.specs.Layout.{slot_at};
+ghost use Rattle.silt_device.specs.Layout.{slot_at, sector};
 ghost use Rattle.silt_manifest.specs.Body.{is_well_formed};
 ghost use Rattle.silt_manifest.specs.Ruling.{ClosedSlotLaw, OtherRegionsLaw, is_slot_open, is_sound_body, ruling_manifest};
 ghost use Rattle.silt_manifest.specs.Faults.{IsNotRead};
@@ -46,7 +46,7 @@ impl Model for Manifest {
 ///
 /// The first damage, of slot 0, then slot 1, then for want of an open slot; or the fault of a read.
 pub fn read_current<D: Disk>(disk: &D, geometry: Geometry) -> Result<Manifest, ReadFault<D::Fault>>
-    requires { slot_at 1 + 4096 ≤ size (D.content disk.now) }
+    requires { slot_at 1 + sector ≤ size (D.content disk.now) }
     ensures shape { IfOk result (λ m. (m.shape ≡ geometry) × (m.prepared ≡ None)) }
     ensures ruled { IfOk result (λ m. Shows (D.content disk.now) (IsRuled m)) }
     ensures rules { IfOk result (λ m. Rests (D.content disk.now) → Rules m (D.content disk.now)) }
@@ -72,13 +72,6 @@ impl Manifest {
     {
         let _ = &self.geometry; // the body is well formed for it
         self.ruling
-    }
-
-    /// Whether the gate of the slot that does not rule is closed. That of the slot that rules is open.
-    pub fn is_spare_closed(&self) -> bool
-        ensures { result ≡ self.now.spare_closed }
-    {
-        self.spare_closed
     }
 
     // The manifest of a body that rules.
@@ -123,19 +116,11 @@ impl Manifest {
         ((self.ruling.generation + 1) % 2) as u32
     }
 
-    /// Whether a body may be the next one: it has the next generation, and is well formed in the slot that does not rule.
-    pub fn is_next(&self, next: &Body) -> bool
-        ensures { IsTrue result ↔ IsNext self.now next.now }
-    {
-        next.generation == self.ruling.generation + 1
-            && next.is_well_formed(&self.geometry, self.spare_slot())
-    }
-
     // Where the zero goes with which a write of the next body begins.
     fn closing_place(&self) -> u64
         ensures value { result ≡ closing_place self.now }
         ensures least { slot_at (spare_slot self.now) ≤ result }
-        ensures most { result < slot_at (spare_slot self.now) + 4096 }
+        ensures most { result < slot_at (spare_slot self.now) + sector }
     {
         let start = slot_start(self.spare_slot());
         if self.spare_closed {
@@ -152,11 +137,11 @@ impl Manifest {
     ///
     /// The fault of a write or of a sync.
     pub fn prepare_next<D: Disk>(&mut self, disk: &mut D, next: Body) -> Result<(), D::Fault>
-        requires size { slot_at 1 + 4096 ≤ size (D.content disk.old) }
+        requires size { slot_at 1 + sector ≤ size (D.content disk.old) }
         requires rules { Rules self.old (D.content disk.old) }
         requires next { IsNext self.old next }
         ensures size { size (D.content disk.new) ≡ size (D.content disk.old) }
-        ensures changes { ChangesWithin (slot_at (spare_slot self.old)) 4096 (D.content disk.old) (D.content disk.new) }
+        ensures changes { ChangesWithin (slot_at (spare_slot self.old)) sector (D.content disk.old) (D.content disk.new) }
         ensures each { LeavesOnly (D.content disk.new) (λ image. ruling_manifest self.old.shape image ≡ Some self.old.ruling) }
         ensures written { OnOk result (WritesNext self.old next (D.content disk.old) (D.content disk.new)) }
         ensures ready { OnOk result (CanCommit self.new (D.content disk.new)) }
@@ -181,7 +166,7 @@ impl Manifest {
     ///
     /// The fault of the write or of the sync.
     pub fn commit_next<D: Disk>(&mut self, disk: &mut D) -> Result<(), D::Fault>
-        requires size { slot_at 1 + 4096 ≤ size (D.content disk.old) }
+        requires size { slot_at 1 + sector ≤ size (D.content disk.old) }
         requires prepared { CanCommit self.old (D.content disk.old) }
         ensures size { size (D.content disk.new) ≡ size (D.content disk.old) }
         ensures changes { ChangesWithin (slot_at (spare_slot self.old)) 1 (D.content disk.old) (D.content disk.new) }
@@ -204,6 +189,17 @@ impl Manifest {
     }
 }
 
+#[cfg(test)]
+impl Manifest {
+    // Whether a body may be the next one: it has the next generation, and is well formed in the slot that does not rule.
+    pub(crate) fn is_next(&self, next: &Body) -> bool
+        ensures { IsTrue result ↔ IsNext self.now next.now }
+    {
+        next.generation == self.ruling.generation + 1
+            && next.is_well_formed(&self.geometry, self.spare_slot())
+    }
+}
+
 /// Writes the body of generation 0 into slot 0, with its gate: closes the gate, writes the body, opens the gate, each with a sync.
 /// After Ok it rules in whatever a stop may leave, since the gate of slot 1 is closed. The zero always goes to the gate: on a
 /// device that is being formatted the header's gate is closed, and no slot counts.
@@ -212,10 +208,10 @@ impl Manifest {
 ///
 /// The fault of a write or of a sync.
 pub fn write_first<D: Disk>(disk: &mut D) -> Result<(), D::Fault>
-    requires size { slot_at 1 + 4096 ≤ size (D.content disk.old) }
+    requires size { slot_at 1 + sector ≤ size (D.content disk.old) }
     requires closed { LeavesOnly (D.content disk.old) (λ image. is_slot_open image 1 ≡ false) }
     ensures size { size (D.content disk.new) ≡ size (D.content disk.old) }
-    ensures changes { ChangesWithin (slot_at 0) 4096 (D.content disk.old) (D.content disk.new) }
+    ensures changes { ChangesWithin (slot_at 0) sector (D.content disk.old) (D.content disk.new) }
     ensures rules { OnOk result (LeavesOnly (D.content disk.new) IsFirst) }
     ensures rests { OnOk result (Rests (D.content disk.new)) }
     ensures failures { MatchResult result (λ _. D.failures disk.new ≡ D.failures disk.old) (CountsFault D.failures D.gave disk.old disk.new) }
@@ -226,12 +222,12 @@ pub fn write_first<D: Disk>(disk: &mut D) -> Result<(), D::Fault>
     Ok(())
 }
 
-/// The law of closed slots: a change in a slot that is closed before and after does not count.
+/// The law of closed slots, by which a reader knows which bytes count: a change in a slot that is closed before and after does not count.
 pub fn closed_slots_do_not_count()
     ensures { ClosedSlotLaw }
 {}
 
-/// The law of the other regions: a change outside the two slots does not count.
+/// The law of the other regions, by which a reader knows which bytes count: a change outside the two slots does not count.
 pub fn other_regions_do_not_count()
     ensures { OtherRegionsLaw }
 {}

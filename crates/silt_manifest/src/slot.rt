@@ -1,7 +1,7 @@
 // The two slots of a manifest.
 ghost use Rattle.std.specs.Prelude.{◌≡◌, ◌+◌, ◌<◌, ◌≤◌, true, false, [], ◌∷◌, IfOk, IfErr, OnOk, MatchResult};
 ghost use Rattle.silt_device.specs.Disk.{ChangesWithin, CountsFault, GaveAny, Rests, Shows, Writes, size};
-ghost use Rattle.silt_device.specs.Layout.{slot_at};
+ghost use Rattle.silt_device.specs.Layout.{slot_at, sector};
 ghost use Rattle.silt_manifest.specs.Ruling.{HasSlot, body_behind, is_sound_body};
 ghost use Rattle.silt_manifest.specs.Faults.{IsSlotRefused};
 ghost use Rattle.silt_manifest.specs.declared.slot.Damage.TheVariants.{Slot};
@@ -50,7 +50,7 @@ pub(crate) fn read_slot<D: Disk>(
     slot: u32,
 ) -> Result<Option<Body>, ReadFault<D::Fault>>
     requires slot { slot < 2 }
-    requires size { slot_at 1 + 4096 ≤ size (D.content disk.now) }
+    requires size { slot_at 1 + sector ≤ size (D.content disk.now) }
     ensures sound { IfOk result (λ held. is_sound_body geometry.now slot held ≡ true) }
     ensures held { IfOk result (λ held. Shows (D.content disk.now) (HasSlot geometry.now slot held)) }
     ensures refused { IfErr result (IsSlotRefused (D.content disk.now) geometry.now (GaveAny D.gave disk.now) slot) }
@@ -67,7 +67,7 @@ pub(crate) fn read_slot<D: Disk>(
 // Writes the gate of a slot, and syncs.
 pub(crate) fn write_gate<D: Disk>(disk: &mut D, slot: u32, gate: u8) -> Result<(), D::Fault>
     requires slot { slot < 2 }
-    requires size { slot_at 1 + 4096 ≤ size (D.content disk.old) }
+    requires size { slot_at 1 + sector ≤ size (D.content disk.old) }
     ensures size { size (D.content disk.new) ≡ size (D.content disk.old) }
     ensures changes { ChangesWithin (slot_at slot) 1 (D.content disk.old) (D.content disk.new) }
     ensures written { OnOk result (Writes (slot_at slot) (gate ∷ []) (D.content disk.old) (D.content disk.new)) }
@@ -85,7 +85,7 @@ pub(crate) fn write_body<D: Disk>(
     body: &[u8; BODY_LEN],
 ) -> Result<(), D::Fault>
     requires slot { slot < 2 }
-    requires size { slot_at 1 + 4096 ≤ size (D.content disk.old) }
+    requires size { slot_at 1 + sector ≤ size (D.content disk.old) }
     ensures size { size (D.content disk.new) ≡ size (D.content disk.old) }
     ensures changes { ChangesWithin (slot_at slot + 1) 120 (D.content disk.old) (D.content disk.new) }
     ensures written { OnOk result (Writes (slot_at slot + 1) body.now (D.content disk.old) (D.content disk.new)) }

@@ -6,10 +6,11 @@ use Rattle.silt_sorted_store.specs.Findings.{entry_findings}
 use Rattle.silt_sorted_store.specs.OnlyRow.{HasEntry}
 use Rattle.silt_sorted_store.specs.Rebuild.{IsFirstOutOfOrder}
 use Rattle.silt_trie.specs.Building.{Building, IsBuildingOf}
+use Rattle.silt_frame.specs.Frame.{key_len}
 
 -- so many rows from a place on have the keys in these bytes, each of which begins one of the parts of `len` bytes
 abbrev pub HoldsKeys : List StoredRow → ℕ → ℕ → ℕ → List ℕ → Type 0
-HoldsKeys rows place count len bytes = (i : ℕ) → i < count → get_or (keys_of rows) (place + i) [] ≡ slice_range bytes (i * len) (i * len + 20)
+HoldsKeys rows place count len bytes = (i : ℕ) → i < count → get_or (keys_of rows) (place + i) [] ≡ slice_range bytes (i * len) (i * len + key_len)
 
 -- so many rows from a place on are what these bytes stand for, one after the other, `len` bytes each
 abbrev pub HoldsEntries : List StoredRow → ℕ → ℕ → ℕ → List ℕ → Type 0

@@ -9,6 +9,7 @@ ghost use Rattle.silt_sorted_store.specs.Index.{IsIndexOf};
 ghost use Rattle.silt_sorted_store.specs.Indexing.{HoldsKeys, IsIndexing, TakesKeys};
 ghost use Rattle.silt_sorted_store.specs.Rebuild.{IsFirstOutOfOrder, IsRefusedSorted};
 ghost use Rattle.silt_trie.specs.Building.{IsBuildingOf};
+ghost use Rattle.silt_frame.specs.Frame.{key_len};
 
 use crate::sorted_entries::SortedEntries;
 use silt_device::Disk;
@@ -39,7 +40,7 @@ fn take_keys(
     count: u32,
     first: u32,
 ) -> Result<Option<u32>, AllocError>
-    requires len { 20 ≤ len }
+    requires len { key_len ≤ len }
     requires bytes { length bytes.now ≡ count * len }
     requires counted { builder.old.count ≡ first }
     requires few { first + count ≤ 2 ^ 24 }

@@ -35,6 +35,7 @@ impl SortedEntries {
     ghost use Rattle.silt_sorted_store.specs.State.{SortedState, IsHeldSorted, sorted_entry_at, entries_of};
     ghost use Rattle.silt_sorted_store.specs.OnlyRow.{HasEntry, HasKeyAndValue, HasValue};
     ghost use Rattle.silt_sorted_store.specs.Indexing.{HoldsEntries, HoldsKeys};
+    ghost use Rattle.silt_frame.specs.Frame.{key_len};
 
     /// The first `count` entries of this region, with no look at the device.
     pub fn new(geometry: Geometry, region: u32, count: u32) -> Self
@@ -129,7 +130,7 @@ impl SortedEntries {
         requires out { length out.old ≡ entry_len self.now.shape }
         requires size { device_size self.now.shape ≤ size (D.content disk.now) }
         ensures entry { IsTrue (D.content disk.now).honest → OnOk result (HasEntry (entries_of (D.content disk.now) self.now) place out.new) }
-        ensures key { IfOk result (λ key. key.0 ≡ take 20 out.new) }
+        ensures key { IfOk result (λ key. key.0 ≡ take key_len out.new) }
         ensures fault { IfErr result (GaveAny D.gave disk.now) }
     {
         disk.read(self.entry_at(place), out)?;

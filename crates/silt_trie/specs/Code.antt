@@ -5,6 +5,7 @@ use Rattle.std.specs.Cmp.Lexicographic.{slice_cmp}
 use Rattle.std.specs.declared.cmp.Ordering.TheVariants.{Less}
 use Rattle.silt_gamma.specs.Bits.{bits_of}
 use Rattle.silt_gamma.specs.Gamma.{gamma_code}
+use Rattle.silt_frame.specs.Frame.{key_len}
 
 -- bit d of a key
 abbrev pub bit_of : ℕ → List ℕ → ℕ
@@ -40,7 +41,7 @@ AgreeIn d a b = (k : ℕ) → k < d → bit_of k a ≡ bit_of k b
 
 -- of two keys of 20 bytes the second lies above the first, and they agree in their first d bits
 pub record Follows (d : ℕ) (a b : List ℕ) : Type 0 where
-  pub sized : (length a ≡ 20) × (length b ≡ 20)
+  pub sized : (length a ≡ key_len) × (length b ≡ key_len)
   pub below : IsBelow a b
   pub alike : AgreeIn d a b
 

@@ -1,6 +1,7 @@
 //! The bits of a key.
 ghost use Rattle.std.specs.Prelude.{◌≡◌, ◌<◌, length};
 ghost use Rattle.silt_trie.specs.Code.{bit_of};
+ghost use Rattle.silt_frame.specs.Frame.{key_len};
 
 use silt_frame::Key;
 
@@ -11,7 +12,7 @@ pub(crate) const KEY_BITS: usize = 160;
 pub(crate) fn key_bit(key: &Key, depth: usize) -> u8
     requires { depth < 160 }
     ensures bit { result ≡ bit_of depth key.now.0 }
-    ensures sized { length key.now.0 ≡ 20 }
+    ensures sized { length key.now.0 ≡ key_len }
 {
     key.0[depth / 8] >> (7 - depth % 8) & 1
 }

@@ -27,7 +27,7 @@ mod trie;
 mod trie_builder;
 
 pub use code_of_keys::write_code;
-pub use coded_keys::{follows, is_codable};
+pub use coded_keys::follows;
 pub use key_place::locate_in;
 pub use laws::{group_law, order_law};
 pub use marked_code::{push_mark, write_marked};

@@ -111,13 +111,6 @@ impl MarkedTrie {
         self.count
     }
 
-    /// How many bits their code takes.
-    pub fn code_len(&self) -> usize
-        ensures { result ≡ length self.now.code }
-    {
-        self.bits.len()
-    }
-
     /// How many bytes of memory code and marks take, or the most that a `usize` can count.
     pub fn memory(&self) -> usize
         ensures { result ≡ min ((length self.now.code + 7) / 8 + 8 * length self.now.marks) (2 ^ 64 - 1) }

@@ -1,5 +1,9 @@
 //! Worked examples of codes and places.
-use crate::{MarkedTrie, MarkedTrieBuilder, Trie, is_codable, levels_for, locate_in, write_code};
+ghost use Rattle.std.specs.Prelude.{◌↔◌, IsTrue};
+ghost use Rattle.silt_trie.specs.Code.{IsCodable};
+ghost use Rattle.silt_trie.specs.Coded.{bytes_of};
+
+use crate::{MarkedTrie, MarkedTrieBuilder, Trie, follows, levels_for, locate_in, write_code};
 use sha1::Sha1;
 use silt_frame::Key;
 use silt_gamma::BitWriter;
@@ -13,6 +17,22 @@ fn key(first: u8, second: u8) -> Key {
     bytes[0] = first;
     bytes[1] = second;
     Key(bytes)
+}
+
+/// Whether keys rise strictly and agree in their first `depth` bits, and are few enough that the
+/// code has all their numbers: at most 4,294,967,294.
+fn is_codable(keys: &[Key], depth: usize) -> bool
+    ensures { IsTrue result ↔ IsCodable (bytes_of keys.now) depth }
+{
+    if keys.len() >= u32::MAX as usize {
+        return false;
+    }
+    for i in 1..keys.len() {
+        if !follows(&keys[i - 1], &keys[i], depth) {
+            return false;
+        }
+    }
+    true
 }
 
 /// The code of some keys.
@@ -100,11 +120,11 @@ fn codes_keys_that_differ_in_their_last_bit(rt: HostRuntime) -> Result<(), Fail>
 }
 
 #[test]
-fn refuses_keys_out_of_order(rt: HostRuntime) {
-    assert!(rt; !is_codable(&[key(1, 0), key(0, 0)], 0));
-    assert!(rt; !is_codable(&[key(1, 0), key(1, 0)], 0));
-    assert!(rt; !is_codable(&[key(0, 0), key(1, 0)], 8));
-    assert!(rt; is_codable(&[key(0, 0), key(1, 0)], 7));
+fn keys_follow_each_other(rt: HostRuntime) {
+    assert!(rt; !follows(&key(1, 0), &key(0, 0), 0));
+    assert!(rt; !follows(&key(1, 0), &key(1, 0), 0));
+    assert!(rt; !follows(&key(0, 0), &key(1, 0), 8));
+    assert!(rt; follows(&key(0, 0), &key(1, 0), 7));
 }
 
 #[test]
@@ -194,7 +214,7 @@ fn marks_few_keys(rt: HostRuntime) -> Result<(), Fail> {
     let keys = [key(0, 0), key(0, 0x40), key(0, 0x80)];
     assert!(rt; is_codable(&keys, 0));
     let marked = MarkedTrie::encode(alloc, &keys, 0, 8, 9)?;
-    assert_eq!(rt; marked.code_len(), 6);
+    assert_eq!(rt; marked.memory(), 1 + 8 * 513); // six bits, and a mark for each of the prefixes and one behind them
     assert_eq!(rt; marked.locate_marked(&key(0, 0)), Some(0));
     assert_eq!(rt; marked.locate_marked(&key(0, 0x40)), Some(1));
     assert_eq!(rt; marked.locate_marked(&key(0, 0x80)), Some(2));
@@ -228,7 +248,6 @@ fn check_built(rt: &impl Abort, alloc: Global, keys: &[Key]) -> Result<(), Alloc
     let built = build(rt, alloc, keys)?;
     let encoded = MarkedTrie::encode(alloc, keys, 0, 8, levels_for(keys.len()))?;
     assert!(rt; built.len() == keys.len());
-    assert!(rt; built.code_len() == encoded.code_len());
     assert!(rt; built.memory() == encoded.memory());
     for (at, key) in keys.iter().enumerate() {
         assert!(rt; built.locate_marked(key) == Some(at));
@@ -259,7 +278,7 @@ fn builds_a_key_for_each_group(rt: HostRuntime) -> Result<(), Fail> {
         keys.push(key(first, 7))?;
     }
     check_built(&rt, alloc, &keys)?;
-    assert_eq!(rt; build(&rt, alloc, &keys)?.code_len(), 0);
+    assert_eq!(rt; build(&rt, alloc, &keys)?.memory(), 8 * 257); // no bit of code
     Ok(())
 }
 

@@ -51,7 +51,7 @@ impl Trie {
         self.count
     }
 
-    /// How many bits their code takes.
+    /// How many bits their code takes: with `as_bytes` it is the code itself, for whoever looks at it.
     pub fn code_len(&self) -> usize
         ensures { result ≡ length self.now.code }
     {

@@ -1,4 +1,4 @@
-use Rattle.std.proofs.Common.{rules, ◌≡◌, ◌+◌, ◌≤◌, ◌<◌, length, sym, subst, arith}
+use Rattle.std.proofs.Common.{rules, ◌≡◌, ◌+◌, ◌<◌, length, sym, subst}
 use Rattle.silt_device.specs.Buffered.{LaidOver}
 use Rattle.silt_device.proofs.Waiting.{laid_there}
 use Rattle.silt_device.proofs.write_buffer.WriteBuffer.lay_over.Goals as goal

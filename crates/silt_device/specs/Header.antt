@@ -2,9 +2,13 @@
 use Rattle.std.specs.Prelude.{◌≡◌, ◌<◌, ◌*◌, ◌^◌, ℕ, ◌==◌, nat_le, Bool, ◌&&◌, List, ◌++◌, length, slice_index, slice_range, codes}
 use Rattle.std.specs.Str.{bytes_eq}
 use Rattle.byteorder.specs.Endian.{big_bytes}
-use Rattle.silt_device.specs.Layout.{Shape, is_bucket_count}
+use Rattle.silt_device.specs.Layout.{Shape, is_bucket_count, most_sorted_capacity, most_value_len}
 use Rattle.silt_frame.specs.Gate.{gate_open, is_open}
-use Rattle.silt_manifest.specs.Numbers.{number_at}
+use Rattle.silt_device.specs.Numbers.{number_at}
+
+-- how many bytes of a device count as its header: the gate, the magic bytes, the version and the six numbers
+abbrev pub header_len : ℕ
+header_len = 37
 
 -- the text SILTFLSH
 abbrev pub magic : List ℕ
@@ -18,7 +22,7 @@ header_bytes s =
 
 -- the header's gate, and what follows it
 abbrev pub header_of : List ℕ → List ℕ
-header_of image = slice_range image 0 37
+header_of image = slice_range image 0 header_len
 
 -- the gate is open, and the magic bytes and the version 1 follow
 abbrev pub is_formatted : List ℕ → Bool
@@ -27,7 +31,7 @@ is_formatted header =
 
 -- a header is whole, its gate is open, and the magic bytes and the version 1 follow
 pub record IsHeader (header : List ℕ) : Type 0 where
-  pub whole : length header ≡ 37
+  pub whole : length header ≡ header_len
   pub gate : slice_index header 0 ≡ gate_open
   pub magic : slice_range header 1 9 ≡ magic
   pub version : number_at 4 9 header ≡ 1
@@ -50,9 +54,9 @@ shape_of image = header_shape (header_of image)
 -- each of the six numbers lies within its limits
 abbrev pub is_in_limits : Shape → Bool
 is_in_limits s =
-    nat_le 1 s.value_len && nat_le s.value_len 4096 && is_bucket_count s.buckets && nat_le 1 s.log_capacity
+    nat_le 1 s.value_len && nat_le s.value_len most_value_len && is_bucket_count s.buckets && nat_le 1 s.log_capacity
     && nat_le s.log_capacity (4 * s.buckets) && nat_le 2 s.logs && nat_le s.logs 8 && nat_le 1 s.hashes && nat_le s.hashes 16
-    && nat_le 1 s.sorted_capacity && nat_le s.sorted_capacity 16777216
+    && nat_le 1 s.sorted_capacity && nat_le s.sorted_capacity most_sorted_capacity
 
 -- numbers that the fields of a header hold
 pub record FitsHeader (s : Shape) : Type 0 where
