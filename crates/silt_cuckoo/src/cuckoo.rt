@@ -14,7 +14,7 @@ use std::alloc::{AllocError, Global};
 use std::marker::Model;
 
 /// The most turns of a walk.
-const MOST_TURNS: usize = 128;
+const MOST_TURNS: u32 = 128;
 
 /// A partial-key cuckoo table of 2 to 32,768 buckets of four slots, in six bytes a slot.
 ///
@@ -116,13 +116,13 @@ impl Table {
 
 /// The lowest free slot of a bucket.
 #[tactic(auto, unfolding(crate::specs::Placing::free_slot))]
-fn lowest_free(slots: &[Slot], bucket: u32) -> Option<usize>
+fn lowest_free(slots: &[Slot], bucket: u32) -> Option<u32>
     requires there { 4 * bucket + 4 ≤ length slots.now }
     requires small { length slots.now < 2 ^ 32 }
     ensures { result ≡ free_slot (unpacked_all slots.now) bucket }
 {
-    let start = 4 * bucket as usize;
-    (start..start + 4).find(|slot| entry_at(slots, *slot).is_none())
+    let start = 4 * bucket;
+    (start..start + 4).find(|slot| entry_at(slots, *slot as usize).is_none())
 }
 
 /// The path of a new entry of these two buckets.
@@ -146,17 +146,17 @@ fn find_path(slots: &[Slot], first: u32, second: u32) -> Option<Path>
 
 /// The slot whose entry a turn of a walk moves out of a full bucket.
 #[tactic(auto, unfolding(crate::specs::Placing::victim))]
-fn turn_victim(slots: &[Slot], path: &Path, bucket: u32, turn: usize) -> Option<usize>
+fn turn_victim(slots: &[Slot], path: &Path, bucket: u32, turn: u32) -> Option<u32>
     requires there { 4 * bucket + 4 ≤ length slots.now }
     requires small { length slots.now < 2 ^ 32 }
     requires turns { turn < MOST_TURNS }
     ensures victim { result ≡ victim (unpacked_all slots.now) path.now.slots bucket turn }
     ensures inside { IfSome result (λ slot. slot < length slots.now) }
 {
-    let start = 4 * bucket as usize;
+    let start = 4 * bucket;
     for k in 0..4 {
         let slot = start + (turn + k) % 4;
-        if !path.contains(slot) && tag_at(slots, slot) != bucket {
+        if !path.contains(slot) && tag_at(slots, slot as usize) != bucket {
             return Some(slot);
         }
     }
@@ -175,7 +175,7 @@ fn walk(slots: &[Slot], mut path: Path) -> Option<Path>
     for turn in 0..MOST_TURNS {
         let slot = turn_victim(slots, &path, bucket, turn)?;
         path.push(slot);
-        bucket = tag_at(slots, slot);
+        bucket = tag_at(slots, slot as usize);
         if let Some(free) = lowest_free(slots, bucket) {
             path.push(free);
             return Some(path);
@@ -185,7 +185,7 @@ fn walk(slots: &[Slot], mut path: Path) -> Option<Path>
 }
 
 /// Moves the entry of each slot of a path into the next slot, from the free end backwards.
-fn move_along(slots: &mut [Slot], path: &[usize])
+fn move_along(slots: &mut [Slot], path: &[u32])
     requires small { length slots.old ≤ 2 ^ 17 }
     requires there { (k : ℕ) → k < length path.now → slice_index path.now k < length slots.old }
     requires apart { (i j : ℕ) → i < j → j < length path.now → slice_index path.now j ≢ slice_index path.now i }
@@ -193,7 +193,7 @@ fn move_along(slots: &mut [Slot], path: &[usize])
 {
     for k in (1..path.len()).rev() {
         let from = path[k - 1];
-        slots[path[k]] = slots[from].with_tag((from / 4) as u32);
+        slots[path[k] as usize] = slots[from as usize].with_tag(from / 4);
     }
 }
 

@@ -17,7 +17,7 @@ const LONGEST: usize = 129;
 pub struct Path {
     first: u32,
     second: u32,
-    slots: [usize; LONGEST],
+    slots: [u32; LONGEST],
     len: usize,
 }
 
@@ -43,7 +43,7 @@ impl Path {
     }
 
     /// The slots in order: the new entry's first, a free one last.
-    pub fn slots(&self) -> &[usize]
+    pub fn slots(&self) -> &[u32]
         ensures { result.now ≡ self.now.slots }
     {
         &self.slots[..self.len]
@@ -61,7 +61,7 @@ impl Path {
         requires { 0 < length self.now.slots }
         ensures { result ≡ slice_index self.now.slots 0 }
     {
-        self.slots[0]
+        self.slots[0] as usize
     }
 
     /// The tag that the new entry has in this slot.
@@ -76,14 +76,14 @@ impl Path {
     }
 
     /// Whether the path goes through a slot.
-    pub(crate) fn contains(&self, slot: usize) -> bool
+    pub(crate) fn contains(&self, slot: u32) -> bool
         ensures { result ≡ list_any (λ s. slot == s) self.now.slots }
     {
         self.slots().iter().any(|s| slot == *s)
     }
 
     /// One slot more.
-    pub(crate) fn push(&mut self, slot: usize)
+    pub(crate) fn push(&mut self, slot: u32)
         requires { length self.old.slots < LONGEST }
         ensures { self.new ≡ record self.old { slots = self.old.slots ++ slot ∷ [] } }
     {

@@ -1,6 +1,7 @@
 -- The first key of a log store with no rows.
 use Rattle.std.proofs.Common.{◌≡◌, ℕ, ◌*◌, ◌<◌, true, false, List, [], ◌∷◌, ◌++◌, length, find, is_none, Option, Some, None, IsSome, option_map, refl, sym, subst, ap, ◌∙◌, arith}
 use Rattle.std.specs.List.{range_with_len}
+use Rattle.std.specs.Option.{is_some}
 use Rattle.std.proofs.Math.Nat.{mod-lt}
 use Rattle.std.proofs.lemmas.List.{get_or-replicate, length-replicate}
 use Rattle.silt_device.specs.Disk.{Content}
@@ -14,6 +15,8 @@ use Rattle.silt_log.specs.State.{all_rows}
 use Rattle.silt_log_store.specs.State.{LogStoreState, IsHeldStore}
 use Rattle.silt_frame.specs.Rows.{keys_of}
 use Rattle.silt_log_store.specs.Calls.{IsPlacingFor}
+use Rattle.silt_log_store.specs.Placement.{HoldsIn, entered}
+use Rattle.silt_log_store.specs.declared.placement.Placing.{Placing}
 use Rattle.silt_log_store.proofs.Exits.{index_none}
 use Rattle.silt_log_store.proofs.Finds.{next_table}
 
@@ -59,31 +62,38 @@ no_range : (content : Content) (store : LogStoreState) → rows_from store.log.s
 unfolding rows_from
 no_range content store = refl
 
--- a store with no rows takes a first key where the table has a free slot
-pub empty_placing : (content : Content) (store : LogStoreState) (key : List ℕ) → IsHeldStore store → store.log.used ≡ 0 → store.table ≡ empty_slots store.log.shape.buckets
-    → 0 < store.log.shape.log_capacity
-    → IsPlacingFor content store key (record { standing = None })
-empty_placing content store key held none empty room =
-    let some : 0 < store.log.shape.buckets = omega (arith, held.table.buckets.least, held.count) in
-    let first : first_bucket store.log.shape.buckets key < store.log.shape.buckets = mod-lt _ some in
-    let rows : all_rows content store.log ≡ [] = no_rows in
-    let next : index_of_keys store.log.shape.buckets (keys_of (all_rows content store.log) ++ key ∷ []) ≡ placed_or_replaced (bucket_count store.table) store.table key store.log.used None =
-    ap (λ rs. index_of_keys store.log.shape.buckets (keys_of rs ++ key ∷ [])) rows
-    ∙ next_table store.log.shape.buckets [] (empty_slots store.log.shape.buckets) key (index_none store.log.shape.buckets)
-    ∙ ap (placed_or_replaced store.log.shape.buckets (empty_slots store.log.shape.buckets) key 0) (no_slot store.log.shape.buckets key)
-    ∙ ap (λ n. placed_or_replaced n (empty_slots store.log.shape.buckets) key 0 None) (sym held.count)
-    ∙ ap (λ t. placed_or_replaced (bucket_count store.table) t key 0 None) (sym empty)
-    ∙ ap (λ n. placed_or_replaced (bucket_count store.table) store.table key n None) (sym none) in
-    let there : IsSome (placed_or_replaced (bucket_count store.table) store.table key store.log.used None) =
-    subst (λ n. IsSome (placed_or_replaced n store.table key store.log.used None)) (sym held.count)
-    (subst (λ t. IsSome (placed_or_replaced store.log.shape.buckets t key store.log.used None)) (sym empty)
-    (is_placed store.log.shape.buckets (first_bucket store.log.shape.buckets key) (second_bucket store.log.shape.buckets key) store.log.used first)) in
-    record {
-      room = omega (arith, none, room);
-      standing = tt;
-      takes = λ honest index. subst IsSome (sym next) there;
-      table = λ honest index. next;
-    }
-  where
-    no_rows : all_rows content store.log ≡ []
-    no_rows = ap (λ (n : ℕ). rows_from store.log.shape store.log.region content.shown 0 n) none ∙ no_range content store
+module _ (store : LogStoreState) (key : List ℕ) (held : IsHeldStore store) (empty : store.table ≡ empty_slots store.log.shape.buckets) where
+  -- an empty table has a place for a key
+  pub empty_has_place : (place : ℕ) → IsSome (placed_or_replaced (bucket_count store.table) store.table key place None)
+  empty_has_place place =
+      let some : 0 < store.log.shape.buckets = omega (arith, held.table.buckets.least, held.count) in
+      let first : first_bucket store.log.shape.buckets key < store.log.shape.buckets = mod-lt _ some in
+      subst (λ n. IsSome (placed_or_replaced n store.table key place None)) (sym held.count)
+      (subst (λ t. IsSome (placed_or_replaced store.log.shape.buckets t key place None)) (sym empty)
+      (is_placed store.log.shape.buckets (first_bucket store.log.shape.buckets key) (second_bucket store.log.shape.buckets key) place first))
+
+  -- so the placing rule gives up at no key
+  pub empty_never_gives_up : (place : ℕ) → None ≡ placed_or_replaced (bucket_count store.table) store.table key place None → ⊥
+  empty_never_gives_up place none = let some = empty_has_place place in let gone = ap is_some none in absurd (let clash : false ≡ true = gone ∙ some in cc)
+
+  -- a first key goes where it was planned to
+  pub empty_placing : (content : Content) (placing : Placing) → store.log.used ≡ 0 → 0 < store.log.shape.log_capacity → HoldsIn store.table placing
+      → ((place : ℕ) → entered store.table placing place ≡ placed_or_replaced (bucket_count store.table) store.table key place None) → IsPlacingFor content store key placing
+  empty_placing content placing none room holds planned =
+      let rows : all_rows content store.log ≡ [] = no_rows in
+      let next : index_of_keys store.log.shape.buckets (keys_of (all_rows content store.log) ++ key ∷ []) ≡ placed_or_replaced (bucket_count store.table) store.table key store.log.used None =
+      ap (λ rs. index_of_keys store.log.shape.buckets (keys_of rs ++ key ∷ [])) rows
+      ∙ next_table store.log.shape.buckets [] (empty_slots store.log.shape.buckets) key (index_none store.log.shape.buckets)
+      ∙ ap (placed_or_replaced store.log.shape.buckets (empty_slots store.log.shape.buckets) key 0) (no_slot store.log.shape.buckets key)
+      ∙ ap (λ n. placed_or_replaced n (empty_slots store.log.shape.buckets) key 0 None) (sym held.count)
+      ∙ ap (λ t. placed_or_replaced (bucket_count store.table) t key 0 None) (sym empty)
+      ∙ ap (λ n. placed_or_replaced (bucket_count store.table) store.table key n None) (sym none) in
+      record {
+        room = omega (arith, none, room);
+        holds = holds;
+        takes = λ honest index. subst IsSome (sym next) (empty_has_place store.log.used);
+        table = λ honest index. next ∙ sym (planned store.log.used);
+      }
+    where
+      no_rows : all_rows content store.log ≡ []
+      no_rows = ap (λ (n : ℕ). rows_from store.log.shape store.log.region content.shown 0 n) none ∙ no_range content store

@@ -1,7 +1,7 @@
 -- What stands at the exits of the calls of a log store.
-use Rattle.std.proofs.Common.{◌≡◌, ◌↔◌, ℕ, ◌+◌, ◌-◌, ◌<◌, ◌≤◌, Bool, true, false, if◌then◌else◌, List, [], ◌∷◌, ◌++◌, Option, Some, None, IsTrue, IsSome, IfSome, ◌⊎◌, inl, inr, option_map, refl, sym, subst, ap, ◌∙◌, arith}
+use Rattle.std.proofs.Common.{◌≡◌, ◌↔◌, ℕ, ◌+◌, ◌-◌, ◌<◌, ◌≤◌, true, false, List, [], ◌∷◌, ◌++◌, Option, Some, None, IsTrue, IsSome, IfSome, ◌⊎◌, inl, inr, option_map, refl, sym, subst, ap, ◌∙◌, arith}
 use Rattle.std.specs.List.{list_all}
-use Rattle.std.specs.Option.{is_some}
+use Rattle.std.specs.Option.{is_some, option_and_then}
 use Rattle.silt_device.specs.Disk.{Content, ChangesWithin, size}
 use Rattle.silt_device.specs.Layout.{device_size, gates_at}
 use Rattle.silt_frame.specs.declared.key.Key.{Key}
@@ -10,6 +10,7 @@ use Rattle.silt_cuckoo.specs.Slots.{Entry, Slots, IsBucketCount, IsTable, Places
 use Rattle.silt_cuckoo.specs.Keys.{first_bucket, second_bucket}
 use Rattle.silt_cuckoo.specs.Lookup.{candidates_of}
 use Rattle.silt_cuckoo.specs.Index.{Indexes, index_of_keys, indexed, placed_or_replaced, slot_of_key}
+use Rattle.silt_cuckoo.specs.Placing.{placed, put_along}
 use Rattle.silt_cuckoo.proofs.Indexing.{index_law}
 use Rattle.silt_log.specs.Rows.{row_at, rows_from}
 use Rattle.silt_frame.specs.Rows.{has_known_kind, stored_row, StoredRow, keys_of, put_count, puts_of}
@@ -23,7 +24,9 @@ use Rattle.silt_log_store.specs.Calls.{IsPlacingFor, EmptiesStore, TakesRow, Ope
 use Rattle.silt_log_store.specs.LastRow.{FindsLast}
 use Rattle.silt_log_store.specs.Lookup.{IsFirstMatch}
 use Rattle.silt_log_store.specs.declared.lookup.Match.{Match}
+use Rattle.silt_log_store.specs.Placement.{HoldsIn, entered, entered_under}
 use Rattle.silt_log_store.specs.declared.placement.Placing.{Placing}
+use Rattle.silt_log_store.specs.declared.placement.Placing.TheVariants.{Standing, New}
 use Rattle.silt_log_store.proofs.Finds.{standing_is, match_is_last, none_is_none, next_table}
 use Rattle.silt_log_store.proofs.Named.{byte_of_kind}
 use Rattle.silt_log_store.proofs.Rows.{keys_count, keys_push, known_push, puts_push}
@@ -66,16 +69,6 @@ module _ (content : Content) (store : LogStoreState) (key : List ℕ) (held : Is
       ∙ ap (placed_or_replaced store.log.shape.buckets store.table key store.log.used) (sym (standing_is (all_rows content store.log) store.table store.log.shape.buckets key store_indexes found (match_by_shape found first)))
       ∙ ap (λ n. placed_or_replaced n store.table key store.log.used (option_map (λ (m : Match). m.slot) found)) (sym held.count)
 
-  -- whether a row of the key can be taken
-  pub takes_exactly : (found : Option Match) (can : Bool) → IsMatchIn content store key found → store.log.used < store.log.shape.log_capacity
-      → ((place : ℕ) → IsTrue can ↔ IsSome (placed_or_replaced (bucket_count store.table) store.table key place (option_map (λ (m : Match). m.slot) found)))
-      → IsTrue can ↔ ((store.log.used < store.log.shape.log_capacity) × IsSome (index_of_keys store.log.shape.buckets (keys_of (all_rows content store.log) ++ key ∷ [])))
-  takes_exactly found can first room exact =
-      let same = ap is_some (table_with_key found first) in (
-        λ yes. (room, same ∙ (exact store.log.used).0 yes),
-        λ takes. (exact store.log.used).1 (sym same ∙ takes.1),
-      )
-
 -- ---- what calls leave of the table
 
 -- the same rows have the same table and the same number of puts
@@ -109,17 +102,12 @@ empties_store new store log empties empty no_puts =
       };
     }
 
--- what was placed, where there was a place
-placed_is : (result : Bool) (table : Slots) (o : Option Slots) → IsSome o → o ≡ (if result then Some table else None) → o ≡ Some table
-placed_is true table o some is = is
-placed_is false table o some is = absurd (let none : is_some o ≡ false = ap is_some is in cc)
-
 -- a store whose log took a row, with the key in the table and one put more where it is one
-pub takes_row : (old new : Content) (store : LogStoreState) (log : LogState) (table : Slots) (puts : ℕ) (kind : Kind) (key : Key) (value : List ℕ) (placing : Placing) (result : Bool) → new.honest ≡ old.honest → IsIndexed old store
+pub takes_row : (old new : Content) (store : LogStoreState) (log : LogState) (table : Slots) (puts : ℕ) (kind : Kind) (key : Key) (value : List ℕ) (placing : Placing) → new.honest ≡ old.honest → IsIndexed old store
     → IsPlacingFor old store key.0 placing → puts ≡ store.puts + puts_of kind
-    → placed_or_replaced (bucket_count store.table) store.table key.0 store.log.used placing.standing ≡ (if result then Some table else None)
+    → entered store.table placing store.log.used ≡ Some table
     → Appends (stored_row kind key value) old new store.log log → TakesRow (stored_row kind key value) old new store (record { log = log; table = table; puts = puts })
-takes_row old new store log table puts kind key value placing result same index at more placed appends =
+takes_row old new store log table puts kind key value placing same index at more placed appends =
     let row : StoredRow = stored_row kind key value in
     let rows : List StoredRow = all_rows old store.log in
     let shape : log.shape ≡ store.log.shape = ap (λ (l : LogState). l.shape) appends.log in
@@ -136,7 +124,8 @@ takes_row old new store log table puts kind key value placing result same index 
               ap (λ s. index_of_keys s.buckets (keys_of (all_rows new log))) shape
               ∙ ap (λ all. index_of_keys store.log.shape.buckets (keys_of all)) (appends.all was)
               ∙ ap (index_of_keys store.log.shape.buckets) (keys_push rows row)
-              ∙ placed_is result table (index_of_keys store.log.shape.buckets (keys_of rows ++ key.0 ∷ [])) (at.takes was index) (at.table was index ∙ placed);
+              ∙ at.table was index
+              ∙ placed;
           counted = λ honest.
               let was = sym same ∙ honest in
               more ∙ ap (λ n. n + puts_of kind) (index.counted was) ∙ sym (puts_push rows row kind (byte_of_kind kind)) ∙ ap put_count (sym (appends.all was));
@@ -145,7 +134,7 @@ takes_row old new store log table puts kind key value placing result same index 
     }
 
 -- the slot of a match has an entry
-standing_stands : (slots : Slots) (found : Option Match) → IfSome found (λ (m : Match). place_at slots m.slot ≡ Some m.found.place) → IfSome (option_map (λ (m : Match). m.slot) found) (λ slot. IsSome (entry_at slots slot))
+pub standing_stands : (slots : Slots) (found : Option Match) → IfSome found (λ (m : Match). place_at slots m.slot ≡ Some m.found.place) → IfSome (option_map (λ (m : Match). m.slot) found) (λ slot. IsSome (entry_at slots slot))
 standing_stands slots None there = tt
 standing_stands slots (Some m) there = go (entry_at slots m.slot) there
   where
@@ -153,29 +142,54 @@ standing_stands slots (Some m) there = go (entry_at slots m.slot) there
     go None is = absurd (cc)
     go (Some e) is = refl
 
--- where the placing rule has a place for a key, it is placed so
-pub placing_found : (content : Content) (store : LogStoreState) (key : List ℕ) (found : Option Match) (can : Bool) → IsHeldStore store → store.log.used < store.log.shape.log_capacity
-    → IfSome found (λ (m : Match). place_at store.table m.slot ≡ Some m.found.place) → (IsTrue content.honest → IsIndexed content store → IsMatchIn content store key found)
-    → ((place : ℕ) → IsTrue can ↔ IsSome (placed_or_replaced (bucket_count store.table) store.table key place (option_map (λ (m : Match). m.slot) found)))
-    → IsTrue can → IsPlacingFor content store key (record { standing = option_map (λ (m : Match). m.slot) found })
-placing_found content store key found can held room there first exact passes = record {
-  room = room;
-  standing = standing_stands store.table found there;
-  takes = λ honest index. ((takes_exactly content store key held honest index found can (first honest index) room exact).0 passes).1;
-  table = λ honest index. table_with_key content store key held honest index found (first honest index);
-}
+-- a table takes an entry at a placing that holds in it
+pub holds_enters : (table : Slots) (placing : Placing) (place : ℕ) → HoldsIn table placing → IsSome (entered table placing place)
+unfolding placed
+holds_enters table (Standing slot) place holds = refl
+holds_enters table (New path) place holds = ap (λ (o : Option (List ℕ)). is_some (option_map (put_along table path.first path.second place) o)) holds.path
 
--- where it has none the keys with this one have no table
-pub placing_none : (content : Content) (store : LogStoreState) (key : List ℕ) (found : Option Match) (can : Bool) → IsHeldStore store → IsTrue content.honest → IsIndexed content store → IsMatchIn content store key found → store.log.used < store.log.shape.log_capacity
-    → ((place : ℕ) → IsTrue can ↔ IsSome (placed_or_replaced (bucket_count store.table) store.table key place (option_map (λ (m : Match). m.slot) found)))
-    → can ≡ false → index_of_keys store.log.shape.buckets (keys_of (all_rows content store.log) ++ key ∷ []) ≡ None
-placing_none content store key found can held honest index first room exact fails = go (index_of_keys store.log.shape.buckets (keys_of (all_rows content store.log) ++ key ∷ [])) refl
+-- what the placing rule makes of a key is what it makes of its two buckets
+pub under_buckets : (buckets first second place : ℕ) (table : Slots) (key : List ℕ) (standing older : Option ℕ) → first ≡ first_bucket buckets key → second ≡ second_bucket buckets key → standing ≡ older
+    → entered_under table first second place standing ≡ placed_or_replaced buckets table key place older
+under_buckets buckets first second place table key None older first_is second_is same = rw (first_is, second_is, ← same) refl
+under_buckets buckets first second place table key (Some slot) older first_is second_is same = rw (← same) refl
+
+-- the placings that were planned for a key whose older row was found so
+abbrev pub IsPlannedFor : LogStoreState → List ℕ → Option Match → Option Placing → Type 0
+IsPlannedFor store key found placing = (place : ℕ) → option_and_then (λ (p : Placing). entered store.table p place) placing
+    ≡ placed_or_replaced (bucket_count store.table) store.table key place (option_map (λ (m : Match). m.slot) found)
+
+-- a placing that was planned is one for its key
+pub placing_found : (content : Content) (store : LogStoreState) (key : List ℕ) (found : Option Match) (placing : Option Placing) → IsHeldStore store → store.log.used < store.log.shape.log_capacity
+    → (IsTrue content.honest → IsIndexed content store → IsMatchIn content store key found)
+    → IfSome placing (HoldsIn store.table) → IsPlannedFor store key found placing → IfSome placing (IsPlacingFor content store key)
+placing_found content store key found None held room first holds planned = tt
+placing_found content store key found (Some placing) held room first holds planned = record {
+  room = room;
+  holds = holds;
+  takes = λ honest index. subst IsSome (sym (table honest index)) (holds_enters store.table placing store.log.used holds);
+  table = table;
+}
   where
-    go : (o : Option Slots) → index_of_keys store.log.shape.buckets (keys_of (all_rows content store.log) ++ key ∷ []) ≡ o → index_of_keys store.log.shape.buckets (keys_of (all_rows content store.log) ++ key ∷ []) ≡ None
-    go None is = is
-    go (Some slots) is =
-        let passes = (takes_exactly content store key held honest index found can first room exact).1 (room, ap is_some is) in
-        absurd (let clash : false ≡ true = sym fails ∙ passes in cc)
+    table : IsTrue content.honest → IsIndexed content store → index_of_keys store.log.shape.buckets (keys_of (all_rows content store.log) ++ key ∷ []) ≡ entered store.table placing store.log.used
+    table honest index = table_with_key content store key held honest index found (first honest index) ∙ sym (planned store.log.used)
+
+-- none was planned exactly where the keys with this one have no table
+pub placing_none : (content : Content) (store : LogStoreState) (key : List ℕ) (found : Option Match) (placing : Option Placing) → IsHeldStore store → store.log.used < store.log.shape.log_capacity
+    → IsTrue content.honest → IsIndexed content store → IsMatchIn content store key found → IfSome placing (HoldsIn store.table) → IsPlannedFor store key found placing
+    → (placing ≡ None) ↔ ((store.log.used ≡ store.log.shape.log_capacity) ⊎ (index_of_keys store.log.shape.buckets (keys_of (all_rows content store.log) ++ key ∷ []) ≡ None))
+placing_none content store key found None held room honest index first holds planned =
+    (λ none. inr (table_with_key content store key held honest index found first ∙ sym (planned store.log.used)), λ stopped. refl)
+placing_none content store key found (Some placing) held room honest index first holds planned = (
+  λ none. absurd (cc),
+  λ stopped. elim stopped [
+    | inl full ↦ absurd (omega (arith, full, room))
+    | inr gone ↦
+        let enters = holds_enters store.table placing store.log.used holds in
+        let none = ap is_some (planned store.log.used ∙ sym (table_with_key content store key held honest index found first) ∙ gone) in
+        absurd (let clash : true ≡ false = sym enters ∙ none in cc)
+  ],
+)
 
 -- a placing is answered exactly where a row of the key can be taken
 pub placing_exactly : (content : Content) (store : LogStoreState) (key : List ℕ) → IsTrue content.honest → IsIndexed content store → (placing : Option Placing) → IfSome placing (IsPlacingFor content store key)

@@ -1,12 +1,12 @@
 -- What the calls of a log store do to it and to the disk.
-use Rattle.std.specs.Prelude.{◌≡◌, ◌<◌, ℕ, IsTrue, IsSome, IfSome, List, [], ◌∷◌, ◌++◌}
-use Rattle.silt_cuckoo.specs.Slots.{bucket_count, entry_at}
-use Rattle.silt_cuckoo.specs.Index.{index_of_keys, placed_or_replaced}
+use Rattle.std.specs.Prelude.{◌≡◌, ◌<◌, ℕ, IsTrue, IsSome, List, [], ◌∷◌, ◌++◌}
+use Rattle.silt_cuckoo.specs.Index.{index_of_keys}
 use Rattle.silt_device.specs.Disk.{Content}
 use Rattle.silt_frame.specs.Rows.{StoredRow, keys_of}
 use Rattle.silt_log.specs.State.{all_rows}
 use Rattle.silt_log.specs.Calls.{Empties, Appends, KeepsRows, OpensGates, OpensSome, Seals}
 use Rattle.silt_log_store.specs.State.{LogStoreState, IsIndexed, IsLogStore}
+use Rattle.silt_log_store.specs.Placement.{HoldsIn, entered}
 use Rattle.silt_log_store.specs.declared.placement.Placing.{Placing}
 
 -- the store has no rows, and whatever a stop leaves has none
@@ -48,11 +48,11 @@ pub record SealsStore (old new : Content) (before after : LogStoreState) : Type 
   pub all : IsTrue old.honest → all_rows new after.log ≡ all_rows old before.log
   pub stands : IsIndexed old before → IsLogStore new after
 
--- A row of this key can be taken at this placing: the log has room, and the table of the keys with this one is that in which the key
--- takes the slot of its older row, or finds a place.
+-- A row of this key can be taken at this placing: the log has room, the placing was made for the table as it stands, and the table of
+-- the keys with this one is that in which the key's entry went in by it.
 pub record IsPlacingFor (content : Content) (store : LogStoreState) (key : List ℕ) (placing : Placing) : Type 0 where
   pub room : store.log.used < store.log.shape.log_capacity
-  pub standing : IfSome placing.standing (λ slot. IsSome (entry_at store.table slot))
+  pub holds : HoldsIn store.table placing
   pub takes : IsTrue content.honest → IsIndexed content store → IsSome (index_of_keys store.log.shape.buckets (keys_of (all_rows content store.log) ++ key ∷ []))
   pub table : IsTrue content.honest → IsIndexed content store → index_of_keys store.log.shape.buckets (keys_of (all_rows content store.log) ++ key ∷ [])
-      ≡ placed_or_replaced (bucket_count store.table) store.table key store.log.used placing.standing
+      ≡ entered store.table placing store.log.used

@@ -5,5 +5,6 @@ pub mod LastRow
 pub mod Lookup
 pub mod Growth
 pub mod Rebuild
+pub mod Placement
 pub mod Calls
 pub mod Laws

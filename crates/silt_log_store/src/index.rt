@@ -3,9 +3,10 @@ ghost use Rattle.std.specs.Prelude.{◌≡◌, ◌+◌, ◌<◌, ◌≤◌, ◌^
 ghost use Rattle.std.specs.Str.{bytes_eq};
 ghost use Rattle.silt_cuckoo.specs.declared.lookup.Candidate.{Candidate};
 ghost use Rattle.silt_cuckoo.specs.Index.{slot_of_key};
-ghost use Rattle.silt_cuckoo.specs.Slots.{IsBucketCount, PlacesBelow, bucket_count, entry_at};
+ghost use Rattle.silt_cuckoo.specs.Keys.{first_bucket, second_bucket};
+ghost use Rattle.silt_cuckoo.specs.Slots.{IsBucketCount, IsTable, PlacesBelow, bucket_count, entry_at};
 
-use crate::placement::place_key;
+use crate::placement::{enter, plan_entry};
 use silt_cuckoo::{Candidate, Table, key_buckets};
 use silt_frame::{KEY_LEN, Key, Kind};
 use std::alloc::{AllocError, Global};
@@ -40,15 +41,19 @@ impl KeyIndex {
         })
     }
 
-    /// The slot of a key's older row, none where there is none.
-    fn slot_of(&self, key: &Key) -> Option<usize>
-        requires { IsKeyIndex self.now }
+    /// The slot of the older row of a key with these two buckets, none where there is none.
+    fn slot_of(&self, key: &Key, buckets: (u32, u32)) -> Option<usize>
+        requires index { IsKeyIndex self.now }
+        requires table { IsTable self.now.table }
+        requires first { buckets.0 ≡ first_bucket (bucket_count self.now.table) key.now.0 }
+        requires second { buckets.1 ≡ second_bucket (bucket_count self.now.table) key.now.0 }
+        requires first_there { buckets.0 < bucket_count self.now.table }
+        requires second_there { buckets.1 < bucket_count self.now.table }
         ensures slot { result ≡ slot_of_key self.now.keys.items self.now.table key.now.0 }
         ensures standing { IfSome result (λ slot. IsSome (entry_at self.now.table slot)) }
         ensures below { PlacesBelow self.now.table (length self.now.keys.items) }
     {
-        let (first, second) = key_buckets(&key.0, self.table.bucket_count());
-        let candidates = self.table.candidates(first, second);
+        let candidates = self.table.candidates(buckets.0, buckets.1);
         first_slot(self.keys.as_slice(), candidates.as_slice(), &key.0)
     }
 
@@ -62,11 +67,13 @@ impl KeyIndex {
         requires room { length self.old.keys.items + 1 < 2 ^ 32 }
         ensures { IfOk result (AddsOrGivesUp kind key.now.0 self.old self.new) }
     {
-        let standing = self.slot_of(key);
+        let buckets = key_buckets(&key.0, self.table.bucket_count());
+        let standing = self.slot_of(key, buckets);
         let place = self.keys.len() as u32;
-        if !place_key(&mut self.table, key, standing, place) {
+        let Some(placing) = plan_entry(&self.table, buckets, standing) else {
             return Ok(false);
-        }
+        };
+        enter(&mut self.table, &placing, place);
         self.keys.push(key.0)?;
         self.puts += kind.puts();
         Ok(true)

@@ -7,7 +7,7 @@
 //! among its rows.
 //!
 //! A store takes a row while its log has room and the rule finds a place for the key: `placing` reads and answers where the key
-//! goes, and `take` writes, with no read, so that a caller can tell a read that failed from a write that did. What a
+//! goes, and `take` writes there, with no read, so that a caller can tell a read that failed from a write that did. What a
 //! stop may leave is said in the log's words: the rows before the first closed gate.
 #![tactic(auto)]
 

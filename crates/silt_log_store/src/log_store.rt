@@ -14,10 +14,10 @@ ghost use Rattle.silt_frame.specs.Rows.{has_known_kind, stored_row, row_of, puts
 ghost use Rattle.silt_log.specs.State.{IsScanned, all_rows, settled_rows};
 
 use crate::index::KeyIndex;
-use crate::lookup::{look_up, slot_of};
-use crate::placement::{Placing, has_place, place_key};
+use crate::lookup::{look_up, look_up_under, slot_of};
+use crate::placement::{Placing, enter, plan_entry};
 use crate::rebuild::{RebuildError, index_rows};
-use silt_cuckoo::Table;
+use silt_cuckoo::{Table, key_buckets};
 use silt_device::{Disk, Geometry};
 use silt_frame::{HEAD_LEN, Key, Kind};
 use silt_log::Log;
@@ -381,26 +381,28 @@ impl LogStore {
         if self.log.is_full() {
             return Ok(None);
         }
+        let buckets = key_buckets(&key.0, self.table.bucket_count());
         let mut head = [0; HEAD_LEN];
-        let standing = slot_of(look_up(&self.log, &self.table, disk, key, &mut head)?);
-        if !has_place(&self.table, key, standing) {
-            return Ok(None);
-        }
-        Ok(Some(Placing { standing }))
+        let older = look_up_under(&self.log, &self.table, disk, key, buckets, &mut head)?;
+        Ok(plan_entry(&self.table, buckets, slot_of(older)))
     }
 
     /// Where the entry of a key goes in a store with no rows.
-    pub fn placing_in_empty(&self, _key: &Key) -> Placing
+    pub fn placing_in_empty(&self, key: &Key) -> Placing
         requires used { self.now.log.used ≡ 0 }
         requires table { self.now.table ≡ empty_slots self.now.log.shape.buckets }
-        ensures { (content : Content) → IsPlacingFor content self.now _key.now.0 result }
+        ensures { (content : Content) → IsPlacingFor content self.now key.now.0 result }
     {
         let _limits = self.log.geometry().log_capacity(); // at least one row
-        Placing { standing: None }
+        let buckets = key_buckets(&key.0, self.table.bucket_count());
+        let Some(placing) = plan_entry(&self.table, buckets, None) else {
+            unreachable!()
+        };
+        placing
     }
 
     /// Takes a row behind the others, at a placing that was made for its key and this store as it stands: writes the row with its
-    /// gate closed, puts the key into the table, and counts a put. A delete's value is zeros. It reads nothing and takes no memory.
+    /// gate closed, enters the key into the table with no further planning, and counts a put. A delete's value is zeros. It reads nothing and takes no memory.
     ///
     /// # Errors
     ///
@@ -411,9 +413,9 @@ impl LogStore {
         kind: Kind,
         key: &Key,
         value: &[u8],
-        placing: Placing,
+        placing: &Placing,
     ) -> Result<(), D::Fault>
-        requires placing { IsPlacingFor (D.content disk.old) self.old key.now.0 placing }
+        requires placing { IsPlacingFor (D.content disk.old) self.old key.now.0 placing.now }
         requires value { length value.now ≡ self.old.log.shape.value_len }
         requires zeros { IsValueOf kind value.now }
         requires size { device_size self.old.log.shape ≤ size (D.content disk.old) }
@@ -430,7 +432,7 @@ impl LogStore {
         let _capacity = self.log.capacity(); // fits its word, and so does the count of the puts
         let place = self.log.len();
         self.log.append(disk, kind, key, value)?;
-        let _placed = place_key(&mut self.table, key, placing.standing, place);
+        enter(&mut self.table, placing, place);
         self.puts += kind.puts();
         Ok(())
     }

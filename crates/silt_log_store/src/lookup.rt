@@ -120,7 +120,36 @@ pub fn look_up<D: Disk>(
         → IfOk result (λ found. IfSome found (λ m. drop 21 front.new ≡ (row_at log.now.shape log.now.region (D.content disk.now).shown m.found.place).value)) }
     ensures fault { IfErr result (GaveAny D.gave disk.now) }
 {
-    let (first, second) = key_buckets(&key.0, table.bucket_count());
-    let candidates = table.candidates(first, second);
+    let buckets = key_buckets(&key.0, table.bucket_count());
+    look_up_under(log, table, disk, key, buckets, front)
+}
+
+// As `look_up`, where the key's two buckets are known.
+pub fn look_up_under<D: Disk>(
+    log: &Log,
+    table: &Table,
+    disk: &D,
+    key: &Key,
+    buckets: (u32, u32),
+    front: &mut [u8],
+) -> Result<Option<Match>, D::Fault>
+    requires first { buckets.0 ≡ first_bucket (bucket_count table.now) key.now.0 }
+    requires second { buckets.1 ≡ second_bucket (bucket_count table.now) key.now.0 }
+    requires first_there { buckets.0 < bucket_count table.now }
+    requires second_there { buckets.1 < bucket_count table.now }
+    requires size { device_size log.now.shape ≤ size (D.content disk.now) }
+    requires below { PlacesBelow table.now log.now.used }
+    requires room { log.now.used ≤ log.now.shape.log_capacity }
+    requires least { 21 ≤ length front.old }
+    requires most { length front.old ≤ row_len log.now.shape }
+    ensures standing { IfOk result (λ found. IfSome found (λ m. place_at table.now m.slot ≡ Some m.found.place)) }
+    ensures first { IsTrue (D.content disk.now).honest → list_all has_known_kind (all_rows (D.content disk.now) log.now) ≡ true
+        → IfOk result (IsFirstMatch (all_rows (D.content disk.now) log.now) (candidates_of table.now (first_bucket (bucket_count table.now) key.now.0)
+        (second_bucket (bucket_count table.now) key.now.0)) key.now.0) }
+    ensures value { IsTrue (D.content disk.now).honest → length front.old ≡ row_len log.now.shape
+        → IfOk result (λ found. IfSome found (λ m. drop 21 front.new ≡ (row_at log.now.shape log.now.region (D.content disk.now).shown m.found.place).value)) }
+    ensures fault { IfErr result (GaveAny D.gave disk.now) }
+{
+    let candidates = table.candidates(buckets.0, buckets.1);
     first_match(log, disk, candidates.as_slice(), key, front)
 }

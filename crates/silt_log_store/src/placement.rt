@@ -1,50 +1,48 @@
-// The placing rule at a key of a log: it takes the slot of the key's older row, or goes where the table finds a place.
-ghost use Rattle.std.specs.Prelude.{◌≡◌, ◌↔◌, ℕ, ◌+◌, IsSome, IfSome, IsTrue, Option, Some, None, false, if◌then◌else◌};
+// The placing rule at a key of a log: its entry takes the slot of the key's older row, or goes where the table finds a place.
+ghost use Rattle.std.specs.Prelude.{◌≡◌, ℕ, ◌+◌, ◌<◌, IsSome, IfSome, Some};
+ghost use Rattle.std.specs.Option.{option_and_then};
 ghost use Rattle.silt_cuckoo.specs.Slots.{IsTable, PlacesBelow, bucket_count, entry_at};
-ghost use Rattle.silt_cuckoo.specs.Index.{placed_or_replaced};
+ghost use Rattle.silt_log_store.specs.Placement.{HoldsIn, entered, entered_under};
+ghost use Rattle.silt_log_store.specs.declared.placement.Placing.{Placing};
 
-use silt_cuckoo::{Table, key_buckets};
-use silt_frame::Key;
+use silt_cuckoo::{Path, Table};
 
-/// Where the entry of a key goes in the table of a log store, for a row that the store can take.
-#[derive(Clone, Copy, Debug)]
-pub struct Placing {
-    // The slot of the key's older row, where it has one.
-    pub(crate) standing: Option<usize>,
+/// Where the entry of a key goes in the table of a log store, for a row that the store can take. It holds for the table as it
+/// stood when the placing was made.
+#[derive(Drop)]
+pub enum Placing {
+    /// Into the slot of the key's older row.
+    Standing(usize),
+    /// Into the first slot of a path, as a new entry.
+    New(Path),
 }
 
-// Whether a further row of this key, whose older row has this slot, has a place in the table.
-pub fn has_place(table: &Table, key: &Key, standing: Option<usize>) -> bool
-    ensures { (place : ℕ) → IsTrue result ↔ IsSome (placed_or_replaced (bucket_count table.now) table.now key.now.0 place standing) }
+// Where an entry of these two buckets goes, whose key's older row has this slot: none where the placing rule gives up.
+pub fn plan_entry(table: &Table, buckets: (u32, u32), standing: Option<usize>) -> Option<Placing>
+    requires first_there { buckets.0 < bucket_count table.now }
+    requires second_there { buckets.1 < bucket_count table.now }
+    requires standing { IfSome standing (λ slot. IsSome (entry_at table.now slot)) }
+    ensures holds { IfSome result (HoldsIn table.now) }
+    ensures rule { (place : ℕ) → option_and_then (λ (placing : Placing). entered table.now placing place) result ≡ entered_under table.now buckets.0 buckets.1 place standing }
 {
-    if standing.is_some() {
-        return true;
+    if let Some(slot) = standing {
+        return Some(Placing::Standing(slot));
     }
-    let (first, second) = key_buckets(&key.0, table.bucket_count());
-    table.plan(first, second).is_some()
+    let path = table.plan(buckets.0, buckets.1)?;
+    Some(Placing::New(path))
 }
 
-// Puts a further row of this key, whose older row has this slot, into the table with a new place: whether it found room. Where
-// it found none the table is as it was.
-pub fn place_key(table: &mut Table, key: &Key, standing: Option<usize>, place: u32) -> bool
-    requires standing { IfSome standing (λ slot. IsSome (entry_at table.old slot)) }
+// Enters a new place into the table at a placing that was made for the table as it stands.
+pub fn enter(table: &mut Table, placing: &Placing, place: u32)
+    requires holds { HoldsIn table.old placing.now }
     requires below { PlacesBelow table.old place }
-    ensures placed { placed_or_replaced (bucket_count table.old) table.old key.now.0 place standing ≡ (if result then Some table.new else None) }
-    ensures unchanged { result ≡ false → table.new ≡ table.old }
+    ensures entered { entered table.old placing.now place ≡ Some table.new }
     ensures buckets { bucket_count table.new ≡ bucket_count table.old }
     ensures below { PlacesBelow table.new (place + 1) }
     ensures table { IsTable table.new }
 {
-    if let Some(slot) = standing {
-        table.replace(slot, place);
-        return true;
-    }
-    let (first, second) = key_buckets(&key.0, table.bucket_count());
-    match table.plan(first, second) {
-        Some(path) => {
-            table.apply(&path, place);
-            true
-        }
-        None => false,
+    match placing {
+        Placing::Standing(slot) => table.replace(*slot, place),
+        Placing::New(path) => table.apply(path, place),
     }
 }

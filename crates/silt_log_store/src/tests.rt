@@ -239,7 +239,7 @@ fn offer<D: Disk>(
     let Some(placing) = store.placing(disk, key)? else {
         return Ok(false);
     };
-    store.take(disk, kind, key, value, placing)?;
+    store.take(disk, kind, key, value, &placing)?;
     Ok(true)
 }
 

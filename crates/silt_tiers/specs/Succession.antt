@@ -1,7 +1,7 @@
 -- The manifest's next body: when it may rule, and what holds once it does.
 use Rattle.std.specs.Prelude.{◌≡◌, ◌⊎◌, true, IsTrue, None}
 use Rattle.silt_device.specs.Disk.{ChangesWithin, Content, LeavesOnly}
-use Rattle.silt_device.specs.Layout.{slot_at}
+use Rattle.silt_device.specs.Layout.{slot_at, sector}
 use Rattle.silt_image.specs.Meaning.{IsSound, rows_of}
 use Rattle.silt_event.specs.Rows.{map_of_rows}
 use Rattle.silt_image.specs.Stores.{Stores, stores_named}
@@ -30,4 +30,4 @@ pub record NowRules (old new : Content) (s : TiersState) (body : Body) (manifest
   pub has_shape : manifest.shape ≡ s.manifest.shape
   pub has_body : manifest.ruling ≡ body
   pub idle : manifest.prepared ≡ None
-  pub changes : ChangesWithin (slot_at (spare_slot s.manifest)) 4096 old new
+  pub changes : ChangesWithin (slot_at (spare_slot s.manifest)) sector old new

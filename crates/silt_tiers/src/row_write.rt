@@ -61,7 +61,7 @@ impl Tiers {
         ensures err { IfErr result (WriteCause D.content (GaveAny D.gave) (CountsFault D.failures D.gave) disk.old disk.new self.old self.new key.now.0) }
     {
         match self.placing(disk, key) {
-            Ok(Some(placing)) => match self.write_active(disk, kind, key, value, placing) {
+            Ok(Some(placing)) => match self.write_active(disk, kind, key, value, &placing) {
                 Ok(()) => Ok(()),
                 Err(fault) => Err(WriteError::Write(fault)),
             },
@@ -105,7 +105,7 @@ impl Tiers {
             return Err(WriteError::Write(fault));
         }
         let placing = self.placing_in_empty(key);
-        match self.write_active(disk, kind, key, value, placing) {
+        match self.write_active(disk, kind, key, value, &placing) {
             Ok(()) => Ok(()),
             Err(fault) => Err(WriteError::Write(fault)),
         }

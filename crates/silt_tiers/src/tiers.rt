@@ -188,10 +188,10 @@ impl Tiers {
         kind: Kind,
         key: &Key,
         value: &[u8],
-        placing: Placing,
+        placing: &Placing,
     ) -> Result<(), D::Fault>
         requires stands { Stands (D.content disk.old) self.old }
-        requires placing { IsPlacingFor (D.content disk.old) self.old.active key.now.0 placing }
+        requires placing { IsPlacingFor (D.content disk.old) self.old.active key.now.0 placing.now }
         requires value { length value.now ≡ self.old.manifest.shape.value_len }
         requires zeros { IsValueOf kind value.now }
         requires charge { self.old.charge + puts_of kind ≤ self.old.manifest.shape.sorted_capacity }
