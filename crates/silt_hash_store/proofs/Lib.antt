@@ -1,5 +1,6 @@
 pub mod Answering
 pub mod Charging
+pub mod Chunks
 pub mod Elsewhere
 pub mod Finding
 pub mod Growing

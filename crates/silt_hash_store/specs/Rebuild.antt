@@ -9,7 +9,8 @@ use Rattle.silt_frame.specs.declared.key.Kind.{Kind}
 use Rattle.silt_hash_store.specs.Findings.{hash_findings, is_in_bucket}
 use Rattle.silt_log_store.specs.Parts.{known_rows}
 use Rattle.silt_frame.specs.Rows.{put_count, has_known_kind, StoredRow, puts_of}
-use Rattle.silt_hash_store.specs.Slots.{hash_part, is_sound_slot, rows_before, slot_row, tag_of}
+use Rattle.silt_hash_store.specs.declared.region.Head.{Head}
+use Rattle.silt_hash_store.specs.Slots.{HeadSays, hash_part, is_sound_slot, rows_before, slot_row, tag_of}
 use Rattle.silt_event.specs.declared.damage.Finding.TheVariants as finding
 use Rattle.silt_event.specs.declared.place.Place.TheVariants.{Hash}
 use Rattle.silt_hash_store.specs.State.{HashState, IsHashStore, IsTagged}
@@ -35,6 +36,10 @@ TagsKey shape slot key (Some tag) = (is_in_bucket shape slot key ≡ true) × (t
 abbrev pub AddsSlot : ℕ → ℕ → StoredRow → Option (Kind × ℕ) → Type 0
 AddsSlot buckets slot row None = row.kind ≡ 0
 AddsSlot buckets slot row (Some (kind, tag)) = (kind_of row.kind ≡ Some kind) × (tag_of buckets slot row ≡ Some tag)
+
+-- this is what the head of a slot says
+abbrev pub HasHead : HashState → List ℕ → ℕ → Head → Type 0
+HasHead store image slot head = HeadSays (slot_row store.shape store.region image slot).kind (slot_row store.shape store.region image slot).key head
 
 -- a slot is sound, and this is what it adds
 pub record AddsSound (store : HashState) (image : List ℕ) (slot : ℕ) (added : Option (Kind × ℕ)) : Type 0 where

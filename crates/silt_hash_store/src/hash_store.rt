@@ -44,6 +44,7 @@ impl HashStore {
     ghost use Rattle.silt_hash_store.specs.Lookup.{FindsRow, IsRowAt};
     ghost use Rattle.silt_hash_store.specs.Rebuild.{IsFirstUnsound, IsRebuiltHash, IsRefusedHash};
     ghost use Rattle.silt_hash_store.specs.Slots.{rows_before, slot_row};
+    ghost use Rattle.silt_frame.specs.Frame.{head_len};
 
     /// The geometry of the store.
     pub fn geometry(&self) -> Geometry
@@ -78,14 +79,14 @@ impl HashStore {
         key: &Key,
         front: &mut [u8],
     ) -> Result<Option<Found>, D::Fault>
-        requires least { 21 ≤ length front.old }
+        requires least { head_len ≤ length front.old }
         requires most { length front.old ≤ row_len self.now.shape }
         requires size { device_size self.now.shape ≤ size (D.content disk.now) }
         ensures finds { IsTrue (D.content disk.now).honest → (count : ℕ) → IsTagged self.now (D.content disk.now).shown count
             → IfOk result (FindsRow (rows_before self.now.shape self.now.region (D.content disk.now).shown count) key.now.0) }
         ensures place { IfOk result (λ found. IfSome found (λ row. row.place < 4 * self.now.shape.buckets)) }
         ensures value { IsTrue (D.content disk.now).honest → length front.old ≡ row_len self.now.shape
-            → IfOk result (λ found. IfSome found (λ row. drop 21 front.new ≡ (slot_row self.now.shape self.now.region (D.content disk.now).shown row.place).value)) }
+            → IfOk result (λ found. IfSome found (λ row. drop head_len front.new ≡ (slot_row self.now.shape self.now.region (D.content disk.now).shown row.place).value)) }
         ensures fault { IfErr result (GaveAny D.gave disk.now) }
     {
         let (first, second) = key_buckets(&key.0, self.region.geometry.buckets());
@@ -268,8 +269,9 @@ impl HashStore {
         }
     }
 
-    /// A store of what is on the device, in one pass over the slots: the head of each is read once, and for each row the heads of
-    /// the earlier slots of its buckets whose tags fit, at most eight. It takes two bytes a slot.
+    /// A store of what is on the device, in one pass over the slots: they are read once, in reads of at most 64 KiB, and for each row
+    /// the heads of the earlier slots of its buckets whose tags fit, at most eight. It takes two bytes a slot, and what one read has
+    /// for as long as it runs.
     ///
     /// # Errors
     ///

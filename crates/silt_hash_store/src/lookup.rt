@@ -5,6 +5,7 @@ ghost use Rattle.silt_device.specs.Layout.{device_size, row_len};
 ghost use Rattle.silt_hash_store.specs.Lookup.{FindsIn, MatchesKey, MatchesTag};
 ghost use Rattle.silt_hash_store.specs.Slots.{HeadSays, slot_row, slot_tag};
 ghost use Rattle.silt_frame.specs.Rows.{StoredRow};
+ghost use Rattle.silt_frame.specs.Frame.{head_len};
 
 use crate::region::{HashRegion, Head};
 use crate::tags::Tags;
@@ -34,13 +35,13 @@ fn match_at<D: Disk>(
     front: &mut [u8],
 ) -> Result<Option<Kind>, D::Fault>
     requires slot { slot < 4 * region.now.geometry.buckets }
-    requires least { 21 ≤ length front.old }
+    requires least { head_len ≤ length front.old }
     requires most { length front.old ≤ row_len region.now.geometry }
     requires size { device_size region.now.geometry ≤ size (D.content disk.now) }
     ensures matches { IsTrue (D.content disk.now).honest → IfOk result (MatchesTag (slot_tag tags.now slot) tag
         (slot_row region.now.geometry region.now.number (D.content disk.now).shown slot) key.now.0) }
     ensures value { IsTrue (D.content disk.now).honest → length front.old ≡ row_len region.now.geometry
-        → IfOk result (λ kind. IfSome kind (λ _. drop 21 front.new ≡ (slot_row region.now.geometry region.now.number (D.content disk.now).shown slot).value)) }
+        → IfOk result (λ kind. IfSome kind (λ _. drop head_len front.new ≡ (slot_row region.now.geometry region.now.number (D.content disk.now).shown slot).value)) }
     ensures fault { IfErr result (GaveAny D.gave disk.now) }
 {
     if tags.get(slot) != Some(tag) {
@@ -62,14 +63,14 @@ pub fn find_in<D: Disk>(
     front: &mut [u8],
 ) -> Result<Option<Found>, D::Fault>
     requires bucket { bucket < region.now.geometry.buckets }
-    requires least { 21 ≤ length front.old }
+    requires least { head_len ≤ length front.old }
     requires most { length front.old ≤ row_len region.now.geometry }
     requires size { device_size region.now.geometry ≤ size (D.content disk.now) }
     ensures finds { IsTrue (D.content disk.now).honest
         → IfOk result (FindsIn region.now.geometry region.now.number tags.now (D.content disk.now).shown bucket tag key.now.0) }
     ensures place { IfOk result (λ found. IfSome found (λ row. row.place < 4 * region.now.geometry.buckets)) }
     ensures value { IsTrue (D.content disk.now).honest → length front.old ≡ row_len region.now.geometry
-        → IfOk result (λ found. IfSome found (λ row. drop 21 front.new ≡ (slot_row region.now.geometry region.now.number (D.content disk.now).shown row.place).value)) }
+        → IfOk result (λ found. IfSome found (λ row. drop head_len front.new ≡ (slot_row region.now.geometry region.now.number (D.content disk.now).shown row.place).value)) }
     ensures fault { IfErr result (GaveAny D.gave disk.now) }
 {
     let _slots = region.slot_count(); // so the numbers of the slots fit their word

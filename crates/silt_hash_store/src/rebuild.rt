@@ -1,19 +1,22 @@
 // A hash store from what is on the device.
-ghost use Rattle.std.specs.Prelude.{◌≡◌, ◌+◌, ◌*◌, ◌<◌, ◌≤◌, ◌^◌, false, IsTrue, IfOk, IfErr, IfSome, OnOk};
+ghost use Rattle.std.specs.Prelude.{◌≡◌, ◌+◌, ◌*◌, ◌<◌, ◌≤◌, ◌^◌, false, IsTrue, IfOk, IfErr, IfSome, OnOk, length};
 ghost use Rattle.silt_device.specs.Disk.{GaveAny, size};
-ghost use Rattle.silt_device.specs.Layout.{device_size};
+ghost use Rattle.silt_device.specs.Layout.{device_size, row_len};
 ghost use Rattle.silt_hash_store.specs.declared.region.Head.TheVariants as head;
-ghost use Rattle.silt_hash_store.specs.Rebuild.{AddsSound, IsFirstUnsound, IsGrown, IsRebuiltHash, IsRefusedHash, TagsKey, TakesAdded};
-ghost use Rattle.silt_hash_store.specs.Slots.{HeadSays, is_sound_slot, slot_row};
+ghost use Rattle.silt_hash_store.specs.Rebuild.{AddsSound, HasHead, IsFirstUnsound, IsGrown, IsRebuiltHash, IsRefusedHash, TagsKey, TakesAdded};
+ghost use Rattle.silt_hash_store.specs.Slots.{HeadSays, HoldsSlots, is_sound_slot, slot_row};
 ghost use Rattle.silt_hash_store.specs.State.{IsHeldHash, IsTagged};
 
 use crate::hash_store::HashStore;
-use crate::region::{HashRegion, Head};
+use crate::region::{HashRegion, Head, head_in};
 use crate::tags::Tags;
 use silt_cuckoo::key_buckets;
 use silt_device::Disk;
 use silt_frame::{HEAD_LEN, Key, Kind};
 use std::alloc::Global;
+
+/// How many bytes one read of a rebuild has at most.
+const READ_LEN: usize = 65_536;
 
 /// Why a hash store was not rebuilt.
 #[derive(Debug, Drop)]
@@ -22,7 +25,7 @@ pub enum RebuildError<F> {
     Damaged(u32),
     /// A read failed with this fault.
     Device(F),
-    /// The tags found no memory.
+    /// The tags, or what is read, found no memory.
     NoMemory,
 }
 
@@ -80,25 +83,28 @@ impl HashStore {
         }
     }
 
-    // What a slot adds to a store of the slots before it: nothing where it is empty, else the kind and the tag of its row.
+    // What a slot with this head adds to a store of the slots before it: nothing where it is empty, else the kind and the tag of its row.
     fn examine<D: Disk>(
         &self,
         disk: &D,
         slot: u32,
+        head: Head,
     ) -> Result<Option<(Kind, u32)>, RebuildError<D::Fault>>
         requires slot { slot < 4 * self.now.shape.buckets }
         requires size { device_size self.now.shape ≤ size (D.content disk.now) }
-        ensures ok { IsTrue (D.content disk.now).honest → IsTagged self.now (D.content disk.now).shown slot → IfOk result (AddsSound self.now (D.content disk.now).shown slot) }
+        ensures ok { IsTrue (D.content disk.now).honest → HasHead self.now (D.content disk.now).shown slot head
+            → IsTagged self.now (D.content disk.now).shown slot → IfOk result (AddsSound self.now (D.content disk.now).shown slot) }
         ensures below { IfOk result (λ added. IfSome added (λ a. a.1 < 2 ^ 15)) }
-        ensures err { IfErr result (IsRefusedHash (λ at. (at ≡ slot) × (IsTrue (D.content disk.now).honest → IsTagged self.now (D.content disk.now).shown slot
+        ensures err { IfErr result (IsRefusedHash (λ at. (at ≡ slot) × (IsTrue (D.content disk.now).honest → HasHead self.now (D.content disk.now).shown slot head
+            → IsTagged self.now (D.content disk.now).shown slot
             → is_sound_slot self.now.shape self.now.region (D.content disk.now).shown slot ≡ false)) (GaveAny D.gave disk.now)) }
         ensures held { IsHeldHash self.now }
     {
-        match self.region.read_head(disk, slot) {
-            Ok(Head::Empty) => Ok(None),
-            Ok(Head::Unknown) => Err(RebuildError::Damaged(slot)),
-            Ok(Head::Row(kind, key)) => self.examine_row(disk, slot, kind, &key),
-            Err(fault) => Err(RebuildError::Device(fault)),
+        let _ = &self.region; // so that what the store holds is known
+        match head {
+            Head::Empty => Ok(None),
+            Head::Unknown => Err(RebuildError::Damaged(slot)),
+            Head::Row(kind, key) => self.examine_row(disk, slot, kind, &key),
         }
     }
 }
@@ -119,20 +125,117 @@ impl Rebuilt {
         }
     }
 
-    // Reads the next slot, and takes what it adds.
-    fn add_slot<D: Disk>(&mut self, disk: &D, slot: u32) -> Result<(), RebuildError<D::Fault>>
+    // Takes what the next slot adds, which has this head.
+    fn add_slot<D: Disk>(
+        &mut self,
+        disk: &D,
+        slot: u32,
+        head: Head,
+    ) -> Result<(), RebuildError<D::Fault>>
         requires slot { slot < 4 * self.old.store.shape.buckets }
         requires small { slot < 2 ^ 17 }
         requires counts { (self.old.store.puts ≤ self.old.rows) × (self.old.rows ≤ slot) }
         requires size { device_size self.old.store.shape ≤ size (D.content disk.now) }
         ensures region { (self.new.store.shape ≡ self.old.store.shape) × (self.new.store.region ≡ self.old.store.region) }
         ensures counts { (self.new.store.puts ≤ self.new.rows) × (self.new.rows ≤ slot + 1) }
-        ensures ok { IsTrue (D.content disk.now).honest → IsGrown self.old (D.content disk.now).shown slot → OnOk result (IsGrown self.new (D.content disk.now).shown (slot + 1)) }
-        ensures err { IfErr result (IsRefusedHash (λ at. (at ≡ slot) × (IsTrue (D.content disk.now).honest → IsGrown self.old (D.content disk.now).shown slot
+        ensures ok { IsTrue (D.content disk.now).honest → HasHead self.old.store (D.content disk.now).shown slot head
+            → IsGrown self.old (D.content disk.now).shown slot → OnOk result (IsGrown self.new (D.content disk.now).shown (slot + 1)) }
+        ensures err { IfErr result (IsRefusedHash (λ at. (at ≡ slot) × (IsTrue (D.content disk.now).honest → HasHead self.old.store (D.content disk.now).shown slot head
+            → IsGrown self.old (D.content disk.now).shown slot
             → is_sound_slot self.old.store.shape self.old.store.region (D.content disk.now).shown slot ≡ false)) (GaveAny D.gave disk.now)) }
     {
-        let added = self.store.examine(disk, slot)?;
+        let added = self.store.examine(disk, slot, head)?;
         self.take(slot, added);
+        Ok(())
+    }
+
+    // Takes what so many slots from a slot on add, whose bytes these are, `len` bytes each.
+    fn add_slots<D: Disk>(
+        &mut self,
+        disk: &D,
+        first: u32,
+        count: u32,
+        len: usize,
+        bytes: &[u8],
+    ) -> Result<(), RebuildError<D::Fault>>
+        requires within { first + count ≤ 4 * self.old.store.shape.buckets }
+        requires small { first + count ≤ 2 ^ 17 }
+        requires len { len ≡ row_len self.old.store.shape }
+        requires bytes { length bytes.now ≡ count * len }
+        requires counts { (self.old.store.puts ≤ self.old.rows) × (self.old.rows ≤ first) }
+        requires size { device_size self.old.store.shape ≤ size (D.content disk.now) }
+        ensures region { (self.new.store.shape ≡ self.old.store.shape) × (self.new.store.region ≡ self.old.store.region) }
+        ensures counts { (self.new.store.puts ≤ self.new.rows) × (self.new.rows ≤ first + count) }
+        ensures ok { IsTrue (D.content disk.now).honest → HoldsSlots self.old.store.shape self.old.store.region (D.content disk.now).shown first count bytes.now
+            → IsGrown self.old (D.content disk.now).shown first → OnOk result (IsGrown self.new (D.content disk.now).shown (first + count)) }
+        ensures err { IfErr result (IsRefusedHash (λ at. IsTrue (D.content disk.now).honest
+            → HoldsSlots self.old.store.shape self.old.store.region (D.content disk.now).shown first count bytes.now → IsGrown self.old (D.content disk.now).shown first
+            → IsFirstUnsound (D.content disk.now) self.old.store.shape self.old.store.region at) (GaveAny D.gave disk.now)) }
+    {
+        for i in 0..count {
+            let at = i as usize * len;
+            let head = head_in(&bytes[at..at + len]);
+            self.add_slot(disk, first + i, head)?;
+        }
+        Ok(())
+    }
+
+    // Reads so many slots from a slot on into a buffer of just their length, `len` bytes each, and takes what they add.
+    fn add_read<D: Disk>(
+        &mut self,
+        disk: &D,
+        first: u32,
+        count: u32,
+        len: usize,
+        buffer: &mut [u8],
+    ) -> Result<(), RebuildError<D::Fault>>
+        requires some { 0 < count }
+        requires within { first + count ≤ 4 * self.old.store.shape.buckets }
+        requires small { first + count ≤ 2 ^ 17 }
+        requires len { len ≡ row_len self.old.store.shape }
+        requires buffer { length buffer.old ≡ count * row_len self.old.store.shape }
+        requires counts { (self.old.store.puts ≤ self.old.rows) × (self.old.rows ≤ first) }
+        requires size { device_size self.old.store.shape ≤ size (D.content disk.now) }
+        ensures region { (self.new.store.shape ≡ self.old.store.shape) × (self.new.store.region ≡ self.old.store.region) }
+        ensures counts { (self.new.store.puts ≤ self.new.rows) × (self.new.rows ≤ first + count) }
+        ensures ok { IsTrue (D.content disk.now).honest → IsGrown self.old (D.content disk.now).shown first → OnOk result (IsGrown self.new (D.content disk.now).shown (first + count)) }
+        ensures err { IfErr result (IsRefusedHash (λ at. IsTrue (D.content disk.now).honest → IsGrown self.old (D.content disk.now).shown first
+            → IsFirstUnsound (D.content disk.now) self.old.store.shape self.old.store.region at) (GaveAny D.gave disk.now)) }
+    {
+        if let Err(fault) = self.store.read_slots(disk, first, count, buffer) {
+            return Err(RebuildError::Device(fault));
+        }
+        self.add_slots(disk, first, count, len, buffer)
+    }
+
+    // Takes what all slots add, read into a buffer that has room for `most` of them, `len` bytes each.
+    fn add_all<D: Disk>(
+        &mut self,
+        disk: &D,
+        count: u32,
+        len: usize,
+        buffer: &mut [u8],
+        most: u32,
+    ) -> Result<(), RebuildError<D::Fault>>
+        requires all { count ≡ 4 * self.old.store.shape.buckets }
+        requires small { count ≤ 2 ^ 17 }
+        requires len { len ≡ row_len self.old.store.shape }
+        requires some { 0 < most }
+        requires buffer { most * len ≤ length buffer.old }
+        requires counts { (self.old.store.puts ≡ 0) × (self.old.rows ≡ 0) }
+        requires size { device_size self.old.store.shape ≤ size (D.content disk.now) }
+        ensures region { (self.new.store.shape ≡ self.old.store.shape) × (self.new.store.region ≡ self.old.store.region) }
+        ensures counts { (self.new.store.puts ≤ self.new.rows) × (self.new.rows ≤ count) }
+        ensures ok { IsTrue (D.content disk.now).honest → IsGrown self.old (D.content disk.now).shown 0 → OnOk result (IsGrown self.new (D.content disk.now).shown count) }
+        ensures err { IfErr result (IsRefusedHash (λ at. IsTrue (D.content disk.now).honest → IsGrown self.old (D.content disk.now).shown 0
+            → IsFirstUnsound (D.content disk.now) self.old.store.shape self.old.store.region at) (GaveAny D.gave disk.now)) }
+    {
+        let mut slot = 0;
+        while slot < count {
+            let next = most.min(count - slot);
+            self.add_read(disk, slot, next, len, &mut buffer[..next as usize * len])?;
+            slot += next;
+        }
         Ok(())
     }
 }
@@ -162,8 +265,11 @@ pub fn rebuild_region<D: Disk>(
         },
         rows: 0,
     };
-    for slot in 0..count {
-        rebuilt.add_slot(disk, slot)?;
-    }
+    let len = region.geometry.row_len();
+    let most = count.min((READ_LEN / len) as u32);
+    let Ok(mut buffer) = vec![in alloc; 0u8; most as usize * len] else {
+        return Err(RebuildError::NoMemory);
+    };
+    rebuilt.add_all(disk, count, len, &mut buffer, most)?;
     Ok(rebuilt)
 }

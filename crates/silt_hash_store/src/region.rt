@@ -5,6 +5,7 @@ ghost use Rattle.silt_device.specs.Layout.{device_size, row_len};
 ghost use Rattle.silt_hash_store.specs.Lookup.{IsRowAt};
 ghost use Rattle.silt_hash_store.specs.Slots.{HeadSays, HoldsSlots, hash_slot_at, slot_row};
 ghost use Rattle.silt_frame.specs.Rows.{row_of};
+ghost use Rattle.silt_frame.specs.Frame.{head_len};
 
 use silt_device::{Disk, Geometry};
 use silt_frame::{HEAD_LEN, Key, Kind, Row, head_of};
@@ -41,14 +42,22 @@ fn head_said(bytes: &[u8; HEAD_LEN]) -> Head
     }
 }
 
-/// The kind and the key of the row that the bytes of a slot of this number hold, none where the slot is empty or its kind is unknown.
-pub fn row_in(bytes: &[u8], slot: u32) -> Option<Row>
-    requires { 21 ≤ length bytes.now }
-    ensures { IsRowAt (row_of bytes.now) slot result }
+/// What the head of the slot with these bytes says.
+pub fn head_in(bytes: &[u8]) -> Head
+    requires { head_len ≤ length bytes.now }
+    ensures { HeadSays (row_of bytes.now).kind (row_of bytes.now).key result }
 {
     let mut head = [0; HEAD_LEN];
     head.copy_from_slice(&bytes[..HEAD_LEN]);
-    match head_said(&head) {
+    head_said(&head)
+}
+
+/// The kind and the key of the row that the bytes of a slot of this number hold, none where the slot is empty or its kind is unknown.
+pub fn row_in(bytes: &[u8], slot: u32) -> Option<Row>
+    requires { head_len ≤ length bytes.now }
+    ensures { IsRowAt (row_of bytes.now) slot result }
+{
+    match head_in(bytes) {
         Head::Row(kind, key) => Some(Row {
             kind,
             key,
@@ -103,14 +112,14 @@ impl HashRegion {
     /// The fault of the read. The bytes of `out` are then open.
     pub fn read_front<D: Disk>(&self, disk: &D, slot: u32, out: &mut [u8]) -> Result<Head, D::Fault>
         requires slot { slot < 4 * self.now.geometry.buckets }
-        requires least { 21 ≤ length out.old }
+        requires least { head_len ≤ length out.old }
         requires most { length out.old ≤ row_len self.now.geometry }
         requires size { device_size self.now.geometry ≤ size (D.content disk.now) }
         ensures head { IsTrue (D.content disk.now).honest → IfOk result (HeadSays
             (slot_row self.now.geometry self.now.number (D.content disk.now).shown slot).kind
             (slot_row self.now.geometry self.now.number (D.content disk.now).shown slot).key) }
         ensures value { IsTrue (D.content disk.now).honest → length out.old ≡ row_len self.now.geometry
-            → OnOk result (drop 21 out.new ≡ (slot_row self.now.geometry self.now.number (D.content disk.now).shown slot).value) }
+            → OnOk result (drop head_len out.new ≡ (slot_row self.now.geometry self.now.number (D.content disk.now).shown slot).value) }
         ensures fault { IfErr result (GaveAny D.gave disk.now) }
     {
         disk.read(self.slot_at(slot), out)?;

@@ -8,7 +8,7 @@ use Rattle.silt_frame.specs.declared.key.Kind.TheVariants.{Put}
 use Rattle.silt_device.specs.Layout.{Shape}
 use Rattle.silt_frame.specs.declared.key.Key.{Key}
 use Rattle.std.specs.declared.cmp.Ordering.TheVariants.{Less}
-use Rattle.silt_frame.specs.Frame.{is_put, kind_byte}
+use Rattle.silt_frame.specs.Frame.{is_put, kind_byte, key_len}
 use Rattle.silt_frame.specs.declared.key.Row.{Row}
 use Rattle.silt_hash_store.specs.Slots.{slot_row}
 use Rattle.silt_frame.specs.Rows.{entry_row, StoredRow}
@@ -35,7 +35,7 @@ IsFirstWaiting waiting (Some (key, source)) =
 -- the key of the next entry, whose bytes are these; nothing where all are passed over
 abbrev pub IsNextEntry : List StoredRow → ℕ → List ℕ → Option Key → Type 0
 IsNextEntry entries passed bytes None = Unit {0}
-IsNextEntry entries passed bytes (Some key) = (slice_get entries passed ≡ Some (entry_row bytes)) × (key.0 ≡ take 20 bytes)
+IsNextEntry entries passed bytes (Some key) = (slice_get entries passed ≡ Some (entry_row bytes)) × (key.0 ≡ take key_len bytes)
 
 -- the choice of the lower of two keys
 abbrev pub lower_choice : Key → Source → Key → Choice

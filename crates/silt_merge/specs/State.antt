@@ -12,6 +12,7 @@ use Rattle.silt_sorted_store.specs.State.{SortedState}
 use Rattle.silt_trie.specs.Building.{is_above}
 use Rattle.silt_trie.specs.Code.{IsCodable}
 use Rattle.silt_trie.specs.Coded.{bytes_of}
+use Rattle.silt_frame.specs.Frame.{key_len}
 
 -- A merge: the sorted region that is written, how many hash stores there are, the store and the slot that are gathered next, the
 -- rows that wait for their keys to be decided, how many entries of the sorted store are passed over, how many entries are written,
@@ -96,7 +97,7 @@ pub record IsInside (merge : MergeState) (source : Source) : Type 0 where
 
 -- the bytes of a key
 abbrev pub HasKeyBytes : List ℕ → Type 0
-HasKeyBytes bytes = (length bytes ≡ 20) × ((i : ℕ) → slice_index bytes i < 256)
+HasKeyBytes bytes = (length bytes ≡ key_len) × ((i : ℕ) → slice_index bytes i < 256)
 
 -- the keys of so many entries, which rise strictly up to the last key that is decided
 pub record AreKeysUpTo (last : Option Key) (count : ℕ) (keys : List Key) : Type 0 where

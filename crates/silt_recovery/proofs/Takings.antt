@@ -14,7 +14,7 @@ use Rattle.silt_cuckoo.specs.Index.{index_of_keys}
 use Rattle.silt_hash_store.specs.Conversion.{ConversionState, HasWritten}
 use Rattle.silt_hash_store.specs.State.{HashState, IsHashStore}
 use Rattle.silt_hash_store.proofs.Elsewhere.{hash_elsewhere}
-use Rattle.silt_image.specs.Header.{shape_of}
+use Rattle.silt_device.specs.Header.{shape_of}
 use Rattle.silt_image.specs.Laws.{IsWhole}
 use Rattle.silt_image.specs.Meaning.{IsGood, IsSound, StandsFor, charge_of, image_map, rows_of, with_log_rows}
 use Rattle.silt_event.specs.Rows.{map_of_rows}

@@ -4,7 +4,7 @@ use Rattle.std.specs.FinMap.{empty}
 use Rattle.silt_device.specs.Disk.{Content, Left, Torn, size}
 use Rattle.silt_device.specs.Layout.{Shape, device_size}
 use Rattle.silt_frame.specs.Gate.{gate_open}
-use Rattle.silt_image.specs.Header.{header_bytes, header_of}
+use Rattle.silt_device.specs.Header.{header_bytes, header_of}
 use Rattle.silt_image.specs.Meaning.{StandsFor, image_verdict}
 use Rattle.silt_event.specs.declared.damage.Finding.TheVariants.{NotFormatted}
 use Rattle.silt_recovery.specs.declared.fault.FormatError.{FormatError}

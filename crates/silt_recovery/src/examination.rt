@@ -2,7 +2,7 @@
 ghost use Rattle.std.specs.Prelude.{◌≡◌, ◌≤◌, IsTrue, IfOk, IfErr, OnOk, None, Ok, vec_capacity};
 ghost use Rattle.silt_device.specs.Disk.{GaveAny, Rests, size};
 ghost use Rattle.silt_device.specs.Layout.{device_size};
-ghost use Rattle.silt_image.specs.Header.{header_of};
+ghost use Rattle.silt_device.specs.Header.{header_of};
 ghost use Rattle.silt_image.specs.Stores.{image_stores, shape_found, stores_named};
 ghost use Rattle.silt_manifest.specs.Standing.{Rules};
 ghost use Rattle.silt_recovery.specs.Opening.{CountsHashRows, Holds, held_stores};

@@ -3,15 +3,15 @@ ghost use Rattle.std.specs.Prelude.{◌≡◌, ◌∷◌, ◌≤◌, IsTrue, IfO
 ghost use Rattle.silt_device.specs.Disk.{ChangesWithin, GaveAny, LeavesOnly, Rests, size};
 ghost use Rattle.silt_device.specs.Layout.{device_size};
 ghost use Rattle.silt_frame.specs.Gate.{gate_open};
-ghost use Rattle.silt_image.specs.Header.{header_bytes, header_of};
+ghost use Rattle.silt_device.specs.Header.{header_bytes, header_of};
 ghost use Rattle.silt_image.specs.Stores.{shape_found};
 ghost use Rattle.silt_recovery.specs.Format.{HasHeaderOrNone, IsGateClosed};
 ghost use Rattle.silt_recovery.specs.Refusals.{IsRefusedLook};
 
 use crate::fault::OpenError;
-use silt_device::{Disk, Geometry, write_synced};
+use silt_device::{Disk, Geometry, HEADER_LEN, header_bytes, write_synced};
 use silt_frame::GATE_OPEN;
-use silt_image::{HEADER_LEN, header_bytes, read_header};
+use silt_image::read_header;
 
 // The bytes of the header.
 fn read_bytes<D: Disk>(disk: &D) -> Result<[u8; 37], D::Fault>

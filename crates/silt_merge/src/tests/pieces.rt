@@ -103,19 +103,19 @@ fn merges_with_fault(
     merge_long(alloc, &mut disk, geometry, count, 33 + u32::from(count))
 }
 
-// The rebuilds of two empty regions read 16 heads each. One read of at most 65,536 bytes is of 15 slots or of 15 entries, so the slots of each region are
-// two reads and twenty entries are two; then the last key is found by one. A read that failed is made again.
+// One read of at most 65,536 bytes is of 15 slots or of 15 entries, so the 16 slots of each of the two regions are two reads, in their rebuilds and in the
+// steps, and twenty entries are two; then the last key is found by one. A read that failed is made again.
 #[test]
 fn reads_slots_and_entries_in_pieces(rt: HostRuntime) -> Result<(), Fail> {
     let alloc = rt.alloc();
     let geometry = long()?;
     for (call, number, count, reads, writes) in [
-        (Call::Read, 33, 20, 1, 0),
-        (Call::Read, 36, 20, 1, 0),
-        (Call::Read, 38, 20, 1, 0),
-        (Call::Read, 40, 20, 0, 0),
-        (Call::Read, 37, 15, 1, 0),
-        (Call::Read, 39, 15, 0, 0),
+        (Call::Read, 5, 20, 1, 0),
+        (Call::Read, 8, 20, 1, 0),
+        (Call::Read, 10, 20, 1, 0),
+        (Call::Read, 12, 20, 0, 0),
+        (Call::Read, 9, 15, 1, 0),
+        (Call::Read, 11, 15, 0, 0),
         (Call::Write, 15, 20, 0, 1),
         (Call::Write, 16, 20, 0, 1),
     ] {

@@ -134,19 +134,19 @@ fn hands_on_each_fault_of_a_read(rt: HostRuntime) -> Result<(), Fail> {
     Ok(())
 }
 
-// A hash store of eight slots is read in eight reads more.
+// A hash store of eight slots is read in one read more.
 #[test]
 fn hands_on_each_fault_of_a_hash_slot(rt: HostRuntime) -> Result<(), Fail> {
     let alloc = rt.alloc();
     let mut bytes = formatted(alloc, small()?)?.shown().to_vec(alloc)?;
     assert!(rt; bytes.len() == 45_056);
     bytes[4144] = 1;
-    for number in 1..14u64 {
+    for number in 1..7u64 {
         let disk = FaultDisk::new(MemDisk::with_bytes(alloc, &bytes)?, Call::Read, number);
         let answer = check(alloc, &disk);
         let is_fault = matches!(&answer, Err(OpenError::Device(_)));
-        assert_eq!(rt; is_fault, number < 13, "{number}");
-        assert_eq!(rt; answer.is_ok(), number == 13, "{number}");
+        assert_eq!(rt; is_fault, number < 6, "{number}");
+        assert_eq!(rt; answer.is_ok(), number == 6, "{number}");
     }
     Ok(())
 }
@@ -180,11 +180,11 @@ fn got(
 ) -> Result<(Option<bool>, [u8; 2]), Fail> {
     let disk = FaultDisk::new(MemDisk::with_bytes(alloc, bytes)?, Call::Read, number);
     let opened = open(alloc, disk).ok().ok_or("opens")?;
-    if opened.stores.geometry().value_len() != 2 {
+    if opened.tiers.geometry().value_len() != 2 {
         return Err("values of two bytes".into());
     }
     let mut value = [0; 2];
-    let answer = opened.stores.get(&opened.disk, &key, &mut value);
+    let answer = opened.tiers.get(&opened.disk, &key, &mut value);
     Ok((answer.ok(), value))
 }
 

@@ -1,0 +1,18 @@
+use Rattle.std.proofs.Common.{◌≡◌, ℕ, ◌*◌, IsTrue, sym, ap, ◌∙◌}
+use Rattle.silt_hash_store.specs.Rebuild.{IsFirstUnsound, IsGrown}
+use Rattle.silt_hash_store.specs.Slots.{HoldsSlots}
+use Rattle.silt_hash_store.proofs.Chunks.{refused_read}
+use Rattle.silt_hash_store.proofs.rebuild.Rebuilt.add_read.Goals as goal
+
+pub add_slots-requires-clause-bytes : goal.add_slots-requires-clause-bytes
+add_slots-requires-clause-bytes g c = λ lifetimes outlive. c.read_slots.auto.out ∙ c.requires.buffer ∙ ap (λ (n : ℕ). c.args.count * n) (sym c.requires.len)
+
+pub returns-clause-ok : goal.returns-clause-ok
+returns-clause-ok g c = λ honest is. c.add_slots.ensures.ok honest (c.in_default.ensures.slots honest) is
+
+pub returns-clause-err : goal.returns-clause-err
+returns-clause-err g c =
+    let old = c.args.self.now in
+    let content = g.D.Disk.content c.args.disk.now in
+    refused_read c.add_slots.result _ (IsTrue content.honest) (HoldsSlots old.store.shape old.store.region content.shown c.args.first c.args.count c.read_slots.new.out) (IsGrown old content.shown c.args.first)
+    (IsFirstUnsound content old.store.shape old.store.region) (λ honest. c.in_default.ensures.slots honest) c.add_slots.ensures.err
