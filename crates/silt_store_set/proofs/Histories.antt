@@ -14,7 +14,7 @@ use Rattle.silt_event.specs.Commands.{Command, Map, map_after}
 use Rattle.silt_event.specs.Events.{Legal, accepted_commands, LifeHistory, LivesHistory}
 use Rattle.silt_store_set.specs.CoreState.{CoreState, map_of, Runs, Opens}
 use Rattle.silt_store_set.specs.CoreInvariant.{IsSafe}
-use Rattle.silt_image.specs.Header.{shape_of}
+use Rattle.silt_device.specs.Header.{shape_of}
 use Rattle.silt_image.specs.Meaning.{StandsFor}
 use Rattle.silt_tiers.specs.Calls.{SameDisk}
 use Rattle.silt_recovery.specs.Opening.{LeavesNoOther}

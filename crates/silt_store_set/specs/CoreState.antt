@@ -8,7 +8,7 @@ use Rattle.silt_frame.specs.declared.key.Key.{Key}
 use Rattle.silt_frame.specs.declared.key.Kind.{Kind}
 use Rattle.silt_frame.specs.declared.key.Kind.TheVariants as kind
 use Rattle.silt_event.specs.Commands.{Begins, Command, Map, WaitsAlone, WaitsBehind, delete, map_after, put}
-use Rattle.silt_image.specs.Header.{shape_of}
+use Rattle.silt_device.specs.Header.{shape_of}
 use Rattle.silt_image.specs.Meaning.{image_map, IsGood, StandsFor}
 use Rattle.silt_image.specs.Stores.{Stores, stores_named}
 use Rattle.silt_log.specs.Rows.{log_rows}

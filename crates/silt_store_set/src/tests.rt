@@ -19,8 +19,9 @@ mod script;
 mod stops;
 mod support;
 
-use crate::tests::support::{formatted, key, opened, stands_at};
-use crate::{Event, Progress, Reply};
+use crate::tests::lines::IDLE;
+use crate::tests::script::{Line, Told, told_of_life};
+use crate::tests::support::{formatted, opened, small, stands_at};
 use silt_frame::Key;
 use std::test::Fail;
 
@@ -64,18 +65,15 @@ fn formats_as_laid_out(rt: HostRuntime) -> Result<(), Fail> {
 
 #[test]
 fn runs_events(rt: HostRuntime) -> Result<(), Fail> {
-    let alloc = rt.alloc();
-    let mut core = opened(alloc)?;
-    let mut events = Vec::new(alloc);
-    events.push(Event::Get(key(1)))?;
-    events.push(Event::Flush)?;
-    events.push(Event::Convert)?;
-    events.push(Event::Merge)?;
-    let replies = core.run(alloc, &events).ok().ok_or("runs")?;
-    assert_eq!(rt; replies.len(), 4);
-    assert!(rt; matches!(&replies[0], Reply::Absent));
-    assert!(rt; matches!(&replies[1], Reply::Acknowledged(0)));
-    assert!(rt; matches!(&replies[2], Reply::Progress(Progress::Idle)));
-    assert!(rt; matches!(&replies[3], Reply::Progress(Progress::Idle)));
+    let lines = [Line::Get(1), Line::Flush, Line::Convert, Line::Merge];
+    let told = told_of_life(rt.alloc(), small()?, &lines)?;
+    let expected = [
+        Told::Opened,
+        Told::Absent,
+        Told::Acknowledged(0),
+        IDLE,
+        IDLE,
+    ];
+    assert_eq!(rt; told.as_slice(), expected.as_slice());
     Ok(())
 }

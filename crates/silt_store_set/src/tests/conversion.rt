@@ -21,9 +21,15 @@ fn converted(rt: &impl Abort, alloc: Global) -> Result<MemDisk, Fail> {
     Ok(disk)
 }
 
-// The refusal of an opening of these bytes, none where they open.
-fn refusal_of(alloc: Global, bytes: &[u8]) -> Result<Option<Place>, Fail> {
-    match Core::open(alloc, MemDisk::with_bytes(alloc, bytes)?) {
+// The refusal of an opening of these bytes with some of them changed, none where they open.
+fn refusal_of(
+    rt: &impl Abort,
+    alloc: Global,
+    whole: &[u8],
+    changes: &[(usize, u8)],
+) -> Result<Option<Place>, Fail> {
+    let bytes = changed(rt, alloc, whole, changes)?;
+    match Core::open(alloc, MemDisk::with_bytes(alloc, &bytes)?) {
         Ok(_) => Ok(None),
         Err(
             OpenFault {
@@ -55,20 +61,24 @@ fn writes_the_slots_in_order(rt: HostRuntime) -> Result<(), Fail> {
     Ok(())
 }
 
-// After a conversion: a slot of an unknown kind, and a row that lies in neither of its key's buckets.
+// After a conversion: nothing, a slot of an unknown kind, and in slot 4 the row of slot 0, which there lies in neither of its key's
+// buckets.
 #[test]
 fn finds_damaged_slots(rt: HostRuntime) -> Result<(), Fail> {
     let alloc = rt.alloc();
-    let whole = converted(&rt, alloc)?.shown().to_vec(alloc)?;
-    assert_eq!(rt; whole.len(), 45_056);
-    assert_eq!(rt; refusal_of(alloc, &whole)?, None);
-    let bytes = changed(&rt, alloc, &whole, &[(28_695, 3)])?;
-    let expected = Some(Place::Hash { region: 0, slot: 1 });
-    assert_eq!(rt; refusal_of(alloc, &bytes)?, expected);
-    let mut bytes = whole.as_slice().to_vec(alloc)?;
-    let row = whole[28_672..28_695].to_vec(alloc)?;
-    bytes[28_764..28_787].copy_from_slice(&row);
-    let expected = Some(Place::Hash { region: 0, slot: 4 });
-    assert_eq!(rt; refusal_of(alloc, &bytes)?, expected);
+    let disk = converted(&rt, alloc)?;
+    assert_eq!(rt; disk.shown().len(), 45_056);
+    let cases: [(&[(usize, u8)], Option<Place>); 3] = [
+        (&[], None),
+        (&[(28_695, 3)], Some(Place::Hash { region: 0, slot: 1 })),
+        (
+            &[(28_764, 1), (28_765, 1), (28_786, 1)],
+            Some(Place::Hash { region: 0, slot: 4 }),
+        ),
+    ];
+    for (changes, expected) in cases {
+        let found = refusal_of(&rt, alloc, disk.shown(), changes)?;
+        assert_eq!(rt; found, expected);
+    }
     Ok(())
 }

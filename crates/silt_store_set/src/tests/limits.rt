@@ -13,6 +13,11 @@ fn opened(alloc: Global, geometry: Geometry) -> Result<Core<MemDisk>, Fail> {
     Ok(Core::open(alloc, disk).ok().ok_or("opens")?)
 }
 
+// Whether this value was found.
+fn is_found<F: Drop>(reply: &Reply<F>, value: &[u8]) -> bool {
+    matches!(reply, Reply::Found(found) if found.as_slice() == value)
+}
+
 // The longest values, put, flushed, and found by a get of events and by a list of all entries.
 #[test]
 fn finds_the_longest_values(rt: HostRuntime) -> Result<(), Fail> {
@@ -23,10 +28,7 @@ fn finds_the_longest_values(rt: HostRuntime) -> Result<(), Fail> {
     let value = [7; 4096];
     assert_eq!(rt; core.put(alloc, &key(1), &value).ok(), Some(1));
     assert_eq!(rt; core.flush().ok(), Some(1));
-    match core.answer(alloc, &Event::Get(key(1))) {
-        Reply::Found(found) => assert_eq!(rt; found.as_slice(), value.as_slice()),
-        _ => return Err("not found".into()),
-    }
+    assert!(rt; is_found(&core.answer(alloc, &Event::Get(key(1))), &value));
     let entries = core.entries(alloc).ok().ok_or("has entries")?;
     assert_eq!(rt;
         entries.get(&key(1)).map(Value::as_slice),

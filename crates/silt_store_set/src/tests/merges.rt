@@ -6,7 +6,7 @@ use crate::tests::lines::{
     CONVERTED_MEANWHILE, CONVERTED_MEANWHILE_TOLD, FINISHED, MERGED_TWICE, MERGED_TWICE_TOLD,
     MOVED, of_three_hash_stores, of_two_hash_stores,
 };
-use crate::tests::script::{Line, Told, live, repeated};
+use crate::tests::script::{Line, Told, live, repeated, told_of_life};
 use crate::tests::support::{formatted_with, of_regions};
 use silt_device::Geometry;
 use silt_event::Report;
@@ -42,10 +42,7 @@ fn told_of(value: u16) -> Told {
 fn with_gets(alloc: Global, lines: &[Line]) -> Result<Vec<Line>, AllocError> {
     let mut all = Vec::new(alloc);
     for line in lines {
-        all.push(*line)?;
-        all.push(Line::Get(1))?;
-        all.push(Line::Get(2))?;
-        all.push(Line::Get(3))?;
+        all.extend_from_slice(&[*line, Line::Get(1), Line::Get(2), Line::Get(3)])?;
     }
     Ok(all)
 }
@@ -56,12 +53,49 @@ fn told_with_gets(alloc: Global, lines: &[Line], told: &[Told]) -> Result<Vec<To
     all.push(Told::Opened)?;
     for (index, reply) in told.iter().enumerate() {
         let values = after(&lines[..lines.len().min(index + 1)], u64::MAX);
-        all.push(*reply)?;
-        all.push(told_of(values[1]))?;
-        all.push(told_of(values[2]))?;
-        all.push(told_of(values[3]))?;
+        all.extend_from_slice(&[
+            *reply,
+            told_of(values[1]),
+            told_of(values[2]),
+            told_of(values[3]),
+        ])?;
     }
     Ok(all)
+}
+
+// What is told of the life on a new disk with a get of each key behind each of its lines.
+fn told_asked(alloc: Global, geometry: Geometry, lines: &[Line]) -> Result<Vec<Told>, Fail> {
+    let asked = with_gets(alloc, lines)?;
+    told_of_life(alloc, geometry, &asked)
+}
+
+// The life on a new disk answers so with a get of each key between any two of its lines.
+fn answers_asked(
+    rt: &impl Abort,
+    alloc: Global,
+    geometry: Geometry,
+    lines: &[Line],
+    replies: &[Told],
+) -> Result<(), Fail> {
+    let expected = told_with_gets(alloc, lines, replies)?;
+    let told = told_asked(alloc, geometry, lines)?;
+    assert_eq!(rt; told.as_slice(), expected.as_slice());
+    Ok(())
+}
+
+// The life on a new disk answers so.
+fn answers_alone(
+    rt: &impl Abort,
+    alloc: Global,
+    geometry: Geometry,
+    lines: &[Line],
+    replies: &[Told],
+) -> Result<(), Fail> {
+    let told = told_of_life(alloc, geometry, lines)?;
+    assert_eq!(rt; told.first(), Some(&Told::Opened));
+    assert!(rt; told.as_slice().ends_with(replies));
+    assert_eq!(rt; told.len(), replies.len().saturating_add(1));
+    Ok(())
 }
 
 // The life on a new disk answers so, and so it does with a get of each key between any two of its lines.
@@ -74,15 +108,8 @@ fn answers(
 ) -> Result<(), Fail> {
     let lines = repeated(alloc, parts)?;
     let replies = repeated(alloc, replies)?;
-    let expected = told_with_gets(alloc, &lines, &replies)?;
-    let asked = with_gets(alloc, &lines)?;
-    let (_, told) = live(alloc, formatted_with(alloc, geometry)?, &asked)?;
-    assert_eq!(rt; told.as_slice(), expected.as_slice());
-    let (_, told) = live(alloc, formatted_with(alloc, geometry)?, &lines)?;
-    assert_eq!(rt; told.first(), Some(&Told::Opened));
-    assert!(rt; told.as_slice().ends_with(replies.as_slice()));
-    assert_eq!(rt; told.len(), replies.len().saturating_add(1));
-    Ok(())
+    answers_asked(rt, alloc, geometry, &lines, &replies)?;
+    answers_alone(rt, alloc, geometry, &lines, &replies)
 }
 
 #[test]

@@ -2,11 +2,12 @@
 ghost use Rattle.std.specs.Prelude.{All, IfOk};
 ghost use Rattle.silt_event.specs.Events.{HasValueOf};
 
-use crate::tests::support::key;
+use crate::tests::support::{formatted_with, key};
 use crate::{Core, Event, LifeReply, OpenFault, Progress, Reply, lives};
-use silt_device::{Disk, FaultDisk, MemDisk, MemFault};
+use silt_device::{Disk, FaultDisk, Geometry, MemDisk, MemFault};
 use silt_frame::Value;
 use std::alloc::{AllocError, Global};
+use std::test::Fail;
 
 /// One event of a life. A key is given by its first byte, and a value by the number that its two bytes are.
 #[derive(Clone, Copy, Debug, PartialEq, Eq)]
@@ -136,7 +137,7 @@ pub(crate) fn tell_reply<F: Drop>(reply: &Reply<F>) -> Told {
 }
 
 // Tells replies after what was told before.
-fn tell(told_before: &mut Vec<Told>, replies: &[Reply<MemFault>]) -> Result<(), AllocError> {
+fn tell<F: Drop>(told_before: &mut Vec<Told>, replies: &[Reply<F>]) -> Result<(), AllocError> {
     for reply in replies {
         told_before.push(tell_reply(reply))?;
     }
@@ -210,6 +211,27 @@ pub(crate) fn ask<D: Disk>(
     }
 }
 
+// The replies to the events of these lines, in an opened store of values of two bytes.
+fn answers<D: Disk>(
+    alloc: Global,
+    core: &mut Core<D>,
+    lines: &[Line],
+) -> Result<Vec<Reply<D::Fault>>, AllocError> {
+    let events = events(alloc, lines)?;
+    run(alloc, core, 2, &events)
+}
+
+// Tells the events of these lines, in an opened store of values of two bytes, after what was told before.
+fn tell_events<D: Disk>(
+    alloc: Global,
+    core: &mut Core<D>,
+    lines: &[Line],
+    told_before: &mut Vec<Told>,
+) -> Result<(), AllocError> {
+    let replies = answers(alloc, core, lines)?;
+    tell(told_before, &replies)
+}
+
 /// What is told of events, in an opened store of values of two bytes on a disk on which one call fails.
 pub(crate) fn replies_of(
     alloc: Global,
@@ -217,9 +239,19 @@ pub(crate) fn replies_of(
     lines: &[Line],
 ) -> Result<Vec<Told>, AllocError> {
     let mut told = Vec::new(alloc);
-    let events = events(alloc, lines)?;
-    let replies = run(alloc, core, 2, &events)?;
-    tell(&mut told, &replies)?;
+    tell_events(alloc, core, lines, &mut told)?;
+    Ok(told)
+}
+
+// What is told of an opening, and of the events behind it.
+fn told_from(
+    alloc: Global,
+    core: &mut Core<MemDisk>,
+    lines: &[Line],
+) -> Result<Vec<Told>, AllocError> {
+    let mut told = Vec::new(alloc);
+    told.push(Told::Opened)?;
+    tell_events(alloc, core, lines, &mut told)?;
     Ok(told)
 }
 
@@ -229,17 +261,25 @@ pub(crate) fn live(
     disk: MemDisk,
     lines: &[Line],
 ) -> Result<(MemDisk, Vec<Told>), AllocError> {
-    let mut told = Vec::new(alloc);
-    let mut core = match Core::open(alloc, disk) {
-        Ok(core) => core,
-        Err(OpenFault { disk, refusal }) => {
-            told.push(Told::NotOpened(refusal.label().0))?;
-            return Ok((disk, told));
+    match Core::open(alloc, disk) {
+        Ok(mut core) => {
+            let told = told_from(alloc, &mut core, lines)?;
+            Ok((core.close(), told))
         }
-    };
-    told.push(Told::Opened)?;
-    let events = events(alloc, lines)?;
-    let replies = run(alloc, &mut core, 2, &events)?;
-    tell(&mut told, &replies)?;
-    Ok((core.close(), told))
+        Err(OpenFault { disk, refusal }) => {
+            let mut told = Vec::new(alloc);
+            told.push(Told::NotOpened(refusal.label().0))?;
+            Ok((disk, told))
+        }
+    }
+}
+
+/// What is told of one life of values of two bytes, on a new disk of this geometry.
+pub(crate) fn told_of_life(
+    alloc: Global,
+    geometry: Geometry,
+    lines: &[Line],
+) -> Result<Vec<Told>, Fail> {
+    let (_, told) = live(alloc, formatted_with(alloc, geometry)?, lines)?;
+    Ok(told)
 }

@@ -8,4 +8,4 @@ pub returns-then-not-self : goal.returns-then-not-self
 returns-then-not-self g c =
     let working = c.if-not-self.true in
     rw (← c.self.view_is, working) (c.is_work.ensures ∙ ap is_work c.merge_turn.ensures
-    ∙ sym (work_same g.D.Disk.content g.D.Disk.failures (GaveAny g.D.Disk.gave) c.self.inside.disk c.self.inside.stores c.self.inside.count (c.self.invariant.stands working)))
+    ∙ sym (work_same g.D.Disk.content g.D.Disk.failures (GaveAny g.D.Disk.gave) c.self.inside.disk c.self.inside.tiers c.self.inside.count (c.self.invariant.stands working)))
