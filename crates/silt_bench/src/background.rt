@@ -2,48 +2,32 @@
 
 use crate::error::BenchError;
 use crate::turns::Turns;
-use crossbeam_channel::Sender;
-use silt_desk::{Naming, Seat, Shared, Trace, Wake};
+use silt_desk::{Naming, Seat, Shared, Trace, Wakes};
 use silt_device::Disk;
 use std::alloc::Global;
 use std::sync::Wait;
 use std::thread;
 use std::time::{Clock, Duration};
 
-/// How the two workers are told that there may be work, or that they are to end.
-#[derive(Drop)]
-pub struct Wakes {
-    pub converter: Sender<Wake>,
-    pub merger: Sender<Wake>,
-}
-
-impl Wakes {
-    /// Tells both the same. Either may have ended.
-    pub fn tell<R: Wait>(&self, rt: &R, wake: Wake) {
-        let _ = self.converter.send(rt, wake);
-        let _ = self.merger.send(rt, wake);
-    }
-
-    // Waits until the store wants no work.
-    fn finish<D: Disk, T: Trace, N: Naming, R: Wait + Clock>(
-        &self,
-        rt: &R,
-        shared: &Shared<D, T, N>,
-    ) {
-        for _ in rt.forever() {
-            if !wants_work(rt, shared) {
-                break;
-            }
-            self.tell(rt, Wake::Go);
-            thread::sleep(rt, Duration::from_millis(1));
-        }
-    }
-}
-
 // Whether the store wants work in the background.
 fn wants_work<D: Disk, T: Trace, N: Naming, R: Wait>(rt: &R, shared: &Shared<D, T, N>) -> bool {
     let desk = shared.read(rt);
     desk.wants_convert() || desk.wants_merge()
+}
+
+// Waits until the workers have left no work that the store wants.
+fn finish_beside<D: Disk, T: Trace, N: Naming, R: Wait + Clock>(
+    rt: &R,
+    shared: &Shared<D, T, N>,
+    wakes: &Wakes,
+) {
+    for _ in rt.forever() {
+        if !wants_work(rt, shared) {
+            break;
+        }
+        wakes.go(rt);
+        thread::sleep(rt, Duration::from_millis(1));
+    }
 }
 
 /// Who does a store's work in the background.
@@ -67,7 +51,7 @@ impl Background {
         match self {
             Background::Turns(turns) => turns.take(alloc, &mut *shared.write(rt), seat),
             Background::Workers(wakes) => {
-                wakes.tell(rt, Wake::Go);
+                wakes.go(rt);
                 Ok(())
             }
         }
@@ -84,7 +68,7 @@ impl Background {
         match self {
             Background::Turns(turns) => turns.finish(alloc, &mut *shared.write(rt), seat),
             Background::Workers(wakes) => {
-                wakes.finish(rt, shared);
+                finish_beside(rt, shared, wakes);
                 Ok(())
             }
         }
@@ -93,7 +77,7 @@ impl Background {
     /// Tells the workers that they are to end.
     pub fn stop<R: Wait>(&self, rt: &R) {
         if let Background::Workers(wakes) = self {
-            wakes.tell(rt, Wake::Stop);
+            wakes.stop(rt);
         }
     }
 }

@@ -1,12 +1,12 @@
 // A store is filled while two workers do its work in the background.
 
-use crate::background::{Background, Wakes};
+use crate::background::Background;
 use crate::error::BenchError;
 use crate::job::Plan;
 use crate::threads::join_over;
 use crate::writer::{Filled, Writer, fill_all};
 use crossbeam_channel::{Receiver, Sender};
-use silt_desk::{Gate, Naming, Seat, Shared, Spot, Trace, Wake, converter, merger};
+use silt_desk::{Gate, Naming, Seat, Shared, Spot, Trace, Wake, Wakes, converter, merger};
 use silt_device::Disk;
 use std::alloc::{AllocError, Global};
 use std::sync::Wait;

@@ -22,6 +22,7 @@ mod shared;
 #[cfg(test)]
 mod tests;
 mod trace;
+mod wakes;
 mod worker;
 
 pub use call::{Note, RecordedCall};
@@ -36,4 +37,5 @@ pub use silt_inbox::{
     Queue, Taker, answered_law,
 };
 pub use trace::{NotPrepared, Trace};
+pub use wakes::Wakes;
 pub use worker::{Gate, Hears, Spot, Turn, Wake, convert_once, converter, merge_once, merger};

@@ -1,9 +1,9 @@
 // The workers' places, and the ways to wake them.
-ghost use Rattle.std.specs.Prelude.{◌≡◌, vec_len};
+ghost use Rattle.std.specs.Prelude.{◌≡◌, ◌++◌, ◌∷◌, [], List, IfOk, IfSome};
+ghost use Rattle.silt_desk.specs.Seats.{SeatState};
 
-use crate::work::Wakes;
 use crossbeam_channel::{Receiver, Sender};
-use silt_desk::{Naming, Seat, Wake};
+use silt_desk::{Naming, Seat, Wake, Wakes};
 use std::alloc::{AllocError, Global};
 
 /// The place of a worker: its seat, where it is woken, and how it wakes the other one.
@@ -25,8 +25,10 @@ pub struct Crew<N: Naming> {
 }
 
 impl<N: Naming> Crew<N> {
-    /// The places of the workers with these seats. None where there are not three, or no memory is found for the channels.
-    pub fn new(alloc: Global, seats: Vec<Seat<N>>) -> Option<Crew<N>> {
+    /// The places of the workers with the last three of these seats. None where there are not three, or no memory is found for the channels.
+    pub fn new(alloc: Global, seats: Vec<Seat<N>>) -> Option<Crew<N>>
+        ensures { IfSome result (λ crew. (others : List SeatState) × (seats.items ≡ others ++ crew.writer ∷ crew.converter.seat ∷ crew.merger.seat ∷ [])) }
+    {
         let mut seats = seats;
         let merger = seats.pop()?;
         let converter = seats.pop()?;
@@ -40,7 +42,9 @@ impl<N: Naming> Crew<N> {
         writer: Seat<N>,
         converter: Seat<N>,
         merger: Seat<N>,
-    ) -> Result<Crew<N>, AllocError> {
+    ) -> Result<Crew<N>, AllocError>
+        ensures { IfOk result (λ crew. (crew.writer ≡ writer) × (crew.converter.seat ≡ converter) × (crew.merger.seat ≡ merger)) }
+    {
         let (to_converter, converter_wakes) = crossbeam_channel::unbounded(alloc)?;
         let (to_merger, merger_wakes) = crossbeam_channel::unbounded(alloc)?;
         Ok(Crew {

@@ -29,4 +29,4 @@ pub use batch::serve_batch;
 pub use entrance::Listens;
 pub use job::{Job, Request};
 pub use serve::{refuse_network, serve_on};
-pub use work::{Jobs, Wakes, writer};
+pub use work::{Jobs, writer};

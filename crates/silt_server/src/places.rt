@@ -1,5 +1,5 @@
 // The places of the sessions.
-ghost use Rattle.std.specs.Prelude.{◌≡◌, ◌<◌, true, false, not, length, Some, None, IfSome};
+ghost use Rattle.std.specs.Prelude.{◌≡◌, ◌<◌, true, false, not, length, Some, None, IfSome, IfOk, vec_len};
 
 use silt_inbox::{Feeder, Post};
 use std::alloc::{AllocError, Global};
@@ -68,9 +68,12 @@ impl<P: Post> Place<P> {
 pub fn places_of<P: Post>(
     alloc: Global,
     feeders: Vec<Feeder<P>>,
-) -> Result<Vec<Mutex<Place<P>>>, AllocError> {
+) -> Result<Vec<Mutex<Place<P>>>, AllocError>
+    ensures { IfOk result (λ places. vec_len places ≡ vec_len feeders) }
+{
     let mut places = Vec::with_capacity(alloc, feeders.len())?;
-    for feeder in feeders {
+    let mut feeders = feeders;
+    while let Some(feeder) = feeders.pop() {
         places.push(Mutex::new(Place {
             feeder,
             is_taken: false,

@@ -6,34 +6,11 @@ ghost use Rattle.silt_server.specs.declared.job.Job.{Job as JobOf};
 
 use crate::batch::serve_batch;
 use crate::job::Job;
-use crossbeam_channel::Sender;
-use silt_desk::{Gate, Naming, Seat, Shared, Trace, Wake};
+use silt_desk::{Gate, Naming, Seat, Shared, Trace, Wakes};
 use silt_device::Disk;
 use silt_inbox::{Inbox, Post, Taker};
 use std::alloc::Global;
 use std::sync::Wait;
-
-/// The ways to wake the converter and the merger.
-#[derive(Drop)]
-pub struct Wakes {
-    pub converter: Sender<Wake>,
-    pub merger: Sender<Wake>,
-}
-
-impl Wakes {
-    // Tells both that there may be work.
-    fn go<R: Wait>(&self, rt: &R) {
-        wake(rt, &self.converter);
-        wake(rt, &self.merger);
-    }
-}
-
-// Tells a worker that there may be work, where no message to it waits already.
-fn wake<R: Wait>(rt: &R, worker: &Sender<Wake>) {
-    if worker.is_empty() {
-        let _ = worker.send(rt, Wake::Go); // the worker may have ended
-    }
-}
 
 /// Where the writer takes its jobs.
 pub trait Jobs<P: Post> {
