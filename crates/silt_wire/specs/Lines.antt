@@ -12,6 +12,7 @@ use Rattle.silt_event.specs.declared.event.Event.{Event}
 use Rattle.silt_event.specs.declared.event.Event.TheVariants.{Put, Delete, Flush, Get, Convert, Merge}
 use Rattle.silt_wire.specs.declared.line.LineFault.{LineFault}
 use Rattle.silt_wire.specs.declared.line.LineFault.TheVariants.{BadLine, BadKey, BadValue, LineTooLong, NoMemory}
+use Rattle.silt_frame.specs.Frame.{key_len}
 
 -- the words: what stands between single spaces
 abbrev pub words_of : List ℕ → List (List ℕ)
@@ -30,7 +31,7 @@ abbrev pub key_bytes : List ℕ → Option (List ℕ)
 key_bytes [] = None
 key_bytes (first ∷ rest) =
     if first == 61 then (if is_name rest then Some (sha1 rest) else None)
-    else result_ok (decode_sized (first ∷ rest) 20)
+    else result_ok (decode_sized (first ∷ rest) key_len)
 
 -- the key that a word spells
 abbrev pub key_of : List ℕ → Option Key
