@@ -3,6 +3,7 @@ use Rattle.std.proofs.Common.{◌≡◌, ◌∙◌, ◌⊎◌, ℕ, List, None, 
 use Rattle.std.specs.Prelude.{IfOk}
 use Rattle.std.specs.Result.{IsOk, result_unwrap_or}
 use Rattle.std.specs.Io.KnownBytes.{Appends}
+use Rattle.silt_server.specs.Serving.{IsStatus}
 use Rattle.silt_words.specs.Commands.{job_named}
 use Rattle.silt_words.specs.declared.job.WordsError.{WordsError}
 use Rattle.silt_words.specs.declared.job.WordsError.TheVariants.{Usage, NoMemory}
@@ -10,7 +11,7 @@ use Rattle.silt.specs.Programs.{IsUnread, TellsWords}
 
 -- a job that ended well or was told to be refused, and what is known of each
 pub job_ended : {E T D : Type 0} {W : ℕ → Type 0} (result : Result ℕ E) → ((status : ℕ) → ((status ≡ 0) × D) ⊎ ((status ≡ 1) × T) → W status)
-    → IfOk result (λ status. (status ≡ 0) ⊎ ((status ≡ 1) × T)) → (result ≡ Ok 0 → D) → IfOk result W
+    → IfOk result (IsStatus T) → (result ≡ Ok 0 → D) → IfOk result W
 job_ended (Ok status) wrap (inl is) done = wrap status (inl (is, done (ap Ok is)))
 job_ended (Ok status) wrap (inr told) done = wrap status (inr told)
 job_ended (Err error) wrap told done = tt

@@ -2,17 +2,18 @@
 use Rattle.std.proofs.Common.{◌≡◌, ◌≢◌, ◌⊎◌, ℕ, List, Option, Result, Ok, Err, arith, inl, inr, refl}
 use Rattle.std.specs.Prelude.{IfOk}
 use Rattle.silt_event.specs.declared.refusal.Refusal.{Refusal}
+use Rattle.silt_server.specs.Serving.{IsStatus}
 use Rattle.silt.specs.Jobs.{Tells}
 
 -- a job that ended well or was told to be refused, where what was told is told of the path
-pub told_weaker : {E P Q : Type 0} (result : Result ℕ E) → (P → Q) → IfOk result (λ status. (status ≡ 0) ⊎ ((status ≡ 1) × P)) → IfOk result (λ status. (status ≡ 0) ⊎ ((status ≡ 1) × Q))
+pub told_weaker : {E P Q : Type 0} (result : Result ℕ E) → (P → Q) → IfOk result (IsStatus P) → IfOk result (IsStatus Q)
 told_weaker (Ok status) step (inl done) = inl done
 told_weaker (Ok status) step (inr h) = inr (h.0, step h.1)
 told_weaker (Err error) step h = h
 
 -- by a refusal the whole is told to be refused
 pub told_refusal : {E F Q : Type 0} (result : Result ℕ E) (refusal : Refusal F) (before after : Option (List ℕ)) → (Tells refusal before after → Q)
-    → IfOk result (λ status. (status ≡ 1) × Tells refusal before after) → IfOk result (λ status. (status ≡ 0) ⊎ ((status ≡ 1) × Q))
+    → IfOk result (λ status. (status ≡ 1) × Tells refusal before after) → IfOk result (IsStatus Q)
 told_refusal (Ok status) refusal before after step h = inr (h.0, step h.1)
 told_refusal (Err error) refusal before after step h = h
 
@@ -23,8 +24,7 @@ not-done result status known is e =
     omega (arith, is, zero)
 
 -- a job that ended well or was told to be refused, where what was told is told of more by one that was refused
-pub told_more : {E P Q : Type 0} (result : Result ℕ E) → IfOk result (λ status. (status ≡ 0) ⊎ ((status ≡ 1) × P)) → (result ≢ Ok 0 → P → Q)
-    → IfOk result (λ status. (status ≡ 0) ⊎ ((status ≡ 1) × Q))
+pub told_more : {E P Q : Type 0} (result : Result ℕ E) → IfOk result (IsStatus P) → (result ≢ Ok 0 → P → Q) → IfOk result (IsStatus Q)
 told_more (Ok status) (inl done) step = inl done
 told_more (Ok status) (inr h) step = inr (h.0, step (not-done (Ok status) status refl h.0) h.1)
 told_more (Err error) h step = h

@@ -1,5 +1,5 @@
 -- How a service of a disk ends.
-use Rattle.std.proofs.Common.{◌≡◌, ℕ, Result, Ok, Err, arith, inl, inr, refl}
+use Rattle.std.proofs.Common.{◌≡◌, ℕ, Result, Ok, Err, arith, inr, refl}
 use Rattle.std.specs.Prelude.{IfOk}
 use Rattle.silt_server.specs.Serving.{IsStatus}
 
@@ -17,9 +17,3 @@ never_done P (Ok status) h is =
     let zero : status ≡ 0 = ok-is (Ok status) status refl is in
     absurd (omega (arith, h.0, zero))
 never_done P (Err error) h is = absurd (cc)
-
--- a service told of the disk of a path
-pub status_of_file : {E P Q : Type 0} (result : Result ℕ E) → (P → Q) → IfOk result (IsStatus P) → IfOk result (IsStatus Q)
-status_of_file (Ok status) step (inl done) = inl done
-status_of_file (Ok status) step (inr h) = inr (h.0, step h.1)
-status_of_file (Err error) step h = h

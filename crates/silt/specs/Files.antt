@@ -8,26 +8,27 @@ use Rattle.silt_event.specs.declared.refusal.Refusal.TheVariants.{BadGeometry, D
 use Rattle.silt_recovery.specs.Opening.{LeavesNoOther}
 use Rattle.silt_server.specs.Serving.{IsServed, ServesKept, TellsNotServed}
 use Rattle.silt_store_set.specs.CoreInvariant.{LeavesBegun}
+use Rattle.silt_wire.specs.declared.sessions.SessionEnd.{SessionEnd}
 use Rattle.silt_wire.specs.declared.sessions.SessionEnd.TheVariants.{End}
 use Rattle.silt.specs.Damage.{HoldsStore}
-use Rattle.silt.specs.Jobs.{BreaksRun, EndsCheck, EndsFormat, EndsRun, Tells, TellsCheck, TellsFormat, TellsOpening}
+use Rattle.silt.specs.Jobs.{EndsCheck, EndsFormat, EndsRun, Tells, TellsCheck, TellsFormat, TellsOpening, TellsRun}
 
 -- it was written that the source gave no disk, and for a cause
 abbrev pub TellsNoDisk : {E : Type 0} → (E → Type 0) → Option (List ℕ) → Option (List ℕ) → Type 0
 TellsNoDisk {E} IsCause before after = (error : E) × IsCause error × Tells (Device (tt {0})) before after
 
-module _ {D F : Type 0} (content : D → Content) (failures : D → ℕ) (gave : D → F → Type 0) (told_failure : D → Type 0) where
-  -- one life on a disk that the source opened, which is given back as the store left it; people were told which call failed last
-  abbrev pub RunsFile : (D → Type 0) → Option D → Option (List ℕ) → Option (List ℕ) → Option (List ℕ) → Option (List ℕ) → Type 0
-  RunsFile Opened given remaining left before after =
-      (old : D) × Opened old × IsSomeAnd given (λ new. EndsRun content failures gave End old new remaining left before after × told_failure new)
+module _ {D F : Type 0} (content : D → Content) (failures : D → ℕ) (gave : D → F → Type 0) where
+  -- one life on a disk that the source opened, which is given back as the store left it; people were told which calls of it failed
+  abbrev pub RunsFile : (SessionEnd → D → Type 0) → (D → Type 0) → Option D → Option (List ℕ) → Option (List ℕ) → Option (List ℕ) → Option (List ℕ) → Type 0
+  RunsFile told_session Opened given remaining left before after =
+      (old : D) × Opened old × IsSomeAnd given (λ new. EndsRun content failures gave told_session End old new remaining left before after)
 
-module _ {D F E : Type 0} (content : D → Content) (failures : D → ℕ) (gave : D → F → Type 0) (told : Refusal F → Type 0) (Opened : D → Type 0) (NotOpened : E → Type 0) where
   -- it was written that the source opened no disk, or why the store was not taken up from the one that it opened, or the session on it broke off
-  abbrev pub TellsRunFile : Option D → Option (List ℕ) → Option (List ℕ) → Option (List ℕ) → Option (List ℕ) → Type 0
-  TellsRunFile given remaining left before after =
+  abbrev pub TellsRunFile : {E : Type 0} → (Refusal F → Type 0) → (SessionEnd → D → Type 0) → (D → Type 0) → (E → Type 0)
+      → Option D → Option (List ℕ) → Option (List ℕ) → Option (List ℕ) → Option (List ℕ) → Type 0
+  TellsRunFile told_refusal told_session Opened NotOpened given remaining left before after =
       TellsNoDisk NotOpened before after ⊎ ((old : D) × Opened old
-      × IsSomeAnd given (λ new. TellsOpening content gave told old new before after ⊎ BreaksRun content failures gave old new remaining left before after))
+      × IsSomeAnd given (λ new. TellsRun content failures gave told_refusal told_session old new remaining left before after))
 
 module _ {D F E : Type 0} (content : D → Content) (gave : D → F → Type 0) (told : Refusal F → Type 0) (Opened : D → Type 0) (NotOpened : E → Type 0) where
   -- it was written that the source opened no disk, or what is wrong with the one that it opened, which is given back
@@ -53,10 +54,10 @@ module _ {D F : Type 0} (content : D → Content) (gave : D → F → Type 0) wh
   abbrev pub LeavesServed : D → D → Type 0
   LeavesServed old new = LeavesNoOther (content old) (content new) ⊎ ((shape : Shape) × LeavesBegun (content new) shape)
 
-  -- a disk that the source opened was served to the end, and is given back as a server leaves it; people were told which call failed last
+  -- a disk that the source opened was served to the end, and is given back as a server leaves it; people were told which calls of it failed
   abbrev pub ServesFile : (D → Type 0) → (D → Type 0) → Option ℕ → Option D → Option (List ℕ) → Option (List ℕ) → Type 0
-  ServesFile told_failure Opened audit given before after =
-      (old : D) × Opened old × IsSomeAnd given (λ new. EndsServe content audit new before after × LeavesServed old new × told_failure new)
+  ServesFile told_failures Opened audit given before after =
+      (old : D) × Opened old × IsSomeAnd given (λ new. EndsServe content audit new before after × LeavesServed old new × told_failures new)
 
   -- it was written that the source opened no disk, or why the one that it opened was not served to the end, which is given back as a server leaves it
   abbrev pub TellsServeFile : {E : Type 0} → (Refusal F → Type 0) → (D → Type 0) → (E → Type 0) → Option D → Option (List ℕ) → Option (List ℕ) → Type 0

@@ -1,5 +1,5 @@
 -- What the jobs on a disk do, and what they write.
-use Rattle.std.specs.Prelude.{◌≡◌, ◌≢◌, ℕ, IsTrue, List, ◌++◌, Option, codes}
+use Rattle.std.specs.Prelude.{◌≡◌, ◌≢◌, ◌⊎◌, ℕ, IsTrue, List, ◌++◌, Option, codes}
 use Rattle.std.specs.FinMap.{empty}
 use Rattle.std.specs.Fmt.{decimal}
 use Rattle.std.specs.Io.KnownBytes.{Appends}
@@ -43,10 +43,12 @@ module _ {D F : Type 0} (content : D → Content) (failures : D → ℕ) (gave :
       (opened : Option (List ℕ)) × Appends before opened (codes "opened\n")
       × Ends (DoesPlain content failures gave) end old.shape.value_len old new remaining left opened after
 
-  -- one life on a disk: the store was taken up from it, its session ended so, and the disk is as the store then left it
+module _ {D F : Type 0} (content : D → Content) (failures : D → ℕ) (gave : D → F → Type 0) (told_session : SessionEnd → D → Type 0) where
+  -- one life on a disk: the store was taken up from it, its session ended so, the disk is as the store then left it, and people were told
   abbrev pub EndsRun : SessionEnd → D → D → Option (List ℕ) → Option (List ℕ) → Option (List ℕ) → Option (List ℕ) → Type 0
   EndsRun end old new remaining left before after =
-      (first : CoreState D) × (last : CoreState D) × Opens content (content old) first × AnswersReader end first last remaining left before after × (new ≡ last.disk)
+      (first : CoreState D) × (last : CoreState D) × Opens content (content old) first
+      × AnswersReader content failures gave end first last remaining left before after × (new ≡ last.disk) × told_session end new
 
   -- one life whose session did not reach the end of the lines
   abbrev pub BreaksRun : D → D → Option (List ℕ) → Option (List ℕ) → Option (List ℕ) → Option (List ℕ) → Type 0
@@ -78,3 +80,9 @@ module _ {D F : Type 0} (content : D → Content) (gave : D → F → Type 0) (t
   TellsFormat shape old new before after =
       (error : FormatError F) × FormatCause content gave shape old new error × Tells (refusal_of_formatting error) before after
       × told (refusal_of_formatting error)
+
+-- it was written that the store was not taken up from the disk, or the session on it broke off, and people were told
+abbrev pub TellsRun : {D F : Type 0} → (D → Content) → (D → ℕ) → (D → F → Type 0) → (Refusal F → Type 0) → (SessionEnd → D → Type 0)
+    → D → D → Option (List ℕ) → Option (List ℕ) → Option (List ℕ) → Option (List ℕ) → Type 0
+TellsRun content failures gave told_refusal told_session old new remaining left before after =
+    TellsOpening content gave told_refusal old new before after ⊎ BreaksRun content failures gave told_session old new remaining left before after

@@ -1,11 +1,11 @@
-// Disks that keep which write or sync of theirs failed last.
+// Disks that keep which of their calls failed.
 ghost use Rattle.std.specs.Prelude.{◌≡◌, Option};
 ghost use Rattle.silt.specs.declared.failure.Failure.{Failure as FailureOf};
 
 use silt_device::{CallAt, Disk};
 use std::{fmt, io};
 
-/// A write or sync of a disk that failed, and the system's error.
+/// A call of a disk that failed, and the system's error.
 #[derive(Clone, Copy, Debug)]
 pub struct Failure {
     pub call: CallAt,
@@ -20,12 +20,19 @@ impl fmt::Display for Failure {
     }
 }
 
-/// A disk that keeps which of its writes and syncs failed last.
+/// A disk that keeps which of its reads failed first, and which of its writes and syncs failed last.
 pub trait Watched: Disk {
-    /// The last failure, if there was one.
+    /// The last write or sync that failed, if one did.
     ghost last_failure: { Self → Option FailureOf };
 
-    /// The last failure, if there was one.
+    /// The disk said that this read failed first, or that none did.
+    ghost kept_read: { Self → Option FailureOf → Type 0 };
+
+    /// The last write or sync that failed, if one did.
     fn last_failure(&self) -> Option<Failure>
         ensures { result ≡ last_failure self.now };
+
+    /// The first read that failed, if one did.
+    fn failed_read(&self) -> Option<Failure>
+        ensures { kept_read self.now result };
 }

@@ -1,10 +1,11 @@
 // The jobs on the disk of a path.
-ghost use Rattle.std.specs.Prelude.{◌≡◌, ◌≢◌, ◌⊎◌, Ok, true, IfOk, IfSome, codes};
+ghost use Rattle.std.specs.Prelude.{◌≡◌, ◌≢◌, Ok, true, IfOk, codes};
 ghost use Rattle.std.specs.Io.KnownBytes.{Appends};
 ghost use Rattle.silt_device.specs.Disk.{GaveAny};
 ghost use Rattle.silt_device.specs.Layout.{InLimits};
+ghost use Rattle.silt_server.specs.Serving.{IsStatus};
 ghost use Rattle.silt.specs.Files.{ChecksFile, FormatsFile, RunsFile, TellsCheckFile, TellsFormatFile, TellsRunFile};
-ghost use Rattle.silt.specs.Notes.{IsTold};
+ghost use Rattle.silt.specs.Notes.{NotMadeTold, NotOpenedTold, ToldRefusal, ToldSession};
 ghost use Rattle.silt.specs.Numbers.{shape_asked};
 
 use crate::damage::holds_store;
@@ -13,6 +14,7 @@ use crate::geometry::geometry_of;
 use crate::jobs::{check_on, format_on, run_on};
 use crate::notes::{FaultNotes, Notes, SourceNotes};
 use crate::refusal::refuse;
+use crate::streams::KeepsError;
 use silt_device::{Disk, DiskSource};
 use silt_store_set::{Refusal, Served};
 use silt_words::Numbers;
@@ -39,9 +41,12 @@ pub fn format_file<
     notes: &mut N,
 ) -> (Option<S::Disk>, io::Result<u8>)
     ensures refused { ¬ InLimits (shape_asked numbers.now) → IfOk result.1 (λ status. (status ≡ 1) × Appends (W.contents writer.old) (W.contents writer.new) (codes "refused 2 BadGeometry\n")) }
-    ensures told { IfOk result.1 (λ status. (status ≡ 0) ⊎ ((status ≡ 1) × TellsFormatFile S.Disk.Disk.content (GaveAny S.Disk.Disk.gave) (IsTold (N.told_fault notes.old notes.new path.now) (N.told_damage notes.old notes.new path.now)) (S.created source path.now)
-        (λ len error. S.not_created source path.now len error × N.told_error notes.old notes.new path.now error) (shape_asked numbers.now) result.0 (W.contents writer.old) (W.contents writer.new))) }
-    ensures formatted { result.1 ≡ Ok 0 → FormatsFile S.Disk.Disk.content (GaveAny S.Disk.Disk.gave) (N.told_store notes.old notes.new path.now) (S.created source path.now) (shape_asked numbers.now) result.0 (W.contents writer.old) (W.contents writer.new) }
+    ensures told { IfOk result.1 (IsStatus (TellsFormatFile S.Disk.Disk.content (GaveAny S.Disk.Disk.gave)
+        (ToldRefusal N.told_fault N.told_damage notes.old notes.new path.now)
+        (S.created source path.now) (NotMadeTold (S.not_created source) (N.told_error notes.old notes.new) path.now)
+        (shape_asked numbers.now) result.0 (W.contents writer.old) (W.contents writer.new))) }
+    ensures formatted { result.1 ≡ Ok 0 → FormatsFile S.Disk.Disk.content (GaveAny S.Disk.Disk.gave) (N.told_store notes.old notes.new path.now)
+        (S.created source path.now) (shape_asked numbers.now) result.0 (W.contents writer.old) (W.contents writer.new) }
 {
     let Ok(geometry) = geometry_of(numbers) else {
         return (None, refuse(alloc, &Refusal::<()>::BadGeometry, writer));
@@ -78,8 +83,8 @@ fn tell_gone<N: Notes>(held_store: bool, status: &io::Result<u8>, file: &str, no
 /// The writer's, before the first line is read, and want of memory for the text of a refusal.
 pub fn run_file<
     S: DiskSource,
-    R: Read,
-    W: Write,
+    R: Read + KeepsError,
+    W: Write + KeepsError,
     N: Notes + SourceNotes<S::Error> + FaultNotes<<S::Disk as Disk>::Fault>,
 >(
     alloc: Global,
@@ -91,9 +96,16 @@ pub fn run_file<
 ) -> (Option<S::Disk>, io::Result<u8>)
 where
     S::Disk: Served + Watched,
-    ensures told { IfOk result.1 (λ status. (status ≡ 0) ⊎ ((status ≡ 1) × TellsRunFile S.Disk.Disk.content S.Disk.Disk.failures (GaveAny S.Disk.Disk.gave) (IsTold (N.told_fault notes.old notes.new path.now) (N.told_damage notes.old notes.new path.now)) (S.opened source path.now)
-        (λ error. S.not_opened source path.now error × N.told_error notes.old notes.new path.now error) result.0 (R.remaining reader.old) (R.remaining reader.new) (W.contents writer.old) (W.contents writer.new))) }
-    ensures answered { result.1 ≡ Ok 0 → RunsFile S.Disk.Disk.content S.Disk.Disk.failures (GaveAny S.Disk.Disk.gave) (λ disk. IfSome (S.Disk.Watched.last_failure disk) (N.told_failure notes.old notes.new path.now)) (S.opened source path.now) result.0 (R.remaining reader.old) (R.remaining reader.new) (W.contents writer.old) (W.contents writer.new) }
+    ensures told { IfOk result.1 (IsStatus (TellsRunFile S.Disk.Disk.content S.Disk.Disk.failures (GaveAny S.Disk.Disk.gave)
+        (ToldRefusal N.told_fault N.told_damage notes.old notes.new path.now)
+        (ToldSession N.told_failure S.Disk.Watched.kept_read S.Disk.Watched.last_failure N.told_end notes.old notes.new
+        (R.kept_error reader.new) (W.kept_error writer.new) path.now)
+        (S.opened source path.now) (NotOpenedTold (S.not_opened source) (N.told_error notes.old notes.new) path.now)
+        result.0 (R.remaining reader.old) (R.remaining reader.new) (W.contents writer.old) (W.contents writer.new))) }
+    ensures answered { result.1 ≡ Ok 0 → RunsFile S.Disk.Disk.content S.Disk.Disk.failures (GaveAny S.Disk.Disk.gave)
+        (ToldSession N.told_failure S.Disk.Watched.kept_read S.Disk.Watched.last_failure N.told_end notes.old notes.new
+        (R.kept_error reader.new) (W.kept_error writer.new) path.now)
+        (S.opened source path.now) result.0 (R.remaining reader.old) (R.remaining reader.new) (W.contents writer.old) (W.contents writer.new) }
 {
     match source.open(path) {
         Ok(disk) => {
@@ -124,8 +136,10 @@ pub fn check_file<
     writer: &mut W,
     notes: &mut N,
 ) -> (Option<S::Disk>, io::Result<u8>)
-    ensures told { IfOk result.1 (λ status. (status ≡ 0) ⊎ ((status ≡ 1) × TellsCheckFile S.Disk.Disk.content (GaveAny S.Disk.Disk.gave) (IsTold (N.told_fault notes.old notes.new path.now) (N.told_damage notes.old notes.new path.now)) (S.shared source path.now)
-        (λ error. S.not_shared source path.now error × N.told_error notes.old notes.new path.now error) result.0 (W.contents writer.old) (W.contents writer.new))) }
+    ensures told { IfOk result.1 (IsStatus (TellsCheckFile S.Disk.Disk.content (GaveAny S.Disk.Disk.gave)
+        (ToldRefusal N.told_fault N.told_damage notes.old notes.new path.now)
+        (S.shared source path.now) (NotOpenedTold (S.not_shared source) (N.told_error notes.old notes.new) path.now)
+        result.0 (W.contents writer.old) (W.contents writer.new))) }
     ensures reported { result.1 ≡ Ok 0 → ChecksFile S.Disk.Disk.content (S.shared source path.now) result.0 (W.contents writer.old) (W.contents writer.new) }
 {
     match source.open_shared(path) {

@@ -1,17 +1,19 @@
 // The jobs on a disk of any kind.
-ghost use Rattle.std.specs.Prelude.{◌≡◌, ◌⊎◌, Ok, IfOk, IfSome};
+ghost use Rattle.std.specs.Prelude.{◌≡◌, Ok, IfOk};
 ghost use Rattle.std.specs.Io.KnownBytes.{Appends};
 ghost use Rattle.silt_device.specs.Disk.{GaveAny};
 ghost use Rattle.silt_device.specs.Layout.{device_size};
+ghost use Rattle.silt_server.specs.Serving.{IsStatus};
 ghost use Rattle.silt_wire.specs.declared.sessions.SessionEnd.{SessionEnd as SessionEndOf};
 ghost use Rattle.silt_wire.specs.declared.sessions.SessionEnd.TheVariants.{End};
-ghost use Rattle.silt.specs.Jobs.{AnswersReader, BreaksRun, EndsCheck, EndsFormat, EndsRun, Tells, TellsCheck, TellsFormat, TellsOpening, formatted_line, status_of};
-ghost use Rattle.silt.specs.Notes.{IsTold};
+ghost use Rattle.silt.specs.Jobs.{AnswersReader, EndsCheck, EndsFormat, EndsRun, Tells, TellsCheck, TellsFormat, TellsRun, formatted_line, status_of};
+ghost use Rattle.silt.specs.Notes.{ToldEnd, ToldRefusal, ToldSession};
 
 use crate::damage::damage_at;
 use crate::failure::Watched;
-use crate::notes::{FaultNotes, Notes, tell_last_failure, tell_refusal};
+use crate::notes::{FaultNotes, Notes, tell_end, tell_failures, tell_refusal};
 use crate::refusal::refuse;
+use crate::streams::KeepsError;
 use silt_device::{Disk, Geometry};
 use silt_recovery::{check, format};
 use silt_store_set::{Core, OpenFault, Refusal, Served};
@@ -21,12 +23,18 @@ use std::io::{self, Read, Write};
 
 /// One life of the store on the disk of a file: it is taken up, and answers the reader's lines to their end. Nothing is flushed at the end.
 /// Gives the disk back, and the status: 0 at the end of the lines, 1 where the store is not taken up, and where its session ends
-/// before: where a read or write fails, or memory is wanted for a line or for the text of a reply.
+/// before: where a read or write fails, or memory is wanted for a line or for the text of a reply. People are told why it ended before, and
+/// which calls of the disk failed in it.
 ///
 /// # Errors
 ///
 /// The writer's, before the first line is read, and want of memory for the text of a refusal.
-pub fn run_on<D: Served + Watched, R: Read, W: Write, N: Notes + FaultNotes<D::Fault>>(
+pub fn run_on<
+    D: Served + Watched,
+    R: Read + KeepsError,
+    W: Write + KeepsError,
+    N: Notes + FaultNotes<D::Fault>,
+>(
     alloc: Global,
     disk: D,
     file: &str,
@@ -34,17 +42,19 @@ pub fn run_on<D: Served + Watched, R: Read, W: Write, N: Notes + FaultNotes<D::F
     writer: &mut W,
     notes: &mut N,
 ) -> (D, io::Result<u8>)
-    ensures told { IfOk result.1 (λ status. (status ≡ 0) ⊎ ((status ≡ 1) × (TellsOpening D.content (GaveAny D.gave) (IsTold (N.told_fault notes.old notes.new file.now) (N.told_damage notes.old notes.new file.now)) disk result.0 (W.contents writer.old) (W.contents writer.new)
-        ⊎ BreaksRun D.content D.failures (GaveAny D.gave) disk result.0 (R.remaining reader.old) (R.remaining reader.new) (W.contents writer.old) (W.contents writer.new)))) }
-    ensures failed { result.1 ≡ Ok 0 → IfSome (D.last_failure result.0) (N.told_failure notes.old notes.new file.now) }
-    ensures answered { result.1 ≡ Ok 0 → EndsRun D.content D.failures (GaveAny D.gave) End disk result.0
-        (R.remaining reader.old) (R.remaining reader.new) (W.contents writer.old) (W.contents writer.new) }
+    ensures told { IfOk result.1 (IsStatus (TellsRun D.content D.failures (GaveAny D.gave)
+        (ToldRefusal N.told_fault N.told_damage notes.old notes.new file.now)
+        (ToldSession N.told_failure D.kept_read D.last_failure N.told_end notes.old notes.new (R.kept_error reader.new) (W.kept_error writer.new) file.now)
+        disk result.0 (R.remaining reader.old) (R.remaining reader.new) (W.contents writer.old) (W.contents writer.new))) }
+    ensures answered { result.1 ≡ Ok 0 → EndsRun D.content D.failures (GaveAny D.gave)
+        (ToldSession N.told_failure D.kept_read D.last_failure N.told_end notes.old notes.new (R.kept_error reader.new) (W.kept_error writer.new) file.now)
+        End disk result.0 (R.remaining reader.old) (R.remaining reader.new) (W.contents writer.old) (W.contents writer.new) }
 {
     match Core::open(alloc, disk) {
         Ok(mut core) => {
-            let status = answer_reader(alloc, &mut core, reader, writer);
+            let status = answer_reader(alloc, &mut core, reader, writer, notes);
             let disk = core.close();
-            tell_last_failure(file, &disk, notes);
+            tell_failures(file, &disk, notes);
             (disk, status)
         }
         Err(fault) => refuse_opening(alloc, fault, file, writer, notes),
@@ -65,7 +75,7 @@ pub fn refuse_opening<D: Disk, W: Write, N: FaultNotes<D::Fault>>(
 ) -> (D, io::Result<u8>)
     ensures disk { result.0 ≡ fault.disk }
     ensures told { IfOk result.1 (λ status. (status ≡ 1) × (Tells fault.refusal (W.contents writer.old) (W.contents writer.new)
-        × IsTold (N.told_fault notes.old notes.new file.now) (N.told_damage notes.old notes.new file.now) fault.refusal)) }
+        × ToldRefusal N.told_fault N.told_damage notes.old notes.new file.now fault.refusal)) }
 {
     let at = damage_at(&fault.disk, &fault.refusal);
     tell_refusal(file, &fault.refusal, at, notes);
@@ -73,20 +83,24 @@ pub fn refuse_opening<D: Disk, W: Write, N: FaultNotes<D::Fault>>(
     (fault.disk, status)
 }
 
-// Writes that the store is taken up, answers the reader's lines to their end, and answers the status.
-fn answer_reader<D: Served, R: Read, W: Write>(
+// Writes that the store is taken up, answers the reader's lines to their end, tells why they ended before, and answers the status.
+fn answer_reader<D: Served, R: Read + KeepsError, W: Write + KeepsError, N: Notes>(
     alloc: Global,
     core: &mut Core<D>,
     reader: &mut R,
     writer: &mut W,
+    notes: &mut N,
 ) -> io::Result<u8>
-    ensures { IfOk result (λ status. (end : SessionEndOf) × (status ≡ status_of end) × AnswersReader D.content D.failures (GaveAny D.gave) end core.old core.new
-        (R.remaining reader.old) (R.remaining reader.new) (W.contents writer.old) (W.contents writer.new)) }
+    ensures { IfOk result (λ status. (end : SessionEndOf) × (status ≡ status_of end)
+        × AnswersReader D.content D.failures (GaveAny D.gave) end core.old core.new
+        (R.remaining reader.old) (R.remaining reader.new) (W.contents writer.old) (W.contents writer.new)
+        × ToldEnd N.told_end (R.kept_error reader.new) (W.kept_error writer.new) end notes.old notes.new) }
 {
     let value_len = core.geometry().value_len() as usize;
     writer.write_all(b"opened\n")?;
     writer.flush()?;
     let end = session(alloc, value_len, reader, writer, core);
+    tell_end(end, reader, writer, notes);
     Ok(status_of(end))
 }
 
@@ -112,7 +126,8 @@ pub fn check_on<D: Disk, W: Write, N: FaultNotes<D::Fault>>(
     writer: &mut W,
     notes: &mut N,
 ) -> io::Result<u8>
-    ensures told { IfOk result (λ status. (status ≡ 0) ⊎ ((status ≡ 1) × TellsCheck D.content (GaveAny D.gave) (IsTold (N.told_fault notes.old notes.new file.now) (N.told_damage notes.old notes.new file.now)) disk.now (W.contents writer.old) (W.contents writer.new))) }
+    ensures told { IfOk result (IsStatus (TellsCheck D.content (GaveAny D.gave)
+        (ToldRefusal N.told_fault N.told_damage notes.old notes.new file.now) disk.now (W.contents writer.old) (W.contents writer.new))) }
     ensures reported { result ≡ Ok 0 → EndsCheck D.content disk.now (W.contents writer.old) (W.contents writer.new) }
 {
     match check(alloc, disk) {
@@ -143,7 +158,8 @@ pub fn format_on<D: Disk, W: Write, N: FaultNotes<D::Fault>>(
     writer: &mut W,
     notes: &mut N,
 ) -> (D, io::Result<u8>)
-    ensures told { IfOk result.1 (λ status. (status ≡ 0) ⊎ ((status ≡ 1) × TellsFormat D.content (GaveAny D.gave) (IsTold (N.told_fault notes.old notes.new file.now) (N.told_damage notes.old notes.new file.now)) geometry disk result.0 (W.contents writer.old) (W.contents writer.new))) }
+    ensures told { IfOk result.1 (IsStatus (TellsFormat D.content (GaveAny D.gave)
+        (ToldRefusal N.told_fault N.told_damage notes.old notes.new file.now) geometry disk result.0 (W.contents writer.old) (W.contents writer.new))) }
     ensures formatted { result.1 ≡ Ok 0 → EndsFormat D.content geometry result.0 (W.contents writer.old) (W.contents writer.new) }
     ensures quiet { result.1 ≡ Ok 0 → notes.new ≡ notes.old }
 {

@@ -25,6 +25,7 @@ mod refusal;
 mod script;
 mod script_lines;
 mod service;
+mod streams;
 #[cfg(test)]
 mod tests;
 mod transcript;
@@ -43,6 +44,7 @@ use std::process::ExitCode;
 use std::rt::{Files, Runtime};
 use std::sync::Wait;
 use std::thread::Threads;
+use streams::{WatchedReader, WatchedWriter};
 use watched_file::WatchedFiles;
 
 fn main(rt: HostRuntime) -> ExitCode {
@@ -60,14 +62,14 @@ fn done<
         + Sync,
     E: Write + Drop,
 >(rt: &S, errors: E) -> ExitCode {
-    let mut writer = io::writer(rt);
+    let mut writer = WatchedWriter::new(io::writer(rt));
     let status = match own_words(rt) {
         Ok(words) => program(
             rt,
             rt.alloc(),
             WatchedFiles::new(FileDisks::new(rt)),
             words.as_slice(),
-            &mut rt.reader(),
+            &mut WatchedReader::new(rt.reader()),
             &mut writer,
             &mut NoteLines::new(errors),
         ),

@@ -3,8 +3,10 @@ ghost use Rattle.std.specs.Prelude.{◌≡◌, ⊤};
 
 use crate::failure::Failure;
 use crate::notes::{FaultNotes, Notes, SourceNotes};
-use crate::usage::{FORMS, complaint_of};
+use crate::streams::StreamError;
+use crate::usage::{FORMS, VERSION, asks_version, complaint_of};
 use silt_store_set::Place;
+use silt_wire::SessionEnd;
 use std::fmt::Display;
 use std::io::{self, ErrorKind, Write};
 
@@ -31,6 +33,8 @@ impl<W: Write> Notes for NoteLines<W> {
 
     ghost told_failure = { λ _ _ _ _. ⊤ };
 
+    ghost told_end = { λ _ _ _ _. ⊤ };
+
     ghost told_broken = { λ _ _. ⊤ };
 
     ghost told_words = { λ _ _ _. ⊤ };
@@ -47,6 +51,15 @@ impl<W: Write> Notes for NoteLines<W> {
         let _ = writeln!(self.writer, "silt: {file}: {failure}");
     }
 
+    fn tell_end(&mut self, end: SessionEnd, error: Option<StreamError>) {
+        match error {
+            Some(StreamError { error }) => self.tell_broken(&error),
+            None => {
+                let _ = writeln!(self.writer, "silt: {end}");
+            }
+        }
+    }
+
     // A pipe that the reader of the answers has closed needs no words.
     fn tell_broken(&mut self, error: &io::Error) {
         if error.kind() != ErrorKind::BrokenPipe {
@@ -55,6 +68,10 @@ impl<W: Write> Notes for NoteLines<W> {
     }
 
     fn tell_words(&mut self, words: &[String]) {
+        if asks_version(words) {
+            let _ = writeln!(self.writer, "silt {VERSION}");
+            return;
+        }
         if let Some(complaint) = complaint_of(words) {
             let _ = writeln!(self.writer, "silt: {complaint}");
         }

@@ -1,11 +1,15 @@
 // What the program tells people, beside what it writes for programs.
-ghost use Rattle.std.specs.Prelude.{◌≡◌, ℕ, IfSome, IsErr, IsOk, List, Option, map, string_bytes};
+ghost use Rattle.std.specs.Prelude.{◌≡◌, ℕ, IsErr, IsOk, List, Option, map, string_bytes};
 ghost use Rattle.silt_event.specs.declared.place.Place.{Place as PlaceOf};
-ghost use Rattle.silt.specs.Notes.{IsTold};
+ghost use Rattle.silt_wire.specs.declared.sessions.SessionEnd.{SessionEnd as SessionEndOf};
+ghost use Rattle.silt.specs.Notes.{ToldCall, ToldEnd, ToldFailures, ToldRefusal};
 ghost use Rattle.silt.specs.declared.failure.Failure.{Failure as FailureOf};
+ghost use Rattle.silt.specs.declared.streams.StreamError.{StreamError as StreamErrorOf};
 
 use crate::failure::{Failure, Watched};
+use crate::streams::{KeepsError, StreamError};
 use silt_store_set::{Place, Refusal};
+use silt_wire::SessionEnd;
 use std::io;
 
 /// Where people are told what does not concern one disk or its source. Nothing that is written for programs depends on a note.
@@ -16,8 +20,11 @@ pub trait Notes {
     /// It was told that a file of this name held a store, which is gone.
     ghost told_store: { Self → Self → List ℕ → Type 0 };
 
-    /// It was told which write or sync failed last on the disk of a file of this name.
+    /// It was told that this call failed on the disk of a file of this name.
     ghost told_failure: { Self → Self → List ℕ → FailureOf → Type 0 };
+
+    /// It was told why a session broke off, with the error of its reader or its writer, if that is why.
+    ghost told_end: { Self → Self → SessionEndOf → Option StreamErrorOf → Type 0 };
 
     /// It was told why the reader or the writer failed.
     ghost told_broken: { Self → Self → Type 0 };
@@ -33,9 +40,13 @@ pub trait Notes {
     fn tell_store(&mut self, file: &str)
         ensures { told_store self.old self.new file.now };
 
-    /// Tells which write or sync failed last on the disk of the file of this name.
+    /// Tells that this call failed on the disk of the file of this name.
     fn tell_failure(&mut self, file: &str, failure: &Failure)
         ensures { told_failure self.old self.new file.now failure.now };
+
+    /// Tells why a session broke off, with the error of its reader or its writer, if that is why.
+    fn tell_end(&mut self, end: SessionEnd, error: Option<StreamError>)
+        ensures { told_end self.old self.new end error };
 
     /// Tells why the reader or the writer failed.
     fn tell_broken(&mut self, error: &io::Error)
@@ -46,12 +57,38 @@ pub trait Notes {
         ensures { told_words self.old self.new (map string_bytes words.now) };
 }
 
-/// Tells which write or sync of a disk failed last, where one did.
-pub fn tell_last_failure<D: Watched, N: Notes>(file: &str, disk: &D, notes: &mut N)
-    ensures { IfSome (D.last_failure disk.now) (N.told_failure notes.old notes.new file.now) }
+/// Tells which read of a disk failed first, and which write or sync failed last, where one did.
+pub fn tell_failures<D: Watched, N: Notes>(file: &str, disk: &D, notes: &mut N)
+    ensures { ToldFailures N.told_failure D.kept_read D.last_failure notes.old notes.new file.now disk.now }
 {
-    if let Some(failure) = disk.last_failure() {
-        notes.tell_failure(file, &failure);
+    tell_call(file, disk.failed_read(), notes);
+    tell_call(file, disk.last_failure(), notes);
+}
+
+// Tells that a call of a disk failed, where one did.
+fn tell_call<N: Notes>(file: &str, failure: Option<Failure>, notes: &mut N)
+    ensures { ToldCall (λ from to. N.told_failure from to file.now) failure notes.old notes.new }
+{
+    match failure {
+        None => {}
+        Some(failure) => notes.tell_failure(file, &failure),
+    }
+}
+
+/// Tells why a session with this reader and this writer broke off, where it did not come to the end of its lines.
+pub fn tell_end<R: KeepsError, W: KeepsError, N: Notes>(
+    end: SessionEnd,
+    reader: &R,
+    writer: &W,
+    notes: &mut N,
+)
+    ensures { ToldEnd N.told_end (R.kept_error reader.now) (W.kept_error writer.now) end notes.old notes.new }
+{
+    match end {
+        SessionEnd::End => {}
+        SessionEnd::ReadFault => notes.tell_end(end, reader.kept_error()),
+        SessionEnd::WriteFault => notes.tell_end(end, writer.kept_error()),
+        SessionEnd::NoMemory => notes.tell_end(end, None),
     }
 }
 
@@ -99,7 +136,7 @@ pub fn tell_refusal<F, N: FaultNotes<F>>(
     at: Option<u64>,
     notes: &mut N,
 )
-    ensures { IsTold (N.told_fault notes.old notes.new file.now) (N.told_damage notes.old notes.new file.now) refusal.now }
+    ensures { ToldRefusal N.told_fault N.told_damage notes.old notes.new file.now refusal.now }
 {
     match refusal {
         Refusal::Device(fault) => notes.tell_fault(file, fault),

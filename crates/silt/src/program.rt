@@ -1,11 +1,12 @@
 // The program's work, over any source of disks, reader and writer.
-ghost use Rattle.std.specs.Prelude.{◌≡◌, ◌⊎◌, Ok, None, IfOk, IfSome, map, string_bytes, codes};
+ghost use Rattle.std.specs.Prelude.{◌≡◌, Ok, None, IfOk, map, string_bytes, codes};
 ghost use Rattle.std.specs.Io.KnownBytes.{Appends};
 ghost use Rattle.std.specs.Result.{result_unwrap_or};
 ghost use Rattle.silt_device.specs.Disk.{GaveAny};
 ghost use Rattle.silt_words.specs.declared.job.Job.{Job as JobOf};
 ghost use Rattle.silt_words.specs.Commands.{job_named};
-ghost use Rattle.silt.specs.Notes.{IsTold};
+ghost use Rattle.silt_server.specs.Serving.{IsStatus};
+ghost use Rattle.silt.specs.Notes.{NotMadeTold, NotOpenedTold, ToldFailures, ToldRefusal, ToldSession};
 ghost use Rattle.silt.specs.Programs.{Answers, EndsJob, NamesJob, TellsJob, TellsWords};
 
 use crate::failure::Watched;
@@ -13,6 +14,7 @@ use crate::files::{check_file, format_file, run_file};
 use crate::notes::{FaultNotes, Notes, SourceNotes, tell_error_of};
 use crate::script::script;
 use crate::service::serve_file;
+use crate::streams::KeepsError;
 use silt_device::{Disk, DiskSource};
 use silt_store_set::Served;
 use silt_words::{Job, WordsError, read_words};
@@ -27,8 +29,8 @@ use std::thread::Threads;
 pub fn program<
     S: DiskSource,
     H: Net<Listener = TcpListener, Stream = TcpStream> + Threads + Wait + Sync,
-    R: Read,
-    W: Write,
+    R: Read + KeepsError,
+    W: Write + KeepsError,
     N: Notes + SourceNotes<S::Error> + FaultNotes<<S::Disk as Disk>::Fault>,
 >(
     rt: &H,
@@ -43,7 +45,10 @@ where
     S::Disk: Served + Watched,
     ensures done { result ≡ 0 → (job : JobOf) × NamesJob (map string_bytes words.now) job
         × EndsJob S.Disk.Disk.content S.Disk.Disk.failures (GaveAny S.Disk.Disk.gave) (N.told_store notes.old notes.new)
-        (λ path disk. IfSome (S.Disk.Watched.last_failure disk) (N.told_failure notes.old notes.new path)) (S.opened source) (S.shared source) (S.created source) job
+        (ToldSession N.told_failure S.Disk.Watched.kept_read S.Disk.Watched.last_failure N.told_end notes.old notes.new
+        (R.kept_error reader.new) (W.kept_error writer.new))
+        (ToldFailures N.told_failure S.Disk.Watched.kept_read S.Disk.Watched.last_failure notes.old notes.new)
+        (S.opened source) (S.shared source) (S.created source) job
         (R.remaining reader.old) (R.remaining reader.new) (W.contents writer.old) (W.contents writer.new) }
     ensures usage { result ≡ 2 → (job_named (map string_bytes words.now) ≡ None) × N.told_words notes.old notes.new (map string_bytes words.now)
         × Appends (W.contents writer.old) (W.contents writer.new) (codes "usage\n") }
@@ -68,8 +73,8 @@ pub fn status_of(ended: io::Result<u8>) -> u8
 pub fn answer<
     S: DiskSource,
     H: Net<Listener = TcpListener, Stream = TcpStream> + Threads + Wait + Sync,
-    R: Read,
-    W: Write,
+    R: Read + KeepsError,
+    W: Write + KeepsError,
     N: Notes + SourceNotes<S::Error> + FaultNotes<<S::Disk as Disk>::Fault>,
 >(
     rt: &H,
@@ -82,10 +87,15 @@ pub fn answer<
 ) -> io::Result<u8>
 where
     S::Disk: Served + Watched,
-    ensures { IfOk result (λ status. Answers S.Disk.Disk.content S.Disk.Disk.failures (GaveAny S.Disk.Disk.gave) (λ path. IsTold (N.told_fault notes.old notes.new path) (N.told_damage notes.old notes.new path)) (S.opened source) (λ path error. S.not_opened source path error × N.told_error notes.old notes.new path error)
-        (S.shared source) (λ path error. S.not_shared source path error × N.told_error notes.old notes.new path error)
-        (S.created source) (λ path len error. S.not_created source path len error × N.told_error notes.old notes.new path error) (N.told_store notes.old notes.new)
-        (λ path disk. IfSome (S.Disk.Watched.last_failure disk) (N.told_failure notes.old notes.new path)) (N.told_words notes.old notes.new)
+    ensures { IfOk result (λ status. Answers S.Disk.Disk.content S.Disk.Disk.failures (GaveAny S.Disk.Disk.gave)
+        (ToldRefusal N.told_fault N.told_damage notes.old notes.new)
+        (ToldSession N.told_failure S.Disk.Watched.kept_read S.Disk.Watched.last_failure N.told_end notes.old notes.new
+        (R.kept_error reader.new) (W.kept_error writer.new))
+        (ToldFailures N.told_failure S.Disk.Watched.kept_read S.Disk.Watched.last_failure notes.old notes.new)
+        (N.told_store notes.old notes.new) (N.told_words notes.old notes.new)
+        (S.opened source) (NotOpenedTold (S.not_opened source) (N.told_error notes.old notes.new))
+        (S.shared source) (NotOpenedTold (S.not_shared source) (N.told_error notes.old notes.new))
+        (S.created source) (NotMadeTold (S.not_created source) (N.told_error notes.old notes.new))
         (map string_bytes words.now) status (R.remaining reader.old) (R.remaining reader.new) (W.contents writer.old) (W.contents writer.new)) }
 {
     match read_words(alloc, words) {
@@ -111,8 +121,8 @@ fn tell_unread<N: Notes>(error: WordsError, words: &[String], notes: &mut N)
 fn do_job<
     S: DiskSource,
     H: Net<Listener = TcpListener, Stream = TcpStream> + Threads + Wait + Sync,
-    R: Read,
-    W: Write,
+    R: Read + KeepsError,
+    W: Write + KeepsError,
     N: Notes + SourceNotes<S::Error> + FaultNotes<<S::Disk as Disk>::Fault>,
 >(
     rt: &H,
@@ -125,13 +135,20 @@ fn do_job<
 ) -> io::Result<u8>
 where
     S::Disk: Served + Watched,
-    ensures told { IfOk result (λ status. (status ≡ 0) ⊎ ((status ≡ 1) × TellsJob S.Disk.Disk.content S.Disk.Disk.failures (GaveAny S.Disk.Disk.gave) (λ path. IsTold (N.told_fault notes.old notes.new path) (N.told_damage notes.old notes.new path)) (S.opened source) (λ path error. S.not_opened source path error × N.told_error notes.old notes.new path error)
-        (S.shared source) (λ path error. S.not_shared source path error × N.told_error notes.old notes.new path error)
-        (S.created source) (λ path len error. S.not_created source path len error × N.told_error notes.old notes.new path error)
+    ensures told { IfOk result (IsStatus (TellsJob S.Disk.Disk.content S.Disk.Disk.failures (GaveAny S.Disk.Disk.gave)
+        (ToldRefusal N.told_fault N.told_damage notes.old notes.new)
+        (ToldSession N.told_failure S.Disk.Watched.kept_read S.Disk.Watched.last_failure N.told_end notes.old notes.new
+        (R.kept_error reader.new) (W.kept_error writer.new))
+        (S.opened source) (NotOpenedTold (S.not_opened source) (N.told_error notes.old notes.new))
+        (S.shared source) (NotOpenedTold (S.not_shared source) (N.told_error notes.old notes.new))
+        (S.created source) (NotMadeTold (S.not_created source) (N.told_error notes.old notes.new))
         job.entry (R.remaining reader.old) (R.remaining reader.new) (W.contents writer.old) (W.contents writer.new))) }
     ensures done { result ≡ Ok 0 → EndsJob S.Disk.Disk.content S.Disk.Disk.failures (GaveAny S.Disk.Disk.gave) (N.told_store notes.old notes.new)
-        (λ path disk. IfSome (S.Disk.Watched.last_failure disk) (N.told_failure notes.old notes.new path)) (S.opened source) (S.shared source) (S.created source)
-        job.entry (R.remaining reader.old) (R.remaining reader.new) (W.contents writer.old) (W.contents writer.new) }
+        (ToldSession N.told_failure S.Disk.Watched.kept_read S.Disk.Watched.last_failure N.told_end notes.old notes.new
+        (R.kept_error reader.new) (W.kept_error writer.new))
+        (ToldFailures N.told_failure S.Disk.Watched.kept_read S.Disk.Watched.last_failure notes.old notes.new)
+        (S.opened source) (S.shared source) (S.created source) job.entry
+        (R.remaining reader.old) (R.remaining reader.new) (W.contents writer.old) (W.contents writer.new) }
 {
     match job {
         Job::Format { file, numbers } => format_file(

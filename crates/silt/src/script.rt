@@ -1,5 +1,5 @@
 // A script: lives of a new store in memory.
-ghost use Rattle.std.specs.Prelude.{◌≡◌, ◌⊎◌, All, IfOk, IfErr, codes};
+ghost use Rattle.std.specs.Prelude.{◌≡◌, All, IfOk, IfErr, codes};
 ghost use Rattle.std.specs.FinMap.{empty};
 ghost use Rattle.std.specs.Io.KnownBytes.{Appends};
 ghost use Rattle.silt_device.specs.Disk.{LeavesOnly, size};
@@ -7,6 +7,7 @@ ghost use Rattle.silt_device.specs.Layout.{InLimits, device_size};
 ghost use Rattle.silt_device.specs.Memory.{memory_content};
 ghost use Rattle.silt_image.specs.Meaning.{StandsFor};
 ghost use Rattle.silt_event.specs.Events.{HasValueOf};
+ghost use Rattle.silt_server.specs.Serving.{IsStatus};
 ghost use Rattle.silt.specs.NewStores.{NewStoreCause};
 ghost use Rattle.silt.specs.Numbers.{shape_asked};
 ghost use Rattle.silt.specs.Scripts.{EndsScript, RunsLives, TellsRefusal};
@@ -35,7 +36,7 @@ pub fn script<R: Read, W: Write>(
     writer: &mut W,
 ) -> io::Result<u8>
     ensures refused { ¬ InLimits (shape_asked numbers.now) → IfOk result (λ status. (status ≡ 1) × Appends (W.contents writer.old) (W.contents writer.new) (codes "refused 2 BadGeometry\n")) }
-    ensures told { IfOk result (λ status. (status ≡ 0) ⊎ ((status ≡ 1) × TellsRefusal (shape_asked numbers.now) (W.contents writer.old) (W.contents writer.new))) }
+    ensures told { IfOk result (IsStatus (TellsRefusal (shape_asked numbers.now) (W.contents writer.old) (W.contents writer.new))) }
     ensures answered { result ≡ Ok 0 → EndsScript (shape_asked numbers.now) (R.remaining reader.old) (R.remaining reader.new) (W.contents writer.old) (W.contents writer.new) }
 {
     let Ok(geometry) = geometry_of(numbers) else {

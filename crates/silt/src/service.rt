@@ -1,15 +1,15 @@
 // The server on the disk of a path.
-ghost use Rattle.std.specs.Prelude.{◌≡◌, Ok, IfOk, IfSome};
+ghost use Rattle.std.specs.Prelude.{◌≡◌, Ok, IfOk};
 ghost use Rattle.silt_device.specs.Disk.{GaveAny};
 ghost use Rattle.silt_device.specs.Layout.{Shape};
 ghost use Rattle.silt_store_set.specs.CoreInvariant.{LeavesBegun};
 ghost use Rattle.silt_server.specs.Serving.{IsStatus, TellsNotServed};
 ghost use Rattle.silt.specs.Files.{EndsServe, LeavesServed, ServesFile, TellsServe, TellsServeFile};
-ghost use Rattle.silt.specs.Notes.{IsTold};
+ghost use Rattle.silt.specs.Notes.{NotOpenedTold, ToldFailures, ToldRefusal};
 
 use crate::failure::Watched;
 use crate::jobs::refuse_opening;
-use crate::notes::{FaultNotes, Notes, SourceNotes, tell_last_failure};
+use crate::notes::{FaultNotes, Notes, SourceNotes, tell_failures};
 use crate::refusal::refuse;
 use silt_desk::{Gate, Spot};
 use silt_device::{Disk, DiskSource};
@@ -52,9 +52,10 @@ pub fn serve_file<
 where
     S::Disk: Watched,
     ensures told { IfOk result.1 (IsStatus (TellsServeFile S.Disk.Disk.content (GaveAny S.Disk.Disk.gave)
-        (IsTold (N.told_fault notes.old notes.new service.now.file.now) (N.told_damage notes.old notes.new service.now.file.now)) (S.opened source service.now.file.now)
-        (λ error. S.not_opened source service.now.file.now error × N.told_error notes.old notes.new service.now.file.now error) result.0 (W.contents writer.old) (W.contents writer.new))) }
-    ensures served { result.1 ≡ Ok 0 → ServesFile S.Disk.Disk.content (GaveAny S.Disk.Disk.gave) (λ disk. IfSome (S.Disk.Watched.last_failure disk) (N.told_failure notes.old notes.new service.now.file.now))
+        (ToldRefusal N.told_fault N.told_damage notes.old notes.new service.now.file.now) (S.opened source service.now.file.now)
+        (NotOpenedTold (S.not_opened source) (N.told_error notes.old notes.new) service.now.file.now) result.0 (W.contents writer.old) (W.contents writer.new))) }
+    ensures served { result.1 ≡ Ok 0 → ServesFile S.Disk.Disk.content (GaveAny S.Disk.Disk.gave)
+        (ToldFailures N.told_failure S.Disk.Watched.kept_read S.Disk.Watched.last_failure notes.old notes.new service.now.file.now)
         (S.opened source service.now.file.now) service.now.audit result.0 (W.contents writer.old) (W.contents writer.new) }
 {
     match source.open(service.file) {
@@ -84,15 +85,15 @@ fn serve_disk<
     notes: &mut N,
 ) -> (D, io::Result<u8>)
     ensures served { result.1 ≡ Ok 0 → EndsServe D.content service.now.audit result.0 (W.contents writer.old) (W.contents writer.new) }
-    ensures failed { result.1 ≡ Ok 0 → IfSome (D.last_failure result.0) (N.told_failure notes.old notes.new service.now.file.now) }
+    ensures failed { result.1 ≡ Ok 0 → ToldFailures N.told_failure D.kept_read D.last_failure notes.old notes.new service.now.file.now result.0 }
     ensures told { IfOk result.1 (IsStatus (TellsServe D.content (GaveAny D.gave)
-        (IsTold (N.told_fault notes.old notes.new service.now.file.now) (N.told_damage notes.old notes.new service.now.file.now)) disk result.0 (W.contents writer.old) (W.contents writer.new))) }
+        (ToldRefusal N.told_fault N.told_damage notes.old notes.new service.now.file.now) disk result.0 (W.contents writer.old) (W.contents writer.new))) }
     ensures left { LeavesServed D.content (GaveAny D.gave) disk result.0 }
 {
     match Core::open(alloc, disk) {
         Ok(core) => {
             let (disk, status) = serve_store(rt, alloc, core, service, writer, notes);
-            tell_last_failure(service.file, &disk, notes);
+            tell_failures(service.file, &disk, notes);
             (disk, status)
         }
         Err(fault) => refuse_opening(alloc, fault, service.file, writer, notes),

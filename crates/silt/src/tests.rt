@@ -16,9 +16,11 @@ use crate::failure::{Failure, Watched};
 use crate::notes::{FaultNotes, Notes, SourceNotes};
 use crate::program::{program, refuse_words};
 use crate::script_lines::read_script;
+use crate::streams::{KeepsError, StreamError};
 use crate::watched_file::WatchedFiles;
 use silt_device::{FaultDisk, FileDisks, MemDisk};
 use silt_event::Place;
+use silt_wire::SessionEnd;
 use silt_words::WordsError;
 use std::fs::File;
 use std::io::{self, Cursor, ErrorKind, Read, Write};
@@ -107,6 +109,8 @@ impl Notes for Counted {
 
     ghost told_failure = { λ _ _ _ _. ⊤ };
 
+    ghost told_end = { λ _ _ _ _. ⊤ };
+
     ghost told_broken = { λ _ _. ⊤ };
 
     ghost told_words = { λ _ _ _. ⊤ };
@@ -123,6 +127,10 @@ impl Notes for Counted {
         self.faults = self.faults.wrapping_add(1);
     }
 
+    fn tell_end(&mut self, _end: SessionEnd, _error: Option<StreamError>) {
+        self.others = self.others.wrapping_add(1);
+    }
+
     fn tell_broken(&mut self, _error: &io::Error) {
         self.others = self.others.wrapping_add(1);
     }
@@ -134,21 +142,74 @@ impl Notes for Counted {
 
 // Disks that keep no failure: where one failed is seen in the replies alone.
 impl Watched for MemDisk {
-    ghost use Rattle.std.specs.Prelude.{None};
+    ghost use Rattle.std.specs.Prelude.{⊤, None};
 
     ghost last_failure = { λ _. None };
 
+    ghost kept_read = { λ _ _. ⊤ };
+
     fn last_failure(&self) -> Option<Failure> {
+        None
+    }
+
+    fn failed_read(&self) -> Option<Failure> {
         None
     }
 }
 
 impl Watched for FaultDisk {
-    ghost use Rattle.std.specs.Prelude.{None};
+    ghost use Rattle.std.specs.Prelude.{⊤, None};
 
     ghost last_failure = { λ _. None };
 
+    ghost kept_read = { λ _ _. ⊤ };
+
     fn last_failure(&self) -> Option<Failure> {
+        None
+    }
+
+    fn failed_read(&self) -> Option<Failure> {
+        None
+    }
+}
+
+// Readers and writers that keep no error.
+impl KeepsError for Cursor<&[u8]> {
+    ghost use Rattle.std.specs.Prelude.{None};
+
+    ghost kept_error = { λ _. None };
+
+    fn kept_error(&self) -> Option<StreamError> {
+        None
+    }
+}
+
+impl KeepsError for Vec<u8> {
+    ghost use Rattle.std.specs.Prelude.{None};
+
+    ghost kept_error = { λ _. None };
+
+    fn kept_error(&self) -> Option<StreamError> {
+        None
+    }
+}
+
+impl KeepsError for Pieces<'_> {
+    ghost use Rattle.std.specs.Prelude.{None};
+
+    ghost kept_error = { λ _. None };
+
+    fn kept_error(&self) -> Option<StreamError> {
+        None
+    }
+}
+
+impl KeepsError for Short {
+    ghost use Rattle.std.specs.Prelude.{None};
+
+    ghost kept_error = { λ _. None };
+
+    fn kept_error(&self) -> Option<StreamError> {
         None
     }
 }

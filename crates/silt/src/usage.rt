@@ -3,6 +3,9 @@
 use silt_wire::number_of;
 use std::fmt;
 
+/// The version of the program.
+pub const VERSION: &str = "0.1.0";
+
 /// The forms of all jobs, with what each value may be.
 pub const FORMS: &str =
     "silt format FILE V B CAP NL NH S                 makes an empty store in a file
@@ -50,6 +53,12 @@ impl fmt::Display for Complaint<'_> {
             Complaint::NoNumber { name, word } => write!(f, "{name} cannot be '{word}'"),
         }
     }
+}
+
+/// Whether the words, of which the first is the program's own, ask for the version.
+pub fn asks_version(words: &[String]) -> bool {
+    let word = words.get(1).map(String::as_str);
+    matches!(word, Some("--version" | "-V"))
 }
 
 /// What is wrong with the words, of which the first is the program's own, as far as it is found. Nothing is wrong where they ask for

@@ -1,4 +1,4 @@
-// Files as disks that keep which write or sync of theirs failed last.
+// Files as disks that keep which of their calls failed.
 ghost use Rattle.std.specs.Prelude.{◌≡◌, ◌+◌, ◌%◌, ◌^◌, ◌≤◌, Some, None, IfErr, MatchResult, length};
 ghost use Rattle.silt_device.specs.Disk.{size};
 ghost use Rattle.silt_device.specs.declared.disk.Call.TheVariants.{Write, Sync};
@@ -8,14 +8,17 @@ use silt_device::{Call, CallAt, Disk, DiskSource, FileDisk};
 use silt_event::{Event, Reply};
 use silt_store_set::{Core, Served};
 use std::alloc::Global;
+use std::sync::OnceLock;
 
 // The fault of a disk in a file.
 type FileFault = <FileDisk as Disk>::Fault;
 
-/// A disk in a file that keeps which of its writes and syncs failed last.
+/// A disk in a file that keeps which of its reads failed first, and which of its writes and syncs failed last. Reads share the disk, so the
+/// one that failed is kept where it can be written once.
 #[derive(Drop)]
 pub struct WatchedFile {
     disk: FileDisk,
+    first_read: OnceLock<Failure>,
     last: Option<Failure>,
 }
 
@@ -36,7 +39,13 @@ impl Disk for WatchedFile {
     }
 
     fn read(&self, at: u64, buf: &mut [u8]) -> Result<(), FileFault> {
-        self.disk.read(at, buf)
+        match self.disk.read(at, buf) {
+            Ok(()) => Ok(()),
+            Err(fault) => {
+                let _ = self.first_read.try_set(failure_of(Call::Read, at, &fault));
+                Err(fault)
+            }
+        }
     }
 
     fn write(&mut self, at: u64, buf: &[u8]) -> Result<(), FileFault>
@@ -74,19 +83,34 @@ impl WatchedFile {
         ensures disk { self.new.disk ≡ self.old.disk }
         ensures last { self.new.last ≡ Some (record { call = record { call = call; at = at }; error = fault.inner.error }) }
     {
-        self.last = Some(Failure {
-            call: CallAt { call, at },
-            error: fault.inner().error(),
-        });
+        self.last = Some(failure_of(call, at, &fault));
         fault
     }
 }
 
+// The call that failed with this fault.
+fn failure_of(call: Call, at: u64, fault: &FileFault) -> Failure
+    ensures { result ≡ record { call = record { call = call; at = at }; error = fault.now.inner.error } }
+{
+    Failure {
+        call: CallAt { call, at },
+        error: fault.inner().error(),
+    }
+}
+
 impl Watched for WatchedFile {
+    ghost use Rattle.std.specs.Prelude.{⊤};
+
     ghost last_failure = { λ watched. watched.last };
+
+    ghost kept_read = { λ _ _. ⊤ };
 
     fn last_failure(&self) -> Option<Failure> {
         self.last
+    }
+
+    fn failed_read(&self) -> Option<Failure> {
+        self.first_read.get().copied()
     }
 }
 
@@ -96,7 +120,7 @@ impl Served for WatchedFile {
     }
 }
 
-/// The files of a source, each a disk that keeps which of its writes and syncs failed last.
+/// The files of a source, each a disk that keeps which of its calls failed.
 #[derive(Drop)]
 pub struct WatchedFiles<S> {
     files: S,
@@ -115,7 +139,11 @@ impl<S> WatchedFiles<S> {
 fn watched(disk: FileDisk) -> WatchedFile
     ensures { (result.disk ≡ disk) × (result.last ≡ None) }
 {
-    WatchedFile { disk, last: None }
+    WatchedFile {
+        disk,
+        first_read: OnceLock::new(),
+        last: None,
+    }
 }
 
 impl<S: DiskSource<Disk = FileDisk>> DiskSource for WatchedFiles<S> {

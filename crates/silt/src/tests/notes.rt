@@ -2,13 +2,16 @@
 
 use crate::files::run_file;
 use crate::note_lines::NoteLines;
+use crate::notes::Notes;
 use crate::program::program;
+use crate::streams::{KeepsError, StreamError, WatchedReader, WatchedWriter};
 use crate::tests::{answers, words};
 use crate::usage::{FORMS, complaint_of};
 use crate::watched_file::WatchedFiles;
 use silt_device::{DiskSource, FileDisk, FileDisks, FileSystem};
-use std::fs::{self, File};
-use std::io::{self, Cursor, Write};
+use silt_wire::SessionEnd;
+use std::fs::{self, File, OpenOptions};
+use std::io::{self, Cursor, Read, Write};
 use std::net::{Net, TcpListener, TcpStream};
 use std::process::Abort;
 use std::rt::Files;
@@ -178,18 +181,156 @@ fn tells_a_failed_write(rt: HostRuntime) -> Result<(), Fail> {
     Ok(())
 }
 
-/// A writer of a device with no space left.
+/// The lines of a reader that cuts a file short before it gives them.
 #[derive(Drop)]
-struct FullWriter;
+struct CuttingReader<'a> {
+    file: File,
+    text: &'a [u8],
+}
+
+impl Read for CuttingReader<'_> {
+    fn read(&mut self, buf: &mut [u8]) -> io::Result<usize> {
+        self.file.set_len(16_384)?;
+        self.text.read(buf)
+    }
+}
+
+impl KeepsError for CuttingReader<'_> {
+    ghost use Rattle.std.specs.Prelude.{None};
+
+    ghost kept_error = { λ _. None };
+
+    fn kept_error(&self) -> Option<StreamError> {
+        None
+    }
+}
+
+// A read that fails within a session is told behind it, once; what is told is the first one that failed.
+#[test]
+fn tells_a_failed_read(rt: HostRuntime) -> Result<(), Fail> {
+    make_folder(&rt, "cut")?;
+    let format = "silt format cut/disk 2 2 4 2 2 8";
+    answers(&rt, format, b"", 0, b"formatted 45056\n")?;
+    let lines = b"put =a 0102\nput =b 0304\nflush\n";
+    let output = b"opened\naccepted 1\naccepted 2\nacknowledged 2\n";
+    answers(&rt, "silt run cut/disk", lines, 0, output)?;
+    let mut reader = CuttingReader {
+        file: OpenOptions::new().write(true).open(&rt, "cut/disk")?,
+        text: b"get =a\nget =b\nflush\n",
+    };
+    let words = words(&rt, "silt run cut/disk")?;
+    let mut out = Vec::new(rt.alloc());
+    let mut notes = Vec::new(rt.alloc());
+    let code = program(
+        &rt,
+        rt.alloc(),
+        WatchedFiles::new(FileDisks::new(&rt)),
+        words.as_slice(),
+        &mut reader,
+        &mut out,
+        &mut NoteLines::new(&mut notes),
+    );
+    assert_eq!(rt; code, 0);
+    let output = b"opened\nrefused 5 Device\nrefused 5 Device\nacknowledged 0\n";
+    assert_eq!(rt; out.as_slice(), output.as_slice());
+    let told = b"silt: cut/disk: a read at 16384: failed to fill whole buffer\n";
+    assert_eq!(rt; notes.as_slice(), told.as_slice());
+    fs::remove_dir_all(&rt, "cut")?;
+    Ok(())
+}
+
+/// A writer that takes so many bytes, and then fails with an error of the system.
+#[derive(Drop)]
+struct FullWriter {
+    room: usize,
+    error: i32,
+}
 
 impl Write for FullWriter {
-    fn write(&mut self, _buf: &[u8]) -> io::Result<usize> {
-        Err(io::Error::from_raw_os_error(28))
+    fn write(&mut self, buf: &[u8]) -> io::Result<usize> {
+        let count = self.room.min(buf.len());
+        if count == 0 {
+            return Err(io::Error::from_raw_os_error(self.error));
+        }
+        self.room -= count;
+        Ok(count)
     }
 
     fn flush(&mut self) -> io::Result<()> {
         Ok(())
     }
+}
+
+/// A reader that gives a text, and then fails with an error of the system.
+#[derive(Drop)]
+struct BrokenReader<'a> {
+    text: &'a [u8],
+    error: i32,
+}
+
+impl Read for BrokenReader<'_> {
+    fn read(&mut self, buf: &mut [u8]) -> io::Result<usize> {
+        match self.text.read(buf) {
+            Ok(0) => Err(io::Error::from_raw_os_error(self.error)),
+            read => read,
+        }
+    }
+}
+
+// A run with this reader and this writer ends with status 1, and this is told.
+fn breaks_off<
+    S: Files<File = File>
+        + AllocGlobal
+        + Abort
+        + Net<Listener = TcpListener, Stream = TcpStream>
+        + Threads
+        + Wait
+        + Sync,
+    R: Read + Drop,
+    W: Write + Drop,
+>(rt: &S, reader: R, writer: W, told: &str) -> Result<(), Fail> {
+    let words = words(rt, "silt run broken/disk")?;
+    let mut notes = Vec::new(rt.alloc());
+    let code = program(
+        rt,
+        rt.alloc(),
+        WatchedFiles::new(FileDisks::new(rt)),
+        words.as_slice(),
+        &mut WatchedReader::new(reader),
+        &mut WatchedWriter::new(writer),
+        &mut NoteLines::new(&mut notes),
+    );
+    assert_eq!(rt; notes.as_slice(), told.as_bytes());
+    assert_eq!(rt; code, 1);
+    Ok(())
+}
+
+// A session that breaks off is told with the system's words, but not where the reader of the answers has closed the pipe.
+#[test]
+fn tells_why_a_session_broke_off(rt: HostRuntime) -> Result<(), Fail> {
+    make_folder(&rt, "broken")?;
+    let format = "silt format broken/disk 2 2 4 2 2 8";
+    answers(&rt, format, b"", 0, b"formatted 45056\n")?;
+    let lines = b"get =abc\nflush\n".as_slice();
+    for (room, error, told) in [
+        (7, 28, "silt: No space left on device (os error 28)\n"),
+        (0, 28, "silt: No space left on device (os error 28)\n"),
+        (7, 32, ""),
+        (0, 32, ""),
+    ] {
+        breaks_off(&rt, Cursor::new(lines), FullWriter { room, error }, told)?;
+    }
+    let reader = BrokenReader {
+        text: lines,
+        error: 5,
+    };
+    let told = "silt: Input/output error (os error 5)\n";
+    breaks_off(&rt, reader, Vec::new(rt.alloc()), told)?;
+    let mut notes = Vec::new(rt.alloc());
+    NoteLines::new(&mut notes).tell_end(SessionEnd::NoMemory, None);
+    assert_eq!(rt; notes.as_slice(), b"silt: memory was wanted\n".as_slice());
+    fs::remove_dir_all(&rt, "broken")?;
+    Ok(())
 }
 
 // Answers that cannot be written are told.
@@ -203,7 +344,7 @@ fn tells_why_answers_are_not_written(rt: HostRuntime) -> Result<(), Fail> {
         WatchedFiles::new(FileDisks::new(&rt)),
         words.as_slice(),
         &mut Cursor::new(b"".as_slice()),
-        &mut FullWriter,
+        &mut WatchedWriter::new(FullWriter { room: 0, error: 28 }),
         &mut NoteLines::new(&mut notes),
     );
     assert_eq!(rt; code, 1);
@@ -265,8 +406,13 @@ fn tells_which_word_is_wrong(rt: HostRuntime) -> Result<(), Fail> {
         tells(&rt, call, 2, &told)?;
         answers(&rt, call, b"", 2, b"usage\n")?;
     }
-    for call in ["silt --help", "silt --version", "silt run --help"] {
-        tells(&rt, call, 2, FORMS)?;
+    for (call, told) in [
+        ("silt --help", FORMS),
+        ("silt run --help", FORMS),
+        ("silt --version", "silt 0.1.0\n"),
+        ("silt -V", "silt 0.1.0\n"),
+    ] {
+        tells(&rt, call, 2, told)?;
         answers(&rt, call, b"", 2, b"usage\n")?;
     }
     Ok(())

@@ -15,4 +15,5 @@ returns g c =
       c.session-end.result,
       c.status_of.ensures,
       (g.W.Write.contents c.flush.new.self, Appends-keeps _ _ _ _ c.in_ok-write_all.ensures.bytes c.in_ok-flush.ensures.bytes, subst P len c.session-end.ensures.ends),
+      c.tell_end.ensures,
     )

@@ -1,12 +1,13 @@
 use Rattle.std.proofs.Common.{inl, inr}
-use Rattle.silt.proofs.Services.{never_done, status_of_file, status_told}
+use Rattle.silt.proofs.FileRefusals.{told_weaker}
+use Rattle.silt.proofs.Services.{never_done, status_told}
 use Rattle.silt.proofs.service.serve_disk.Goals as goal
 
 pub returns-in-Ok-clause-failed : goal.returns-in-Ok-clause-failed
-returns-in-Ok-clause-failed g c = λ is. rw (c.serve_store-disk.ensures.quiet is) at c.tell_last_failure.ensures
+returns-in-Ok-clause-failed g c = λ is. rw (c.serve_store-disk.ensures.quiet is) at c.tell_failures.ensures
 
 pub returns-in-Ok-clause-told : goal.returns-in-Ok-clause-told
-returns-in-Ok-clause-told g c = status_of_file c.serve_store-disk.result.1 (λ told. inr told) c.serve_store-disk.ensures.told
+returns-in-Ok-clause-told g c = told_weaker c.serve_store-disk.result.1 (λ told. inr told) c.serve_store-disk.ensures.told
 
 pub returns-in-Ok-clause-left : goal.returns-in-Ok-clause-left
 returns-in-Ok-clause-left g c = inr c.serve_store-disk.ensures.left

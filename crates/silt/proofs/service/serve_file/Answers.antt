@@ -1,11 +1,10 @@
 use Rattle.std.proofs.Common.{inl, inr}
 use Rattle.silt_event.specs.declared.refusal.Refusal.TheVariants.{Device}
-use Rattle.silt.proofs.FileRefusals.{told_refusal}
-use Rattle.silt.proofs.Services.{status_of_file}
+use Rattle.silt.proofs.FileRefusals.{told_refusal, told_weaker}
 use Rattle.silt.proofs.service.serve_file.Goals as goal
 
 pub returns-in-Ok-clause-told : goal.returns-in-Ok-clause-told
-returns-in-Ok-clause-told g c = status_of_file c.serve_disk-disk.result.1 (λ told. inr (c.in-Ok.disk, c.in-Ok.ensures.opened, (told, c.serve_disk-disk.ensures.left))) c.serve_disk-disk.ensures.told
+returns-in-Ok-clause-told g c = told_weaker c.serve_disk-disk.result.1 (λ told. inr (c.in-Ok.disk, c.in-Ok.ensures.opened, (told, c.serve_disk-disk.ensures.left))) c.serve_disk-disk.ensures.told
 
 pub returns-in-Ok-clause-served : goal.returns-in-Ok-clause-served
 returns-in-Ok-clause-served g c = λ is. (c.in-Ok.disk, c.in-Ok.ensures.opened, (c.serve_disk-disk.ensures.served is, c.serve_disk-disk.ensures.left, c.serve_disk-disk.ensures.failed is))
