@@ -35,4 +35,9 @@ pub trait Watched: Disk {
     /// The first read that failed, if one did.
     fn failed_read(&self) -> Option<Failure>
         ensures { kept_read self.now result };
+
+    /// From now on people are told of the first write or sync that fails as soon as it fails.
+    fn tell_at_once(&mut self)
+        ensures disk { Self.content self.new ≡ Self.content self.old }
+        ensures last { last_failure self.new ≡ last_failure self.old };
 }

@@ -38,7 +38,7 @@ use silt_device::FileDisks;
 use silt_words::WordsError;
 use std::env::{self, Env};
 use std::fs::File;
-use std::io::{self, ErrorKind, Write};
+use std::io::{self, ErrorKind, Stderr, Write};
 use std::net::{Net, TcpListener, TcpStream};
 use std::process::ExitCode;
 use std::rt::{Files, Runtime};
@@ -48,10 +48,11 @@ use streams::{WatchedReader, WatchedWriter};
 use watched_file::WatchedFiles;
 
 fn main(rt: HostRuntime) -> ExitCode {
-    done(&rt, rt.stderr())
+    done(&rt, rt.stderr(), rt.stderr())
 }
 
-// Does the job that the process's own words name, and gives the status that the process is to end with. Notes go to `errors`.
+// Does the job that the process's own words name, and gives the status that the process is to end with. Notes go to `errors`, and to `at_once`
+// what cannot wait for the end of the job.
 fn done<
     S: Runtime
         + AllocGlobal
@@ -61,13 +62,13 @@ fn done<
         + Wait
         + Sync,
     E: Write + Drop,
->(rt: &S, errors: E) -> ExitCode {
+>(rt: &S, errors: E, at_once: Stderr) -> ExitCode {
     let mut writer = WatchedWriter::new(io::writer(rt));
     let status = match own_words(rt) {
         Ok(words) => program(
             rt,
             rt.alloc(),
-            WatchedFiles::new(FileDisks::new(rt)),
+            WatchedFiles::new(FileDisks::new(rt), NoteLines::new(at_once)),
             words.as_slice(),
             &mut WatchedReader::new(rt.reader()),
             &mut writer,

@@ -33,6 +33,8 @@ impl<W: Write> Notes for NoteLines<W> {
 
     ghost told_failure = { λ _ _ _ _. ⊤ };
 
+    ghost told_failed_store = { λ _ _ _. ⊤ };
+
     ghost told_end = { λ _ _ _ _. ⊤ };
 
     ghost told_broken = { λ _ _. ⊤ };
@@ -49,6 +51,13 @@ impl<W: Write> Notes for NoteLines<W> {
 
     fn tell_failure(&mut self, file: &str, failure: &Failure) {
         let _ = writeln!(self.writer, "silt: {file}: {failure}");
+    }
+
+    fn tell_failed_store(&mut self, failure: &Failure) {
+        let _ = writeln!(
+            self.writer,
+            "silt: {failure}; the store takes nothing more until it is opened again"
+        );
     }
 
     fn tell_end(&mut self, end: SessionEnd, error: Option<StreamError>) {

@@ -23,6 +23,9 @@ pub trait Notes {
     /// It was told that this call failed on the disk of a file of this name.
     ghost told_failure: { Self → Self → List ℕ → FailureOf → Type 0 };
 
+    /// It was told that this call failed, and with it the store.
+    ghost told_failed_store: { Self → Self → FailureOf → Type 0 };
+
     /// It was told why a session broke off, with the error of its reader or its writer, if that is why.
     ghost told_end: { Self → Self → SessionEndOf → Option StreamErrorOf → Type 0 };
 
@@ -43,6 +46,10 @@ pub trait Notes {
     /// Tells that this call failed on the disk of the file of this name.
     fn tell_failure(&mut self, file: &str, failure: &Failure)
         ensures { told_failure self.old self.new file.now failure.now };
+
+    /// Tells that this call failed, and with it the store.
+    fn tell_failed_store(&mut self, failure: &Failure)
+        ensures { told_failed_store self.old self.new failure.now };
 
     /// Tells why a session broke off, with the error of its reader or its writer, if that is why.
     fn tell_end(&mut self, end: SessionEnd, error: Option<StreamError>)

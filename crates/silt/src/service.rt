@@ -79,7 +79,7 @@ fn serve_disk<
 >(
     rt: &H,
     alloc: Global,
-    disk: D,
+    mut disk: D,
     service: &Service<'_>,
     writer: &mut W,
     notes: &mut N,
@@ -90,6 +90,7 @@ fn serve_disk<
         (ToldRefusal N.told_fault N.told_damage notes.old notes.new service.now.file.now) disk result.0 (W.contents writer.old) (W.contents writer.new))) }
     ensures left { LeavesServed D.content (GaveAny D.gave) disk result.0 }
 {
+    disk.tell_at_once();
     match Core::open(alloc, disk) {
         Ok(core) => {
             let (disk, status) = serve_store(rt, alloc, core, service, writer, notes);

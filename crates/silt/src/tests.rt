@@ -17,11 +17,13 @@ use crate::notes::{FaultNotes, Notes, SourceNotes};
 use crate::program::{program, refuse_words};
 use crate::script_lines::read_script;
 use crate::streams::{KeepsError, StreamError};
-use crate::watched_file::WatchedFiles;
+use crate::watched_file::{WatchedFile, WatchedFiles};
 use silt_device::{FaultDisk, FileDisks, MemDisk};
-use silt_event::Place;
+use silt_event::{Event, Place, Reply};
+use silt_store_set::{Core, Served};
 use silt_wire::SessionEnd;
 use silt_words::WordsError;
+use std::alloc::Global;
 use std::fs::File;
 use std::io::{self, Cursor, ErrorKind, Read, Write};
 use std::net::{Net, TcpListener, TcpStream};
@@ -109,6 +111,8 @@ impl Notes for Counted {
 
     ghost told_failure = { λ _ _ _ _. ⊤ };
 
+    ghost told_failed_store = { λ _ _ _. ⊤ };
+
     ghost told_end = { λ _ _ _ _. ⊤ };
 
     ghost told_broken = { λ _ _. ⊤ };
@@ -124,6 +128,10 @@ impl Notes for Counted {
     }
 
     fn tell_failure(&mut self, _file: &str, _failure: &Failure) {
+        self.faults = self.faults.wrapping_add(1);
+    }
+
+    fn tell_failed_store(&mut self, _failure: &Failure) {
         self.faults = self.faults.wrapping_add(1);
     }
 
@@ -155,6 +163,8 @@ impl Watched for MemDisk {
     fn failed_read(&self) -> Option<Failure> {
         None
     }
+
+    fn tell_at_once(&mut self) {}
 }
 
 impl Watched for FaultDisk {
@@ -170,6 +180,14 @@ impl Watched for FaultDisk {
 
     fn failed_read(&self) -> Option<Failure> {
         None
+    }
+
+    fn tell_at_once(&mut self) {}
+}
+
+impl Served for WatchedFile<Counted> {
+    fn answer_on(core: &mut Core<Self>, alloc: Global, event: &Event) -> Reply<()> {
+        core.answer(alloc, event).plain()
     }
 }
 
@@ -264,7 +282,7 @@ pub(crate) fn answers<
     let code = program(
         rt,
         rt.alloc(),
-        WatchedFiles::new(FileDisks::new(rt)),
+        WatchedFiles::new(FileDisks::new(rt), Counted::new()),
         words.as_slice(),
         &mut reader,
         &mut out,
@@ -321,7 +339,7 @@ fn answers_any_pieces(rt: HostRuntime) -> Result<(), Fail> {
             program(
                 &rt,
                 rt.alloc(),
-                WatchedFiles::new(FileDisks::new(&rt)),
+                WatchedFiles::new(FileDisks::new(&rt), Counted::new()),
                 words.as_slice(),
                 &mut reader,
                 &mut out,
@@ -350,7 +368,7 @@ fn ends_by_a_reader_that_fails(rt: HostRuntime) -> Result<(), Fail> {
         program(
             &rt,
             rt.alloc(),
-            WatchedFiles::new(FileDisks::new(&rt)),
+            WatchedFiles::new(FileDisks::new(&rt), Counted::new()),
             words.as_slice(),
             &mut reader,
             &mut out,
@@ -389,7 +407,7 @@ fn ends_by_a_writer_that_fails(rt: HostRuntime) -> Result<(), Fail> {
             program(
                 &rt,
                 rt.alloc(),
-                WatchedFiles::new(FileDisks::new(&rt)),
+                WatchedFiles::new(FileDisks::new(&rt), Counted::new()),
                 words.as_slice(),
                 &mut reader,
                 &mut writer,
@@ -503,7 +521,7 @@ fn stops_at_the_end_of_a_life(rt: HostRuntime) -> Result<(), Fail> {
 #[test]
 fn hands_on_the_status(rt: HostRuntime) -> Result<(), Fail> {
     let mut errors = Vec::new(rt.alloc());
-    assert!(rt; done(&rt, &mut errors) == ExitCode::from(2));
+    assert!(rt; done(&rt, &mut errors, rt.stderr()) == ExitCode::from(2));
     assert!(rt; !errors.is_empty());
     Ok(())
 }

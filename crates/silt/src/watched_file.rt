@@ -4,25 +4,30 @@ ghost use Rattle.silt_device.specs.Disk.{size};
 ghost use Rattle.silt_device.specs.declared.disk.Call.TheVariants.{Write, Sync};
 
 use crate::failure::{Failure, Watched};
+use crate::note_lines::NoteLines;
+use crate::notes::Notes;
 use silt_device::{Call, CallAt, Disk, DiskSource, FileDisk};
 use silt_event::{Event, Reply};
 use silt_store_set::{Core, Served};
 use std::alloc::Global;
+use std::io::Stderr;
 use std::sync::OnceLock;
 
 // The fault of a disk in a file.
 type FileFault = <FileDisk as Disk>::Fault;
 
 /// A disk in a file that keeps which of its reads failed first, and which of its writes and syncs failed last. Reads share the disk, so the
-/// one that failed is kept where it can be written once.
+/// one that failed is kept where it can be written once. Where it is to tell at once, its notes say which write or sync failed first.
 #[derive(Drop)]
-pub struct WatchedFile {
+pub struct WatchedFile<N> {
     disk: FileDisk,
     first_read: OnceLock<Failure>,
     last: Option<Failure>,
+    notes: N,
+    tells_at_once: bool,
 }
 
-impl Disk for WatchedFile {
+impl<N: Notes + Send + Sync + Drop> Disk for WatchedFile<N> {
     ghost use Rattle.silt_device.specs.File.{file_content, file_gave};
     ghost use Rattle.silt_device.specs.Buffered.{buffered_content, buffered_gave};
 
@@ -76,14 +81,18 @@ impl Disk for WatchedFile {
     }
 }
 
-impl WatchedFile {
+impl<N: Notes> WatchedFile<N> {
     // Keeps what failed with this fault, and gives the fault back.
     fn keep(&mut self, call: Call, at: u64, fault: FileFault) -> FileFault
         ensures fault { result ≡ fault }
         ensures disk { self.new.disk ≡ self.old.disk }
         ensures last { self.new.last ≡ Some (record { call = record { call = call; at = at }; error = fault.inner.error }) }
     {
-        self.last = Some(failure_of(call, at, &fault));
+        let failure = failure_of(call, at, &fault);
+        if self.tells_at_once && self.last.is_none() {
+            self.notes.tell_failed_store(&failure);
+        }
+        self.last = Some(failure);
         fault
     }
 }
@@ -98,7 +107,7 @@ fn failure_of(call: Call, at: u64, fault: &FileFault) -> Failure
     }
 }
 
-impl Watched for WatchedFile {
+impl<N: Notes + Send + Sync + Drop> Watched for WatchedFile<N> {
     ghost use Rattle.std.specs.Prelude.{⊤};
 
     ghost last_failure = { λ watched. watched.last };
@@ -112,9 +121,14 @@ impl Watched for WatchedFile {
     fn failed_read(&self) -> Option<Failure> {
         self.first_read.get().copied()
     }
+
+    fn tell_at_once(&mut self) {
+        self.tells_at_once = true;
+    }
 }
 
-impl Served for WatchedFile {
+// For these notes alone: where it is for any, what the checker knows of threads rests on a bound of theirs.
+impl Served for WatchedFile<NoteLines<Stderr>> {
     fn answer_on(core: &mut Core<Self>, alloc: Global, event: &Event) -> Reply<()> {
         core.answer(alloc, event).plain()
     }
@@ -122,32 +136,36 @@ impl Served for WatchedFile {
 
 /// The files of a source, each a disk that keeps which of its calls failed.
 #[derive(Drop)]
-pub struct WatchedFiles<S> {
+pub struct WatchedFiles<S, N> {
     files: S,
+    notes: N,
 }
 
-impl<S> WatchedFiles<S> {
-    /// The files of this source.
-    pub fn new(files: S) -> Self
+impl<S, N> WatchedFiles<S, N> {
+    /// The files of this source. Where a disk is to tell at once, these notes take it.
+    pub fn new(files: S, notes: N) -> Self
         ensures { result.files ≡ files }
     {
-        WatchedFiles { files }
+        WatchedFiles { files, notes }
     }
 }
 
 // The disk in a file on which no call has failed.
-fn watched(disk: FileDisk) -> WatchedFile
+fn watched<N>(disk: FileDisk, notes: N) -> WatchedFile<N>
     ensures { (result.disk ≡ disk) × (result.last ≡ None) }
 {
     WatchedFile {
         disk,
         first_read: OnceLock::new(),
         last: None,
+        notes,
+        tells_at_once: false,
     }
 }
 
-impl<S: DiskSource<Disk = FileDisk>> DiskSource for WatchedFiles<S> {
-    type Disk = WatchedFile;
+impl<S: DiskSource<Disk = FileDisk>, N: Notes + Send + Sync + Drop> DiskSource
+    for WatchedFiles<S, N> {
+    type Disk = WatchedFile<N>;
 
     type Error = S::Error;
 
@@ -163,23 +181,23 @@ impl<S: DiskSource<Disk = FileDisk>> DiskSource for WatchedFiles<S> {
 
     ghost not_created = { λ source path len error. S.not_created source.files path len error };
 
-    fn open(self, path: &str) -> Result<WatchedFile, S::Error> {
+    fn open(self, path: &str) -> Result<WatchedFile<N>, S::Error> {
         match self.files.open(path) {
-            Ok(disk) => Ok(watched(disk)),
+            Ok(disk) => Ok(watched(disk, self.notes)),
             Err(error) => Err(error),
         }
     }
 
-    fn open_shared(self, path: &str) -> Result<WatchedFile, S::Error> {
+    fn open_shared(self, path: &str) -> Result<WatchedFile<N>, S::Error> {
         match self.files.open_shared(path) {
-            Ok(disk) => Ok(watched(disk)),
+            Ok(disk) => Ok(watched(disk, self.notes)),
             Err(error) => Err(error),
         }
     }
 
-    fn create(self, path: &str, len: u64) -> Result<WatchedFile, S::Error> {
+    fn create(self, path: &str, len: u64) -> Result<WatchedFile<N>, S::Error> {
         match self.files.create(path, len) {
-            Ok(disk) => Ok(watched(disk)),
+            Ok(disk) => Ok(watched(disk, self.notes)),
             Err(error) => Err(error),
         }
     }

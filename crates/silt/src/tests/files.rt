@@ -53,7 +53,7 @@ fn formats_a_file_again(rt: HostRuntime) -> Result<(), Fail> {
             program(
                 &rt,
                 rt.alloc(),
-                WatchedFiles::new(FileDisks::new(&rt)),
+                WatchedFiles::new(FileDisks::new(&rt), Counted::new()),
                 words.as_slice(),
                 &mut reader,
                 &mut out,
@@ -225,7 +225,7 @@ fn ends_a_life_by_a_fault(rt: HostRuntime) -> Result<(), Fail> {
         program(
             &rt,
             rt.alloc(),
-            WatchedFiles::new(FileDisks::new(&rt)),
+            WatchedFiles::new(FileDisks::new(&rt), Counted::new()),
             words.as_slice(),
             &mut reader,
             &mut out,
@@ -245,7 +245,7 @@ fn ends_a_life_by_a_fault(rt: HostRuntime) -> Result<(), Fail> {
             program(
                 &rt,
                 rt.alloc(),
-                WatchedFiles::new(FileDisks::new(&rt)),
+                WatchedFiles::new(FileDisks::new(&rt), Counted::new()),
                 words.as_slice(),
                 &mut reader,
                 &mut writer,

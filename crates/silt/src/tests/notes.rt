@@ -1,14 +1,15 @@
 // What people are told, on files and by words, and one owner for a file. Each test has a folder of its own.
 
+use crate::failure::Watched;
 use crate::files::run_file;
 use crate::note_lines::NoteLines;
 use crate::notes::Notes;
 use crate::program::program;
 use crate::streams::{KeepsError, StreamError, WatchedReader, WatchedWriter};
-use crate::tests::{answers, words};
+use crate::tests::{Counted, answers, words};
 use crate::usage::{FORMS, complaint_of};
 use crate::watched_file::WatchedFiles;
-use silt_device::{DiskSource, FileDisk, FileDisks, FileSystem};
+use silt_device::{Disk, DiskSource, FileDisk, FileDisks, FileSystem};
 use silt_wire::SessionEnd;
 use std::fs::{self, File, OpenOptions};
 use std::io::{self, Cursor, Read, Write};
@@ -42,7 +43,7 @@ pub(crate) fn tells<
     let code = program(
         rt,
         rt.alloc(),
-        WatchedFiles::new(FileDisks::new(rt)),
+        WatchedFiles::new(FileDisks::new(rt), Counted::new()),
         words.as_slice(),
         &mut Cursor::new(b"".as_slice()),
         &mut Vec::new(rt.alloc()),
@@ -157,9 +158,12 @@ fn tells_a_failed_write(rt: HostRuntime) -> Result<(), Fail> {
     make_folder(&rt, "failing")?;
     let format = "silt format failing/disk 2 2 4 2 2 8";
     answers(&rt, format, b"", 0, b"formatted 45056\n")?;
-    let files = WatchedFiles::new(ReadFiles {
-        files: FileDisks::new(&rt),
-    });
+    let files = WatchedFiles::new(
+        ReadFiles {
+            files: FileDisks::new(&rt),
+        },
+        Counted::new(),
+    );
     let mut reader = Cursor::new(b"get =a\nput =a 0102\nput =b 0102\nflush\n".as_slice());
     let mut out = Vec::new(rt.alloc());
     let mut notes = Vec::new(rt.alloc());
@@ -178,6 +182,41 @@ fn tells_a_failed_write(rt: HostRuntime) -> Result<(), Fail> {
     let told = b"silt: failing/disk: a write at 16384: Bad file descriptor (os error 9)\n";
     assert_eq!(rt; notes.as_slice(), told.as_slice());
     fs::remove_dir_all(&rt, "failing")?;
+    Ok(())
+}
+
+// Whether two writes to a disk fail.
+fn fails_twice<D: Disk>(disk: &mut D) -> bool {
+    if disk.len() < 16_387 {
+        return false;
+    }
+    let first = disk.write(16_384, b"row").is_err();
+    first && disk.write(0, b"row").is_err()
+}
+
+// Where a disk is to tell at once, the first of its writes and syncs that fails is told as it fails, and no other; else none is.
+#[test]
+fn tells_a_failed_store_at_once(rt: HostRuntime) -> Result<(), Fail> {
+    make_folder(&rt, "sudden")?;
+    let format = "silt format sudden/disk 2 2 4 2 2 8";
+    answers(&rt, format, b"", 0, b"formatted 45056\n")?;
+    let told =
+        b"silt: a write at 16384: Bad file descriptor (os error 9); the store takes nothing more until it is opened again\n";
+    for (at_once, told) in [(false, b"".as_slice()), (true, told.as_slice())] {
+        let mut notes = Vec::new(rt.alloc());
+        let files = ReadFiles {
+            files: FileDisks::new(&rt),
+        };
+        let files = WatchedFiles::new(files, NoteLines::new(&mut notes));
+        let mut disk = files.open("sudden/disk")?;
+        if at_once {
+            disk.tell_at_once();
+        }
+        assert!(rt; fails_twice(&mut disk));
+        drop(disk);
+        assert_eq!(rt; notes.as_slice(), told);
+    }
+    fs::remove_dir_all(&rt, "sudden")?;
     Ok(())
 }
 
@@ -224,7 +263,7 @@ fn tells_a_failed_read(rt: HostRuntime) -> Result<(), Fail> {
     let code = program(
         &rt,
         rt.alloc(),
-        WatchedFiles::new(FileDisks::new(&rt)),
+        WatchedFiles::new(FileDisks::new(&rt), Counted::new()),
         words.as_slice(),
         &mut reader,
         &mut out,
@@ -294,7 +333,7 @@ fn breaks_off<
     let code = program(
         rt,
         rt.alloc(),
-        WatchedFiles::new(FileDisks::new(rt)),
+        WatchedFiles::new(FileDisks::new(rt), Counted::new()),
         words.as_slice(),
         &mut WatchedReader::new(reader),
         &mut WatchedWriter::new(writer),
@@ -341,7 +380,7 @@ fn tells_why_answers_are_not_written(rt: HostRuntime) -> Result<(), Fail> {
     let code = program(
         &rt,
         rt.alloc(),
-        WatchedFiles::new(FileDisks::new(&rt)),
+        WatchedFiles::new(FileDisks::new(&rt), Counted::new()),
         words.as_slice(),
         &mut Cursor::new(b"".as_slice()),
         &mut WatchedWriter::new(FullWriter { room: 0, error: 28 }),

@@ -1,7 +1,7 @@
 // Calls at a desk that are refused a request for memory: nothing is done and nothing recorded, and asked again each has its own answer.
 // The test passes whichever one request of the desk's calls is refused, and where none is; docs/contributing.md says how each is
 // refused in turn.
-ghost use Rattle.std.specs.Prelude.{◌≡◌, [], IfOk};
+ghost use Rattle.std.specs.Prelude.{◌≡◌, [], IfSome};
 ghost use Rattle.silt_desk.specs.Seeing.{seen};
 ghost use Rattle.silt_desk.specs.Traces.{IsHistory};
 
@@ -16,220 +16,186 @@ use std::process::Abort;
 use std::sync::ledger::Blank;
 use std::test::Fail;
 
-// Room for so many calls of this store.
-fn room<D: Disk>(alloc: Global, core: &Core<D>, most: u64) -> Result<Kept, Fail>
-    ensures history { IfOk result (λ kept. IsHistory kept (seen D.content core.now)) }
-    ensures calls { IfOk result (λ kept. kept.calls ≡ []) }
+/// A call at a desk. Its key and its value are told by a number.
+#[derive(Clone, Copy)]
+enum Call {
+    Put(u8),
+    Get(u8),
+    Flush,
+    Convert,
+    Merge,
+}
+
+/// What a call is answered.
+#[derive(Clone, Copy, PartialEq)]
+enum Told {
+    Count(u64),
+    Found([u8; 2]),
+    Step(Progress),
+    NoMemory,
+    Other,
+}
+
+// What a refused call is answered.
+fn refused<F: Drop>(refusal: Refusal<F>) -> Told {
+    match refusal {
+        Refusal::NoMemory => Told::NoMemory,
+        _ => Told::Other,
+    }
+}
+
+// What a put or a flush is answered.
+fn counted<F: Drop>(answer: Result<u64, Refusal<F>>) -> Told {
+    match answer {
+        Ok(count) => Told::Count(count),
+        Err(refusal) => refused(refusal),
+    }
+}
+
+// What a step in the background is answered.
+fn stepped<F: Drop>(answer: Result<Progress, Refusal<F>>) -> Told {
+    match answer {
+        Ok(progress) => Told::Step(progress),
+        Err(refusal) => refused(refusal),
+    }
+}
+
+// What a get is answered that left these bytes.
+fn found<F: Drop>(answer: Result<bool, Refusal<F>>, out: [u8; 2]) -> Told {
+    match answer {
+        Ok(true) => Told::Found(out),
+        Ok(false) => Told::Other,
+        Err(refusal) => refused(refusal),
+    }
+}
+
+fn ask_put<D: Disk, N: Naming>(
+    desk: &mut Desk<D, Kept, N>,
+    alloc: Global,
+    seat: &mut Seat<N>,
+    number: u8,
+) -> Told {
+    match put(desk, alloc, seat, &key(number), &[0, number]) {
+        Some(answer) => counted(answer),
+        None => Told::Other,
+    }
+}
+
+fn ask_get<D: Disk, N: Naming>(
+    desk: &mut Desk<D, Kept, N>,
+    alloc: Global,
+    seat: &mut Seat<N>,
+    number: u8,
+) -> Told {
+    let mut out = [7; 2];
+    match get(desk, alloc, seat, &key(number), &mut out) {
+        Some(answer) => found(answer, out),
+        None => Told::Other,
+    }
+}
+
+fn ask<D: Disk, N: Naming>(
+    desk: &mut Desk<D, Kept, N>,
+    alloc: Global,
+    seat: &mut Seat<N>,
+    call: Call,
+) -> Told {
+    match call {
+        Call::Put(number) => ask_put(desk, alloc, seat, number),
+        Call::Get(number) => ask_get(desk, alloc, seat, number),
+        Call::Flush => counted(desk.flush(alloc, seat)),
+        Call::Convert => stepped(desk.convert(alloc, seat)),
+        Call::Merge => stepped(desk.merge(alloc, seat)),
+    }
+}
+
+// The call of this turn, and its answer: five puts, of which the last freezes the full log, a flush, a conversion of nine steps, a
+// merge of thirteen, and five gets.
+fn call_of(turn: u8) -> (Call, Told) {
+    match turn {
+        1..=5 => (Call::Put(turn), Told::Count(u64::from(turn))),
+        6 => (Call::Flush, Told::Count(5)),
+        7..=14 => (Call::Convert, Told::Step(Progress::Moved)),
+        15 => (Call::Convert, Told::Step(Progress::Finished)),
+        16..=27 => (Call::Merge, Told::Step(Progress::Moved)),
+        28 => (Call::Merge, Told::Step(Progress::Finished)),
+        _ => (Call::Get(turn % 28), Told::Found([0, turn % 28])),
+    }
+}
+
+// Whether a look finds that the call of this turn did nothing: a key of this number is put in no earlier turn.
+fn did_nothing<D: Disk, N: Naming>(desk: &Desk<D, Kept, N>, turn: u8) -> bool {
+    let mut out = [7; 2];
+    look(desk, &key(turn), &mut out) == Some((u64::from(turn.saturating_sub(1).min(5)), false))
+}
+
+// What the call of this turn is answered, once more where it is refused memory and did nothing.
+fn ask_again<D: Disk, N: Naming>(
+    desk: &mut Desk<D, Kept, N>,
+    alloc: Global,
+    seat: &mut Seat<N>,
+    turn: u8,
+    call: Call,
+) -> Told {
+    let told = ask(desk, alloc, seat, call);
+    if told == Told::NoMemory && did_nothing(desk, turn) {
+        return ask(desk, alloc, seat, call);
+    }
+    told
+}
+
+// All calls.
+fn ask_all<D: Disk, N: Naming>(
+    rt: &impl Abort,
+    alloc: Global,
+    desk: &mut Desk<D, Kept, N>,
+    seat: &mut Seat<N>,
+) {
+    for turn in 1..34u8 {
+        let (call, due) = call_of(turn);
+        assert!(rt; ask_again(desk, alloc, seat, turn, call) == due, "{turn}");
+    }
+}
+
+// Room for forty calls of this store.
+fn kept_once<D: Disk>(alloc: Global, core: &Core<D>) -> Option<Kept>
+    ensures history { IfSome result (λ kept. IsHistory kept (seen D.content core.now)) }
+    ensures calls { IfSome result (λ kept. kept.calls ≡ []) }
 {
-    let Ok(trace) = Kept::new(alloc, core, most) else {
-        return Err("a trace".into());
-    };
-    Ok(trace)
+    match Kept::new(alloc, core, 40) {
+        Ok(trace) => Some(trace),
+        Err(_) => None,
+    }
 }
 
 // The same, asked for once more where memory is refused.
-fn room_again<D: Disk>(alloc: Global, core: &Core<D>, most: u64) -> Result<Kept, Fail>
-    ensures history { IfOk result (λ kept. IsHistory kept (seen D.content core.now)) }
-    ensures calls { IfOk result (λ kept. kept.calls ≡ []) }
+fn kept_again<D: Disk>(alloc: Global, core: &Core<D>) -> Option<Kept>
+    ensures history { IfSome result (λ kept. IsHistory kept (seen D.content core.now)) }
+    ensures calls { IfSome result (λ kept. kept.calls ≡ []) }
 {
-    match Kept::new(alloc, core, most) {
-        Ok(trace) => Ok(trace),
-        Err(Refusal::NoMemory) => room(alloc, core, most),
-        Err(_) => Err("another refusal".into()),
+    match Kept::new(alloc, core, 40) {
+        Ok(trace) => Some(trace),
+        Err(Refusal::NoMemory) => kept_once(alloc, core),
+        Err(_) => None,
     }
 }
 
-// The same, in which nothing stands yet.
-fn kept<D: Disk>(rt: &impl Abort, alloc: Global, core: &Core<D>, most: u64) -> Result<Kept, Fail>
-    ensures history { IfOk result (λ kept. IsHistory kept (seen D.content core.now)) }
-    ensures calls { IfOk result (λ kept. kept.calls ≡ []) }
-{
-    let trace = room_again(alloc, core, most)?;
-    assert_eq!(rt;
-        (trace.count(), trace.opening().len(), trace.calls().len()),
-        (0, 0, 0)
-    );
-    Ok(trace)
-}
-
-// Puts a value of two bytes under a key of this number, which is that of the command too. Where memory is refused, a look finds nothing
-// done.
-fn put_again<D: Disk, N: Naming>(
+// All calls that were done are recorded, each once.
+fn records_all<D: Disk, N: Naming>(
     rt: &impl Abort,
     alloc: Global,
     desk: &mut Desk<D, Kept, N>,
-    seat: &mut Seat<N>,
-    number: u8,
+    seats: Vec<Seat<N>>,
 ) -> Result<(), Fail> {
-    if put_once(rt, alloc, desk, seat, number)? {
-        return Ok(());
-    }
-    let mut out = [7; 2];
-    let found = look(desk, &key(number), &mut out);
-    assert_eq!(rt; found, Some(((number as u64).saturating_sub(1), false)));
-    assert!(rt; put_once(rt, alloc, desk, seat, number)?);
+    let mut seats = seats;
+    let mut seat = seats.pop().ok_or("a seat")?;
+    ask_all(rt, alloc, desk, &mut seat);
+    seats.push(seat)?;
+    assert_eq!(rt; desk.settle(seats).ok(), Some((33, 5)));
     Ok(())
 }
 
-// Puts that value. Says whether it was accepted, or memory was refused.
-fn put_once<D: Disk, N: Naming>(
-    rt: &impl Abort,
-    alloc: Global,
-    desk: &mut Desk<D, Kept, N>,
-    seat: &mut Seat<N>,
-    number: u8,
-) -> Result<bool, Fail> {
-    match put(desk, alloc, seat, &key(number), &[0, number]) {
-        Some(Ok(count)) => {
-            assert_eq!(rt; count, number as u64);
-            Ok(true)
-        }
-        Some(Err(Refusal::NoMemory)) => Ok(false),
-        _ => Err("another answer".into()),
-    }
-}
-
-// Gets the value of a key of this number.
-fn get_again<D: Disk, N: Naming>(
-    rt: &impl Abort,
-    alloc: Global,
-    desk: &mut Desk<D, Kept, N>,
-    seat: &mut Seat<N>,
-    number: u8,
-) -> Result<(), Fail> {
-    if !get_once(rt, alloc, desk, seat, number)? {
-        assert!(rt; get_once(rt, alloc, desk, seat, number)?);
-    }
-    Ok(())
-}
-
-// Gets that value. Says whether it was found, or memory was refused.
-fn get_once<D: Disk, N: Naming>(
-    rt: &impl Abort,
-    alloc: Global,
-    desk: &mut Desk<D, Kept, N>,
-    seat: &mut Seat<N>,
-    number: u8,
-) -> Result<bool, Fail> {
-    let mut out = [7; 2];
-    match get(desk, alloc, seat, &key(number), &mut out) {
-        Some(Ok(found)) => {
-            assert_eq!(rt; (found, out), (true, [0, number]));
-            Ok(true)
-        }
-        Some(Err(Refusal::NoMemory)) => Ok(false),
-        _ => Err("another answer".into()),
-    }
-}
-
-fn flush_again<D: Disk, N: Naming>(
-    desk: &mut Desk<D, Kept, N>,
-    alloc: Global,
-    seat: &mut Seat<N>,
-) -> Option<u64> {
-    match desk.flush(alloc, seat) {
-        Err(Refusal::NoMemory) => desk.flush(alloc, seat).ok(),
-        answer => answer.ok(),
-    }
-}
-
-fn convert_again<D: Disk, N: Naming>(
-    desk: &mut Desk<D, Kept, N>,
-    alloc: Global,
-    seat: &mut Seat<N>,
-) -> Option<Progress> {
-    match desk.convert(alloc, seat) {
-        Err(Refusal::NoMemory) => desk.convert(alloc, seat).ok(),
-        answer => answer.ok(),
-    }
-}
-
-fn merge_again<D: Disk, N: Naming>(
-    desk: &mut Desk<D, Kept, N>,
-    alloc: Global,
-    seat: &mut Seat<N>,
-) -> Option<Progress> {
-    match desk.merge(alloc, seat) {
-        Err(Refusal::NoMemory) => desk.merge(alloc, seat).ok(),
-        answer => answer.ok(),
-    }
-}
-
-// What the step of this number is answered, where the work has so many.
-fn step_due(number: u32, steps: u32) -> Progress {
-    if number == steps {
-        return Progress::Finished;
-    }
-    Progress::Moved
-}
-
-// A conversion of nine steps.
-fn convert_all<D: Disk, N: Naming>(
-    rt: &impl Abort,
-    alloc: Global,
-    desk: &mut Desk<D, Kept, N>,
-    seat: &mut Seat<N>,
-) {
-    for number in 1..10u32 {
-        let step = convert_again(desk, alloc, seat);
-        assert_eq!(rt; step, Some(step_due(number, 9)));
-    }
-}
-
-// A merge of thirteen steps.
-fn merge_all<D: Disk, N: Naming>(
-    rt: &impl Abort,
-    alloc: Global,
-    desk: &mut Desk<D, Kept, N>,
-    seat: &mut Seat<N>,
-) {
-    for number in 1..14u32 {
-        let step = merge_again(desk, alloc, seat);
-        assert_eq!(rt; step, Some(step_due(number, 13)));
-    }
-}
-
-// Five puts, of which the last freezes the full log, and a flush.
-fn put_all<D: Disk, N: Naming>(
-    rt: &impl Abort,
-    alloc: Global,
-    desk: &mut Desk<D, Kept, N>,
-    seat: &mut Seat<N>,
-) -> Result<(), Fail> {
-    for number in 1..6u8 {
-        put_again(rt, alloc, desk, seat, number)?;
-    }
-    assert_eq!(rt; flush_again(desk, alloc, seat), Some(5));
-    Ok(())
-}
-
-// Five gets.
-fn get_all<D: Disk, N: Naming>(
-    rt: &impl Abort,
-    alloc: Global,
-    desk: &mut Desk<D, Kept, N>,
-    seat: &mut Seat<N>,
-) -> Result<(), Fail> {
-    for number in 1..6u8 {
-        get_again(rt, alloc, desk, seat, number)?;
-    }
-    Ok(())
-}
-
-// Thirty-three calls: the puts and the flush, the conversion, the merge and the gets.
-fn all_calls<D: Disk, N: Naming>(
-    rt: &impl Abort,
-    alloc: Global,
-    desk: &mut Desk<D, Kept, N>,
-    seat: &mut Seat<N>,
-) -> Result<(), Fail> {
-    put_all(rt, alloc, desk, seat)?;
-    convert_all(rt, alloc, desk, seat);
-    merge_all(rt, alloc, desk, seat);
-    get_all(rt, alloc, desk, seat)
-}
-
-// A store that gets no desk is handed back. At a desk all calls that were done are recorded, each once.
+// A store that gets no desk is handed back. At a desk all calls that were done are recorded.
 fn records_what_is_done<D: Disk, N: Naming, R: Abort>(
     rt: &R,
     alloc: Global,
@@ -241,21 +207,20 @@ fn records_what_is_done<D: Disk, N: Naming, R: Abort>(
     requires accepted { (accepted.name ≡ N.accepted_name) × (accepted.parts ≡ N.seats) }
     requires seats { N.seats ≡ 1 }
 {
-    let trace = kept(rt, alloc, &core, 40)?;
-    let (mut desk, mut seats) = match Desk::<D, Kept, N>::new(
-        alloc, core, trace, 1, calls, accepted,
-    ) {
-        Ok(made) => made,
+    let Some(trace) = kept_again(alloc, &core) else {
+        return Err("a trace".into());
+    };
+    assert_eq!(rt;
+        (trace.count(), trace.opening().len(), trace.calls().len()),
+        (0, 0, 0)
+    );
+    match Desk::<D, Kept, N>::new(alloc, core, trace, 1, calls, accepted) {
+        Ok((mut desk, seats)) => records_all(rt, alloc, &mut desk, seats),
         Err(NotMade::<D, Kept> { core, trace }) => {
             assert_eq!(rt; (core.count(), trace.calls().len()), (0, 0));
-            return Ok(());
+            Ok(())
         }
-    };
-    let mut seat = seats.pop().ok_or("a seat")?;
-    all_calls(rt, alloc, &mut desk, &mut seat)?;
-    seats.push(seat)?;
-    assert_eq!(rt; desk.settle(seats).ok(), Some((33, 5)));
-    Ok(())
+    }
 }
 
 #[test]

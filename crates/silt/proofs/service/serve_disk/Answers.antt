@@ -20,7 +20,7 @@ returns-in-Err-clause-failed g c = never_done _ c.refuse_opening.result.1 c.refu
 
 pub returns-in-Err-clause-told : goal.returns-in-Err-clause-told
 returns-in-Err-clause-told g c =
-    status_told c.refuse_opening.result.1 (λ told. inl (c.in-Err.fault.refusal, rw (← c.refuse_opening.ensures.disk) at c.in-Err.ensures.cause, told.0, told.1)) c.refuse_opening.ensures.told
+    status_told c.refuse_opening.result.1 (λ told. inl (c.in-Err.fault.refusal, rw c.tell_at_once.ensures.disk at (rw (← c.refuse_opening.ensures.disk) at c.in-Err.ensures.cause), told.0, told.1)) c.refuse_opening.ensures.told
 
 pub returns-in-Err-clause-left : goal.returns-in-Err-clause-left
-returns-in-Err-clause-left g c = inl (rw (← c.refuse_opening.ensures.disk) at c.in-Err.ensures.images)
+returns-in-Err-clause-left g c = inl (rw c.tell_at_once.ensures.disk at (rw (← c.refuse_opening.ensures.disk) at c.in-Err.ensures.images))
