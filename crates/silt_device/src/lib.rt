@@ -52,10 +52,3 @@ pub use memory::{MemDisk, MemFault};
 pub use source::{DiskSource, FileDisks, NamedDisk, NoSuchDisk};
 pub use system::{FileSystem, RandomAccessFile};
 pub use system_disk::FileDisk;
-
-#[cfg(test)]
-mod buffered_disk_tests;
-#[cfg(test)]
-mod file_tests;
-#[cfg(test)]
-mod tests;

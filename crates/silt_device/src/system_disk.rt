@@ -81,16 +81,6 @@ impl FileDisk {
         let inner = BufferedDisk::with_room(system.alloc(), disk, 0)?;
         Ok(FileDisk { inner })
     }
-
-    // The disk in an open file, of this length, that buffers nothing.
-    #[cfg(test)]
-    pub(crate) fn of_len(alloc: Global, file: File, len: u64) -> io::Result<FileDisk>
-        ensures { IfOk result (λ disk. IsOpened len disk.inner.inner) }
-    {
-        let disk = RandomAccessDisk::of_len(file, len);
-        let inner = BufferedDisk::with_room(alloc, disk, 0)?;
-        Ok(FileDisk { inner })
-    }
 }
 
 impl Disk for FileDisk {

@@ -25,5 +25,3 @@ pub use fault::{FormatError, FormatFault, OpenError, OpenFault};
 pub use recovery::{Opened, open};
 pub use report::check;
 
-#[cfg(test)]
-mod tests;

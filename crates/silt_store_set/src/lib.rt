@@ -23,8 +23,6 @@ mod answerer;
 mod life;
 mod replies;
 mod store_core;
-#[cfg(test)]
-mod tests;
 
 pub use crate::store_core::{Core, OpenFault};
 pub use answerer::Served;

@@ -1,10 +1,13 @@
 // The commands, as they are told to clap.
-ghost use Rattle.std.specs.Prelude.{◌≡◌, IfOk, false, codes};
-ghost use Rattle.clap.specs.Words.{app_of, new_app, rule_of};
+ghost use Rattle.std.specs.Prelude.{◌≡◌, IfOk, IsOkAnd, false, codes};
+ghost use Rattle.clap.specs.Words.{AddsArg, AddsSubcommand, app_of, new_app, rule_of};
 ghost use Rattle.silt_words.specs.Commands.{JoinsAs, option_rule, serve_app, silt, value_rule, with_file, with_numbers};
 
 use clap::{Arg, ArgAction, Command};
 use std::alloc::{AllocError, Global};
+
+// A command that was made so far, or the first refusal of memory.
+type Made<'a> = Result<Command<'a>, AllocError>;
 
 fn value<'a>(alloc: Global, name: &'a str) -> Arg<'a>
     ensures rule { rule_of result ≡ value_rule name.entry.now }
@@ -28,49 +31,69 @@ fn on_file<'a>(alloc: Global, name: &'a str) -> Result<Command<'a>, AllocError>
     Command::new(alloc, name).arg(value(alloc, "FILE"))
 }
 
+// What was made so far, with one more value that has to be given.
+fn add_value<'a>(made: Made<'a>, alloc: Global, name: &'a str) -> Made<'a>
+    ensures { IfOk result (λ new. IsOkAnd made.entry (λ old. (arg : _) × (rule_of arg ≡ value_rule name.entry.now) × (arg.global ≡ false) × AddsArg old arg new)) }
+{
+    made?.arg(value(alloc, name))
+}
+
+// What was made so far, with one more option.
+fn add_option<'a>(made: Made<'a>, alloc: Global, name: &'a str) -> Made<'a>
+    ensures { IfOk result (λ new. IsOkAnd made.entry (λ old. (arg : _) × (rule_of arg ≡ option_rule name.entry.now) × (arg.global ≡ false) × AddsArg old arg new)) }
+{
+    made?.arg(option(alloc, name))
+}
+
 fn format<'a>(alloc: Global) -> Result<Command<'a>, AllocError>
     ensures { IfOk result (JoinsAs (with_numbers (with_file (new_app (codes "format"))))) }
 {
-    Command::new(alloc, "format")
-        .arg(value(alloc, "FILE"))?
-        .arg(value(alloc, "V"))?
-        .arg(value(alloc, "B"))?
-        .arg(value(alloc, "CAP"))?
-        .arg(value(alloc, "NL"))?
-        .arg(value(alloc, "NH"))?
-        .arg(value(alloc, "S"))
+    let with_file = add_value(Ok(Command::new(alloc, "format")), alloc, "FILE");
+    let with_v = add_value(with_file, alloc, "V");
+    let with_b = add_value(with_v, alloc, "B");
+    let with_cap = add_value(with_b, alloc, "CAP");
+    let with_nl = add_value(with_cap, alloc, "NL");
+    let with_nh = add_value(with_nl, alloc, "NH");
+    add_value(with_nh, alloc, "S")
 }
 
 fn script<'a>(alloc: Global) -> Result<Command<'a>, AllocError>
     ensures { IfOk result (JoinsAs (with_numbers (new_app (codes "script")))) }
 {
-    Command::new(alloc, "script")
-        .arg(value(alloc, "V"))?
-        .arg(value(alloc, "B"))?
-        .arg(value(alloc, "CAP"))?
-        .arg(value(alloc, "NL"))?
-        .arg(value(alloc, "NH"))?
-        .arg(value(alloc, "S"))
+    let with_v = add_value(Ok(Command::new(alloc, "script")), alloc, "V");
+    let with_b = add_value(with_v, alloc, "B");
+    let with_cap = add_value(with_b, alloc, "CAP");
+    let with_nl = add_value(with_cap, alloc, "NL");
+    let with_nh = add_value(with_nl, alloc, "NH");
+    add_value(with_nh, alloc, "S")
 }
 
 fn serve<'a>(alloc: Global) -> Result<Command<'a>, AllocError>
     ensures { IfOk result (JoinsAs serve_app) }
 {
-    Command::new(alloc, "serve")
-        .arg(value(alloc, "FILE"))?
-        .arg(value(alloc, "PORT"))?
-        .arg(option(alloc, "audit"))?
-        .arg(option(alloc, "sessions"))
+    let with_file = add_value(Ok(Command::new(alloc, "serve")), alloc, "FILE");
+    let with_port = add_value(with_file, alloc, "PORT");
+    let with_audit = add_option(with_port, alloc, "audit");
+    add_option(with_audit, alloc, "sessions")
+}
+
+// The command with one more below it, where that one was made.
+fn add_command<'a>(
+    command: Command<'a>,
+    added: Result<Command<'a>, AllocError>,
+) -> Result<Command<'a>, AllocError>
+    ensures { IfOk result (λ made. IsOkAnd added.entry (λ sub. AddsSubcommand command.entry sub made)) }
+{
+    command.subcommand(added?)
 }
 
 /// The program's commands with their values.
 pub fn command<'a>(alloc: Global) -> Result<Command<'a>, AllocError>
     ensures { IfOk result (λ made. app_of made ≡ silt) }
 {
-    Command::new(alloc, "silt")
-        .subcommand(format(alloc)?)?
-        .subcommand(script(alloc)?)?
-        .subcommand(on_file(alloc, "run")?)?
-        .subcommand(on_file(alloc, "check")?)?
-        .subcommand(serve(alloc)?)
+    let with_format = add_command(Command::new(alloc, "silt"), format(alloc))?;
+    let with_script = add_command(with_format, script(alloc))?;
+    let with_run = add_command(with_script, on_file(alloc, "run"))?;
+    let with_check = add_command(with_run, on_file(alloc, "check"))?;
+    add_command(with_check, serve(alloc))
 }

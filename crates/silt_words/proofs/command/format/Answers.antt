@@ -1,22 +1,15 @@
-use Rattle.std.proofs.Common.{◌∙◌, ap, ap₂}
-use Rattle.std.proofs.lemmas.Result.{IfOk-weaker}
-use Rattle.clap.specs.Words.{App, app_of, with_rule, with_subcommand}
-use Rattle.silt_words.proofs.Matched.{stays_local}
+use Rattle.std.proofs.Common.{codes}
+use Rattle.std.specs.Prelude.{Ok}
+use Rattle.clap.specs.Words.{new_app}
+use Rattle.silt_words.proofs.Matched.{joins_as, one_more}
 use Rattle.silt_words.proofs.command.format.Goals as goal
 
 pub returns : goal.returns
 returns c =
-    let shape1 = c.in_ok-arg.ensures.shape c.value.ensures.local ∙ ap₂ with_rule c.new.ensures.app c.value.ensures.rule in
-    let local1 = stays_local c.in_ok-arg.ensures.globals c.new.ensures.local c.value.ensures.local in
-    let shape2 = c.in_ok-arg-2.ensures.shape c.value-2.ensures.local ∙ ap₂ with_rule shape1 c.value-2.ensures.rule in
-    let local2 = stays_local c.in_ok-arg-2.ensures.globals local1 c.value-2.ensures.local in
-    let shape3 = c.in_ok-arg-3.ensures.shape c.value-3.ensures.local ∙ ap₂ with_rule shape2 c.value-3.ensures.rule in
-    let local3 = stays_local c.in_ok-arg-3.ensures.globals local2 c.value-3.ensures.local in
-    let shape4 = c.in_ok-arg-4.ensures.shape c.value-4.ensures.local ∙ ap₂ with_rule shape3 c.value-4.ensures.rule in
-    let local4 = stays_local c.in_ok-arg-4.ensures.globals local3 c.value-4.ensures.local in
-    let shape5 = c.in_ok-arg-5.ensures.shape c.value-5.ensures.local ∙ ap₂ with_rule shape4 c.value-5.ensures.rule in
-    let local5 = stays_local c.in_ok-arg-5.ensures.globals local4 c.value-5.ensures.local in
-    let shape6 = c.in_ok-arg-6.ensures.shape c.value-6.ensures.local ∙ ap₂ with_rule shape5 c.value-6.ensures.rule in
-    let local6 = stays_local c.in_ok-arg-6.ensures.globals local5 c.value-6.ensures.local in
-    IfOk-weaker c.arg-7.result _ _ (λ made adds old new joins. joins.shape (stays_local adds.globals local6 c.value-7.ensures.local)
-    ∙ ap (λ (app : App). with_subcommand (app_of old) app.top) (adds.shape c.value-7.ensures.local ∙ ap₂ with_rule shape6 c.value-7.ensures.rule)) c.arg-7.ensures
+    let stands1 = one_more (new_app (codes "format")) _ (λ old arg new adds. adds.globals) (Ok c.new.result) _ c.add_value-with_file.ensures (c.new.ensures.app, c.new.ensures.local) in
+    let stands2 = one_more _ _ (λ old arg new adds. adds.globals) _ _ c.add_value-with_v.ensures stands1 in
+    let stands3 = one_more _ _ (λ old arg new adds. adds.globals) _ _ c.add_value-with_b.ensures stands2 in
+    let stands4 = one_more _ _ (λ old arg new adds. adds.globals) _ _ c.add_value-with_cap.ensures stands3 in
+    let stands5 = one_more _ _ (λ old arg new adds. adds.globals) _ _ c.add_value-with_nl.ensures stands4 in
+    let stands6 = one_more _ _ (λ old arg new adds. adds.globals) _ _ c.add_value-with_nh.ensures stands5 in
+    joins_as _ (λ old sub new adds. adds.shape) _ (one_more _ _ (λ old arg new adds. adds.globals) _ _ c.add_value.ensures stands6)

@@ -1,0 +1,84 @@
+// A frozen log as a hash store: its bytes, what is found damaged in it, and faults on the way.
+
+use crate::lines::CONVERTED;
+use crate::script::{Told, live, repeated};
+use crate::support::{changed, formatted, stands_at};
+use silt_device::MemDisk;
+use silt_store_set::{Core, OpenFault, Place, Progress, Refusal};
+use std::alloc::Global;
+use std::process::Abort;
+use std::test::Fail;
+
+// The device after a conversion, with its replies checked.
+fn converted(rt: &impl Abort, alloc: Global) -> Result<MemDisk, Fail> {
+    let lines = repeated(alloc, &CONVERTED)?;
+    let (disk, told) = live(alloc, formatted(alloc)?, &lines)?;
+    assert_eq!(rt; told.len(), 16);
+    for reply in &told[7..15] {
+        assert_eq!(rt; *reply, Told::Progress(Progress::Moved));
+    }
+    assert_eq!(rt; told[15], Told::Progress(Progress::Finished));
+    Ok(disk)
+}
+
+// The refusal of an opening of these bytes with some of them changed, none where they open.
+fn refusal_of(
+    rt: &impl Abort,
+    alloc: Global,
+    whole: &[u8],
+    changes: &[(usize, u8)],
+) -> Result<Option<Place>, Fail> {
+    let bytes = changed(rt, alloc, whole, changes)?;
+    match Core::open(alloc, MemDisk::with_bytes(alloc, &bytes)?) {
+        Ok(_) => Ok(None),
+        Err(
+            OpenFault {
+                refusal: Refusal::Damaged(place),
+                ..
+            },
+        ) => Ok(Some(place)),
+        Err(_) => Err("another refusal".into()),
+    }
+}
+
+// Each of the keys 1 to 4 has the buckets 0 and 0 of two, so that they stand in the first four slots of 23 bytes from 28,672 on; the
+// other four slots are zeros. The manifest in slot 0 has generation 2, log 1 active, no frozen log, and hash store 0.
+#[test]
+fn writes_the_slots_in_order(rt: HostRuntime) -> Result<(), Fail> {
+    let alloc = rt.alloc();
+    let disk = converted(&rt, alloc)?;
+    for slot in 0..4u8 {
+        let at = 28_672 + 23 * slot as usize;
+        let mut row = [0; 23];
+        row[0] = 1;
+        row[1] = slot + 1;
+        row[22] = slot + 1;
+        assert!(rt; stands_at(&disk, at, &row), "slot {slot}");
+    }
+    assert!(rt; stands_at(&disk, 28_764, &[0; 92]));
+    assert!(rt; stands_at(&disk, 4096, b"\xa7\0\0\0\0\0\0\0\x02\0\0\0\x01\0\0\0\0"));
+    assert!(rt; stands_at(&disk, 4141, b"\0\0\0\x01\0\0\0\0"));
+    Ok(())
+}
+
+// After a conversion: nothing, a slot of an unknown kind, and in slot 4 the row of slot 0, which there lies in neither of its key's
+// buckets.
+#[test]
+fn finds_damaged_slots(rt: HostRuntime) -> Result<(), Fail> {
+    let alloc = rt.alloc();
+    let disk = converted(&rt, alloc)?;
+    assert_eq!(rt; disk.shown().len(), 45_056);
+    let cases: [(&[(usize, u8)], Option<Place>); 3] = [
+        (&[], None),
+        (&[(28_695, 3)], Some(Place::Hash { region: 0, slot: 1 })),
+        (
+            &[(28_764, 1), (28_765, 1), (28_786, 1)],
+            Some(Place::Hash { region: 0, slot: 4 }),
+        ),
+    ];
+    for (changes, expected) in cases {
+        let found = refusal_of(&rt, alloc, disk.shown(), changes)?;
+        assert_eq!(rt; found, expected);
+    }
+    Ok(())
+}

@@ -1,0 +1,283 @@
+// What no clause says of a disk in a file: the bytes that the file holds, and which errors it gives. Each test has a folder or a
+// file of its own, in the folder that it runs in, and takes it away at its end.
+use silt_device::{Disk, DiskSource, FileDisk, FileDisks, MemDisk, NamedDisk, write_synced};
+use std::alloc::{AllocError, Global};
+use std::fs::{self, File};
+use std::io::{self, ErrorKind};
+use std::test::Fail;
+
+const FIRST: [u8; 4] = [0x11, 0x12, 0x13, 0x14];
+
+const SECOND: [u8; 3] = [0x23, 0x24, 0x25];
+
+// Makes a folder, without what an earlier run left in it.
+fn make_folder(runtime: &HostRuntime, name: &str) -> io::Result<()> {
+    if fs::exists(runtime, name)? {
+        fs::remove_dir_all(runtime, name)?;
+    }
+    fs::create_dir(runtime, name)
+}
+
+// The length of the disk, or the kind of the error.
+fn len_of(answer: io::Result<FileDisk>) -> Result<u64, ErrorKind> {
+    match answer {
+        Ok(disk) => Ok(disk.len()),
+        Err(error) => Err(error.kind()),
+    }
+}
+
+// Writes FIRST at 1 of a disk of nine bytes and syncs it, then SECOND over its end and one byte at the disk's. Whether all that was done.
+fn write_parts<D: Disk>(disk: &mut D) -> bool {
+    disk.len() == 9
+        && write_synced(disk, 1, &FIRST).is_ok()
+        && disk.write(3, &SECOND).is_ok()
+        && disk.write(8, &[0x31]).is_ok()
+        && disk.sync().is_ok()
+}
+
+// The bytes of a disk of nine.
+fn nine_of<D: Disk>(disk: &D) -> Option<[u8; 9]> {
+    let mut read = [0xFF; 9];
+    if disk.len() != 9 {
+        return None;
+    }
+    disk.read(0, &mut read).ok()?;
+    Some(read)
+}
+
+// What was written stands there on a second disk in the same file, and places that were never written hold zeros.
+#[test]
+fn a_file_keeps_what_was_written(rt: HostRuntime) -> Result<(), Fail> {
+    const WRITTEN: [u8; 9] = [0, 0x11, 0x12, 0x23, 0x24, 0x25, 0, 0, 0x31];
+    make_folder(&rt, "kept")?;
+    let mut disk = FileDisk::create(&rt, "kept/disk", 9)?;
+    assert!(rt; write_parts(&mut disk));
+    assert_eq!(rt; nine_of(&disk), Some(WRITTEN));
+    drop(disk);
+    let disk = FileDisk::open(&rt, "kept/disk")?;
+    assert_eq!(rt; disk.len(), 9);
+    assert_eq!(rt; four_at(&disk, 5), Some([0x25, 0, 0, 0x31]));
+    drop(disk);
+    assert_eq!(rt; fs::read(&rt, "kept/disk")?.as_slice(), WRITTEN.as_slice());
+    fs::remove_dir_all(&rt, "kept")?;
+    Ok(())
+}
+
+// A file that is there keeps its bytes up to the length asked for, and grows by zeros.
+#[test]
+fn create_gives_the_length(rt: HostRuntime) -> Result<(), Fail> {
+    make_folder(&rt, "sized")?;
+    fs::write(&rt, "sized/disk", FIRST.as_slice())?;
+    let table = [
+        (4, FIRST.as_slice()),
+        (6, &[0x11, 0x12, 0x13, 0x14, 0, 0]),
+        (3, &[0x11, 0x12, 0x13]),
+        (5, &[0x11, 0x12, 0x13, 0, 0]),
+        (0, &[]),
+    ];
+    for (len, held) in table {
+        let made = len_of(FileDisk::create(&rt, "sized/disk", len));
+        assert_eq!(rt; made, Ok(len));
+        let bytes = fs::read(&rt, "sized/disk")?;
+        assert_eq!(rt; bytes.as_slice(), held, "at {len}");
+        assert_eq!(rt; len_of(FileDisk::open(&rt, "sized/disk")), Ok(len));
+    }
+    fs::remove_dir_all(&rt, "sized")?;
+    Ok(())
+}
+
+// The folder of a bare name is the one that the test runs in.
+#[test]
+fn a_bare_name_is_a_path(rt: HostRuntime) -> Result<(), Fail> {
+    assert_eq!(rt; len_of(FileDisk::create(&rt, "bare_name_disk", 1)), Ok(1));
+    fs::remove_file(&rt, "bare_name_disk")?;
+    Ok(())
+}
+
+#[test]
+fn a_path_with_no_file_is_an_error(rt: HostRuntime) -> Result<(), Fail> {
+    make_folder(&rt, "wrong")?;
+    assert_eq!(rt;
+        len_of(FileDisk::open(&rt, "wrong/disk")),
+        Err(ErrorKind::NotFound)
+    );
+    assert!(rt; !fs::exists(&rt, "wrong/disk")?);
+    assert_eq!(rt;
+        len_of(FileDisk::open(&rt, "wrong")),
+        Err(ErrorKind::IsADirectory)
+    );
+    let table = [
+        ("wrong/folder/disk", 8, ErrorKind::NotFound),
+        ("", 8, ErrorKind::NotFound),
+        ("wrong", 8, ErrorKind::IsADirectory),
+        ("wrong/disk", 1 << 63, ErrorKind::InvalidInput),
+    ];
+    for (path, len, kind) in table {
+        assert_eq!(rt;
+            len_of(FileDisk::create(&rt, path, len)),
+            Err(kind),
+            "{path}"
+        );
+    }
+    fs::remove_dir_all(&rt, "wrong")?;
+    Ok(())
+}
+
+// The four bytes from a place on, where the disk has as many and gives them.
+fn four_at<D: Disk>(disk: &D, at: u64) -> Option<[u8; 4]> {
+    if at > disk.len() || disk.len() - at < 4 {
+        return None;
+    }
+    let mut read = [0; 4];
+    disk.read(at, &mut read).ok()?;
+    Some(read)
+}
+
+// The fault of a read of the four bytes from a place on, where the disk has as many.
+fn read_fault<D: Disk>(disk: &D, at: u64) -> Option<D::Fault> {
+    if at > disk.len() || disk.len() - at < 4 {
+        return None;
+    }
+    let mut read = [0; 4];
+    disk.read(at, &mut read).err()
+}
+
+// The fault of a write of these bytes at the front, where the disk has room for them.
+fn write_fault<D: Disk>(disk: &mut D, bytes: &[u8]) -> Option<D::Fault> {
+    if bytes.len() as u64 > disk.len() {
+        return None;
+    }
+    disk.write(0, bytes).err()
+}
+
+// A read fails where another hand cut the file short.
+#[test]
+fn a_read_behind_the_end_fails(rt: HostRuntime) -> Result<(), Fail> {
+    make_folder(&rt, "cut")?;
+    let disk = FileDisk::create(&rt, "cut/disk", 8)?;
+    fs::write(&rt, "cut/disk", FIRST.as_slice())?;
+    assert_eq!(rt; four_at(&disk, 0), Some(FIRST));
+    assert_eq!(rt;
+        read_fault(&disk, 1).map(|fault| fault.inner().error().kind()),
+        Some(ErrorKind::UnexpectedEof)
+    );
+    fs::remove_dir_all(&rt, "cut")?;
+    Ok(())
+}
+
+// A write fails where the file was opened for reading, and then the disk is read and synced as before.
+#[test]
+fn a_write_to_what_is_read_alone_fails(rt: HostRuntime) -> Result<(), Fail> {
+    make_folder(&rt, "read")?;
+    fs::write(&rt, "read/disk", FIRST.as_slice())?;
+    let mut disk = FileDisk::open_shared(&rt, "read/disk")?;
+    assert_eq!(rt;
+        write_fault(&mut disk, &SECOND).and_then(|fault| fault.inner().error().raw_os_error()),
+        Some(9)
+    );
+    disk.sync()?;
+    assert_eq!(rt; four_at(&disk, 0), Some(FIRST));
+    fs::remove_dir_all(&rt, "read")?;
+    Ok(())
+}
+
+// A sync fails where there is nothing to sync.
+#[test]
+fn a_sync_of_no_file_fails(rt: HostRuntime) -> Result<(), Fail> {
+    let mut disk = FileDisk::open_shared(&rt, "/dev/null")?;
+    let refused = disk.sync().err();
+    assert_eq!(rt;
+        refused.map(|fault| fault.inner().error().kind()),
+        Some(ErrorKind::InvalidInput)
+    );
+    Ok(())
+}
+
+// What each kind of opening gives: to own the file, to give it two bytes, and to read it alone.
+fn openings(rt: &HostRuntime, path: &str) -> [Result<u64, ErrorKind>; 3] {
+    [
+        len_of(FileDisk::open(rt, path)),
+        len_of(FileDisk::create(rt, path, 2)),
+        len_of(FileDisk::open_shared(rt, path)),
+    ]
+}
+
+const BUSY: Result<u64, ErrorKind> = Err(ErrorKind::WouldBlock);
+
+// While a disk is there, no other open of its file gets a disk that could change it, and nothing in the file is changed.
+#[test]
+fn a_file_has_one_owner(rt: HostRuntime) -> Result<(), Fail> {
+    make_folder(&rt, "owned")?;
+    let owner = FileDisk::create(&rt, "owned/disk", 3)?;
+    assert_eq!(rt; openings(&rt, "owned/disk"), [BUSY; 3]);
+    drop(owner);
+    assert_eq!(rt; fs::metadata(&rt, "owned/disk")?.len(), 3);
+    let owner = FileDisk::open(&rt, "owned/disk")?;
+    assert_eq!(rt; openings(&rt, "owned/disk"), [BUSY; 3]);
+    drop(owner);
+    assert_eq!(rt; len_of(FileDisk::open(&rt, "owned/disk")), Ok(3));
+    fs::remove_dir_all(&rt, "owned")?;
+    Ok(())
+}
+
+// Who only reads shares the file with others that do, and keeps an owner out.
+#[test]
+fn readers_share_a_file(rt: HostRuntime) -> Result<(), Fail> {
+    make_folder(&rt, "shared")?;
+    fs::write(&rt, "shared/disk", FIRST.as_slice())?;
+    let mut first = FileDisk::open_shared(&rt, "shared/disk")?;
+    assert_eq!(rt; openings(&rt, "shared/disk"), [BUSY, BUSY, Ok(4)]);
+    assert_eq!(rt;
+        write_fault(&mut first, &SECOND).and_then(|fault| fault.inner().error().raw_os_error()),
+        Some(9)
+    );
+    assert_eq!(rt; four_at(&first, 0), Some(FIRST));
+    drop(first);
+    let missing = len_of(FileDisk::open_shared(&rt, "shared/none"));
+    assert_eq!(rt; missing, Err(ErrorKind::NotFound));
+    fs::remove_dir_all(&rt, "shared")?;
+    Ok(())
+}
+
+// The length of the disk that a source opens, or makes where a length is given. None: it gives none.
+fn len_from<S: DiskSource>(source: S, path: &str, made: Option<u64>) -> Option<u64> {
+    let disk = match made {
+        Some(len) => source.create(path, len),
+        None => source.open(path),
+    };
+    Some(disk.ok()?.len())
+}
+
+// A disk of four bytes under the name `disk`.
+fn named_disk(alloc: Global) -> Result<NamedDisk<MemDisk>, AllocError> {
+    Ok(NamedDisk::new(String::from_str(alloc, "disk")?, MemDisk::new(alloc, 4)?))
+}
+
+// A source of files gives the disk of the path, and one of a named disk gives it under its name and at its length alone.
+#[test]
+fn a_source_gives_the_disk_of_its_path(rt: HostRuntime) -> Result<(), Fail> {
+    make_folder(&rt, "source")?;
+    assert_eq!(rt; len_from(FileDisks::new(&rt), "source/disk", None), None);
+    assert_eq!(rt;
+        len_from(FileDisks::new(&rt), "source/disk", Some(7)),
+        Some(7)
+    );
+    assert_eq!(rt; len_from(FileDisks::new(&rt), "source/disk", None), Some(7));
+    assert_eq!(rt; len_from(FileDisks::new(&rt), "source/other", None), None);
+    fs::remove_dir_all(&rt, "source")?;
+    let table = [
+        ("disk", None, Some(4)),
+        ("disk", Some(4), Some(4)),
+        ("disk", Some(5), None),
+        ("dis", None, None),
+        ("disks", Some(4), None),
+    ];
+    for (path, made, len) in table {
+        assert_eq!(rt;
+            len_from(named_disk(rt.alloc())?, path, made),
+            len,
+            "{path}"
+        );
+    }
+    Ok(())
+}

@@ -1,0 +1,277 @@
+// Each read, write and sync of a life fails, one at a time, and the device then goes on.
+
+use crate::faults::is_failed;
+use crate::kept::{after, goes_on, is_kept};
+use crate::life_lines::Line;
+use crate::lines::{
+    ASKED_BEHIND, CONVERTED, CONVERTED_MEANWHILE, CONVERTED_MEANWHILE_TOLD, CONVERTED_TOLD,
+    of_three_hash_stores,
+};
+use crate::script::{Told, ask, repeated, replies_of};
+use crate::support::{FILLS, entries_of, formatted_with, small, stopping, values_of};
+use silt_device::{Call, FaultDisk, Fill, Geometry, MemDisk, Stoppable};
+use silt_store_set::{Core, OpenFault, Refusal};
+use std::alloc::Global;
+use std::process::Abort;
+use std::test::Fail;
+
+// A life on a new disk of this geometry, and what its lines are told where no call fails.
+#[derive(Drop)]
+struct Life {
+    geometry: Geometry,
+    lines: Vec<Line>,
+    told: Vec<Told>,
+}
+
+// The lines of a conversion, with a get and a step behind it.
+fn converted_lines(alloc: Global) -> Result<Vec<Line>, Fail> {
+    let mut lines = repeated(alloc, &CONVERTED)?;
+    lines.extend_from_slice(&ASKED_BEHIND)?;
+    Ok(lines)
+}
+
+// A conversion, with a get and a step behind it.
+fn converted(alloc: Global) -> Result<Life, Fail> {
+    let geometry = small()?;
+    let told = repeated(alloc, &CONVERTED_TOLD)?;
+    let lines = converted_lines(alloc)?;
+    Ok(Life {
+        geometry,
+        lines,
+        told,
+    })
+}
+
+// A merge beside two conversions.
+fn converted_meanwhile(alloc: Global) -> Result<Life, Fail> {
+    let geometry = of_three_hash_stores()?;
+    let told = repeated(alloc, &CONVERTED_MEANWHILE_TOLD)?;
+    let lines = repeated(alloc, &CONVERTED_MEANWHILE)?;
+    Ok(Life {
+        geometry,
+        lines,
+        told,
+    })
+}
+
+// A store on the life's disk, and whether the first opening told a fault: then the disk is opened again, by the calls that follow.
+fn opened_again(alloc: Global, disk: FaultDisk) -> Result<(Core<FaultDisk>, bool), Fail> {
+    match Core::open(alloc, disk) {
+        Ok(core) => Ok((core, false)),
+        Err(
+            OpenFault::<FaultDisk> {
+                disk,
+                refusal: Refusal::Device(_),
+            },
+        ) => Ok((Core::open(alloc, disk).ok().ok_or("opens")?, true)),
+        Err(_) => Err("another refusal".into()),
+    }
+}
+
+// Asks a line, once more where a fault is told; and whether it was.
+fn asked_again(
+    alloc: Global,
+    core: &mut Core<FaultDisk>,
+    line: Line,
+) -> Result<(Told, bool), Fail> {
+    let told = ask(alloc, core, line)?;
+    if told == Told::Refused(5) {
+        return Ok((ask(alloc, core, line)?, true));
+    }
+    Ok((told, false))
+}
+
+// The values of the keys 0 to 7 in the list of the entries, which is asked for once more where it told a fault; and whether it did.
+fn listed_again(alloc: Global, core: &Core<FaultDisk>) -> Result<([u16; 8], bool), Fail> {
+    match core.entries(alloc) {
+        Ok(entries) => Ok((values_of(&entries), false)),
+        Err(Refusal::Device(_)) => {
+            let entries = core.entries(alloc).ok().ok_or("has entries")?;
+            Ok((values_of(&entries), true))
+        }
+        Err(_) => Err("another refusal".into()),
+    }
+}
+
+// This read of the life fails: the call that made it tells the fault, and asked again has its own answer, as all others have. Says whether
+// the read was made.
+fn read_fails(rt: &impl Abort, alloc: Global, life: &Life, number: u64) -> Result<bool, Fail> {
+    let disk = formatted_with(alloc, life.geometry)?;
+    let (mut core, is_told) = opened_again(alloc, FaultDisk::new(disk, Call::Read, number))?;
+    let mut faults = is_told as u32;
+    for (line, expected) in life.lines.iter().zip(life.told.iter()) {
+        let (told, is_told) = asked_again(alloc, &mut core, *line)?;
+        assert_eq!(rt; told, *expected, "read {number}");
+        faults = faults.saturating_add(is_told as u32);
+    }
+    let (values, is_told) = listed_again(alloc, &core)?;
+    assert_eq!(rt; values, after(&life.lines, u64::MAX), "read {number}");
+    faults = faults.saturating_add(is_told as u32);
+    assert!(rt; faults < 2, "read {number}");
+    Ok(faults == 1)
+}
+
+// Each read of the life fails in turn, of which there are at least so many.
+fn each_read_fails(rt: &impl Abort, alloc: Global, life: &Life, least: u64) -> Result<(), Fail> {
+    for number in 1..1000u64 {
+        if !read_fails(rt, alloc, life, number)? {
+            assert!(rt; number > least, "{number} reads");
+            return Ok(());
+        }
+    }
+    Err("reads without end".into())
+}
+
+// An opening makes four reads, each put of a key whose bucket is taken one of a head, each slot that is not empty one of a row, the get
+// one, and the list at least one for each row.
+#[test]
+fn each_read_of_a_conversion_fails(rt: HostRuntime) -> Result<(), Fail> {
+    let alloc = rt.alloc();
+    each_read_fails(&rt, alloc, &converted(alloc)?, 4 + 4 + 4 + 1 + 5)
+}
+
+#[test]
+fn each_read_of_a_merge_fails(rt: HostRuntime) -> Result<(), Fail> {
+    let alloc = rt.alloc();
+    each_read_fails(&rt, alloc, &converted_meanwhile(alloc)?, 4 + 3 + 8 + 3)
+}
+
+// Which of a kind of call fails, and what a stop behind the life leaves, if there is one.
+#[derive(Clone, Copy, Debug)]
+struct Failing {
+    call: Call,
+    number: u64,
+    stop: Option<Fill>,
+}
+
+// All replies before the one that tells the fault are the life's own, and all behind it tell a failed store. Says whether there is one.
+fn tells_once(rt: &impl Abort, life: &Life, told: &[Told], failing: Failing) -> bool {
+    let mut has_failed = false;
+    assert_eq!(rt; told.len(), life.told.len());
+    for (told, expected) in told.iter().zip(life.told.iter()) {
+        if has_failed {
+            assert_eq!(rt; *told, Told::Refused(9), "{failing:?}");
+        } else if *told == Told::Refused(5) {
+            has_failed = true;
+        } else {
+            assert_eq!(rt; told, expected, "{failing:?}");
+        }
+    }
+    has_failed
+}
+
+// The life on a disk on which this write or sync fails: the disk, what is told, and whether the call was made.
+fn lived(
+    rt: &impl Abort,
+    alloc: Global,
+    life: &Life,
+    disk: MemDisk,
+    failing: Failing,
+) -> Result<(MemDisk, Vec<Told>, bool), Fail> {
+    let disk = FaultDisk::new(disk, failing.call, failing.number);
+    match Core::open(alloc, disk) {
+        Ok(core) => answered(rt, alloc, life, core, failing),
+        Err(OpenFault::<FaultDisk> { disk, refusal }) => {
+            assert_eq!(rt; refusal.label().0, 5, "{failing:?}");
+            Ok((disk.into_disk(), Vec::new(alloc), true))
+        }
+    }
+}
+
+// The life of an opened store, of which this write or sync fails: the disk, what is told, and whether the call was made.
+fn answered(
+    rt: &impl Abort,
+    alloc: Global,
+    life: &Life,
+    mut core: Core<FaultDisk>,
+    failing: Failing,
+) -> Result<(MemDisk, Vec<Told>, bool), Fail> {
+    let told = replies_of(alloc, &mut core, &life.lines)?;
+    if !tells_once(rt, life, &told, failing) {
+        return Ok((core.close().into_disk(), told, false));
+    }
+    is_failed(rt, alloc, &mut core);
+    Ok((core.close().into_disk(), told, true))
+}
+
+// The disk after this stop, if there is one.
+fn stopped(disk: MemDisk, stop: Option<Fill>) -> MemDisk {
+    match stop {
+        Some(_) => disk.restart(),
+        None => disk,
+    }
+}
+
+// This write or sync of the life fails. Then every call is refused, and an opening, with or without a stop before it, finds what is
+// kept, and goes on from there. Says whether the call was made.
+fn change_fails(
+    rt: &impl Abort,
+    alloc: Global,
+    life: &Life,
+    failing: Failing,
+) -> Result<bool, Fail> {
+    let fill = failing.stop.unwrap_or(Fill::Old);
+    let stops = stopping(alloc, &[(0, fill), (0, fill), (0, fill)])?;
+    let disk = formatted_with(alloc, life.geometry)?.arm(stops);
+    let (disk, told, is_made) = lived(rt, alloc, life, disk, failing)?;
+    let (disk, found) = entries_of(alloc, stopped(disk, failing.stop))?;
+    assert!(rt; is_kept(&life.lines, &told, found), "{found:?} {failing:?}");
+    goes_on(rt, alloc, disk, life.geometry, found)?;
+    Ok(is_made)
+}
+
+// Each call of a kind fails in turn, of which there are so many, with this stop behind the life.
+fn each_of_a_kind_fails(
+    rt: &impl Abort,
+    alloc: Global,
+    life: &Life,
+    (call, calls): (Call, u64),
+    stop: Option<Fill>,
+) -> Result<(), Fail> {
+    for number in 1..calls.saturating_add(2) {
+        let failing = Failing { call, number, stop };
+        let is_made = change_fails(rt, alloc, life, failing)?;
+        assert_eq!(rt; is_made, number <= calls, "{failing:?}");
+    }
+    Ok(())
+}
+
+// Each write and each sync fails in turn, of which there are so many, with no stop behind the life, and with each.
+fn each_change_fails(
+    rt: &impl Abort,
+    alloc: Global,
+    life: &Life,
+    writes: u64,
+    syncs: u64,
+) -> Result<(), Fail> {
+    for kind in [(Call::Write, writes), (Call::Sync, syncs)] {
+        each_of_a_kind_fails(rt, alloc, life, kind, None)?;
+        for fill in FILLS {
+            each_of_a_kind_fails(rt, alloc, life, kind, Some(fill))?;
+        }
+    }
+    Ok(())
+}
+
+// Of the forty calls of the conversion five puts make ten writes; the flush before the freeze makes one and two syncs, the clearing of the
+// next log one of each, the manifest three of each; the last flush makes one write and two syncs; eight slots are a write each, and the
+// last step makes a sync and a manifest. The opening makes a sync.
+#[test]
+fn each_change_of_a_conversion_fails(rt: HostRuntime) -> Result<(), Fail> {
+    let alloc = rt.alloc();
+    let writes = 10 + 1 + 1 + 3 + 1 + 8 + 3;
+    let syncs = 1 + 2 + 1 + 3 + 2 + 1 + 3;
+    assert_eq!(rt; writes + syncs, 40);
+    each_change_fails(&rt, alloc, &converted(alloc)?, writes, syncs)
+}
+
+// Of the 95 calls of the merge the opening makes a sync, four puts make eight writes, each of three freezes makes five writes and six
+// syncs, each of three conversions eleven writes and four syncs; one key is an entry, and the last step makes three writes and four syncs.
+#[test]
+fn each_change_of_a_merge_fails(rt: HostRuntime) -> Result<(), Fail> {
+    let alloc = rt.alloc();
+    let writes = 8 + 3 * 5 + 3 * 11 + 1 + 3;
+    let syncs = 1 + 3 * 6 + 3 * 4 + 4;
+    assert_eq!(rt; writes + syncs, 95);
+    each_change_fails(&rt, alloc, &converted_meanwhile(alloc)?, writes, syncs)
+}

@@ -1,0 +1,284 @@
+// One device call that fails, and the refusals of puts and deletes.
+
+use crate::life_lines::{Line, key};
+use crate::script::{Told, live};
+use crate::support::{SMALL_LEN, entries_of, formatted, formatted_with, of_regions, values_of};
+use silt_device::{Call, FaultDisk, MemDisk, MemFault};
+use silt_store_set::{Core, Refusal};
+use std::alloc::Global;
+use std::process::Abort;
+use std::test::Fail;
+
+// A small store on a disk on which one call fails, the calls of the opening counted too.
+fn faulty(alloc: Global, call: Call, number: u64) -> Result<Core<FaultDisk>, Fail> {
+    let disk = FaultDisk::new(formatted(alloc)?, call, number);
+    Ok(Core::open(alloc, disk).ok().ok_or("opens")?)
+}
+
+// A small store of values of two bytes, of which so many may be sorted.
+fn of_capacity(alloc: Global, sorted_capacity: u32) -> Result<Core<MemDisk>, Fail> {
+    let geometry = of_regions(4, 2, 2, sorted_capacity)?;
+    let disk = formatted_with(alloc, geometry)?;
+    Ok(Core::open(alloc, disk).ok().ok_or("opens")?)
+}
+
+// The count that was answered, or the number of the refusal.
+fn answer<T>(answered: Result<T, Refusal<MemFault>>) -> Result<T, u32> {
+    match answered {
+        Ok(count) => Ok(count),
+        Err(refusal) => Err(refusal.label().0),
+    }
+}
+
+// Puts a value of two bytes, of which the first is 0.
+fn put(
+    rt: &impl Abort,
+    alloc: Global,
+    core: &mut Core<MemDisk>,
+    first: u8,
+    last: u8,
+) -> Result<u64, u32> {
+    assert_eq!(rt; core.geometry().value_len(), 2);
+    answer(core.put(alloc, &key(first), &[0, last]))
+}
+
+/// Every call of a failed store is refused, and the list of its entries too.
+pub(crate) fn is_failed(rt: &impl Abort, alloc: Global, core: &mut Core<FaultDisk>) {
+    assert_eq!(rt; core.geometry().value_len(), 2);
+    let mut out = [7; 2];
+    assert_eq!(rt; answer(core.get(&key(1), &mut out)), Err(9));
+    assert_eq!(rt; answer(core.put(alloc, &key(1), &[0, 2])), Err(9));
+    assert_eq!(rt; answer(core.delete(alloc, &key(1))), Err(9));
+    assert_eq!(rt; answer(core.flush()), Err(9));
+    assert_eq!(rt; answer(core.convert(alloc)), Err(9));
+    assert_eq!(rt; answer(core.merge(alloc)), Err(9));
+    assert!(rt; matches!(core.entries(alloc), Err(Refusal::Failed)));
+}
+
+// The flush's first sync is the disk's second, its second the third. The gates are written between them.
+#[test]
+fn a_flush_that_fails_fails_the_store(rt: HostRuntime) -> Result<(), Fail> {
+    let alloc = rt.alloc();
+    for (number, left) in [(2, 0), (3, 5)] {
+        let mut core = faulty(alloc, Call::Sync, number)?;
+        assert_eq!(rt; core.geometry().value_len(), 2);
+        assert_eq!(rt; answer(core.put(alloc, &key(1), &[0, 5])), Ok(1));
+        assert_eq!(rt; answer(core.flush()), Err(5), "sync {number}");
+        is_failed(&rt, alloc, &mut core);
+        let (_, found) = entries_of(alloc, core.close().into_disk())?;
+        assert_eq!(rt; found, [0, left, 0, 0, 0, 0, 0, 0], "sync {number}");
+    }
+    Ok(())
+}
+
+// A flush without waiting rows makes no device call: the disk's next write and sync fail, and not in it.
+#[test]
+fn flushes_nothing_without_a_call(rt: HostRuntime) -> Result<(), Fail> {
+    let alloc = rt.alloc();
+    for (call, number) in [(Call::Write, 1), (Call::Sync, 2)] {
+        let mut core = faulty(alloc, call, number)?;
+        assert_eq!(rt; core.geometry().value_len(), 2);
+        assert_eq!(rt; answer(core.flush()), Ok(0), "{call:?}");
+        assert_eq!(rt; answer(core.flush()), Ok(0), "{call:?}");
+        let put = answer(core.put(alloc, &key(1), &[0, 1]));
+        let flushed = answer(core.flush());
+        let expected = if call == Call::Write {
+            (Err(5), Err(9))
+        } else {
+            (Ok(1), Err(5))
+        };
+        assert_eq!(rt; (put, flushed), expected, "{call:?}");
+    }
+    Ok(())
+}
+
+// A second flush of the same rows makes no call either: the writes of a put and its gate are three, the syncs three.
+#[test]
+fn flushes_rows_once(rt: HostRuntime) -> Result<(), Fail> {
+    let alloc = rt.alloc();
+    for (call, number) in [(Call::Write, 4), (Call::Sync, 4)] {
+        let mut core = faulty(alloc, call, number)?;
+        assert_eq!(rt; core.geometry().value_len(), 2);
+        assert_eq!(rt;
+            answer(core.put(alloc, &key(1), &[0, 1])),
+            Ok(1),
+            "{call:?}"
+        );
+        for _ in 0..3u32 {
+            assert_eq!(rt; answer(core.flush()), Ok(1), "{call:?}");
+        }
+    }
+    Ok(())
+}
+
+// A put's two writes, and a delete's: the row is not accepted, and the store is failed. What was flushed stands.
+#[test]
+fn a_write_that_fails_fails_the_store(rt: HostRuntime) -> Result<(), Fail> {
+    let alloc = rt.alloc();
+    for number in [4u64, 5] {
+        for deletes in [false, true] {
+            let mut core = faulty(alloc, Call::Write, number)?;
+            assert_eq!(rt; core.geometry().value_len(), 2);
+            assert_eq!(rt; answer(core.put(alloc, &key(1), &[0, 5])), Ok(1));
+            assert_eq!(rt; answer(core.flush()), Ok(1));
+            let refused = if deletes {
+                core.delete(alloc, &key(1))
+            } else {
+                core.put(alloc, &key(1), &[0, 6])
+            };
+            assert_eq!(rt; answer(refused), Err(5), "write {number}");
+            is_failed(&rt, alloc, &mut core);
+            let (_, found) = entries_of(alloc, core.close().into_disk())?;
+            assert_eq!(rt; found, [0, 5, 0, 0, 0, 0, 0, 0], "write {number}");
+        }
+    }
+    Ok(())
+}
+
+// A read that fails is refused, and the same get, asked again, gives its value. A get makes one read, of the whole row. Which of the
+// disk's reads it is is not fixed: those before it refuse the opening.
+#[test]
+fn a_read_that_fails_changes_nothing(rt: HostRuntime) -> Result<(), Fail> {
+    let alloc = rt.alloc();
+    let (disk, told) = live(alloc, formatted(alloc)?, &[Line::Put(1, 5), Line::Flush])?;
+    let expected = [Told::Opened, Told::Accepted(1), Told::Acknowledged(1)];
+    assert_eq!(rt; told.as_slice(), expected.as_slice());
+    let mut refused = 0u32;
+    for number in 1..16u64 {
+        let inner = MemDisk::with_bytes(alloc, disk.shown())?;
+        match Core::open(alloc, FaultDisk::new(inner, Call::Read, number)) {
+            Err(fault) => assert_eq!(rt; fault.refusal.label().0, 5),
+            Ok(core) => {
+                if is_read_again(&rt, &core) {
+                    refused = refused.saturating_add(1);
+                }
+            }
+        }
+    }
+    assert_eq!(rt; refused, 1);
+    Ok(())
+}
+
+// Gets the value of key 1, again where its read failed; and whether it did.
+fn is_read_again(rt: &impl Abort, core: &Core<FaultDisk>) -> bool {
+    assert_eq!(rt; core.geometry().value_len(), 2);
+    let mut out = [0; 2];
+    let first = answer(core.get(&key(1), &mut out));
+    if first == Err(5) {
+        assert_eq!(rt; answer(core.get(&key(1), &mut out)), Ok(true));
+    } else {
+        assert_eq!(rt; first, Ok(true));
+    }
+    assert_eq!(rt; out, [0, 5]);
+    first == Err(5)
+}
+
+// Of as many put rows as may be sorted no further put is taken, of whatever key; a delete is, and makes no room for a put.
+#[test]
+fn a_full_store_takes_no_put(rt: HostRuntime) -> Result<(), Fail> {
+    let alloc = rt.alloc();
+    let mut core = of_capacity(alloc, 2)?;
+    assert_eq!(rt; core.geometry().value_len(), 2);
+    assert_eq!(rt; answer(core.put(alloc, &key(1), &[0, 1])), Ok(1));
+    assert_eq!(rt; answer(core.put(alloc, &key(1), &[0, 2])), Ok(2));
+    assert_eq!(rt; answer(core.put(alloc, &key(1), &[0, 3])), Err(7));
+    assert_eq!(rt; answer(core.put(alloc, &key(2), &[0, 3])), Err(7));
+    let entries = core.entries(alloc).ok().ok_or("has entries")?;
+    assert_eq!(rt; values_of(&entries), [0, 2, 0, 0, 0, 0, 0, 0]);
+    assert_eq!(rt; answer(core.delete(alloc, &key(1))), Ok(3));
+    assert_eq!(rt; answer(core.put(alloc, &key(2), &[0, 3])), Err(7));
+    assert_eq!(rt; answer(core.flush()), Ok(3));
+    let (_, found) = entries_of(alloc, core.close())?;
+    assert_eq!(rt; found, [0; 8]);
+    Ok(())
+}
+
+// Where both logs are full neither put nor delete is taken, and nothing is changed.
+#[test]
+fn full_logs_take_no_row(rt: HostRuntime) -> Result<(), Fail> {
+    let alloc = rt.alloc();
+    let mut core = of_capacity(alloc, 9)?;
+    for n in 1..9u8 {
+        assert_eq!(rt; put(&rt, alloc, &mut core, n % 8, n), Ok(n as u64));
+    }
+    assert_eq!(rt; put(&rt, alloc, &mut core, 5, 5), Err(8));
+    assert_eq!(rt; put(&rt, alloc, &mut core, 1, 5), Err(8));
+    assert_eq!(rt; answer(core.delete(alloc, &key(1))), Err(8));
+    assert_eq!(rt; answer(core.flush()), Ok(8));
+    let (_, found) = entries_of(alloc, core.close())?;
+    assert_eq!(rt; found, [8, 1, 2, 3, 4, 5, 6, 7]);
+    Ok(())
+}
+
+// Where the store and its logs are all full, a put is told of the store.
+#[test]
+fn tells_a_full_store_before_full_logs(rt: HostRuntime) -> Result<(), Fail> {
+    let alloc = rt.alloc();
+    let mut core = of_capacity(alloc, 8)?;
+    for n in 1..9u8 {
+        assert_eq!(rt; put(&rt, alloc, &mut core, 1, n), Ok(n as u64));
+    }
+    assert_eq!(rt; put(&rt, alloc, &mut core, 5, 5), Err(7));
+    assert_eq!(rt; answer(core.delete(alloc, &key(1))), Err(8));
+    Ok(())
+}
+
+// A store whose manifest has the last generation freezes no log: slot 1 is open with that generation, and else zeros.
+#[test]
+fn spends_its_generations(rt: HostRuntime) -> Result<(), Fail> {
+    let alloc = rt.alloc();
+    let disk = formatted(alloc)?;
+    let mut bytes = disk.shown().to_vec(alloc)?;
+    assert_eq!(rt; bytes.len(), SMALL_LEN);
+    bytes[8192] = 0xA7;
+    bytes[8193] = 0x7F;
+    bytes[8194..8201].fill(0xFF);
+    let mut core = Core::open(alloc, MemDisk::with_bytes(alloc, &bytes)?)
+        .ok()
+        .ok_or("opens")?;
+    for n in 1..5u8 {
+        assert_eq!(rt; put(&rt, alloc, &mut core, n, n), Ok(n as u64));
+    }
+    assert_eq!(rt; put(&rt, alloc, &mut core, 5, 5), Err(10));
+    assert_eq!(rt; answer(core.flush()), Ok(4));
+    let (_, found) = entries_of(alloc, core.close())?;
+    assert_eq!(rt; found, [0, 1, 2, 3, 4, 0, 0, 0]);
+    Ok(())
+}
+
+// The read of a key with the same buckets fails in a put: nothing is changed, and the same put, asked again, is taken.
+#[test]
+fn a_put_whose_read_fails_is_asked_again(rt: HostRuntime) -> Result<(), Fail> {
+    let alloc = rt.alloc();
+    let mut core = Core::open(alloc, FaultDisk::new(formatted(alloc)?, Call::Read, 6))
+        .ok()
+        .ok_or("opens")?;
+    let mut refused = 0u32;
+    for n in 1..5u8 {
+        assert_eq!(rt; core.geometry().value_len(), 2);
+        if answer(core.put(alloc, &key(n), &[0, n])) == Err(5) {
+            refused = refused.saturating_add(1);
+            assert_eq!(rt; core.geometry().value_len(), 2);
+            assert_eq!(rt; answer(core.put(alloc, &key(n), &[0, n])), Ok(n as u64));
+        }
+    }
+    assert_eq!(rt; refused, 1);
+    let entries = core.entries(alloc).ok().ok_or("has entries")?;
+    assert_eq!(rt; values_of(&entries), [0, 1, 2, 3, 4, 0, 0, 0]);
+    Ok(())
+}
+
+// Exactly the keys that have a value, with the last one accepted.
+#[test]
+fn lists_all_entries(rt: HostRuntime) -> Result<(), Fail> {
+    let alloc = rt.alloc();
+    let mut core = of_capacity(alloc, 8)?;
+    for n in [3, 1, 2] {
+        assert!(rt; put(&rt, alloc, &mut core, n, n).is_ok());
+    }
+    assert_eq!(rt; answer(core.delete(alloc, &key(2))), Ok(4));
+    let entries = core.entries(alloc).ok().ok_or("has entries")?;
+    assert_eq!(rt; entries.len(), 2);
+    assert_eq!(rt; values_of(&entries), [0, 1, 0, 3, 0, 0, 0, 0]);
+    Ok(())
+}

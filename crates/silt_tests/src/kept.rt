@@ -1,0 +1,153 @@
+// What a life may leave behind, and how the next ones go on from there.
+
+use crate::life_lines::Line;
+use crate::lines::IDLE;
+use crate::script::{Told, live};
+use crate::support::entries_of;
+use silt_device::{Geometry, MemDisk, Stoppable};
+use silt_recovery::check;
+use std::alloc::Global;
+use std::process::Abort;
+use std::test::Fail;
+
+/// The values of the keys 0 to 7 after a beginning of the commands, 0 for none.
+pub(crate) fn after(lines: &[Line], mut commands: u64) -> [u16; 8] {
+    let mut values = [0; 8];
+    for line in lines {
+        let (first, last) = match line {
+            Line::Put(first, last) => (*first, *last),
+            Line::Delete(first) => (*first, 0),
+            _ => continue,
+        };
+        if commands == 0 {
+            break;
+        }
+        commands -= 1;
+        if let Some(value) = values.get_mut(first as usize) {
+            *value = last;
+        }
+    }
+    values
+}
+
+// How many commands were accepted.
+fn accepted(told: &[Told]) -> u64 {
+    let mut count = 0;
+    for reply in told {
+        if let Told::Accepted(n) = reply {
+            count = *n;
+        }
+    }
+    count
+}
+
+// How many commands were acknowledged.
+fn acknowledged(told: &[Told]) -> u64 {
+    let mut count = 0;
+    for reply in told {
+        if let Told::Acknowledged(n) = reply {
+            count = *n;
+        }
+    }
+    count
+}
+
+/// Whether the entries are those after a beginning of the accepted commands that has all the acknowledged ones.
+pub(crate) fn is_kept(lines: &[Line], told: &[Told], found: [u16; 8]) -> bool {
+    for commands in acknowledged(told)..accepted(told).saturating_add(1) {
+        if after(lines, commands) == found {
+            return true;
+        }
+    }
+    false
+}
+
+// What the first put of a life is told on this disk: whether it makes the charge too great, or finds no room in the active log and
+// no other region.
+fn told_of_put(alloc: Global, disk: &MemDisk, geometry: Geometry) -> Result<Told, Fail> {
+    let report = check(alloc, disk).ok().ok_or("is whole")?;
+    if report.charge >= geometry.sorted_capacity() {
+        return Ok(Told::Refused(7));
+    }
+    let in_active = report.active_rows < geometry.log_capacity();
+    let in_another = report.frozen.saturating_add(1) < geometry.logs();
+    if in_active | in_another {
+        return Ok(Told::Accepted(1));
+    }
+    Ok(Told::Refused(8))
+}
+
+// A put of key 7 and a flush, and then steps of conversion and of merging in turn, this many of each.
+fn put_and_steps(alloc: Global, value: u16, steps: u32) -> Result<Vec<Line>, Fail> {
+    let mut lines = Vec::new(alloc);
+    lines.push(Line::Put(7, value))?;
+    lines.push(Line::Flush)?;
+    for _ in 0..steps {
+        lines.push(Line::Convert)?;
+        lines.push(Line::Merge)?;
+    }
+    Ok(lines)
+}
+
+// What stands once a put of key 7 was told so, where this stood before, and how many commands a flush behind it acknowledges.
+fn with_put(reply: Told, value: u16, mut found: [u16; 8]) -> ([u16; 8], u64) {
+    if reply == Told::Accepted(1) {
+        found[7] = value;
+        return (found, 1);
+    }
+    (found, 0)
+}
+
+// Whether so many steps of both kinds found nothing to do at their end.
+fn is_idle(steps: u32, told: &[Told]) -> bool {
+    steps == 0 || told.ends_with(&[IDLE, IDLE])
+}
+
+// A life of a put of key 7, a flush and this many steps of both kinds, the last of which finds nothing to do: the disk, and what then
+// stands where this stood before.
+fn grown(
+    rt: &impl Abort,
+    alloc: Global,
+    disk: MemDisk,
+    geometry: Geometry,
+    (value, steps): (u16, u32),
+    found: [u16; 8],
+) -> Result<(MemDisk, [u16; 8]), Fail> {
+    let reply = told_of_put(alloc, &disk, geometry)?;
+    let (stands, kept) = with_put(reply, value, found);
+    let lines = put_and_steps(alloc, value, steps)?;
+    let (disk, told) = live(alloc, disk, &lines)?;
+    let expected = [Told::Opened, reply, Told::Acknowledged(kept)];
+    assert!(rt; told.as_slice().starts_with(&expected), "{told:?}");
+    assert!(rt; is_idle(steps, &told));
+    Ok((disk, stands))
+}
+
+/// The lives behind one that left these entries: a put and a flush, and a stop; then a put, a flush and all steps of the background
+/// work, and a stop. What is found is compared after each, also before the last stop.
+pub(crate) fn goes_on(
+    rt: &impl Abort,
+    alloc: Global,
+    disk: MemDisk,
+    geometry: Geometry,
+    found: [u16; 8],
+) -> Result<(), Fail> {
+    let (disk, stands) = grown(rt, alloc, disk, geometry, (9, 0), found)?;
+    let disk = has_still(rt, alloc, disk.restart(), stands)?;
+    let (disk, stands) = grown(rt, alloc, disk, geometry, (10, 60), stands)?;
+    let disk = has_still(rt, alloc, disk, stands)?;
+    has_still(rt, alloc, disk.restart(), stands)?;
+    Ok(())
+}
+
+// These values stand on the disk.
+fn has_still(
+    rt: &impl Abort,
+    alloc: Global,
+    disk: MemDisk,
+    stands: [u16; 8],
+) -> Result<MemDisk, Fail> {
+    let (disk, left) = entries_of(alloc, disk)?;
+    assert_eq!(rt; left, stands);
+    Ok(disk)
+}

@@ -1,0 +1,52 @@
+//! Tests of the store as one whole, over disks in memory: what no clause says.
+//!
+//! A clause that allows a refusal for want of memory is met by a body that always refuses. So each call that takes memory is made here where there
+//! is enough of it. The worked lives stand here letter for letter through the public calls, with a stop at every device call of theirs, each call
+//! failing in turn, damage at each byte that decides, and long random lives beside a plain map.
+#![tactic(auto)]
+
+#[cfg(test)]
+mod conversion;
+#[cfg(test)]
+mod damage;
+#[cfg(test)]
+mod device;
+#[cfg(test)]
+mod each_call;
+#[cfg(test)]
+mod faults;
+#[cfg(test)]
+mod first_steps;
+#[cfg(test)]
+mod formats;
+#[cfg(test)]
+mod kept;
+mod life_lines;
+#[cfg(test)]
+mod limits;
+#[cfg(test)]
+mod lines;
+#[cfg(test)]
+mod memory;
+#[cfg(test)]
+mod merges;
+#[cfg(test)]
+mod plain_map;
+#[cfg(test)]
+mod random_lives;
+#[cfg(test)]
+mod reads;
+#[cfg(test)]
+mod recovery;
+#[cfg(test)]
+mod reports;
+#[cfg(test)]
+mod restarts;
+#[cfg(test)]
+mod script;
+#[cfg(test)]
+mod stops;
+#[cfg(test)]
+mod support;
+
+pub use life_lines::{Line, event, events, key};

@@ -1,0 +1,54 @@
+// The events that the lines of the tests stand for.
+ghost use Rattle.std.specs.Prelude.{All, IfOk};
+ghost use Rattle.silt_event.specs.Events.{HasValueOf};
+
+use silt_event::Event;
+use silt_frame::{Key, Value};
+use std::alloc::{AllocError, Global};
+
+/// One event of a life. A key is given by its first byte, and a value by the number that its two bytes are.
+#[derive(Clone, Copy, Debug, PartialEq, Eq)]
+pub enum Line {
+    Put(u8, u16),
+    Delete(u8),
+    Get(u8),
+    Flush,
+    Convert,
+    Merge,
+}
+
+/// A key that begins with this byte and goes on with zeros.
+pub fn key(first: u8) -> Key {
+    let mut bytes = [0; 20];
+    bytes[0] = first;
+    Key(bytes)
+}
+
+/// The event that a line stands for.
+pub fn event(alloc: Global, line: Line) -> Result<Event, AllocError>
+    ensures { IfOk result (HasValueOf 2) }
+{
+    match line {
+        Line::Put(first, value) => {
+            let value = value.to_be_bytes().to_vec(alloc)?;
+            Ok(Event::Put(key(first), Value::new(value)))
+        }
+        Line::Delete(first) => Ok(Event::Delete(key(first))),
+        Line::Get(first) => Ok(Event::Get(key(first))),
+        Line::Flush => Ok(Event::Flush),
+        Line::Convert => Ok(Event::Convert),
+        Line::Merge => Ok(Event::Merge),
+    }
+}
+
+/// The events of a life.
+pub fn events(alloc: Global, lines: &[Line]) -> Result<Vec<Event>, AllocError>
+    ensures { IfOk result (λ events. All (HasValueOf 2) events.items) }
+{
+    let mut events = Vec::new(alloc);
+    for line in lines {
+        let event = event(alloc, *line)?;
+        events.push(event)?;
+    }
+    Ok(events)
+}

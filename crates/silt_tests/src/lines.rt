@@ -1,0 +1,134 @@
+// Lives that several tests do, and what is told of them. Each line stands with the number of times that it is asked.
+
+use crate::life_lines::Line;
+use crate::script::Told;
+use crate::support::of_regions;
+use silt_device::Geometry;
+use silt_store_set::Progress;
+use std::test::Fail;
+
+pub(crate) const MOVED: Told = Told::Progress(Progress::Moved);
+
+pub(crate) const FINISHED: Told = Told::Progress(Progress::Finished);
+
+pub(crate) const IDLE: Told = Told::Progress(Progress::Idle);
+
+/// Three puts and a flush: the opening's sync is call 1, each put makes two, and the gates are written by call 9. Ten calls.
+pub(crate) const THREE_PUTS: [Line; 4] = [
+    Line::Put(1, 1),
+    Line::Put(2, 2),
+    Line::Put(3, 3),
+    Line::Flush,
+];
+
+/// Five puts, of which the last freezes the full log, and a flush; then the conversion of that log. Forty calls. The freezing put makes
+/// the three of a flush, two for the gates of the next log, six for the manifest, and two for its row. Each of the eight slots is one
+/// write; the last step makes a sync and the six calls of the manifest.
+pub(crate) const CONVERTED: [(Line, u8); 7] = [
+    (Line::Put(1, 1), 1),
+    (Line::Put(2, 2), 1),
+    (Line::Put(3, 3), 1),
+    (Line::Put(4, 4), 1),
+    (Line::Put(5, 5), 1),
+    (Line::Flush, 1),
+    (Line::Convert, 9),
+];
+
+/// What that life is told, with a get of key 2 and a step more behind it, which makes no device call.
+pub(crate) const CONVERTED_TOLD: [(Told, u8); 10] = [
+    (Told::Accepted(1), 1),
+    (Told::Accepted(2), 1),
+    (Told::Accepted(3), 1),
+    (Told::Accepted(4), 1),
+    (Told::Accepted(5), 1),
+    (Told::Acknowledged(5), 1),
+    (MOVED, 8),
+    (FINISHED, 1),
+    (Told::Value(0, 2), 1),
+    (IDLE, 1),
+];
+
+/// That get and that step.
+pub(crate) const ASKED_BEHIND: [Line; 2] = [Line::Get(2), Line::Convert];
+
+/// Logs of one row, of which the second put freezes the first: a merge of one hash store; then a delete and another key, and a merge of
+/// the two hash stores that they became with what was merged before. The last put still stands in a log. 106 calls.
+pub(crate) const MERGED_TWICE: [(Line, u8); 13] = [
+    (Line::Put(1, 0x0102), 1),
+    (Line::Put(2, 0x0304), 1),
+    (Line::Convert, 9),
+    (Line::Merge, 10),
+    (Line::Delete(1), 1),
+    (Line::Convert, 9),
+    (Line::Put(3, 0x0506), 1),
+    (Line::Convert, 9),
+    (Line::Merge, 19),
+    (Line::Get(1), 1),
+    (Line::Get(2), 1),
+    (Line::Get(3), 1),
+    (Line::Flush, 1),
+];
+
+pub(crate) const MERGED_TWICE_TOLD: [(Told, u8); 18] = [
+    (Told::Accepted(1), 1),
+    (Told::Accepted(2), 1),
+    (MOVED, 8),
+    (FINISHED, 1),
+    (MOVED, 9),
+    (FINISHED, 1),
+    (Told::Accepted(3), 1),
+    (MOVED, 8),
+    (FINISHED, 1),
+    (Told::Accepted(4), 1),
+    (MOVED, 8),
+    (FINISHED, 1),
+    (MOVED, 18),
+    (FINISHED, 1),
+    (Told::Absent, 1),
+    (Told::Value(3, 4), 1),
+    (Told::Value(5, 6), 1),
+    (Told::Acknowledged(4), 1),
+];
+
+/// A merge under way while two more hash stores are made, which it leaves alone. 95 calls.
+pub(crate) const CONVERTED_MEANWHILE: [(Line, u8); 11] = [
+    (Line::Put(1, 1), 1),
+    (Line::Put(2, 2), 1),
+    (Line::Convert, 9),
+    (Line::Put(1, 3), 1),
+    (Line::Merge, 3),
+    (Line::Convert, 9),
+    (Line::Put(2, 4), 1),
+    (Line::Convert, 9),
+    (Line::Merge, 7),
+    (Line::Get(1), 1),
+    (Line::Get(2), 1),
+];
+
+pub(crate) const CONVERTED_MEANWHILE_TOLD: [(Told, u8); 15] = [
+    (Told::Accepted(1), 1),
+    (Told::Accepted(2), 1),
+    (MOVED, 8),
+    (FINISHED, 1),
+    (Told::Accepted(3), 1),
+    (MOVED, 3),
+    (MOVED, 8),
+    (FINISHED, 1),
+    (Told::Accepted(4), 1),
+    (MOVED, 8),
+    (FINISHED, 1),
+    (MOVED, 6),
+    (FINISHED, 1),
+    (Told::Value(0, 3), 1),
+    (Told::Value(0, 4), 1),
+];
+
+/// Logs of one row, and two hash regions.
+pub(crate) fn of_two_hash_stores() -> Result<Geometry, Fail> {
+    of_regions(1, 2, 2, 4)
+}
+
+/// Three logs of one row, and three hash regions.
+pub(crate) fn of_three_hash_stores() -> Result<Geometry, Fail> {
+    of_regions(1, 3, 3, 8)
+}

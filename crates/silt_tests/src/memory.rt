@@ -1,0 +1,279 @@
+// Calls that are refused a request for memory: each tells so and leaves the store as it is, and asked again has its own answer. These
+// tests pass whichever one request of theirs is refused, and where none is; docs/contributing.md says how each is refused in turn.
+ghost use Rattle.std.specs.Prelude.{All, IfOk};
+ghost use Rattle.silt_event.specs.Events.{HasValueOf};
+
+use crate::kept::after;
+use crate::life_lines::Line;
+use crate::lines::{CONVERTED_MEANWHILE, CONVERTED_MEANWHILE_TOLD, of_three_hash_stores};
+use crate::script::{Told, all_events_twice, ask, events_twice, repeated, run, tell_reply};
+use crate::support::{small, values_of};
+use silt_device::{Geometry, MemDisk, MemFault};
+use silt_event::Report;
+use silt_recovery::{FormatError, FormatFault, OpenError, check, format};
+use silt_store_set::{Core, Event, LifeReply, OpenFault, Refusal, Reply, lives};
+use std::alloc::Global;
+use std::process::Abort;
+use std::test::Fail;
+
+// These lines, or what is told of them, each so many times.
+fn repeated_twice<T: Copy>(alloc: Global, parts: &[(T, u8)]) -> Result<Vec<T>, Fail> {
+    match repeated(alloc, parts) {
+        Ok(lines) => Ok(lines),
+        Err(_) => Ok(repeated(alloc, parts)?),
+    }
+}
+
+// A disk of zeros.
+fn zeros(alloc: Global, geometry: Geometry) -> Result<MemDisk, Fail> {
+    match MemDisk::new(alloc, geometry.size() as usize) {
+        Ok(disk) => Ok(disk),
+        Err(_) => Ok(MemDisk::new(alloc, geometry.size() as usize)?),
+    }
+}
+
+// A formatted disk. Where the formatting is refused memory, all bytes are zeros as before.
+fn formatted(rt: &impl Abort, alloc: Global, geometry: Geometry) -> Result<MemDisk, Fail> {
+    match format(alloc, zeros(alloc, geometry)?, geometry) {
+        Ok(disk) => Ok(disk),
+        Err(
+            FormatFault::<MemDisk> {
+                disk,
+                error: FormatError::NoMemory,
+            },
+        ) => {
+            assert!(rt; disk.shown().iter().all(|byte| *byte == 0));
+            Ok(format(alloc, disk, geometry).ok().ok_or("formats")?)
+        }
+        Err(_) => Err("another fault".into()),
+    }
+}
+
+// The store on this disk.
+fn opened(alloc: Global, disk: MemDisk) -> Result<Core<MemDisk>, Fail> {
+    match Core::open(alloc, disk) {
+        Ok(core) => Ok(core),
+        Err(
+            OpenFault::<MemDisk> {
+                disk,
+                refusal: Refusal::NoMemory,
+            },
+        ) => Ok(Core::open(alloc, disk).ok().ok_or("opens")?),
+        Err(_) => Err("another refusal".into()),
+    }
+}
+
+// What a check of this disk reports.
+fn checked(alloc: Global, disk: &MemDisk) -> Result<Report, Fail> {
+    match check(alloc, disk) {
+        Ok(report) => Ok(report),
+        Err(OpenError::NoMemory) => Ok(check(alloc, disk).ok().ok_or("is whole")?),
+        Err(_) => Err("another refusal".into()),
+    }
+}
+
+// The values of the keys 0 to 7 in the list of the entries.
+fn listed(alloc: Global, core: &Core<MemDisk>) -> Result<[u16; 8], Fail> {
+    match core.entries(alloc) {
+        Ok(entries) => Ok(values_of(&entries)),
+        Err(Refusal::NoMemory) => {
+            let entries = core.entries(alloc).ok().ok_or("has entries")?;
+            Ok(values_of(&entries))
+        }
+        Err(_) => Err("another refusal".into()),
+    }
+}
+
+// Asks a line of a store with these values. Where it is refused memory, they stand as before, and it is asked again.
+fn asked(
+    rt: &impl Abort,
+    alloc: Global,
+    core: &mut Core<MemDisk>,
+    line: Line,
+    values: [u16; 8],
+) -> Result<Told, Fail> {
+    let count = core.count();
+    let told = ask(alloc, core, line)?;
+    if told != Told::Refused(6) {
+        return Ok(told);
+    }
+    let found = listed(alloc, core)?;
+    assert_eq!(rt; (core.count(), found), (count, values));
+    Ok(ask(alloc, core, line)?)
+}
+
+// A store on a new disk of this geometry.
+fn made(rt: &impl Abort, alloc: Global, geometry: Geometry) -> Result<Core<MemDisk>, Fail> {
+    let disk = formatted(rt, alloc, geometry)?;
+    opened(alloc, disk)
+}
+
+// A life in which logs are frozen, converted and merged: format, opening, each call, check, and the list of the entries.
+#[test]
+fn each_call_lacks_memory(rt: HostRuntime) -> Result<(), Fail> {
+    let alloc = rt.alloc();
+    let mut core = made(&rt, alloc, of_three_hash_stores()?)?;
+    let values = all_done(&rt, alloc, &mut core)?;
+    assert_eq!(rt; core.flush().ok(), Some(4));
+    let found = listed(alloc, &core)?;
+    assert_eq!(rt; found, values);
+    is_found_again(&rt, alloc, core.close(), values)
+}
+
+// Does all lines of that life, and gives the values behind them.
+fn all_done(rt: &impl Abort, alloc: Global, core: &mut Core<MemDisk>) -> Result<[u16; 8], Fail> {
+    let lines = repeated_twice(alloc, &CONVERTED_MEANWHILE)?;
+    let replies = repeated_twice(alloc, &CONVERTED_MEANWHILE_TOLD)?;
+    all_asked(rt, alloc, core, &lines, &replies)?;
+    Ok(after(&lines, u64::MAX))
+}
+
+// All lines of a life are told what is due.
+fn all_asked(
+    rt: &impl Abort,
+    alloc: Global,
+    core: &mut Core<MemDisk>,
+    lines: &[Line],
+    due: &[Told],
+) -> Result<(), Fail> {
+    for (index, line) in lines.iter().enumerate() {
+        let values = after(&lines[..lines.len().min(index)], u64::MAX);
+        let told = asked(rt, alloc, core, *line, values)?;
+        assert_eq!(rt; Some(&told), due.get(index), "line {index}");
+    }
+    Ok(())
+}
+
+// The disk has two hash stores and a sorted entry, and these values.
+fn is_found_again(
+    rt: &impl Abort,
+    alloc: Global,
+    disk: MemDisk,
+    values: [u16; 8],
+) -> Result<(), Fail> {
+    let report = checked(alloc, &disk)?;
+    assert_eq!(rt; (report.hashes, report.entries), (2, 1));
+    let core = opened(alloc, disk)?;
+    let found = listed(alloc, &core)?;
+    assert_eq!(rt; found, values);
+    Ok(())
+}
+
+// Four puts that freeze nothing, with gets: each reply but a get's is its own.
+const PLAIN: [(Line, u8); 6] = [
+    (Line::Put(1, 1), 1),
+    (Line::Get(1), 2),
+    (Line::Put(2, 2), 1),
+    (Line::Delete(1), 1),
+    (Line::Get(2), 2),
+    (Line::Flush, 1),
+];
+
+const PLAIN_TOLD: [(Told, u8); 6] = [
+    (Told::Accepted(1), 1),
+    (Told::Value(0, 1), 2),
+    (Told::Accepted(2), 1),
+    (Told::Accepted(3), 1),
+    (Told::Value(0, 2), 2),
+    (Told::Acknowledged(3), 1),
+];
+
+// The events of those puts and gets.
+fn plain_events(alloc: Global) -> Result<Vec<Event>, Fail>
+    ensures { IfOk result (λ events. All (HasValueOf 2) events.items) }
+{
+    let lines = repeated_twice(alloc, &PLAIN)?;
+    Ok(events_twice(alloc, &lines)?)
+}
+
+// Runs these events, and looks at the answers.
+fn run_plain(rt: &impl Abort, alloc: Global, core: &mut Core<MemDisk>) -> Result<(), Fail> {
+    let events = plain_events(alloc)?;
+    let replies = repeated_twice(alloc, &PLAIN_TOLD)?;
+    let answers = run_again(rt, alloc, core, &events)?;
+    assert_eq!(rt; answers.len(), replies.len());
+    assert!(rt; gets_lacking(rt, &answers, &replies) < 2);
+    Ok(())
+}
+
+// A run of events is refused memory before its first event, or one get of it is, in its place.
+#[test]
+fn a_run_lacks_memory(rt: HostRuntime) -> Result<(), Fail> {
+    let alloc = rt.alloc();
+    let mut core = made(&rt, alloc, small()?)?;
+    run_plain(&rt, alloc, &mut core)?;
+    let found = listed(alloc, &core)?;
+    assert_eq!(rt; found, [0, 0, 2, 0, 0, 0, 0, 0]);
+    Ok(())
+}
+
+// The replies to these events. A run that was refused memory has done none of them.
+fn run_again(
+    rt: &impl Abort,
+    alloc: Global,
+    core: &mut Core<MemDisk>,
+    events: &[Event],
+) -> Result<Vec<Reply<MemFault>>, Fail>
+    requires { All (HasValueOf 2) events.now }
+{
+    if let Ok(answers) = run(alloc, core, 2, events) {
+        return Ok(answers);
+    }
+    let found = listed(alloc, core)?;
+    assert_eq!(rt; (core.count(), found), (0, [0; 8]));
+    Ok(run(alloc, core, 2, events)?)
+}
+
+// Whether this is the answer that is due, or that of a get which was refused memory, and how often that was.
+fn lacks(rt: &impl Abort, told: Told, expected: Told) -> u32 {
+    if told != Told::Refused(6) {
+        assert_eq!(rt; told, expected);
+        return 0;
+    }
+    assert!(rt; matches!(expected, Told::Value(..)));
+    1
+}
+
+// How many gets were refused memory. All other answers are those that are due.
+fn gets_lacking(rt: &impl Abort, answers: &[Reply<MemFault>], due: &[Told]) -> u32 {
+    let mut lacking = 0u32;
+    for (answer, expected) in answers.iter().zip(due.iter()) {
+        lacking = lacking.saturating_add(lacks(rt, tell_reply(answer), *expected));
+    }
+    lacking
+}
+
+// What is told of the last reply of a life, or of its opening.
+fn told_last<F: Drop>(life: &LifeReply<F>) -> Told {
+    match life {
+        LifeReply::NotOpened(refusal) => Told::NotOpened(refusal.label().0),
+        LifeReply::Opened(replies) => match replies.last() {
+            Some(reply) => tell_reply(reply),
+            None => Told::Opened,
+        },
+    }
+}
+
+// Two lives, of which the first puts and flushes and the second gets. They are refused memory before the first one, or one of them is in
+// its place, or the get is. Where it was the first one that nothing was put in, the second finds nothing.
+#[test]
+fn a_life_lacks_memory(rt: HostRuntime) -> Result<(), Fail> {
+    let alloc = rt.alloc();
+    let put = [Line::Put(1, 1), Line::Flush];
+    let get = [Line::Get(1)];
+    let all = all_events_twice(alloc, &[&put, &get])?;
+    let disk = formatted(&rt, alloc, small()?)?;
+    let Ok(replies) = lives(alloc, disk, 2, &all) else {
+        return Ok(());
+    };
+    assert_eq!(rt; replies.len(), 2);
+    let (first, second) = (told_last(&replies[0]), told_last(&replies[1]));
+    if first == Told::NotOpened(6) {
+        assert_eq!(rt; second, Told::Absent);
+        return Ok(());
+    }
+    assert_eq!(rt; first, Told::Acknowledged(1));
+    let expected = [Told::Value(0, 1), Told::Refused(6), Told::NotOpened(6)];
+    assert!(rt; expected.contains(&second), "{second:?}");
+    Ok(())
+}

@@ -1,0 +1,172 @@
+// Hash stores and the sorted store as one sorted store: the replies of whole lives, and a get of each key between any two lines of them.
+
+use crate::kept::after;
+use crate::life_lines::Line;
+use crate::lines::{
+    CONVERTED_MEANWHILE, CONVERTED_MEANWHILE_TOLD, FINISHED, MERGED_TWICE, MERGED_TWICE_TOLD,
+    MOVED, of_three_hash_stores, of_two_hash_stores,
+};
+use crate::script::{Told, live, repeated, told_of_life};
+use crate::support::{formatted_with, of_regions};
+use silt_device::Geometry;
+use silt_event::Report;
+use silt_recovery::check;
+use silt_store_set::Progress;
+use std::alloc::{AllocError, Global};
+use std::process::Abort;
+use std::test::Fail;
+
+// One hash region, whose hash store a second conversion waits for until it is merged.
+const MERGED_FOR_ROOM: [(Line, u8); 6] = [
+    (Line::Put(1, 1), 1),
+    (Line::Put(2, 2), 1),
+    (Line::Put(3, 3), 1),
+    (Line::Convert, 10),
+    (Line::Merge, 10),
+    (Line::Convert, 1),
+];
+
+fn of_one_hash_store() -> Result<Geometry, Fail> {
+    of_regions(1, 3, 1, 8)
+}
+
+// What is told of a get of a key of this value, 0 for none.
+fn told_of(value: u16) -> Told {
+    let [first, last] = value.to_be_bytes();
+    if value == 0 {
+        return Told::Absent;
+    }
+    Told::Value(first, last)
+}
+
+// The lines with a get of the keys 1 to 3 behind each.
+fn with_gets(alloc: Global, lines: &[Line]) -> Result<Vec<Line>, AllocError> {
+    let mut all = Vec::new(alloc);
+    for line in lines {
+        all.extend_from_slice(&[*line, Line::Get(1), Line::Get(2), Line::Get(3)])?;
+    }
+    Ok(all)
+}
+
+// What is told of the lines, and behind each of the last value that each of the keys 1 to 3 was given.
+fn told_with_gets(alloc: Global, lines: &[Line], told: &[Told]) -> Result<Vec<Told>, AllocError> {
+    let mut all = Vec::new(alloc);
+    all.push(Told::Opened)?;
+    for (index, reply) in told.iter().enumerate() {
+        let values = after(&lines[..lines.len().min(index + 1)], u64::MAX);
+        all.extend_from_slice(&[
+            *reply,
+            told_of(values[1]),
+            told_of(values[2]),
+            told_of(values[3]),
+        ])?;
+    }
+    Ok(all)
+}
+
+// What is told of the life on a new disk with a get of each key behind each of its lines.
+fn told_asked(alloc: Global, geometry: Geometry, lines: &[Line]) -> Result<Vec<Told>, Fail> {
+    let asked = with_gets(alloc, lines)?;
+    told_of_life(alloc, geometry, &asked)
+}
+
+// The life on a new disk answers so with a get of each key between any two of its lines.
+fn answers_asked(
+    rt: &impl Abort,
+    alloc: Global,
+    geometry: Geometry,
+    lines: &[Line],
+    replies: &[Told],
+) -> Result<(), Fail> {
+    let expected = told_with_gets(alloc, lines, replies)?;
+    let told = told_asked(alloc, geometry, lines)?;
+    assert_eq!(rt; told.as_slice(), expected.as_slice());
+    Ok(())
+}
+
+// The life on a new disk answers so.
+fn answers_alone(
+    rt: &impl Abort,
+    alloc: Global,
+    geometry: Geometry,
+    lines: &[Line],
+    replies: &[Told],
+) -> Result<(), Fail> {
+    let told = told_of_life(alloc, geometry, lines)?;
+    assert_eq!(rt; told.first(), Some(&Told::Opened));
+    assert!(rt; told.as_slice().ends_with(replies));
+    assert_eq!(rt; told.len(), replies.len().saturating_add(1));
+    Ok(())
+}
+
+// The life on a new disk answers so, and so it does with a get of each key between any two of its lines.
+fn answers(
+    rt: &impl Abort,
+    alloc: Global,
+    geometry: Geometry,
+    parts: &[(Line, u8)],
+    replies: &[(Told, u8)],
+) -> Result<(), Fail> {
+    let lines = repeated(alloc, parts)?;
+    let replies = repeated(alloc, replies)?;
+    answers_asked(rt, alloc, geometry, &lines, &replies)?;
+    answers_alone(rt, alloc, geometry, &lines, &replies)
+}
+
+#[test]
+fn drops_what_is_deleted(rt: HostRuntime) -> Result<(), Fail> {
+    let geometry = of_two_hash_stores()?;
+    answers(&rt, rt.alloc(), geometry, &MERGED_TWICE, &MERGED_TWICE_TOLD)
+}
+
+// Of the three keys one is deleted, one is merged, and one still stands in the active log. Each put froze a log but for the first, and
+// each conversion and each merge changed the manifest too.
+#[test]
+fn reports_what_is_merged(rt: HostRuntime) -> Result<(), Fail> {
+    let alloc = rt.alloc();
+    let disk = formatted_with(alloc, of_two_hash_stores()?)?;
+    let lines = repeated(alloc, &MERGED_TWICE)?;
+    let (disk, _told) = live(alloc, disk, &lines)?;
+    let expected = Report {
+        generation: 8,
+        active: 1,
+        active_rows: 1,
+        frozen: 0,
+        frozen_rows: 0,
+        hashes: 0,
+        hash_rows: 0,
+        entries: 1,
+        charge: 2,
+    };
+    assert_eq!(rt; check(alloc, &disk).ok(), Some(expected));
+    Ok(())
+}
+
+#[test]
+fn keeps_the_newer_rows_in_front(rt: HostRuntime) -> Result<(), Fail> {
+    let geometry = of_three_hash_stores()?;
+    answers(
+        &rt,
+        rt.alloc(),
+        geometry,
+        &CONVERTED_MEANWHILE,
+        &CONVERTED_MEANWHILE_TOLD,
+    )
+}
+
+#[test]
+fn makes_room_for_a_conversion(rt: HostRuntime) -> Result<(), Fail> {
+    let replies = [
+        (Told::Accepted(1), 1),
+        (Told::Accepted(2), 1),
+        (Told::Accepted(3), 1),
+        (MOVED, 8),
+        (FINISHED, 1),
+        (Told::Progress(Progress::Waiting), 1),
+        (MOVED, 9),
+        (FINISHED, 1),
+        (MOVED, 1),
+    ];
+    let geometry = of_one_hash_store()?;
+    answers(&rt, rt.alloc(), geometry, &MERGED_FOR_ROOM, &replies)
+}

@@ -1,0 +1,149 @@
+// A long run of pseudo-random events, answered as a plain map answers them.
+
+use crate::support::formatted_with;
+use silt_device::{Disk, Geometry};
+use silt_frame::{Key, Value};
+use silt_recovery::check;
+use silt_store_set::{Core, Refusal};
+use std::alloc::Global;
+use std::collections::BTreeMap;
+use std::process::Abort;
+use std::test::Fail;
+
+// How many keys the events name.
+const KEYS: u8 = 40;
+
+/// The pseudo-random number after this one.
+pub(crate) fn next(number: u32) -> u32 {
+    number.wrapping_mul(1_664_525).wrapping_add(1_013_904_223)
+}
+
+/// A key whose first bucket is its number, of four, and whose second bucket is its quarter.
+pub(crate) fn key_of(number: u8) -> Key {
+    let mut bytes = [0; 20];
+    bytes[1] = number;
+    bytes[3] = number / 4;
+    Key(bytes)
+}
+
+// Puts a value. A put that finds all logs in use changes nothing.
+fn put<D: Disk>(
+    rt: &impl Abort,
+    alloc: Global,
+    core: &mut Core<D>,
+    map: &mut BTreeMap<Key, [u8; 2]>,
+    key: Key,
+    value: [u8; 2],
+) -> Result<(), Fail> {
+    assert_eq!(rt; core.geometry().value_len(), 2);
+    match core.put(alloc, &key, &value) {
+        Ok(_) => {
+            let _older = map.insert(key, value)?;
+            Ok(())
+        }
+        Err(Refusal::NoRoom) => Ok(()),
+        Err(_) => Err("a put".into()),
+    }
+}
+
+// Takes a value away. A delete that finds all logs in use changes nothing.
+fn delete<D: Disk>(
+    alloc: Global,
+    core: &mut Core<D>,
+    map: &mut BTreeMap<Key, [u8; 2]>,
+    key: &Key,
+) -> Result<(), Fail> {
+    match core.delete(alloc, key) {
+        Ok(_) => {
+            let _older = map.remove(key);
+            Ok(())
+        }
+        Err(Refusal::NoRoom) => Ok(()),
+        Err(_) => Err("a delete".into()),
+    }
+}
+
+// Gets a value.
+fn get<D: Disk>(
+    rt: &impl Abort,
+    core: &Core<D>,
+    map: &BTreeMap<Key, [u8; 2]>,
+    key: &Key,
+) -> Result<(), Fail> {
+    assert_eq!(rt; core.geometry().value_len(), 2);
+    let mut out = [0; 2];
+    let found = core.get(key, &mut out).ok().ok_or("a get")?;
+    assert_eq!(rt; found.then_some(&out), map.get(key));
+    Ok(())
+}
+
+// Does the event of this number: three of sixteen are puts, one is a delete, one a get, one a flush, five are steps of conversion and
+// five of merging.
+fn step<D: Disk>(
+    rt: &impl Abort,
+    alloc: Global,
+    core: &mut Core<D>,
+    map: &mut BTreeMap<Key, [u8; 2]>,
+    number: u32,
+) -> Result<(), Fail> {
+    let [kind, of_key, first, last] = number.to_be_bytes();
+    let key = key_of(of_key % KEYS);
+    let value = [first, last];
+    match kind / 16 {
+        0..=2 => put(rt, alloc, core, map, key, value)?,
+        3 => delete(alloc, core, map, &key)?,
+        4 => get(rt, core, map, &key)?,
+        5 => assert!(rt; core.flush().is_ok()),
+        6..=10 => assert!(rt; core.convert(alloc).is_ok()),
+        _ => assert!(rt; core.merge(alloc).is_ok()),
+    }
+    Ok(())
+}
+
+// The store has exactly the entries of the map.
+fn has_entries<D: Disk>(
+    rt: &impl Abort,
+    alloc: Global,
+    core: &Core<D>,
+    map: &BTreeMap<Key, [u8; 2]>,
+) -> Result<(), Fail> {
+    let entries = core.entries(alloc).ok().ok_or("has entries")?;
+    assert_eq!(rt; entries.len(), map.len());
+    for number in 0..KEYS {
+        let key = key_of(number);
+        let expected = map.get(&key).map(|value| value.as_slice());
+        assert_eq!(rt;
+            entries.get(&key).map(Value::as_slice),
+            expected,
+            "{number}"
+        );
+    }
+    Ok(())
+}
+
+// Two thousand events, with a look at all entries behind every fiftieth.
+fn run<D: Disk>(rt: &impl Abort, alloc: Global, core: &mut Core<D>) -> Result<(), Fail> {
+    let mut map = BTreeMap::new(alloc);
+    let mut number = 1;
+    for count in 1..2001u32 {
+        number = next(number);
+        step(rt, alloc, core, &mut map, number)?;
+        if count % 50 == 0 {
+            has_entries(rt, alloc, core, &map)?;
+        }
+    }
+    Ok(())
+}
+
+// On the way logs were frozen, converted and merged again and again: each time the manifest took its next generation.
+#[test]
+fn answers_as_a_plain_map(rt: HostRuntime) -> Result<(), Fail> {
+    let alloc = rt.alloc();
+    let geometry = Geometry::new(2, 4, 8, 3, 3, 200).ok().ok_or("in limits")?;
+    let disk = formatted_with(alloc, geometry)?;
+    let mut core = Core::open(alloc, disk).ok().ok_or("opens")?;
+    run(&rt, alloc, &mut core)?;
+    let report = check(alloc, &core.close()).ok().ok_or("is whole")?;
+    assert!(rt; 50 < report.generation, "{}", report.generation);
+    Ok(())
+}

@@ -1,0 +1,250 @@
+// Many lives of pseudo-random events on one disk, each stopped at a pseudo-random call with a pseudo-random fill, beside a plain map.
+
+use crate::plain_map::{key_of, next};
+use crate::support::{FILLS, formatted_with, of_regions};
+use silt_device::{Disk, Fill, Geometry, MemDisk, Stop, Stoppable};
+use silt_frame::{Key, Value};
+use silt_recovery::check;
+use silt_store_set::{Core, OpenFault, Refusal};
+use std::alloc::{AllocError, Global};
+use std::collections::BTreeMap;
+use std::process::Abort;
+use std::test::Fail;
+
+// How many keys the events name.
+const KEYS: usize = 10;
+
+// How many lives there are, and how many events a life has at most.
+const LIVES: u32 = 100;
+
+const EVENTS: u32 = 120;
+
+// The value of each key, 0 for none.
+type Values = [u16; KEYS];
+
+// The values that a stop may leave: those after the acknowledged commands, and those after each command accepted since, the last of
+// which are what gets answer.
+type Kept = Vec<Values>;
+
+// A stop for each life: at one of its first calls, at its end, or past it.
+fn random_stops(alloc: Global, seed: u32) -> Result<Vec<Stop>, AllocError> {
+    let mut stops = Vec::new(alloc);
+    let mut number = seed;
+    for _ in 0..LIVES {
+        number = next(number);
+        let [call, fill, _, _] = number.to_be_bytes();
+        stops.push(Stop {
+            k: call as u32,
+            fill: FILLS.get(fill as usize % 5).copied().unwrap_or(Fill::Old),
+        })?;
+    }
+    Ok(stops)
+}
+
+// The values in a list of entries, which has no others.
+fn values_of(rt: &impl Abort, entries: &BTreeMap<Key, Value>) -> Values {
+    let mut values = [0; KEYS];
+    let mut known = 0usize;
+    for place in 0..KEYS {
+        if let Some([first, last]) = entries.get(&key_of(place as u8)).map(Value::as_slice) {
+            values[place] = u16::from_be_bytes([*first, *last]);
+            known = known.saturating_add(1);
+        }
+    }
+    assert_eq!(rt; entries.len(), known);
+    values
+}
+
+fn now(kept: &[Values]) -> Values {
+    kept.last().copied().unwrap_or([0; KEYS])
+}
+
+// A command was accepted that gives a key this value, 0 for none.
+fn accept(kept: &mut Kept, place: u8, value: u16) -> Result<(), AllocError> {
+    let mut values = now(kept);
+    if let Some(old) = values.get_mut(place as usize) {
+        *old = value;
+    }
+    kept.push(values)?;
+    Ok(())
+}
+
+// Puts a value. Says whether the life goes on, as all of these do.
+fn put<D: Disk>(
+    rt: &impl Abort,
+    alloc: Global,
+    core: &mut Core<D>,
+    kept: &mut Kept,
+    (place, value): (u8, u16),
+) -> Result<bool, Fail> {
+    assert_eq!(rt; core.geometry().value_len(), 2);
+    let bytes: [u8; 2] = value.to_be_bytes();
+    match core.put(alloc, &key_of(place), &bytes) {
+        Ok(_) => {
+            accept(kept, place, value)?;
+            Ok(true)
+        }
+        Err(Refusal::NoRoom) => Ok(true),
+        Err(Refusal::StoreFull) => Ok(true),
+        Err(Refusal::Device(_)) => Ok(false),
+        Err(_) => Err("a put".into()),
+    }
+}
+
+fn delete<D: Disk>(
+    alloc: Global,
+    core: &mut Core<D>,
+    kept: &mut Kept,
+    place: u8,
+) -> Result<bool, Fail> {
+    match core.delete(alloc, &key_of(place)) {
+        Ok(_) => {
+            accept(kept, place, 0)?;
+            Ok(true)
+        }
+        Err(Refusal::NoRoom) => Ok(true),
+        Err(Refusal::Device(_)) => Ok(false),
+        Err(_) => Err("a delete".into()),
+    }
+}
+
+fn get<D: Disk>(rt: &impl Abort, core: &Core<D>, kept: &[Values], place: u8) -> Result<bool, Fail> {
+    assert_eq!(rt; core.geometry().value_len(), 2);
+    let expected = now(kept).get(place as usize).copied().unwrap_or(0);
+    let mut out = [0; 2];
+    let found = core.get(&key_of(place), &mut out).ok().ok_or("a get")?;
+    assert_eq!(rt; (found, u16::from_be_bytes(out)), (expected != 0, expected));
+    Ok(true)
+}
+
+// Acknowledges all that was accepted.
+fn flush<D: Disk>(core: &mut Core<D>, kept: &mut Kept) -> Result<bool, Fail> {
+    match core.flush() {
+        Ok(_) => {
+            let values = now(kept);
+            kept.clear();
+            kept.push(values)?;
+            Ok(true)
+        }
+        Err(Refusal::Device(_)) => Ok(false),
+        Err(_) => Err("a flush".into()),
+    }
+}
+
+// A step of the background work.
+fn work<T: Drop, F: Drop>(done: Result<T, Refusal<F>>) -> Result<bool, Fail> {
+    match done {
+        Ok(_) => Ok(true),
+        Err(Refusal::Device(_)) => Ok(false),
+        Err(_) => Err("a step".into()),
+    }
+}
+
+// Does the event of this number: five of sixteen are puts, one is a delete, one a get, one a flush, four are steps of conversion and
+// four of merging.
+fn step<D: Disk>(
+    rt: &impl Abort,
+    alloc: Global,
+    core: &mut Core<D>,
+    kept: &mut Kept,
+    number: u32,
+) -> Result<bool, Fail> {
+    let [kind, of_key, first, last] = number.to_be_bytes();
+    let place = (of_key as usize % KEYS) as u8;
+    let value = u16::from_be_bytes([first, last]) | 1;
+    match kind / 16 {
+        0..=4 => put(rt, alloc, core, kept, (place, value)),
+        5 => delete(alloc, core, kept, place),
+        6 => get(rt, core, kept, place),
+        7 => flush(core, kept),
+        8..=11 => work(core.convert(alloc)),
+        _ => work(core.merge(alloc)),
+    }
+}
+
+// What the opening found is one of the values that may be kept, and those alone stand from now on.
+fn take_up<D: Disk>(
+    rt: &impl Abort,
+    alloc: Global,
+    core: &Core<D>,
+    kept: &mut Kept,
+) -> Result<(), Fail> {
+    let entries = core.entries(alloc).ok().ok_or("has entries")?;
+    let found = values_of(rt, &entries);
+    assert!(rt; kept.contains(&found), "{found:?} in {kept:?}");
+    kept.clear();
+    kept.push(found)?;
+    Ok(())
+}
+
+// The events of a life from this number on, until one tells a fault. A life without one has at its end the entries of the map.
+fn events<D: Disk>(
+    rt: &impl Abort,
+    alloc: Global,
+    core: &mut Core<D>,
+    kept: &mut Kept,
+    mut number: u32,
+) -> Result<u32, Fail> {
+    for _ in 0..EVENTS {
+        number = next(number);
+        if !step(rt, alloc, core, kept, number)? {
+            assert!(rt; matches!(core.entries(alloc), Err(Refusal::Failed)));
+            return Ok(number);
+        }
+    }
+    let entries = core.entries(alloc).ok().ok_or("has entries")?;
+    assert_eq!(rt; values_of(rt, &entries), now(kept));
+    Ok(number)
+}
+
+// A life, and the stop that ends it.
+fn life(
+    rt: &impl Abort,
+    alloc: Global,
+    disk: MemDisk,
+    kept: &mut Kept,
+    number: u32,
+) -> Result<(MemDisk, u32), Fail> {
+    match Core::open(alloc, disk) {
+        Ok(mut core) => {
+            take_up(rt, alloc, &core, kept)?;
+            let number = events(rt, alloc, &mut core, kept, number)?;
+            Ok((core.close().restart(), number))
+        }
+        Err(
+            OpenFault::<MemDisk> {
+                disk,
+                refusal: Refusal::Device(_),
+            },
+        ) => Ok((disk.restart(), number)),
+        Err(_) => Err("another refusal".into()),
+    }
+}
+
+// All lives on a new disk of this geometry. On the way logs were frozen, converted and merged: each time the manifest took its next
+// generation.
+fn all_lives(rt: &impl Abort, alloc: Global, geometry: Geometry, seed: u32) -> Result<(), Fail> {
+    let mut disk = formatted_with(alloc, geometry)?.arm(random_stops(alloc, seed)?);
+    let mut kept = Vec::new(alloc);
+    kept.push([0; KEYS])?;
+    let mut number = seed;
+    for _ in 0..LIVES {
+        let (left, last) = life(rt, alloc, disk, &mut kept, number)?;
+        disk = left;
+        number = last;
+    }
+    let report = check(alloc, &disk).ok().ok_or("is whole")?;
+    assert!(rt; 50 < report.generation, "{}", report.generation);
+    Ok(())
+}
+
+#[test]
+fn lives_stopped_at_random(rt: HostRuntime) -> Result<(), Fail> {
+    let alloc = rt.alloc();
+    for seed in [1u32, 2, 3] {
+        all_lives(&rt, alloc, of_regions(3, 3, 2, 30)?, seed)?;
+        all_lives(&rt, alloc, of_regions(1, 2, 2, 12)?, seed)?;
+        all_lives(&rt, alloc, of_regions(8, 4, 1, 40)?, seed)?;
+    }
+    Ok(())
+}

@@ -1,0 +1,128 @@
+// Reads that fail, one after the other: each is told as the device's fault, and no other call is refused.
+
+use crate::life_lines::Line;
+use crate::script::{Told, live, repeated, replies_of};
+use crate::support::{formatted, values_of};
+use silt_device::{Call, FaultDisk, MemDisk};
+use silt_store_set::{Core, Progress};
+use std::alloc::Global;
+use std::process::Abort;
+use std::test::Fail;
+
+// Five puts, of which the last freezes the full log, and its conversion; three rows more, and a put that freezes the next log.
+const THREE_PLACES: [(Line, u8); 12] = [
+    (Line::Put(1, 1), 1),
+    (Line::Put(2, 2), 1),
+    (Line::Put(3, 3), 1),
+    (Line::Put(4, 4), 1),
+    (Line::Put(5, 5), 1),
+    (Line::Convert, 9),
+    (Line::Put(6, 6), 1),
+    (Line::Put(7, 7), 1),
+    (Line::Delete(1), 1),
+    (Line::Put(2, 9), 1),
+    (Line::Flush, 1),
+    (Line::Get(2), 1),
+];
+
+// A key of the active log, one of the frozen log, one of the hash store, one that was deleted, and the first step of a conversion.
+const ASKED: [Line; 5] = [
+    Line::Get(2),
+    Line::Get(6),
+    Line::Get(3),
+    Line::Get(1),
+    Line::Convert,
+];
+
+const ANSWERS: [Told; 5] = [
+    Told::Value(0, 9),
+    Told::Value(0, 6),
+    Told::Value(0, 3),
+    Told::Absent,
+    Told::Progress(Progress::Moved),
+];
+
+// How often each of the calls told the device's fault: an opening, the five events, the list of the entries.
+type Refused = [u32; 7];
+
+// Which of these replies is the device's fault, if one is. All others are the answers.
+fn place_of_fault(rt: &impl Abort, told: &[Told]) -> Option<usize> {
+    assert_eq!(rt; told.len(), 5);
+    let mut refused = None;
+    for place in 0..5usize {
+        if told[place] == Told::Refused(5) {
+            assert_eq!(rt; refused, None);
+            refused = Some(place);
+        } else {
+            assert_eq!(rt; told[place], ANSWERS[place]);
+        }
+    }
+    refused
+}
+
+// Which call tells the fault of this read, none where it is not made.
+fn place_of_read(
+    rt: &impl Abort,
+    alloc: Global,
+    bytes: &[u8],
+    number: u64,
+) -> Result<Option<usize>, Fail> {
+    let disk = FaultDisk::new(MemDisk::with_bytes(alloc, bytes)?, Call::Read, number);
+    let mut core = match Core::open(alloc, disk) {
+        Ok(core) => core,
+        Err(fault) => {
+            assert_eq!(rt; fault.refusal.label().0, 5, "read {number}");
+            return Ok(Some(0));
+        }
+    };
+    let told = replies_of(alloc, &mut core, &ASKED)?;
+    let refused = place_of_fault(rt, &told);
+    match core.entries(alloc) {
+        Ok(entries) => {
+            assert_eq!(rt; values_of(&entries), [0, 0, 9, 3, 4, 5, 6, 7]);
+            Ok(refused.map(|place| place.saturating_add(1)))
+        }
+        Err(refusal) => {
+            assert_eq!(rt; refusal.label().0, 5, "read {number}");
+            assert_eq!(rt; refused, None);
+            Ok(Some(6))
+        }
+    }
+}
+
+// How often each call told a fault, over all reads up to the first that is not made.
+fn all_refused(rt: &impl Abort, alloc: Global, bytes: &[u8]) -> Result<Refused, Fail> {
+    let mut counts = [0u32; 7];
+    for number in 1..200u64 {
+        let Some(place) = place_of_read(rt, alloc, bytes, number)? else {
+            return Ok(counts);
+        };
+        assert!(rt; place < 7);
+        counts[place] = counts[place].saturating_add(1);
+    }
+    Err("reads without end".into())
+}
+
+// An opening reads the header, two slots, the gates of two logs and five heads, and all slots of the hash store by one read.
+// A get reads each candidate's row whole, up to the one that has the key. All keys here have bucket 0 alone, so the candidates are all
+// rows of a store, by their slots: the active log has key 2; the frozen one 5, 6, 7 and the delete of 1; the hash store 1, 2, 3 and 4.
+// So key 2 takes one read; key 6 one and two; key 3 one, four and three; key 1 one and four. A slot is written from one row. The
+// entries are read from five rows of logs and from eight slots, of which four have values.
+#[test]
+fn tells_each_failed_read_as_a_fault(rt: HostRuntime) -> Result<(), Fail> {
+    let alloc = rt.alloc();
+    let lines = repeated(alloc, &THREE_PLACES)?;
+    let (disk, told) = live(alloc, formatted(alloc)?, &lines)?;
+    assert_eq!(rt; told.len(), 21);
+    assert_eq!(rt; told[20], Told::Value(0, 9));
+    let [opening, newest, frozen, hashed, deleted, converted, entries] = all_refused(
+        &rt,
+        alloc,
+        disk.shown(),
+    )?;
+    assert!(rt; opening >= 11);
+    assert_eq!(rt; (newest, frozen, hashed, deleted), (1, 3, 8, 5));
+    assert_eq!(rt; converted, 1);
+    assert!(rt; entries >= 17);
+    Ok(())
+}
