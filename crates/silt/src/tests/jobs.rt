@@ -3,8 +3,8 @@
 use crate::failure::Watched;
 use crate::files::{check_file, format_file, run_file};
 use crate::jobs::{check_on, format_on, run_on};
-use crate::tests::Counted;
-use crate::tests::freeze::{FIVE_PUTS, with_keys};
+use crate::tests::scripts::FIVE_PUTS;
+use crate::tests::{Counted, with_keys};
 use silt_device::{Call, Disk, FaultDisk, Geometry, MemDisk, NamedDisk};
 use silt_store_set::Served;
 use silt_words::Numbers;

@@ -1,7 +1,7 @@
 // What is wrong with a line is told by its number, letter for letter. A key `01..` is these digits and zeros up to forty.
 
-use crate::tests::freeze::with_keys;
 use crate::tests::{SMALL, answers};
+use std::alloc::AllocError;
 use std::fs::File;
 use std::net::{Net, TcpListener, TcpStream};
 use std::process::Abort;
@@ -56,6 +56,13 @@ pub(crate) const BAD_VALUES: [&str; 5] = [
     "put 01.. ",
 ];
 
+// The lines that are refused by each reply.
+pub(crate) const REFUSED: [(&[&str], &str); 3] = [
+    (&BAD_LINES, "refused 20 BadLine\n"),
+    (&BAD_KEYS, "refused 21 BadKey\n"),
+    (&BAD_VALUES, "refused 22 BadValue\n"),
+];
+
 // Each line is refused by this reply, and the next one is answered.
 fn refuses<
     S: Files<File = File>
@@ -66,12 +73,9 @@ fn refuses<
         + Wait
         + Sync,
 >(rt: &S, lines: &[&str], reply: &str) -> Result<(), Fail> {
+    let output = format!(in rt.alloc(); "opened\n{reply}acknowledged 0\n")?;
     for line in lines {
-        let mut text = with_keys(rt, line)?;
-        text.extend_from_slice(b"\r\nflush\n")?;
-        let mut output = b"opened\n".to_vec(rt.alloc())?;
-        output.extend_from_slice(reply.as_bytes())?;
-        output.extend_from_slice(b"acknowledged 0\n")?;
+        let text = format!(in rt.alloc(); "{line}\r\nflush\n")?;
         answers(rt, SMALL, &text, 0, &output)?;
     }
     Ok(())
@@ -79,65 +83,78 @@ fn refuses<
 
 #[test]
 fn refuses_bad_lines(rt: HostRuntime) -> Result<(), Fail> {
-    refuses(&rt, &BAD_LINES, "refused 20 BadLine\n")
+    for (lines, reply) in REFUSED {
+        refuses(&rt, lines, reply)?;
+    }
+    Ok(())
 }
 
-#[test]
-fn refuses_bad_keys(rt: HostRuntime) -> Result<(), Fail> {
-    refuses(&rt, &BAD_KEYS, "refused 21 BadKey\n")
+// The parts of a text, each so many times.
+type Parts = &'static [(&'static str, usize)];
+
+// Long lines, with the call and what is answered.
+const LONG: [(&str, Parts, &str); 3] = [
+    // A name of 8,000 bytes and a line of 8,300 are read, and a byte more is refused, also where it is a carriage return. The length
+    // of a line is looked at before all else.
+    (
+        "silt script 147 2 4 2 2 8",
+        &[
+            ("put =", 1),
+            ("x", 8000),
+            (" ", 1),
+            ("0", 294),
+            ("\nput =", 1),
+            ("x", 8000),
+            (" ", 1),
+            ("0", 294),
+            ("\r\nget =x", 1),
+            ("x", 8000),
+            ("\nget =abc\n", 1),
+            ("x", 8301),
+            ("\nflush\n", 1),
+        ],
+        "opened\naccepted 1\nrefused 23 LineTooLong\nrefused 21 BadKey\nabsent\nrefused 23 LineTooLong\nacknowledged 1\n",
+    ),
+    // A longer name.
+    (
+        SMALL,
+        &[("get =", 1), ("x", 8001), ("\n\nflush\n", 1)],
+        "opened\nrefused 21 BadKey\nacknowledged 0\n",
+    ),
+    // Each fault by its own number, in one script.
+    (
+        SMALL,
+        &[
+            ("put 01.. 010203\nget 0..\npot 01..\n", 1),
+            ("x", 8301),
+            ("\nflush\n", 1),
+        ],
+        "opened\nrefused 22 BadValue\nrefused 21 BadKey\nrefused 20 BadLine\nrefused 23 LineTooLong\nacknowledged 0\n",
+    ),
+];
+
+// Puts a part behind a text so many times.
+fn push_times(text: &mut String, part: &str, times: usize) -> Result<(), AllocError> {
+    for _ in 0..times {
+        text.push_str(part)?;
+    }
+    Ok(())
 }
 
-#[test]
-fn refuses_bad_values(rt: HostRuntime) -> Result<(), Fail> {
-    refuses(&rt, &BAD_VALUES, "refused 22 BadValue\n")
+// The text of these parts.
+fn joined<S: AllocGlobal>(rt: &S, parts: &[(&str, usize)]) -> Result<String, AllocError> {
+    let mut text = String::new(rt.alloc());
+    for (part, times) in parts {
+        push_times(&mut text, part, *times)?;
+    }
+    Ok(text)
 }
 
-// A name of 8,000 bytes and a line of 8,300 are read, and a byte more is refused, also where it is a carriage return. The length
-// of a line is looked at before all else.
 #[test]
 fn bounds_lines(rt: HostRuntime) -> Result<(), Fail> {
-    let alloc = rt.alloc();
-    let mut text = b"put =".to_vec(alloc)?;
-    text.extend_from_slice(&vec![in alloc; b'x'; 8000]?)?;
-    text.push(b' ')?;
-    text.extend_from_slice(&vec![in alloc; b'0'; 294]?)?;
-    let longest = text.as_slice().to_vec(alloc)?;
-    text.push(b'\n')?;
-    text.extend_from_slice(&longest)?;
-    text.extend_from_slice(b"\r\nget =x")?;
-    text.extend_from_slice(&vec![in alloc; b'x'; 8000]?)?;
-    text.extend_from_slice(b"\nget =abc\n")?;
-    text.extend_from_slice(&vec![in alloc; b'x'; 8301]?)?;
-    text.extend_from_slice(b"\nflush\n")?;
-    let output =
-        b"opened\naccepted 1\nrefused 23 LineTooLong\nrefused 21 BadKey\nabsent\nrefused 23 LineTooLong\nacknowledged 1\n";
-    answers(&rt, "silt script 147 2 4 2 2 8", &text, 0, output)
-}
-
-#[test]
-fn refuses_a_longer_name(rt: HostRuntime) -> Result<(), Fail> {
-    let mut text = b"get =".to_vec(rt.alloc())?;
-    text.extend_from_slice(&vec![in rt.alloc(); b'x'; 8001]?)?;
-    text.extend_from_slice(b"\n\nflush\n")?;
-    let output = b"opened\nrefused 21 BadKey\nacknowledged 0\n";
-    answers(&rt, SMALL, &text, 0, output)
-}
-
-// Each fault by its own number, in one script.
-#[test]
-fn tells_faults_apart(rt: HostRuntime) -> Result<(), Fail> {
-    let mut text = with_keys(&rt, "put 01.. 010203\nget 0..\npot 01..\n")?;
-    text.extend_from_slice(&vec![in rt.alloc(); b'x'; 8301]?)?;
-    text.extend_from_slice(b"\nflush\n")?;
-    let output =
-        b"opened\nrefused 22 BadValue\nrefused 21 BadKey\nrefused 20 BadLine\nrefused 23 LineTooLong\nacknowledged 0\n";
-    answers(&rt, SMALL, &text, 0, output)
-}
-
-// Digits in either case, and a carriage return, which is taken off.
-#[test]
-fn reads_a_key_before_a_carriage_return(rt: HostRuntime) -> Result<(), Fail> {
-    let text = b"put =abc 0102\nflush\nget A9993E364706816ABA3E25717850C26C9CD0D89D\r\n\n";
-    let output = b"opened\naccepted 1\nacknowledged 1\nvalue 0102\n";
-    answers(&rt, SMALL, text, 0, output)
+    for (call, parts, output) in LONG {
+        let text = joined(&rt, parts)?;
+        answers(&rt, call, &text, 0, output)?;
+    }
+    Ok(())
 }

@@ -4,9 +4,8 @@ use crate::failure::Watched;
 use crate::files::run_file;
 use crate::note_lines::NoteLines;
 use crate::notes::Notes;
-use crate::program::program;
 use crate::streams::{KeepsError, StreamError, WatchedReader, WatchedWriter};
-use crate::tests::{Counted, answers, words};
+use crate::tests::{Counted, answers, status_of_call, words};
 use crate::usage::{FORMS, complaint_of};
 use crate::watched_file::WatchedFiles;
 use silt_device::{Disk, DiskSource, FileDisk, FileDisks, FileSystem};
@@ -38,19 +37,13 @@ pub(crate) fn tells<
         + Wait
         + Sync,
 >(rt: &S, call: &str, status: u8, told: &str) -> Result<(), Fail> {
-    let words = words(rt, call)?;
     let mut notes = Vec::new(rt.alloc());
-    let code = program(
-        rt,
-        rt.alloc(),
-        WatchedFiles::new(FileDisks::new(rt), Counted::new()),
-        words.as_slice(),
-        &mut Cursor::new(b"".as_slice()),
-        &mut Vec::new(rt.alloc()),
-        &mut NoteLines::new(&mut notes),
-    );
+    let mut reader = Cursor::new(b"".as_slice());
+    let mut out = Vec::new(rt.alloc());
+    let mut lines = NoteLines::new(&mut notes);
+    let code = status_of_call(rt, call, &mut reader, &mut out, &mut lines)?;
     assert_eq!(rt; notes.as_slice(), told.as_bytes(), "{call}");
-    assert_eq!(rt; code, status);
+    assert_eq!(rt; code, status, "{call}");
     Ok(())
 }
 
@@ -77,7 +70,7 @@ fn tells_why_a_file_is_refused(rt: HostRuntime) -> Result<(), Fail> {
 fn one_job_has_a_file(rt: HostRuntime) -> Result<(), Fail> {
     make_folder(&rt, "busy")?;
     let format = "silt format busy/disk 2 2 4 2 2 8";
-    answers(&rt, format, b"", 0, b"formatted 45056\n")?;
+    answers(&rt, format, "", 0, "formatted 45056\n")?;
     let owner = FileDisk::open(&rt, "busy/disk")?;
     let told = "silt: busy/disk: the file is in use\n";
     for call in [
@@ -87,12 +80,12 @@ fn one_job_has_a_file(rt: HostRuntime) -> Result<(), Fail> {
         "silt format busy/disk 2 2 8 2 2 16",
         "silt format busy/disk 100 1024 3000 4 4 100000",
     ] {
-        answers(&rt, call, b"flush\n", 1, b"refused 5 Device\n")?;
+        answers(&rt, call, "flush\n", 1, "refused 5 Device\n")?;
         tells(&rt, call, 1, told)?;
     }
     assert_eq!(rt; fs::metadata(&rt, "busy/disk")?.len(), 45_056);
     drop(owner);
-    answers(&rt, "silt run busy/disk", b"", 0, b"opened\n")?;
+    answers(&rt, "silt run busy/disk", "", 0, "opened\n")?;
     fs::remove_dir_all(&rt, "busy")?;
     Ok(())
 }
@@ -102,10 +95,10 @@ fn one_job_has_a_file(rt: HostRuntime) -> Result<(), Fail> {
 fn checks_share_a_file(rt: HostRuntime) -> Result<(), Fail> {
     make_folder(&rt, "looked")?;
     let format = "silt format looked/disk 2 2 4 2 2 8";
-    answers(&rt, format, b"", 0, b"formatted 45056\n")?;
+    answers(&rt, format, "", 0, "formatted 45056\n")?;
     let reader = FileDisk::open_shared(&rt, "looked/disk")?;
     tells(&rt, "silt check looked/disk", 0, "")?;
-    answers(&rt, "silt run looked/disk", b"", 1, b"refused 5 Device\n")?;
+    answers(&rt, "silt run looked/disk", "", 1, "refused 5 Device\n")?;
     drop(reader);
     fs::remove_dir_all(&rt, "looked")?;
     Ok(())
@@ -157,7 +150,7 @@ where
 fn tells_a_failed_write(rt: HostRuntime) -> Result<(), Fail> {
     make_folder(&rt, "failing")?;
     let format = "silt format failing/disk 2 2 4 2 2 8";
-    answers(&rt, format, b"", 0, b"formatted 45056\n")?;
+    answers(&rt, format, "", 0, "formatted 45056\n")?;
     let files = WatchedFiles::new(
         ReadFiles {
             files: FileDisks::new(&rt),
@@ -199,7 +192,7 @@ fn fails_twice<D: Disk>(disk: &mut D) -> bool {
 fn tells_a_failed_store_at_once(rt: HostRuntime) -> Result<(), Fail> {
     make_folder(&rt, "sudden")?;
     let format = "silt format sudden/disk 2 2 4 2 2 8";
-    answers(&rt, format, b"", 0, b"formatted 45056\n")?;
+    answers(&rt, format, "", 0, "formatted 45056\n")?;
     let told =
         b"silt: a write at 16384: Bad file descriptor (os error 9); the store takes nothing more until it is opened again\n";
     for (at_once, told) in [(false, b"".as_slice()), (true, told.as_slice())] {
@@ -249,26 +242,18 @@ impl KeepsError for CuttingReader<'_> {
 fn tells_a_failed_read(rt: HostRuntime) -> Result<(), Fail> {
     make_folder(&rt, "cut")?;
     let format = "silt format cut/disk 2 2 4 2 2 8";
-    answers(&rt, format, b"", 0, b"formatted 45056\n")?;
-    let lines = b"put =a 0102\nput =b 0304\nflush\n";
-    let output = b"opened\naccepted 1\naccepted 2\nacknowledged 2\n";
+    answers(&rt, format, "", 0, "formatted 45056\n")?;
+    let lines = "put =a 0102\nput =b 0304\nflush\n";
+    let output = "opened\naccepted 1\naccepted 2\nacknowledged 2\n";
     answers(&rt, "silt run cut/disk", lines, 0, output)?;
     let mut reader = CuttingReader {
         file: OpenOptions::new().write(true).open(&rt, "cut/disk")?,
         text: b"get =a\nget =b\nflush\n",
     };
-    let words = words(&rt, "silt run cut/disk")?;
     let mut out = Vec::new(rt.alloc());
     let mut notes = Vec::new(rt.alloc());
-    let code = program(
-        &rt,
-        rt.alloc(),
-        WatchedFiles::new(FileDisks::new(&rt), Counted::new()),
-        words.as_slice(),
-        &mut reader,
-        &mut out,
-        &mut NoteLines::new(&mut notes),
-    );
+    let mut lines = NoteLines::new(&mut notes);
+    let code = status_of_call(&rt, "silt run cut/disk", &mut reader, &mut out, &mut lines)?;
     assert_eq!(rt; code, 0);
     let output = b"opened\nrefused 5 Device\nrefused 5 Device\nacknowledged 0\n";
     assert_eq!(rt; out.as_slice(), output.as_slice());
@@ -316,7 +301,7 @@ impl Read for BrokenReader<'_> {
     }
 }
 
-// A run with this reader and this writer ends with status 1, and this is told.
+// A call with this reader and this writer ends with status 1, and this is told.
 fn breaks_off<
     S: Files<File = File>
         + AllocGlobal
@@ -327,18 +312,15 @@ fn breaks_off<
         + Sync,
     R: Read + Drop,
     W: Write + Drop,
->(rt: &S, reader: R, writer: W, told: &str) -> Result<(), Fail> {
-    let words = words(rt, "silt run broken/disk")?;
+>(rt: &S, call: &str, reader: R, writer: W, told: &str) -> Result<(), Fail> {
     let mut notes = Vec::new(rt.alloc());
-    let code = program(
+    let code = status_of_call(
         rt,
-        rt.alloc(),
-        WatchedFiles::new(FileDisks::new(rt), Counted::new()),
-        words.as_slice(),
+        call,
         &mut WatchedReader::new(reader),
         &mut WatchedWriter::new(writer),
         &mut NoteLines::new(&mut notes),
-    );
+    )?;
     assert_eq!(rt; notes.as_slice(), told.as_bytes());
     assert_eq!(rt; code, 1);
     Ok(())
@@ -349,7 +331,8 @@ fn breaks_off<
 fn tells_why_a_session_broke_off(rt: HostRuntime) -> Result<(), Fail> {
     make_folder(&rt, "broken")?;
     let format = "silt format broken/disk 2 2 4 2 2 8";
-    answers(&rt, format, b"", 0, b"formatted 45056\n")?;
+    answers(&rt, format, "", 0, "formatted 45056\n")?;
+    let run = "silt run broken/disk";
     let lines = b"get =abc\nflush\n".as_slice();
     for (room, error, told) in [
         (7, 28, "silt: No space left on device (os error 28)\n"),
@@ -357,14 +340,20 @@ fn tells_why_a_session_broke_off(rt: HostRuntime) -> Result<(), Fail> {
         (7, 32, ""),
         (0, 32, ""),
     ] {
-        breaks_off(&rt, Cursor::new(lines), FullWriter { room, error }, told)?;
+        breaks_off(
+            &rt,
+            run,
+            Cursor::new(lines),
+            FullWriter { room, error },
+            told,
+        )?;
     }
     let reader = BrokenReader {
         text: lines,
         error: 5,
     };
     let told = "silt: Input/output error (os error 5)\n";
-    breaks_off(&rt, reader, Vec::new(rt.alloc()), told)?;
+    breaks_off(&rt, run, reader, Vec::new(rt.alloc()), told)?;
     let mut notes = Vec::new(rt.alloc());
     NoteLines::new(&mut notes).tell_end(SessionEnd::NoMemory, None);
     assert_eq!(rt; notes.as_slice(), b"silt: memory was wanted\n".as_slice());
@@ -375,23 +364,12 @@ fn tells_why_a_session_broke_off(rt: HostRuntime) -> Result<(), Fail> {
 // Answers that cannot be written are told.
 #[test]
 fn tells_why_answers_are_not_written(rt: HostRuntime) -> Result<(), Fail> {
-    let words = words(&rt, "silt prune")?;
-    let mut notes = Vec::new(rt.alloc());
-    let code = program(
-        &rt,
-        rt.alloc(),
-        WatchedFiles::new(FileDisks::new(&rt), Counted::new()),
-        words.as_slice(),
-        &mut Cursor::new(b"".as_slice()),
-        &mut WatchedWriter::new(FullWriter { room: 0, error: 28 }),
-        &mut NoteLines::new(&mut notes),
-    );
-    assert_eq!(rt; code, 1);
     let told = format!(in rt.alloc();
         "silt: there is no job 'prune'\n{FORMS}silt: No space left on device (os error 28)\n"
     )?;
-    assert_eq!(rt; notes.as_slice(), told.as_bytes());
-    Ok(())
+    let reader = Cursor::new(b"".as_slice());
+    let writer = FullWriter { room: 0, error: 28 };
+    breaks_off(&rt, "silt prune", reader, writer, &told)
 }
 
 // A port that is in use is a fault of the network, behind `opened`.
@@ -399,11 +377,11 @@ fn tells_why_answers_are_not_written(rt: HostRuntime) -> Result<(), Fail> {
 fn tells_a_port_that_is_in_use(rt: HostRuntime) -> Result<(), Fail> {
     make_folder(&rt, "port")?;
     let format = "silt format port/disk 2 2 4 2 2 8";
-    answers(&rt, format, b"", 0, b"formatted 45056\n")?;
+    answers(&rt, format, "", 0, "formatted 45056\n")?;
     let listener = TcpListener::bind(&rt, ("127.0.0.1", 0))?;
     let port = listener.local_addr()?.port();
     let call = format!(in rt.alloc(); "silt serve port/disk {port}")?;
-    answers(&rt, &call, b"", 1, b"opened\nnetwork fault\n")?;
+    answers(&rt, &call, "", 1, "opened\nnetwork fault\n")?;
     let told = format!(in rt.alloc();
         "silt: 127.0.0.1:{port}: Address already in use (os error 98)\n"
     )?;
@@ -443,7 +421,7 @@ fn tells_which_word_is_wrong(rt: HostRuntime) -> Result<(), Fail> {
         assert_eq!(rt; text.as_str(), complaint);
         let told = format!(in rt.alloc(); "silt: {found}\n{FORMS}")?;
         tells(&rt, call, 2, &told)?;
-        answers(&rt, call, b"", 2, b"usage\n")?;
+        answers(&rt, call, "", 2, "usage\n")?;
     }
     for (call, told) in [
         ("silt --help", FORMS),
@@ -452,7 +430,7 @@ fn tells_which_word_is_wrong(rt: HostRuntime) -> Result<(), Fail> {
         ("silt -V", "silt 0.1.0\n"),
     ] {
         tells(&rt, call, 2, told)?;
-        answers(&rt, call, b"", 2, b"usage\n")?;
+        answers(&rt, call, "", 2, "usage\n")?;
     }
     Ok(())
 }

@@ -1,0 +1,304 @@
+// Scripts and what they answer, letter for letter.
+
+use crate::tests::{Example, SMALL, answers, answers_each};
+use std::test::Fail;
+
+// Five puts, of which the last finds the log full and freezes it.
+pub(crate) const FIVE_PUTS: &str =
+    "put 01.. 0001\nput 02.. 0002\nput 03.. 0003\nput 04.. 0004\nput 05.. 0005\n";
+
+// Lines, keys and values.
+const FIRST: [Example; 5] = [
+    // A value that is put, settled and found.
+    Example {
+        call: SMALL,
+        text: "put =abc 0102\nflush\nget =abc\n",
+        status: 0,
+        output: "opened\naccepted 1\nacknowledged 1\nvalue 0102\n",
+    },
+    // A store in which nothing was put.
+    Example {
+        call: SMALL,
+        text: "get 01..\nflush\nconvert\nmerge\n",
+        status: 0,
+        output: "opened\nabsent\nacknowledged 0\nidle\nidle\n",
+    },
+    // Digits are read in either case and written in lower case, and a named key is the digest of its name.
+    Example {
+        call: SMALL,
+        text: "put A9993E364706816ABA3E25717850C26C9CD0D89D aBFf\nget =abc\n\
+            delete a9993e364706816aba3e25717850c26c9cd0d89d\nget =abc\n",
+        status: 0,
+        output: "opened\naccepted 1\nvalue abff\naccepted 2\nabsent\n",
+    },
+    // Digits in either case, and a carriage return, which is taken off.
+    Example {
+        call: SMALL,
+        text: "put =abc 0102\nflush\nget A9993E364706816ABA3E25717850C26C9CD0D89D\r\n\n",
+        status: 0,
+        output: "opened\naccepted 1\nacknowledged 1\nvalue 0102\n",
+    },
+    // One carriage return is taken off, empty lines are not answered, and neither is what comes after the last line feed.
+    Example {
+        call: SMALL,
+        text: "put =abc 0102\r\n\r\n\nflush\r\r\nget =abc\r\nget =abc",
+        status: 0,
+        output: "opened\naccepted 1\nrefused 20 BadLine\nvalue 0102\n",
+    },
+];
+
+// Lives that stop lines divide.
+const LIVES: [Example; 8] = [
+    // A stop at a life's end leaves what was accepted and not settled, or not.
+    Example {
+        call: SMALL,
+        text: "put 01.. 0102\nstop 0 new\nget 01..\n",
+        status: 0,
+        output: "opened\naccepted 1\nstopped\nopened\nabsent\n",
+    },
+    // A stop within a flush keeps a beginning of the commands, and the next life goes on from it.
+    Example {
+        call: SMALL,
+        text: "put 01.. 0001\nput 02.. 0002\nput 03.. 0003\nflush\nstop 9 mix\nget 01..\nget 02..\nget 03..\n\
+            put 04.. 0004\nflush\nstop 0 old\nget 03..\nget 04..\n",
+        status: 0,
+        output: "opened\naccepted 1\naccepted 2\naccepted 3\nrefused 5 Device\nstopped\nopened\nvalue 0001\nabsent\n\
+            absent\naccepted 1\nacknowledged 1\nstopped\nopened\nabsent\nvalue 0004\n",
+    },
+    // A life whose opening is stopped is refused, and its lines are not answered.
+    Example {
+        call: SMALL,
+        text: "put 01.. 0001\nflush\nstop 0 old\nget 01..\nno line\nstop 1 old\nget 01..\n",
+        status: 0,
+        output: "opened\naccepted 1\nacknowledged 1\nstopped\nrefused 5 Device\nstopped\nopened\nvalue 0001\n",
+    },
+    // Lives with no lines are opened and stopped too, at a call that never comes, and a carriage return is taken off.
+    Example {
+        call: SMALL,
+        text: "flush\nno line\nstop 0 old\n\r\nstop 0 old\nflush\nstop 0 old",
+        status: 0,
+        output: "opened\nacknowledged 0\nrefused 20 BadLine\nstopped\nopened\nstopped\nopened\nacknowledged 0\n",
+    },
+    Example {
+        call: SMALL,
+        text: "flush\nno line\nstop 4294967295 old\n\r\nstop 4294967295 old\nflush\nstop 4294967295 old",
+        status: 0,
+        output: "opened\nacknowledged 0\nrefused 20 BadLine\nstopped\nopened\nstopped\nopened\nacknowledged 0\n",
+    },
+    Example {
+        call: SMALL,
+        text: "flush\nno line\nstop 0000000000 mix\r\n\r\nstop 0000000000 mix\r\nflush\nstop 0000000000 mix\r",
+        status: 0,
+        output: "opened\nacknowledged 0\nrefused 20 BadLine\nstopped\nopened\nstopped\nopened\nacknowledged 0\n",
+    },
+    // A script that ends with a stop line is followed by a life with no lines, and so is one with no line.
+    Example {
+        call: SMALL,
+        text: "stop 0 old\n",
+        status: 0,
+        output: "opened\nstopped\nopened\n",
+    },
+    Example {
+        call: SMALL,
+        text: "",
+        status: 0,
+        output: "opened\n",
+    },
+];
+
+// Logs that are frozen. The fifth put finds a log of four rows full: it freezes log 0, and log 1 is active.
+const FROZEN: [Example; 5] = [
+    // The fifth put freezes log 0, log 1 is active, and both answer.
+    Example {
+        call: SMALL,
+        text: "put 01.. 0001\nput 02.. 0002\nput 03.. 0003\nput 04.. 0004\nput 05.. 0005\nflush\nget 01..\nget 05..\n",
+        status: 0,
+        output: "opened\naccepted 1\naccepted 2\naccepted 3\naccepted 4\naccepted 5\nacknowledged 5\nvalue 0001\n\
+            value 0005\n",
+    },
+    // Eight deletes fill both logs.
+    Example {
+        call: SMALL,
+        text: "delete 01..\ndelete 02..\ndelete 03..\ndelete 04..\ndelete 05..\ndelete 06..\ndelete 07..\ndelete 08..\n\
+            delete 09..\nflush\n",
+        status: 0,
+        output: "opened\naccepted 1\naccepted 2\naccepted 3\naccepted 4\naccepted 5\naccepted 6\naccepted 7\naccepted 8\n\
+            refused 8 NoRoom\nacknowledged 8\n",
+    },
+    // Eight puts of one key are as many puts as the store may hold.
+    Example {
+        call: SMALL,
+        text: "put 01.. 0001\nput 01.. 0001\nput 01.. 0001\nput 01.. 0001\nput 01.. 0001\nput 01.. 0001\nput 01.. 0001\n\
+            put 01.. 0001\nput 01.. 0001\n",
+        status: 0,
+        output: "opened\naccepted 1\naccepted 2\naccepted 3\naccepted 4\naccepted 5\naccepted 6\naccepted 7\naccepted 8\n\
+            refused 7 StoreFull\n",
+    },
+    // The fifth key of one pair of buckets finds no place and freezes a log that has room.
+    Example {
+        call: "silt script 2 2 8 2 2 16",
+        text: "put 01.. 0001\nput 02.. 0002\nput 03.. 0003\nput 04.. 0004\nput 05.. 0005\nflush\nget 01..\nget 04..\n\
+            get 05..\nput 01.. 0009\nget 01..\n",
+        status: 0,
+        output: "opened\naccepted 1\naccepted 2\naccepted 3\naccepted 4\naccepted 5\nacknowledged 5\nvalue 0001\n\
+            value 0004\nvalue 0005\naccepted 6\nvalue 0009\n",
+    },
+    // A delete in the active log hides the value that a frozen log has.
+    Example {
+        call: SMALL,
+        text: "put 01.. 0001\nput 02.. 0002\nput 03.. 0003\nput 04.. 0004\nput 05.. 0005\ndelete 01..\nget 01..\nflush\n\
+            stop 0 old\nget 01..\nget 02..\nconvert\n",
+        status: 0,
+        output: "opened\naccepted 1\naccepted 2\naccepted 3\naccepted 4\naccepted 5\naccepted 6\nabsent\nacknowledged 6\n\
+            stopped\nopened\nabsent\nvalue 0002\nmoved\n",
+    },
+];
+
+// Logs that are converted into hash stores: nine steps where a hash region has eight slots.
+const CONVERTED: [Example; 6] = [
+    // The frozen log of the five puts is converted, and the hash store answers. Then there is nothing to convert.
+    Example {
+        call: SMALL,
+        text: "put 01.. 0001\nput 02.. 0002\nput 03.. 0003\nput 04.. 0004\nput 05.. 0005\nflush\nget 01..\nget 05..\n\
+            convert\nconvert\nconvert\nconvert\nconvert\nconvert\nconvert\nconvert\nconvert\n\
+            get 02..\nconvert\n",
+        status: 0,
+        output: "opened\naccepted 1\naccepted 2\naccepted 3\naccepted 4\naccepted 5\nacknowledged 5\nvalue 0001\n\
+            value 0005\n\
+            moved\nmoved\nmoved\nmoved\nmoved\nmoved\nmoved\nmoved\nfinished\n\
+            value 0002\nidle\n",
+    },
+    // A conversion gives its log's region back.
+    Example {
+        call: SMALL,
+        text: "delete 01..\ndelete 02..\ndelete 03..\ndelete 04..\ndelete 05..\ndelete 06..\ndelete 07..\ndelete 08..\n\
+            delete 09..\n\
+            convert\nconvert\nconvert\nconvert\nconvert\nconvert\nconvert\nconvert\nconvert\n\
+            delete 09..\n",
+        status: 0,
+        output: "opened\naccepted 1\naccepted 2\naccepted 3\naccepted 4\naccepted 5\naccepted 6\naccepted 7\naccepted 8\n\
+            refused 8 NoRoom\n\
+            moved\nmoved\nmoved\nmoved\nmoved\nmoved\nmoved\nmoved\nfinished\n\
+            accepted 9\n",
+    },
+    // A conversion keeps the last row of each key, so that fewer puts are counted.
+    Example {
+        call: SMALL,
+        text: "put 01.. 0001\nput 01.. 0001\nput 01.. 0001\nput 01.. 0001\nput 01.. 0001\nput 01.. 0001\nput 01.. 0001\nput 01.. 0001\n\
+            put 01.. 0002\n\
+            convert\nconvert\nconvert\nconvert\nconvert\nconvert\nconvert\nconvert\nconvert\n\
+            put 01.. 0002\nget 01..\n",
+        status: 0,
+        output: "opened\naccepted 1\naccepted 2\naccepted 3\naccepted 4\naccepted 5\naccepted 6\naccepted 7\naccepted 8\n\
+            refused 7 StoreFull\n\
+            moved\nmoved\nmoved\nmoved\nmoved\nmoved\nmoved\nmoved\nfinished\n\
+            accepted 9\nvalue 0002\n",
+    },
+    // A stop within a conversion loses the work and no answer; the conversion begins anew.
+    Example {
+        call: SMALL,
+        text: "put 01.. 0001\nput 02.. 0002\nput 03.. 0003\nput 04.. 0004\nput 05.. 0005\nflush\nget 01..\nget 05..\n\
+            convert\nconvert\nconvert\nstop 0 mix\nget 02..\nget 05..\n\
+            convert\nconvert\nconvert\nconvert\nconvert\nconvert\nconvert\nconvert\nconvert\n",
+        status: 0,
+        output: "opened\naccepted 1\naccepted 2\naccepted 3\naccepted 4\naccepted 5\nacknowledged 5\nvalue 0001\n\
+            value 0005\nmoved\nmoved\nmoved\nstopped\nopened\nvalue 0002\nvalue 0005\n\
+            moved\nmoved\nmoved\nmoved\nmoved\nmoved\nmoved\nmoved\nfinished\n",
+    },
+    // With one hash region in use a second frozen log waits.
+    Example {
+        call: "silt script 2 2 1 3 1 8",
+        text: "put 01.. 0001\nput 02.. 0002\nput 03.. 0003\n\
+            convert\nconvert\nconvert\nconvert\nconvert\nconvert\nconvert\nconvert\nconvert\nconvert\n",
+        status: 0,
+        output: "opened\naccepted 1\naccepted 2\naccepted 3\n\
+            moved\nmoved\nmoved\nmoved\nmoved\nmoved\nmoved\nmoved\nfinished\n\
+            waiting\n",
+    },
+    // A delete in a newer hash store hides the value that an older one has, while the next log is converted and after a stop too.
+    Example {
+        call: "silt script 2 2 1 3 3 8",
+        text: "put 01.. 0001\nput 02.. 0002\n\
+            convert\nconvert\nconvert\nconvert\nconvert\nconvert\nconvert\nconvert\nconvert\n\
+            delete 01..\n\
+            convert\nconvert\nconvert\nconvert\nconvert\nconvert\nconvert\nconvert\nconvert\n\
+            put 03.. 0003\nget 01..\nget 02..\nconvert\nget 01..\nget 02..\nflush\nstop 0 old\nget 01..\nget 02..\n\
+            get 03..\n\
+            convert\nconvert\nconvert\nconvert\nconvert\nconvert\nconvert\nconvert\nconvert\n\
+            get 01..\nget 02..\nput 01.. 0004\nget 01..\n",
+        status: 0,
+        output: "opened\naccepted 1\naccepted 2\n\
+            moved\nmoved\nmoved\nmoved\nmoved\nmoved\nmoved\nmoved\nfinished\n\
+            accepted 3\n\
+            moved\nmoved\nmoved\nmoved\nmoved\nmoved\nmoved\nmoved\nfinished\n\
+            accepted 4\nabsent\nvalue 0002\nmoved\nabsent\nvalue 0002\nacknowledged 4\nstopped\nopened\nabsent\n\
+            value 0002\nvalue 0003\n\
+            moved\nmoved\nmoved\nmoved\nmoved\nmoved\nmoved\nmoved\nfinished\n\
+            absent\nvalue 0002\naccepted 1\nvalue 0004\n",
+    },
+];
+
+// Hash stores that are merged into a sorted store. One merge and then another stand among the examples.
+const MERGED: [Example; 2] = [
+    // Two conversions are finished while a merge is under way: their hash stores stand in front of what is merged.
+    Example {
+        call: "silt script 2 2 1 3 3 8",
+        text: "get 01..\nget 02..\nput 01.. 0001\nget 01..\nget 02..\nput 02.. 0002\n\
+            convert\nconvert\nconvert\nconvert\nconvert\nconvert\nconvert\nconvert\nconvert\n\
+            get 01..\nget 02..\nput 01.. 0003\nget 01..\nget 02..\nmerge\nmerge\nmerge\nget 01..\nget 02..\n\
+            convert\nconvert\nconvert\nconvert\nconvert\nconvert\nconvert\nconvert\nconvert\n\
+            get 01..\nget 02..\nput 02.. 0004\nget 01..\nget 02..\n\
+            convert\nconvert\nconvert\nconvert\nconvert\nconvert\nconvert\nconvert\nconvert\n\
+            get 01..\nget 02..\nmerge\nmerge\nmerge\nmerge\nmerge\nmerge\nget 01..\nget 02..\nmerge\nget 01..\n\
+            get 02..\n",
+        status: 0,
+        output: "opened\nabsent\nabsent\naccepted 1\nvalue 0001\nabsent\naccepted 2\n\
+            moved\nmoved\nmoved\nmoved\nmoved\nmoved\nmoved\nmoved\nfinished\n\
+            value 0001\nvalue 0002\naccepted 3\nvalue 0003\nvalue 0002\nmoved\nmoved\nmoved\nvalue 0003\nvalue 0002\n\
+            moved\nmoved\nmoved\nmoved\nmoved\nmoved\nmoved\nmoved\nfinished\n\
+            value 0003\nvalue 0002\naccepted 4\nvalue 0003\nvalue 0004\n\
+            moved\nmoved\nmoved\nmoved\nmoved\nmoved\nmoved\nmoved\nfinished\n\
+            value 0003\nvalue 0004\nmoved\nmoved\nmoved\nmoved\nmoved\nmoved\nvalue 0003\nvalue 0004\nfinished\n\
+            value 0003\nvalue 0004\n",
+    },
+    // A merge gives its hash region back, and the conversion that waited for one begins.
+    Example {
+        call: "silt script 2 2 1 3 1 8",
+        text: "put 01.. 0001\nput 02.. 0002\nput 03.. 0003\n\
+            convert\nconvert\nconvert\nconvert\nconvert\nconvert\nconvert\nconvert\nconvert\nconvert\n\
+            merge\nmerge\nmerge\nmerge\nmerge\nmerge\nmerge\nmerge\nmerge\nmerge\n\
+            convert\n",
+        status: 0,
+        output: "opened\naccepted 1\naccepted 2\naccepted 3\n\
+            moved\nmoved\nmoved\nmoved\nmoved\nmoved\nmoved\nmoved\nfinished\n\
+            waiting\n\
+            moved\nmoved\nmoved\nmoved\nmoved\nmoved\nmoved\nmoved\nmoved\nfinished\n\
+            moved\n",
+    },
+];
+
+#[test]
+fn answers_scripts(rt: HostRuntime) -> Result<(), Fail> {
+    for scripts in [&FIRST[..], &LIVES, &FROZEN, &CONVERTED, &MERGED] {
+        answers_each(&rt, scripts)?;
+    }
+    Ok(())
+}
+
+// At which of the six calls of the manifest write a script is stopped, and what is kept of that call.
+const STOPS: [&str; 18] = [
+    "15 ones", "15 old", "15 new", "16 ones", "16 old", "16 new", "17 ones", "17 old", "17 new",
+    "18 ones", "18 old", "18 new", "19 ones", "19 old", "19 new", "20 ones", "20 old", "20 new",
+];
+
+// The six calls of the manifest write are stopped in turn: the put that freezes is refused, and what was flushed by it stands.
+#[test]
+fn stops_a_manifest_write(rt: HostRuntime) -> Result<(), Fail> {
+    let output =
+        "opened\naccepted 1\naccepted 2\naccepted 3\naccepted 4\nrefused 5 Device\nstopped\nopened\nvalue 0004\nabsent\n";
+    for stop in STOPS {
+        let text = format!(in rt.alloc(); "{FIVE_PUTS}stop {stop}\nget 04..\nget 05..\n")?;
+        answers(&rt, SMALL, &text, 0, output)?;
+    }
+    Ok(())
+}
