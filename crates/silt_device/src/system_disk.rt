@@ -5,8 +5,6 @@ use crate::Disk;
 use crate::buffered_disk::{BufferFault, BufferedDisk};
 use crate::file::{FileFault, RandomAccessDisk};
 use crate::system::FileSystem;
-#[cfg(test)]
-use std::alloc::Global;
 use std::fs::File;
 use std::io;
 
