@@ -121,6 +121,7 @@ fn each_restart_begins_the_next_life(rt: HostRuntime) -> Result<(), Fail> {
     for _ in 0..3u32 {
         assert!(rt; disk.sync().is_ok());
     }
+    assert_eq!(rt; disk.len(), 4);
     assert!(rt; disk.write(0, &[5]).is_ok());
     let disk = disk.restart();
     assert_eq!(rt; disk.shown(), [1, 0xFF, 0xFF, 9].as_slice());

@@ -3,7 +3,7 @@
 use crate::life_lines::{Line, key};
 use crate::script::{Told, live};
 use crate::support::{SMALL_LEN, entries_of, formatted, formatted_with, of_regions, values_of};
-use silt_device::{Call, FaultDisk, MemDisk, MemFault};
+use silt_device::{Call, Disk, FaultDisk, MemDisk, MemFault};
 use silt_store_set::{Core, Refusal};
 use std::alloc::Global;
 use std::process::Abort;
@@ -55,41 +55,75 @@ pub(crate) fn is_failed(rt: &impl Abort, alloc: Global, core: &mut Core<FaultDis
     assert!(rt; matches!(core.entries(alloc), Err(Refusal::Failed)));
 }
 
+// The values of the keys 0 to 7 on a disk whose store is given up.
+fn left_by(alloc: Global, core: Core<FaultDisk>) -> Result<[u16; 8], Fail> {
+    let (_, found) = entries_of(alloc, core.close().into_disk())?;
+    Ok(found)
+}
+
+// How many entries are listed, and the values of the keys 0 to 7 among them.
+fn listed<D: Disk>(alloc: Global, core: &Core<D>) -> Result<(usize, [u16; 8]), Fail> {
+    let entries = core.entries(alloc).ok().ok_or("has entries")?;
+    Ok((entries.len(), values_of(&entries)))
+}
+
+// A put is taken, and the flush behind it fails.
+fn flush_fails(rt: &impl Abort, alloc: Global, core: &mut Core<FaultDisk>) {
+    assert_eq!(rt; core.geometry().value_len(), 2);
+    assert_eq!(rt; answer(core.put(alloc, &key(1), &[0, 5])), Ok(1));
+    assert_eq!(rt; answer(core.flush()), Err(5));
+    is_failed(rt, alloc, core);
+}
+
 // The flush's first sync is the disk's second, its second the third. The gates are written between them.
 #[test]
 fn a_flush_that_fails_fails_the_store(rt: HostRuntime) -> Result<(), Fail> {
     let alloc = rt.alloc();
     for (number, left) in [(2, 0), (3, 5)] {
         let mut core = faulty(alloc, Call::Sync, number)?;
-        assert_eq!(rt; core.geometry().value_len(), 2);
-        assert_eq!(rt; answer(core.put(alloc, &key(1), &[0, 5])), Ok(1));
-        assert_eq!(rt; answer(core.flush()), Err(5), "sync {number}");
-        is_failed(&rt, alloc, &mut core);
-        let (_, found) = entries_of(alloc, core.close().into_disk())?;
+        flush_fails(&rt, alloc, &mut core);
+        let found = left_by(alloc, core)?;
         assert_eq!(rt; found, [0, left, 0, 0, 0, 0, 0, 0], "sync {number}");
     }
     Ok(())
+}
+
+// What a put and a flush are answered behind two flushes for which nothing waits.
+fn after_two_flushes(
+    rt: &impl Abort,
+    alloc: Global,
+    core: &mut Core<FaultDisk>,
+) -> (Result<u64, u32>, Result<u64, u32>) {
+    assert_eq!(rt; core.geometry().value_len(), 2);
+    assert_eq!(rt; answer(core.flush()), Ok(0));
+    assert_eq!(rt; answer(core.flush()), Ok(0));
+    let put = answer(core.put(alloc, &key(1), &[0, 1]));
+    (put, answer(core.flush()))
 }
 
 // A flush without waiting rows makes no device call: the disk's next write and sync fail, and not in it.
 #[test]
 fn flushes_nothing_without_a_call(rt: HostRuntime) -> Result<(), Fail> {
     let alloc = rt.alloc();
-    for (call, number) in [(Call::Write, 1), (Call::Sync, 2)] {
+    let cases = [
+        (Call::Write, 1, (Err(5), Err(9))),
+        (Call::Sync, 2, (Ok(1), Err(5))),
+    ];
+    for (call, number, expected) in cases {
         let mut core = faulty(alloc, call, number)?;
-        assert_eq!(rt; core.geometry().value_len(), 2);
-        assert_eq!(rt; answer(core.flush()), Ok(0), "{call:?}");
-        assert_eq!(rt; answer(core.flush()), Ok(0), "{call:?}");
-        let put = answer(core.put(alloc, &key(1), &[0, 1]));
-        let flushed = answer(core.flush());
-        let expected = if call == Call::Write {
-            (Err(5), Err(9))
-        } else {
-            (Ok(1), Err(5))
-        };
-        assert_eq!(rt; (put, flushed), expected, "{call:?}");
+        let answers = after_two_flushes(&rt, alloc, &mut core);
+        assert_eq!(rt; answers, expected, "{call:?}");
     }
     Ok(())
+}
+
+// A put is taken, and three flushes are answered.
+fn flushes_thrice(rt: &impl Abort, alloc: Global, core: &mut Core<FaultDisk>) {
+    assert_eq!(rt; core.geometry().value_len(), 2);
+    assert_eq!(rt; answer(core.put(alloc, &key(1), &[0, 1])), Ok(1));
+    for _ in 0..3u32 {
+        assert_eq!(rt; answer(core.flush()), Ok(1));
+    }
 }
 
 // A second flush of the same rows makes no call either: the writes of a put and its gate are three, the syncs three.
@@ -98,41 +132,61 @@ fn flushes_rows_once(rt: HostRuntime) -> Result<(), Fail> {
     let alloc = rt.alloc();
     for (call, number) in [(Call::Write, 4), (Call::Sync, 4)] {
         let mut core = faulty(alloc, call, number)?;
-        assert_eq!(rt; core.geometry().value_len(), 2);
-        assert_eq!(rt;
-            answer(core.put(alloc, &key(1), &[0, 1])),
-            Ok(1),
-            "{call:?}"
-        );
-        for _ in 0..3u32 {
-            assert_eq!(rt; answer(core.flush()), Ok(1), "{call:?}");
-        }
+        flushes_thrice(&rt, alloc, &mut core);
     }
     Ok(())
+}
+
+// A put is flushed, and the next put or delete fails.
+fn row_fails(rt: &impl Abort, alloc: Global, core: &mut Core<FaultDisk>, deletes: bool) {
+    assert_eq!(rt; core.geometry().value_len(), 2);
+    assert_eq!(rt; answer(core.put(alloc, &key(1), &[0, 5])), Ok(1));
+    assert_eq!(rt; answer(core.flush()), Ok(1));
+    let refused = if deletes {
+        core.delete(alloc, &key(1))
+    } else {
+        core.put(alloc, &key(1), &[0, 6])
+    };
+    assert_eq!(rt; answer(refused), Err(5));
+    is_failed(rt, alloc, core);
 }
 
 // A put's two writes, and a delete's: the row is not accepted, and the store is failed. What was flushed stands.
 #[test]
 fn a_write_that_fails_fails_the_store(rt: HostRuntime) -> Result<(), Fail> {
     let alloc = rt.alloc();
-    for number in [4u64, 5] {
-        for deletes in [false, true] {
-            let mut core = faulty(alloc, Call::Write, number)?;
-            assert_eq!(rt; core.geometry().value_len(), 2);
-            assert_eq!(rt; answer(core.put(alloc, &key(1), &[0, 5])), Ok(1));
-            assert_eq!(rt; answer(core.flush()), Ok(1));
-            let refused = if deletes {
-                core.delete(alloc, &key(1))
-            } else {
-                core.put(alloc, &key(1), &[0, 6])
-            };
-            assert_eq!(rt; answer(refused), Err(5), "write {number}");
-            is_failed(&rt, alloc, &mut core);
-            let (_, found) = entries_of(alloc, core.close().into_disk())?;
-            assert_eq!(rt; found, [0, 5, 0, 0, 0, 0, 0, 0], "write {number}");
-        }
+    for (number, deletes) in [(4, false), (4, true), (5, false), (5, true)] {
+        let mut core = faulty(alloc, Call::Write, number)?;
+        row_fails(&rt, alloc, &mut core, deletes);
+        let found = left_by(alloc, core)?;
+        assert_eq!(rt; found, [0, 5, 0, 0, 0, 0, 0, 0], "write {number}");
     }
     Ok(())
+}
+
+// A device with the value 5 of key 1, flushed.
+fn with_a_value(rt: &impl Abort, alloc: Global) -> Result<Vec<u8>, Fail> {
+    let (disk, told) = live(alloc, formatted(alloc)?, &[Line::Put(1, 5), Line::Flush])?;
+    let expected = [Told::Opened, Told::Accepted(1), Told::Acknowledged(1)];
+    assert_eq!(rt; told.as_slice(), expected.as_slice());
+    Ok(disk.shown().to_vec(alloc)?)
+}
+
+// Whether this read of a device of these bytes is one of a get. One of the opening refuses it.
+fn is_read_of_a_get(
+    rt: &impl Abort,
+    alloc: Global,
+    bytes: &[u8],
+    number: u64,
+) -> Result<bool, Fail> {
+    let inner = MemDisk::with_bytes(alloc, bytes)?;
+    match Core::open(alloc, FaultDisk::new(inner, Call::Read, number)) {
+        Ok(core) => Ok(is_read_again(rt, &core)),
+        Err(fault) => {
+            assert_eq!(rt; fault.refusal.label().0, 5);
+            Ok(false)
+        }
+    }
 }
 
 // A read that fails is refused, and the same get, asked again, gives its value. A get makes one read, of the whole row. Which of the
@@ -140,19 +194,11 @@ fn a_write_that_fails_fails_the_store(rt: HostRuntime) -> Result<(), Fail> {
 #[test]
 fn a_read_that_fails_changes_nothing(rt: HostRuntime) -> Result<(), Fail> {
     let alloc = rt.alloc();
-    let (disk, told) = live(alloc, formatted(alloc)?, &[Line::Put(1, 5), Line::Flush])?;
-    let expected = [Told::Opened, Told::Accepted(1), Told::Acknowledged(1)];
-    assert_eq!(rt; told.as_slice(), expected.as_slice());
+    let bytes = with_a_value(&rt, alloc)?;
     let mut refused = 0u32;
     for number in 1..16u64 {
-        let inner = MemDisk::with_bytes(alloc, disk.shown())?;
-        match Core::open(alloc, FaultDisk::new(inner, Call::Read, number)) {
-            Err(fault) => assert_eq!(rt; fault.refusal.label().0, 5),
-            Ok(core) => {
-                if is_read_again(&rt, &core) {
-                    refused = refused.saturating_add(1);
-                }
-            }
+        if is_read_of_a_get(&rt, alloc, &bytes, number)? {
+            refused = refused.saturating_add(1);
         }
     }
     assert_eq!(rt; refused, 1);
@@ -173,24 +219,49 @@ fn is_read_again(rt: &impl Abort, core: &Core<FaultDisk>) -> bool {
     first == Err(5)
 }
 
+// Two puts are taken, and no third, of whatever key.
+fn takes_two_puts(rt: &impl Abort, alloc: Global, core: &mut Core<MemDisk>) {
+    assert_eq!(rt; put(rt, alloc, core, 1, 1), Ok(1));
+    assert_eq!(rt; put(rt, alloc, core, 1, 2), Ok(2));
+    assert_eq!(rt; put(rt, alloc, core, 1, 3), Err(7));
+    assert_eq!(rt; put(rt, alloc, core, 2, 3), Err(7));
+}
+
+// A delete is taken and makes no room for a put.
+fn takes_a_delete(rt: &impl Abort, alloc: Global, core: &mut Core<MemDisk>) {
+    assert_eq!(rt; answer(core.delete(alloc, &key(1))), Ok(3));
+    assert_eq!(rt; put(rt, alloc, core, 2, 3), Err(7));
+    assert_eq!(rt; answer(core.flush()), Ok(3));
+}
+
 // Of as many put rows as may be sorted no further put is taken, of whatever key; a delete is, and makes no room for a put.
 #[test]
 fn a_full_store_takes_no_put(rt: HostRuntime) -> Result<(), Fail> {
     let alloc = rt.alloc();
     let mut core = of_capacity(alloc, 2)?;
-    assert_eq!(rt; core.geometry().value_len(), 2);
-    assert_eq!(rt; answer(core.put(alloc, &key(1), &[0, 1])), Ok(1));
-    assert_eq!(rt; answer(core.put(alloc, &key(1), &[0, 2])), Ok(2));
-    assert_eq!(rt; answer(core.put(alloc, &key(1), &[0, 3])), Err(7));
-    assert_eq!(rt; answer(core.put(alloc, &key(2), &[0, 3])), Err(7));
-    let entries = core.entries(alloc).ok().ok_or("has entries")?;
-    assert_eq!(rt; values_of(&entries), [0, 2, 0, 0, 0, 0, 0, 0]);
-    assert_eq!(rt; answer(core.delete(alloc, &key(1))), Ok(3));
-    assert_eq!(rt; answer(core.put(alloc, &key(2), &[0, 3])), Err(7));
-    assert_eq!(rt; answer(core.flush()), Ok(3));
+    takes_two_puts(&rt, alloc, &mut core);
+    assert_eq!(rt; listed(alloc, &core)?, (1, [0, 2, 0, 0, 0, 0, 0, 0]));
+    takes_a_delete(&rt, alloc, &mut core);
     let (_, found) = entries_of(alloc, core.close())?;
     assert_eq!(rt; found, [0; 8]);
     Ok(())
+}
+
+// Eight puts of these keys are taken, with the values 1 to 8.
+fn takes_eight_puts(rt: &impl Abort, alloc: Global, core: &mut Core<MemDisk>, keys: [u8; 8]) {
+    let mut n = 0u8;
+    for first in keys {
+        n = n.saturating_add(1);
+        assert_eq!(rt; put(rt, alloc, core, first, n), Ok(n as u64));
+    }
+}
+
+// Neither a put nor a delete is taken, and a flush is answered.
+fn takes_no_row(rt: &impl Abort, alloc: Global, core: &mut Core<MemDisk>) {
+    assert_eq!(rt; put(rt, alloc, core, 5, 5), Err(8));
+    assert_eq!(rt; put(rt, alloc, core, 1, 5), Err(8));
+    assert_eq!(rt; answer(core.delete(alloc, &key(1))), Err(8));
+    assert_eq!(rt; answer(core.flush()), Ok(8));
 }
 
 // Where both logs are full neither put nor delete is taken, and nothing is changed.
@@ -198,13 +269,8 @@ fn a_full_store_takes_no_put(rt: HostRuntime) -> Result<(), Fail> {
 fn full_logs_take_no_row(rt: HostRuntime) -> Result<(), Fail> {
     let alloc = rt.alloc();
     let mut core = of_capacity(alloc, 9)?;
-    for n in 1..9u8 {
-        assert_eq!(rt; put(&rt, alloc, &mut core, n % 8, n), Ok(n as u64));
-    }
-    assert_eq!(rt; put(&rt, alloc, &mut core, 5, 5), Err(8));
-    assert_eq!(rt; put(&rt, alloc, &mut core, 1, 5), Err(8));
-    assert_eq!(rt; answer(core.delete(alloc, &key(1))), Err(8));
-    assert_eq!(rt; answer(core.flush()), Ok(8));
+    takes_eight_puts(&rt, alloc, &mut core, [1, 2, 3, 4, 5, 6, 7, 0]);
+    takes_no_row(&rt, alloc, &mut core);
     let (_, found) = entries_of(alloc, core.close())?;
     assert_eq!(rt; found, [8, 1, 2, 3, 4, 5, 6, 7]);
     Ok(())
@@ -215,9 +281,7 @@ fn full_logs_take_no_row(rt: HostRuntime) -> Result<(), Fail> {
 fn tells_a_full_store_before_full_logs(rt: HostRuntime) -> Result<(), Fail> {
     let alloc = rt.alloc();
     let mut core = of_capacity(alloc, 8)?;
-    for n in 1..9u8 {
-        assert_eq!(rt; put(&rt, alloc, &mut core, 1, n), Ok(n as u64));
-    }
+    takes_eight_puts(&rt, alloc, &mut core, [1; 8]);
     assert_eq!(rt; put(&rt, alloc, &mut core, 5, 5), Err(7));
     assert_eq!(rt; answer(core.delete(alloc, &key(1))), Err(8));
     Ok(())
@@ -246,26 +310,45 @@ fn spends_its_generations(rt: HostRuntime) -> Result<(), Fail> {
     Ok(())
 }
 
+// Puts a value, once more where a read of it failed; and whether one did.
+fn is_put_again(rt: &impl Abort, alloc: Global, core: &mut Core<FaultDisk>, n: u8) -> bool {
+    assert_eq!(rt; core.geometry().value_len(), 2);
+    let first = answer(core.put(alloc, &key(n), &[0, n]));
+    if first != Err(5) {
+        return false;
+    }
+    assert_eq!(rt; core.geometry().value_len(), 2);
+    assert_eq!(rt; answer(core.put(alloc, &key(n), &[0, n])), Ok(n as u64));
+    true
+}
+
+// How many of four puts were asked once more.
+fn count_put_again(rt: &impl Abort, alloc: Global, core: &mut Core<FaultDisk>) -> u32 {
+    let mut refused = 0u32;
+    for n in 1..5u8 {
+        if is_put_again(rt, alloc, core, n) {
+            refused = refused.saturating_add(1);
+        }
+    }
+    refused
+}
+
 // The read of a key with the same buckets fails in a put: nothing is changed, and the same put, asked again, is taken.
 #[test]
 fn a_put_whose_read_fails_is_asked_again(rt: HostRuntime) -> Result<(), Fail> {
     let alloc = rt.alloc();
-    let mut core = Core::open(alloc, FaultDisk::new(formatted(alloc)?, Call::Read, 6))
-        .ok()
-        .ok_or("opens")?;
-    let mut refused = 0u32;
-    for n in 1..5u8 {
-        assert_eq!(rt; core.geometry().value_len(), 2);
-        if answer(core.put(alloc, &key(n), &[0, n])) == Err(5) {
-            refused = refused.saturating_add(1);
-            assert_eq!(rt; core.geometry().value_len(), 2);
-            assert_eq!(rt; answer(core.put(alloc, &key(n), &[0, n])), Ok(n as u64));
-        }
-    }
-    assert_eq!(rt; refused, 1);
-    let entries = core.entries(alloc).ok().ok_or("has entries")?;
-    assert_eq!(rt; values_of(&entries), [0, 1, 2, 3, 4, 0, 0, 0]);
+    let mut core = faulty(alloc, Call::Read, 6)?;
+    assert_eq!(rt; count_put_again(&rt, alloc, &mut core), 1);
+    assert_eq!(rt; listed(alloc, &core)?, (4, [0, 1, 2, 3, 4, 0, 0, 0]));
     Ok(())
+}
+
+// The keys 3, 1 and 2 are put, and 2 is deleted.
+fn takes_three_puts(rt: &impl Abort, alloc: Global, core: &mut Core<MemDisk>) {
+    for n in [3, 1, 2] {
+        assert!(rt; put(rt, alloc, core, n, n).is_ok());
+    }
+    assert_eq!(rt; answer(core.delete(alloc, &key(2))), Ok(4));
 }
 
 // Exactly the keys that have a value, with the last one accepted.
@@ -273,12 +356,7 @@ fn a_put_whose_read_fails_is_asked_again(rt: HostRuntime) -> Result<(), Fail> {
 fn lists_all_entries(rt: HostRuntime) -> Result<(), Fail> {
     let alloc = rt.alloc();
     let mut core = of_capacity(alloc, 8)?;
-    for n in [3, 1, 2] {
-        assert!(rt; put(&rt, alloc, &mut core, n, n).is_ok());
-    }
-    assert_eq!(rt; answer(core.delete(alloc, &key(2))), Ok(4));
-    let entries = core.entries(alloc).ok().ok_or("has entries")?;
-    assert_eq!(rt; entries.len(), 2);
-    assert_eq!(rt; values_of(&entries), [0, 1, 0, 3, 0, 0, 0, 0]);
+    takes_three_puts(&rt, alloc, &mut core);
+    assert_eq!(rt; listed(alloc, &core)?, (2, [0, 1, 0, 3, 0, 0, 0, 0]));
     Ok(())
 }

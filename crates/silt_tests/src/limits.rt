@@ -6,6 +6,7 @@ use silt_device::{Geometry, MemDisk};
 use silt_frame::Value;
 use silt_store_set::{Core, Event, Reply};
 use std::alloc::Global;
+use std::process::Abort;
 use std::test::Fail;
 
 // An opened store of this geometry.
@@ -19,21 +20,32 @@ fn is_found<F: Drop>(reply: &Reply<F>, value: &[u8]) -> bool {
     matches!(reply, Reply::Found(found) if found.as_slice() == value)
 }
 
+// Puts and flushes this value, and gets it by an event.
+fn finds(rt: &impl Abort, alloc: Global, core: &mut Core<MemDisk>, value: &[u8]) {
+    assert_eq!(rt; core.geometry().value_len(), 4096);
+    assert_eq!(rt; value.len(), 4096);
+    assert_eq!(rt; core.put(alloc, &key(1), value).ok(), Some(1));
+    assert_eq!(rt; core.flush().ok(), Some(1));
+    let reply = core.answer(alloc, &Event::Get(key(1)));
+    assert!(rt; is_found(&reply, value));
+}
+
+// Whether the list of all entries has this value.
+fn lists(alloc: Global, core: &Core<MemDisk>, value: &[u8]) -> bool {
+    match core.entries(alloc) {
+        Ok(entries) => entries.get(&key(1)).map(Value::as_slice) == Some(value),
+        Err(_) => false,
+    }
+}
+
 // The longest values, put, flushed, and found by a get of events and by a list of all entries.
 #[test]
 fn finds_the_longest_values(rt: HostRuntime) -> Result<(), Fail> {
     let alloc = rt.alloc();
     let geometry = Geometry::new(4096, 2, 4, 2, 2, 8).ok().ok_or("in limits")?;
     let mut core = opened(alloc, geometry)?;
-    assert_eq!(rt; core.geometry().value_len(), 4096);
     let value = [7; 4096];
-    assert_eq!(rt; core.put(alloc, &key(1), &value).ok(), Some(1));
-    assert_eq!(rt; core.flush().ok(), Some(1));
-    assert!(rt; is_found(&core.answer(alloc, &Event::Get(key(1))), &value));
-    let entries = core.entries(alloc).ok().ok_or("has entries")?;
-    assert_eq!(rt;
-        entries.get(&key(1)).map(Value::as_slice),
-        Some(value.as_slice())
-    );
+    finds(&rt, alloc, &mut core, &value);
+    assert!(rt; lists(alloc, &core, &value));
     Ok(())
 }
