@@ -24,4 +24,3 @@ pub use empty_store::format;
 pub use fault::{FormatError, FormatFault, OpenError, OpenFault};
 pub use recovery::{Opened, open};
 pub use report::check;
-
