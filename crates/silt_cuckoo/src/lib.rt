@@ -14,9 +14,6 @@ mod keys;
 mod laws;
 mod lookup;
 mod slot;
-#[cfg(test)]
-mod tests;
-
 pub use cuckoo::Table;
 pub use displacement::Path;
 pub use keys::key_buckets;

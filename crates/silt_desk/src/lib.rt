@@ -19,8 +19,6 @@ mod kept;
 mod laws;
 mod seat;
 mod shared;
-#[cfg(test)]
-mod tests;
 mod trace;
 mod wakes;
 mod worker;

@@ -11,6 +11,3 @@ mod writer;
 pub use laws::{gamma_law, prefix_law};
 pub use reader::BitReader;
 pub use writer::BitWriter;
-
-#[cfg(test)]
-mod tests;

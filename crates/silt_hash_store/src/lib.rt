@@ -28,6 +28,3 @@ pub use laws::{
 pub use rebuild::{RebuildError, Rebuilt};
 pub use region::row_in;
 pub use silt_log_store::Found;
-
-#[cfg(test)]
-mod tests;

@@ -12,9 +12,6 @@
 mod damage;
 mod header;
 mod laws;
-#[cfg(test)]
-mod tests;
-
 pub use damage::finding_of;
 pub use header::read_header;
 pub use laws::{

@@ -13,9 +13,6 @@ mod inbox;
 mod letters;
 mod places;
 mod queue;
-#[cfg(test)]
-mod tests;
-
 pub use answered::{Answered, EventKind, answered_law};
 pub use inbox::Inbox;
 pub use letters::{MissingFeeders, NotPut, NotPutReason};

@@ -13,6 +13,3 @@ mod scan;
 
 pub use log::Log;
 pub use scan::ScanError;
-
-#[cfg(test)]
-mod tests;

@@ -22,6 +22,3 @@ pub use laws::{entry_law, log_sound_law};
 pub use log_store::{Found, LogStore};
 pub use placement::Placing;
 pub use rebuild::RebuildError;
-
-#[cfg(test)]
-mod tests;

@@ -29,6 +29,3 @@ pub use manifest::{
     Manifest, closed_slots_do_not_count, other_regions_do_not_count, read_current, write_first,
 };
 pub use slot::{Damage, ReadFault};
-
-#[cfg(test)]
-mod tests;

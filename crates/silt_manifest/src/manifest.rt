@@ -189,17 +189,6 @@ impl Manifest {
     }
 }
 
-#[cfg(test)]
-impl Manifest {
-    // Whether a body may be the next one: it has the next generation, and is well formed in the slot that does not rule.
-    pub(crate) fn is_next(&self, next: &Body) -> bool
-        ensures { IsTrue result ↔ IsNext self.now next.now }
-    {
-        next.generation == self.ruling.generation + 1
-            && next.is_well_formed(&self.geometry, self.spare_slot())
-    }
-}
-
 /// Writes the body of generation 0 into slot 0, with its gate: closes the gate, writes the body, opens the gate, each with a sync.
 /// After Ok it rules in whatever a stop may leave, since the gate of slot 1 is closed. The zero always goes to the gate: on a
 /// device that is being formatted the header's gate is closed, and no slot counts.

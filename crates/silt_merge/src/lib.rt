@@ -25,6 +25,3 @@ pub use laws::{
     sound_stores_law,
 };
 pub use merge::{Merge, StepError};
-
-#[cfg(test)]
-mod tests;

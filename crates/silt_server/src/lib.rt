@@ -19,8 +19,6 @@ mod job;
 mod outlet;
 mod places;
 mod serve;
-#[cfg(test)]
-mod tests;
 mod threads;
 mod work;
 mod written;
@@ -28,5 +26,5 @@ mod written;
 pub use batch::serve_batch;
 pub use entrance::Listens;
 pub use job::{Job, Request};
-pub use serve::{refuse_network, serve_on};
+pub use serve::{Hall, refuse_network, serve_desk, serve_on};
 pub use work::{Jobs, writer};

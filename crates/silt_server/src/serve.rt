@@ -214,9 +214,9 @@ fn serve_traced<
     }
 }
 
-// All that stands between the connections and the desk.
+/// All that stands between the connections and the desk: the writer and the workers, the inbox of their jobs, and a place for each session.
 #[derive(Drop)]
-pub(crate) struct Hall<N: Naming, P: Post> {
+pub struct Hall<N: Naming, P: Post> {
     crew: Crew<N>,
     inbox: Inbox<Job, P>,
     places: Vec<Mutex<Place<P>>>,
@@ -224,7 +224,7 @@ pub(crate) struct Hall<N: Naming, P: Post> {
 }
 
 impl<N: Naming, P: Post> Hall<N, P> {
-    // With the workers on these seats. None where memory is wanted.
+    /// With the writer and the workers on these seats, and the inbox's ledgers of these blanks. None where memory is wanted.
     pub fn new(alloc: Global, seats: Vec<Seat<N>>, put: Blank, taken: Blank) -> Option<Hall<N, P>>
         requires put { (put.name ≡ P.put_name) × (put.parts ≡ P.feeders) × (P.feeders ≡ 64) }
         requires taken { (taken.name ≡ P.taken_name) × (taken.parts ≡ 1) }
@@ -241,8 +241,9 @@ impl<N: Naming, P: Post> Hall<N, P> {
     }
 }
 
-// Serves the store of a desk, and gives it back with the status.
-pub(crate) fn serve_desk<
+/// Serves the store of a desk to the listener's connections, so many sessions or without end where that is 0, and gives the desk back with the status: its
+/// trace has every call that a session made.
+pub fn serve_desk<
     L: Listens,
     D: Disk,
     T: Trace + Send + Sync,

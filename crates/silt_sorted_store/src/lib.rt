@@ -16,6 +16,3 @@ pub use rebuild::RebuildError;
 pub use region::SortedRegion;
 pub use sorted_entries::SortedEntries;
 pub use sorted_store::SortedStore;
-
-#[cfg(test)]
-mod tests;

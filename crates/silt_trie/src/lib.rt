@@ -35,6 +35,3 @@ pub use marked_trie::{MarkedTrie, levels_for, locate_between};
 pub use marks::{MOST_LEVELS, Mark, groups_law, mark_law};
 pub use trie::Trie;
 pub use trie_builder::MarkedTrieBuilder;
-
-#[cfg(test)]
-mod tests;

@@ -9,8 +9,6 @@
 
 mod command;
 mod job;
-#[cfg(test)]
-mod tests;
 mod words;
 
 pub use job::{Job, Numbers, Service, WordsError};
