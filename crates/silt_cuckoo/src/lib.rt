@@ -14,6 +14,7 @@ mod keys;
 mod laws;
 mod lookup;
 mod slot;
+
 pub use cuckoo::Table;
 pub use displacement::Path;
 pub use keys::key_buckets;

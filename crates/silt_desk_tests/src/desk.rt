@@ -10,7 +10,7 @@ mod memory;
 mod sessions;
 mod steps;
 
-use crate::{Desk, Gate, Naming, Seat, Spot, Trace};
+use silt_desk::{Desk, Gate, Naming, Seat, Spot, Trace};
 use silt_device::{Disk, Geometry, MemDisk};
 use silt_event::Refusal;
 use silt_frame::Key;

@@ -3,7 +3,7 @@ ghost use Rattle.std.specs.Prelude.{◌≡◌, IfSome, true};
 ghost use Rattle.silt_inbox.specs.Answers.{is_allowed};
 ghost use Rattle.silt_inbox.specs.declared.answered.EventKind.TheVariants as kind;
 
-use crate::{Answered, EventKind, Feeder, Inbox, NotPutReason, Post, Queue, Taker};
+use silt_inbox::{Answered, EventKind, Feeder, Inbox, NotPutReason, Post, Queue, Taker};
 use crossbeam_channel::{Receiver, Sender};
 use silt_event::{Event, Reply};
 use silt_frame::Key;

@@ -9,7 +9,7 @@ mod looks;
 mod network;
 mod record;
 
-use crate::{Listens, serve_on};
+use silt_server::{Listens, serve_on};
 use silt_desk::{Gate, Spot};
 use silt_device::{Disk, Geometry, MemDisk};
 use silt_recovery::format;

@@ -12,6 +12,7 @@
 mod damage;
 mod header;
 mod laws;
+
 pub use damage::finding_of;
 pub use header::read_header;
 pub use laws::{

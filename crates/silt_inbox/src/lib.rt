@@ -13,6 +13,7 @@ mod inbox;
 mod letters;
 mod places;
 mod queue;
+
 pub use answered::{Answered, EventKind, answered_law};
 pub use inbox::Inbox;
 pub use letters::{MissingFeeders, NotPut, NotPutReason};

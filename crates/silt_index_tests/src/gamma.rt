@@ -1,5 +1,5 @@
 //! The standard's examples of codes, and readings that no code fits.
-use crate::{BitReader, BitWriter};
+use silt_gamma::{BitReader, BitWriter};
 use std::test::Fail;
 
 /// The codes of 1, 2, 3, 4, 5 and 8 one after another: `1 010 011 00100 00101 0001000`.

@@ -3,7 +3,7 @@ ghost use Rattle.std.specs.Prelude.{◌↔◌, IsTrue};
 ghost use Rattle.silt_trie.specs.Code.{IsCodable};
 ghost use Rattle.silt_trie.specs.Coded.{bytes_of};
 
-use crate::{MarkedTrie, MarkedTrieBuilder, Trie, follows, levels_for, locate_in, write_code};
+use silt_trie::{MarkedTrie, MarkedTrieBuilder, Trie, follows, levels_for, locate_in, write_code};
 use sha1::Sha1;
 use silt_frame::Key;
 use silt_gamma::BitWriter;

@@ -2,7 +2,7 @@
 
 mod sessions;
 
-use crate::{LineFault, print_fault, print_reply, print_report};
+use silt_wire::{LineFault, print_fault, print_reply, print_report};
 use silt_event::{Place, Progress, Refusal, Reply, Report};
 use std::process::Abort;
 use std::test::Fail;

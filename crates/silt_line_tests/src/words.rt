@@ -1,6 +1,6 @@
 // Which command lines name a service, and which name no job: the definitions that the contract cites are clap's own, so these calls are tried.
 
-use crate::{Job, Service, WordsError, read_words};
+use silt_words::{Job, Service, WordsError, read_words};
 use std::process::Abort;
 use std::test::Fail;
 

@@ -14,6 +14,7 @@ mod reply;
 mod report;
 mod sessions;
 mod stop;
+
 pub use keys::key_of;
 pub use line::{LONGEST_LINE, LineFault, is_blank, parse_line, without_carriage_return};
 pub use line_buffer::{LineBuffer, Taken};

@@ -1,9 +1,9 @@
 // Commands are answered between two steps of a worker.
 ghost use Rattle.std.specs.Prelude.{◌≡◌};
 
-use crate::tests::history::two_seats;
-use crate::tests::{get, key, opened, put, reaches, small};
-use crate::{Gate, Kept, Naming, Seat, Shared, Spot, Wake, converter};
+use crate::desk::history::two_seats;
+use crate::desk::{get, key, opened, put, reaches, small};
+use silt_desk::{Gate, Kept, Naming, Seat, Shared, Spot, Wake, converter};
 use crossbeam_channel::{Receiver, Sender};
 use silt_device::Disk;
 use silt_event::Progress;

@@ -1,10 +1,10 @@
 // A worker whose step fails waits, as one that has nothing to do.
 ghost use Rattle.std.specs.Prelude.{◌≡◌};
 
-use crate::tests::converter::put_five;
-use crate::tests::history::two_seats;
-use crate::tests::{Open, get, key, opened, small};
-use crate::{Kept, Naming, Shared, Wake, converter, settle};
+use crate::desk::converter::put_five;
+use crate::desk::history::two_seats;
+use crate::desk::{Open, get, key, opened, small};
+use silt_desk::{Kept, Naming, Shared, Wake, converter, settle};
 use silt_device::{Call, Disk, FaultDisk};
 use silt_event::Refusal;
 use silt_store_set::Core;

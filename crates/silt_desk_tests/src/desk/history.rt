@@ -1,8 +1,8 @@
 // The row of two seats and three calls.
 ghost use Rattle.std.specs.Prelude.{◌≡◌};
 
-use crate::tests::{get, key, look, opened, put, small};
-use crate::{Desk, Kept, Naming, Seat, Shared, settle};
+use crate::desk::{get, key, look, opened, put, small};
+use silt_desk::{Desk, Kept, Naming, Seat, Shared, settle};
 use silt_device::Disk;
 use silt_event::Refusal;
 use silt_store_set::Core;

@@ -1,8 +1,8 @@
 // Each call at a desk, where no memory is found for its record.
 ghost use Rattle.std.specs.Prelude.{◌≡◌};
 
-use crate::tests::{get, key, look, opened, put, small};
-use crate::{Count, Desk, Kept, Naming, NotPrepared, Note, Seat, Trace};
+use crate::desk::{get, key, look, opened, put, small};
+use silt_desk::{Count, Desk, Kept, Naming, NotPrepared, Note, Seat, Trace};
 use silt_device::Disk;
 use silt_event::Refusal;
 use silt_store_set::Core;

@@ -1,10 +1,10 @@
 // Two looks are made side by side: with a lock that lets one in at a time they are not, and that is seen.
 ghost use Rattle.std.specs.Prelude.{◌≡◌};
 
-use crate::tests::converter::join_over;
-use crate::tests::history::two_seats;
-use crate::tests::{key, look, opened, put, small};
-use crate::{Kept, Naming, Shared};
+use crate::desk::converter::join_over;
+use crate::desk::history::two_seats;
+use crate::desk::{key, look, opened, put, small};
+use silt_desk::{Kept, Naming, Shared};
 use silt_device::Disk;
 use silt_store_set::Core;
 use std::alloc::Global;

@@ -5,8 +5,8 @@ ghost use Rattle.std.specs.Prelude.{◌≡◌, [], IfSome};
 ghost use Rattle.silt_desk.specs.Seeing.{seen};
 ghost use Rattle.silt_desk.specs.Traces.{IsHistory};
 
-use crate::tests::{get, key, look, opened, put, small};
-use crate::{Desk, Kept, Naming, NotMade, Seat};
+use crate::desk::{get, key, look, opened, put, small};
+use silt_desk::{Desk, Kept, Naming, NotMade, Seat};
 use silt_device::Disk;
 use silt_event::{Progress, Refusal};
 use silt_store_set::Core;

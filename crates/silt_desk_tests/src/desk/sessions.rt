@@ -1,9 +1,9 @@
 // Four threads call at once beside both workers, and what they recorded is done again by a plain map.
 ghost use Rattle.std.specs.Prelude.{◌≡◌};
 
-use crate::tests::converter::join_over;
-use crate::tests::{Open, formatted, get, opened, put};
-use crate::{Desk, Kept, Naming, RecordedCall, Seat, Shared, Wake, converter, merger, settle};
+use crate::desk::converter::join_over;
+use crate::desk::{Open, formatted, get, opened, put};
+use silt_desk::{Desk, Kept, Naming, RecordedCall, Seat, Shared, Wake, converter, merger, settle};
 use crossbeam_channel::{Receiver, Sender};
 use silt_device::{Disk, Geometry};
 use silt_event::{Event, Reply};

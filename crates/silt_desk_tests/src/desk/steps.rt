@@ -1,10 +1,10 @@
 // Workers do each step that the store wants, and record no other call.
 ghost use Rattle.std.specs.Prelude.{◌≡◌};
 
-use crate::tests::converter::put_five;
-use crate::tests::history::two_seats;
-use crate::tests::{Open, opened, small};
-use crate::{Kept, Naming, Seat, Shared, Wake, converter, merger, settle};
+use crate::desk::converter::put_five;
+use crate::desk::history::two_seats;
+use crate::desk::{Open, opened, small};
+use silt_desk::{Kept, Naming, Seat, Shared, Wake, converter, merger, settle};
 use silt_device::Disk;
 use silt_store_set::Core;
 use std::alloc::Global;

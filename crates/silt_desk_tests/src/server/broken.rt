@@ -1,6 +1,6 @@
 // Clients that send what is no line, do not end what they begin, or reset their connection: the next one is served.
 
-use crate::tests::{Open, ask, ask_line, connected, serve_beside, small};
+use crate::server::{Open, ask, ask_line, connected, serve_beside, small};
 use std::alloc::Global;
 use std::io::{self, Write};
 use std::net::{Net, SocketAddr, TcpStream};

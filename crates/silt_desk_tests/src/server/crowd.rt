@@ -1,6 +1,6 @@
 // As many sessions as there may be, and one more; and as many that say nothing.
 
-use crate::tests::{Open, ask_line, connected, serve_beside, small};
+use crate::server::{Open, ask_line, connected, serve_beside, small};
 use std::alloc::Global;
 use std::net::{Net, SocketAddr, TcpStream};
 use std::test::Fail;

@@ -1,6 +1,6 @@
 // Clients are answered between two steps of the converter.
 
-use crate::tests::{ask_line, connected, reaches, serve_beside, small};
+use crate::server::{ask_line, connected, reaches, serve_beside, small};
 use silt_desk::{Gate, Spot};
 use silt_device::Disk;
 use std::alloc::Global;

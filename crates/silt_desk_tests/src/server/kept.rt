@@ -3,10 +3,10 @@ ghost use Rattle.std.specs.Prelude.{◌≡◌, []};
 ghost use Rattle.silt_desk.specs.Seeing.{seen};
 ghost use Rattle.silt_desk.specs.Traces.{IsHistory};
 
-use crate::Listens;
-use crate::serve::{Hall, serve_desk};
-use crate::tests::record::{Found, ask_all};
-use crate::tests::{Open, Patient, formatted};
+use silt_server::Listens;
+use silt_server::serve::{Hall, serve_desk};
+use crate::server::record::{Found, ask_all};
+use crate::server::{Open, Patient, formatted};
 use silt_desk::{Desk, Kept, Naming, RecordedCall};
 use silt_device::{Disk, Geometry, MemDisk};
 use silt_event::{Event, Reply};

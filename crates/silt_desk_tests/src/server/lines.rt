@@ -1,6 +1,6 @@
 // A client that asks line by line, and what it is answered.
 
-use crate::tests::{Open, ask, serve_beside, small};
+use crate::server::{Open, ask, serve_beside, small};
 use silt_device::{Fill, MemDisk, Stop};
 use silt_recovery::check;
 use std::alloc::Global;

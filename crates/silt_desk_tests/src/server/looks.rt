@@ -1,6 +1,6 @@
 // Gets of two sessions are looked up side by side.
 
-use crate::tests::{ask_line, connected, reaches, read_line, serve_beside, small};
+use crate::server::{ask_line, connected, reaches, read_line, serve_beside, small};
 use silt_desk::{Gate, Spot};
 use silt_device::Disk;
 use std::alloc::Global;

@@ -1,7 +1,7 @@
 // A network that fails: before the port is known, when a connection is waited for, and where there is none.
 
-use crate::tests::{Open, small};
-use crate::{Listens, refuse_network, serve_on};
+use crate::server::{Open, small};
+use silt_server::{Listens, refuse_network, serve_on};
 use silt_device::{Disk, MemDisk};
 use silt_recovery::check;
 use silt_store_set::Core;

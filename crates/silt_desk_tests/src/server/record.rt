@@ -1,7 +1,7 @@
 // Sixty-four sessions at once: each is answered as by a plain map of its own, all calls are recorded, and what was acknowledged is
 // found again.
 
-use crate::tests::{Open, connected, formatted, read_line, serve_beside};
+use crate::server::{Open, connected, formatted, read_line, serve_beside};
 use silt_device::{Disk, Geometry};
 use silt_store_set::Core;
 use std::alloc::Global;

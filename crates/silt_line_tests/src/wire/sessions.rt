@@ -3,7 +3,7 @@ ghost use Rattle.std.specs.Prelude.{◌≡◌, ℕ};
 ghost use Rattle.silt_event.specs.declared.event.Event.{Event as EventOf};
 ghost use Rattle.silt_event.specs.Events.{PlainReply};
 
-use crate::sessions::{SessionEnd, session};
+use silt_wire::sessions::{SessionEnd, session};
 use silt_event::{Answerer, Event, Refusal, Reply};
 use silt_frame::Value;
 use std::alloc::{AllocError, Global};

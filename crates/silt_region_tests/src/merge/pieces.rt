@@ -5,7 +5,7 @@ ghost use Rattle.silt_device.specs.Layout.{device_size};
 ghost use Rattle.silt_device.specs.Memory.{memory_content};
 
 use super::*;
-use crate::piece::Piece;
+use silt_merge::piece::Piece;
 
 // The first byte of the key and the last byte of the value of a piece's first entry, none where it has no part.
 fn first(piece: &Piece) -> Option<(u8, u8)>

@@ -1,7 +1,7 @@
 use Rattle.std.proofs.Common.{refl, arith}
 use lib.Count.{ones}
 use Rattle.silt_cuckoo.proofs.Places.{empty_below}
-use Rattle.silt_cuckoo.proofs.tests.fills_most_of_a_table.Goals as goal
+use Rattle.silt_index_tests.proofs.cuckoo.fills_most_of_a_table.Goals as goal
 
 pub new-requires : goal.new-requires
 unfolding ones

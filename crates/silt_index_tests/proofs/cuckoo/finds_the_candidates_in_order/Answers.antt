@@ -1,6 +1,6 @@
 use Rattle.std.proofs.Common.{refl, arith}
 use lib.Count.{ones}
-use Rattle.silt_cuckoo.proofs.tests.finds_the_candidates_in_order.Goals as goal
+use Rattle.silt_index_tests.proofs.cuckoo.finds_the_candidates_in_order.Goals as goal
 
 pub new-requires : goal.new-requires
 unfolding ones

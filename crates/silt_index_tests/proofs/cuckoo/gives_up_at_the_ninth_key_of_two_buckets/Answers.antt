@@ -1,6 +1,6 @@
 use Rattle.std.proofs.Common.{refl, arith}
 use lib.Count.{ones}
-use Rattle.silt_cuckoo.proofs.tests.gives_up_at_the_ninth_key_of_two_buckets.Goals as goal
+use Rattle.silt_index_tests.proofs.cuckoo.gives_up_at_the_ninth_key_of_two_buckets.Goals as goal
 
 pub new-requires : goal.new-requires
 unfolding ones

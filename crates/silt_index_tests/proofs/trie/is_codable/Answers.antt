@@ -1,7 +1,7 @@
 use Rattle.std.proofs.Common.{◌≡◌, ◌+◌, ◌-◌, [], sym, ◌∙◌, arith, inl, inr}
 use Rattle.std.proofs.lemmas.Bool.{cases_lt, false≢true}
 use Rattle.silt_trie.proofs.Codes.{at_follows, follows_at}
-use Rattle.silt_trie.proofs.tests.is_codable.Goals as goal
+use Rattle.silt_index_tests.proofs.trie.is_codable.Goals as goal
 
 pub returns-then-not-follows : goal.returns-then-not-follows
 returns-then-not-follows c = (

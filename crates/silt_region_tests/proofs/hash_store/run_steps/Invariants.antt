@@ -1,6 +1,6 @@
 use Rattle.std.proofs.Common.{◌≡◌, ◌≤◌}
 use Rattle.silt_device.specs.Disk.{size}
-use Rattle.silt_hash_store.proofs.tests.run_steps.Given as goal
+use Rattle.silt_region_tests.proofs.hash_store.run_steps.Given as goal
 
 abbrev pub invariant-loop-step : goal.invariant-loop-step
 invariant-loop-step g l = record {

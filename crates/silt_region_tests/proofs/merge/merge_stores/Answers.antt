@@ -5,7 +5,7 @@ use Rattle.std.proofs.lemmas.List.Elements.{All-nil, All-cons}
 use Rattle.std.proofs.lemmas.Option.{none-some, same_Some}
 use Rattle.silt_hash_store.specs.State.{HashState}
 use Rattle.silt_merge.specs.State.{MergeState, oldest_stores}
-use Rattle.silt_merge.proofs.tests.merge_stores.Goals as goal
+use Rattle.silt_region_tests.proofs.merge.merge_stores.Goals as goal
 
 -- what holds of a value that a result has
 of_ok : {T E : Type 0} (P : T → Type 0) (result : Result T E) (ok : Option T) (value : T) → ok ≡ result_ok result → ok ≡ Some value → IfOk result P → P value

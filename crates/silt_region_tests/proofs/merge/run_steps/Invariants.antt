@@ -1,7 +1,7 @@
 use Rattle.std.proofs.Common.{◌≡◌, ◌≤◌}
 use Rattle.silt_device.specs.Disk.{size}
 use Rattle.silt_merge.specs.Merging.{IsSameMerge}
-use Rattle.silt_merge.proofs.tests.run_steps.Given as goal
+use Rattle.silt_region_tests.proofs.merge.run_steps.Given as goal
 
 abbrev pub invariant-loop-step : goal.invariant-loop-step
 invariant-loop-step g l = record {

@@ -1,0 +1,11 @@
+//! Tests of the desk, the inbox and the server: what many threads see.
+//!
+//! What no clause says stands here, seen from outside through the public calls.
+#![tactic(auto)]
+
+#[cfg(test)]
+mod desk;
+#[cfg(test)]
+mod inbox;
+#[cfg(test)]
+mod server;

@@ -1,0 +1,11 @@
+//! Tests of the tables and codes that an index is made of: partial-key cuckoo tables, gamma codes and coded tries.
+//!
+//! What no clause says stands here, seen from outside through the public calls.
+#![tactic(auto)]
+
+#[cfg(test)]
+mod cuckoo;
+#[cfg(test)]
+mod gamma;
+#[cfg(test)]
+mod trie;

@@ -1,0 +1,19 @@
+//! Tests of the regions of a device: logs, hash stores, sorted stores, the manifest, the header, and merging.
+//!
+//! What no clause says stands here, seen from outside through the public calls.
+#![tactic(auto)]
+
+#[cfg(test)]
+mod hash_store;
+#[cfg(test)]
+mod image;
+#[cfg(test)]
+mod log;
+#[cfg(test)]
+mod log_store;
+#[cfg(test)]
+mod manifest;
+#[cfg(test)]
+mod merge;
+#[cfg(test)]
+mod sorted_store;
