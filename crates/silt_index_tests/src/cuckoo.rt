@@ -1,13 +1,13 @@
-//! Worked examples.
+//! Worked examples of partial-key cuckoo tables.
 
 ghost use Rattle.std.specs.Prelude.{◌≡◌, ◌+◌, ◌<◌, ◌≤◌, length};
 ghost use Rattle.silt_cuckoo.specs.Slots.{PlacesBelow, bucket_count};
 
-use super::*;
+use silt_cuckoo::{Candidate, Table, key_buckets};
 use std::test::Fail;
 
 /// Places a new entry, where the rule finds a path for it.
-#[tactic(auto, using(crate::proofs::Places::above_not_held, crate::proofs::Places::placed_below))]
+#[tactic(auto, using(silt_cuckoo::proofs::Places::above_not_held, silt_cuckoo::proofs::Places::placed_below))]
 fn put(table: &mut Table, first: u32, second: u32, place: u32) -> bool
     requires first_there { first < bucket_count table.old }
     requires second_there { second < bucket_count table.old }

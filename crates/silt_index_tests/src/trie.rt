@@ -3,10 +3,10 @@ ghost use Rattle.std.specs.Prelude.{◌↔◌, IsTrue};
 ghost use Rattle.silt_trie.specs.Code.{IsCodable};
 ghost use Rattle.silt_trie.specs.Coded.{bytes_of};
 
-use silt_trie::{MarkedTrie, MarkedTrieBuilder, Trie, follows, levels_for, locate_in, write_code};
 use sha1::Sha1;
 use silt_frame::Key;
 use silt_gamma::BitWriter;
+use silt_trie::{MarkedTrie, MarkedTrieBuilder, Trie, follows, levels_for, locate_in, write_code};
 use std::alloc::{AllocError, Global};
 use std::process::Abort;
 use std::test::Fail;

@@ -2,8 +2,8 @@
 
 mod sessions;
 
-use silt_wire::{LineFault, print_fault, print_reply, print_report};
 use silt_event::{Place, Progress, Refusal, Reply, Report};
+use silt_wire::{LineFault, print_fault, print_reply, print_report};
 use std::process::Abort;
 use std::test::Fail;
 

@@ -3,9 +3,9 @@ ghost use Rattle.std.specs.Prelude.{◌≡◌, ℕ};
 ghost use Rattle.silt_event.specs.declared.event.Event.{Event as EventOf};
 ghost use Rattle.silt_event.specs.Events.{PlainReply};
 
-use silt_wire::sessions::{SessionEnd, session};
 use silt_event::{Answerer, Event, Refusal, Reply};
 use silt_frame::Value;
+use silt_wire::{SessionEnd, session};
 use std::alloc::{AllocError, Global};
 use std::io::{self, Cursor, ErrorKind, Read, Write};
 use std::process::Abort;
