@@ -8,6 +8,7 @@ use Rattle.silt_event.specs.declared.refusal.Refusal.TheVariants.{BadGeometry, D
 use Rattle.silt_recovery.specs.Opening.{LeavesNoOther}
 use Rattle.silt_server.specs.Serving.{IsServed, ServesKept, TellsNotServed}
 use Rattle.silt_store_set.specs.CoreInvariant.{LeavesBegun}
+use Rattle.silt_store_set.specs.CoreState.{CoreState, Opens}
 use Rattle.silt_wire.specs.declared.sessions.SessionEnd.{SessionEnd}
 use Rattle.silt_wire.specs.declared.sessions.SessionEnd.TheVariants.{End}
 use Rattle.silt.specs.Damage.{HoldsStore}
@@ -45,9 +46,11 @@ abbrev pub EndsServe : {D : Type 0} → (D → Content) → Option ℕ → D →
 EndsServe content audit new before after = IsServed (content new) before after × IfSome audit (λ most. ServesKept content (λ port. Unit {0}) new before after)
 
 module _ {D F : Type 0} (content : D → Content) (gave : D → F → Type 0) where
-  -- it was written why the store on a disk was not taken up or not served to the end, and people were told why it was not taken up
+  -- it was written why the store on a disk was not taken up, and people were told; or why the store that was taken up was not served to the end
   abbrev pub TellsServe : (Refusal F → Type 0) → D → D → Option (List ℕ) → Option (List ℕ) → Type 0
-  TellsServe told old new before after = TellsOpening content gave told old new before after ⊎ TellsNotServed content gave (λ port. Unit {0}) new before after
+  TellsServe told old new before after =
+      TellsOpening content gave told old new before after
+      ⊎ ((core : CoreState D) × Opens content (content old) core × TellsNotServed gave (λ port. Unit {0}) core new before after)
 
   -- what a server gives back, however it ends: each image that a stop may leave might have been left before or stands for what was shown, or all
   -- stand for one map after a beginning of one list of commands

@@ -116,7 +116,7 @@ fn serve_store<
     notes: &mut N,
 ) -> (D, io::Result<u8>)
     ensures served { result.1 ≡ Ok 0 → EndsServe D.content service.now.audit result.0 (W.contents writer.old) (W.contents writer.new) }
-    ensures told { IfOk result.1 (IsStatus (TellsNotServed D.content (GaveAny D.gave) (λ port. Unit {0}) result.0 (W.contents writer.old) (W.contents writer.new))) }
+    ensures told { IfOk result.1 (IsStatus (TellsNotServed (GaveAny D.gave) (λ port. Unit {0}) core result.0 (W.contents writer.old) (W.contents writer.new))) }
     ensures left { (shape : Shape) × LeavesBegun (D.content result.0) shape }
     ensures quiet { result.1 ≡ Ok 0 → notes.new ≡ notes.old }
 {

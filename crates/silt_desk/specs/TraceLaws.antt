@@ -154,6 +154,7 @@ survives_on a c opening s t survives step =
     let waiting : List Command = survives.waiting in
     let was : IsTrue t.content.honest → IsTrue s.content.honest = λ h. subst IsTrue step.honest h in
     let opens : IsTrue t.content.honest → opening ≡ map_after base waiting = λ h. survives.opens (was h) in
+    let few : IsTrue t.content.honest → length waiting ≤ a.count = λ h. survives.few (was h) in
     let go : (b : Bool) → s.failed ≡ b → (d : Bool) → t.failed ≡ d → Survives (with_call a c) opening t = elim [
       | true ↦ λ failed d is.
           let stays = step.failed failed in
@@ -161,6 +162,7 @@ survives_on a c opening s t survives step =
             base = base;
             waiting = waiting;
             opens = opens;
+            few = few;
             settled = λ working. absurd (let no : false ≡ true = sym working ∙ ap (λ (x : SeenStore). x.failed) stays.0 ∙ failed in cc);
             left = record {
               each = λ h image left.
@@ -177,6 +179,7 @@ survives_on a c opening s t survives step =
               base = base;
               waiting = waiting;
               opens = opens;
+              few = few;
               settled = λ still h. settled h;
               left = record { each = λ h image left. keeps_settled (with_call a c) base waiting t image (settled h) ((step.safe goes).each h image left) };
             }
@@ -184,6 +187,7 @@ survives_on a c opening s t survives step =
           base = base;
           waiting = waiting;
           opens = opens;
+          few = few;
           settled = λ still. absurd (let no : false ≡ true = sym still ∙ fails in cc);
           left = record {
             each = λ h image left.
@@ -253,8 +257,9 @@ settles_none kept store none count = record {
 
 -- a history with no calls yet, of this store as it stands
 pub history_opens : (kept : Keeping) (store : SeenStore) → kept.calls ≡ [] → kept.count ≡ store.count → (IsTrue store.content.honest → ListsMap kept.opening store.map)
-    → (IsTrue store.content.honest → store.map ≡ map_after store.base store.waiting) → LeavesOnly store.content (StandsFor store.shape store.base) → IsHistory kept store
-history_opens kept store none count entries has_map safe = record {
+    → (IsTrue store.content.honest → store.map ≡ map_after store.base store.waiting) → (IsTrue store.content.honest → length store.waiting ≤ store.count)
+    → LeavesOnly store.content (StandsFor store.shape store.base) → IsHistory kept store
+history_opens kept store none count entries has_map few safe = record {
   map = store.map;
   entries = entries;
   replays = λ h. subst (λ calls. Replays kept.count store.map calls store.count store.map) (sym none) (sym count, refl);
@@ -262,6 +267,7 @@ history_opens kept store none count entries has_map safe = record {
     base = store.base;
     waiting = store.waiting;
     opens = has_map;
+    few = λ h. subst (λ (n : ℕ). length store.waiting ≤ n) (sym count) (few h);
     settled = λ working h. settles_none kept store none count;
     left = record { each = λ h image left. keeps_settled kept store.base store.waiting store image (settles_none kept store none count) (safe.each h image left) };
   };

@@ -46,11 +46,13 @@ pub record HasSettled (kept : Keeping) (base : Map) (waiting : List Command) (st
   pub counted : store.count ≡ kept.count + length (commands_of kept.calls)
   pub acknowledged : (settled : ℕ) → settled + length waiting ≡ kept.count → acknowledged_after settled (replies_of kept.calls) ≤ settled + length moved
 
--- Whatever a stop leaves of the store, failed or not, is told by the recorded calls: the opening map was a base with some commands waiting.
+-- Whatever a stop leaves of the store, failed or not, is told by the recorded calls: the opening map was a base with some commands waiting, no more than
+-- had been accepted.
 pub record Survives (kept : Keeping) (opening : Map) (store : SeenStore) : Type 0 where
   pub base : Map
   pub waiting : List Command
   pub opens : IsTrue store.content.honest → opening ≡ map_after base waiting
+  pub few : IsTrue store.content.honest → length waiting ≤ kept.count
   pub settled : store.failed ≡ false → IsTrue store.content.honest → HasSettled kept base waiting store
   pub left : LeavesOnly store.content (StandsRecorded kept store.shape base waiting)
 

@@ -63,15 +63,14 @@ BreaksServing has_port before after =
     ⊎ (Appends before after (codes "opened\n" ++ network_text)
     ⊎ ((port : ℕ) × has_port port × (Appends before after (head_text port ++ no_memory_text) ⊎ Appends before after (head_text port ++ network_text))))
 
-module _ {D F : Type 0} (content : D → Content) (gave : D → F → Type 0) where
-  -- it was written that the entries of the store on the disk could not be kept, for their cause
-  abbrev pub TellsEntries : D → Option (List ℕ) → Option (List ℕ) → Type 0
-  TellsEntries disk before after =
-      (core : CoreState D) × (core.disk ≡ disk) × ((refusal : Refusal F) × EntriesCause gave core refusal × Appends before after (refused_text refusal))
+module _ {D F : Type 0} (gave : D → F → Type 0) where
+  -- the disk is as this store had it, and it was written that the store's entries could not be kept, for their cause
+  abbrev pub TellsEntries : CoreState D → D → Option (List ℕ) → Option (List ℕ) → Type 0
+  TellsEntries core disk before after = (core.disk ≡ disk) × ((refusal : Refusal F) × EntriesCause gave core refusal × Appends before after (refused_text refusal))
 
-  -- it was written why the store is not served to the end
-  abbrev pub TellsNotServed : (ℕ → Type 0) → D → Option (List ℕ) → Option (List ℕ) → Type 0
-  TellsNotServed has_port disk before after = TellsEntries disk before after ⊎ BreaksServing has_port before after
+  -- it was written why this store is not served to the end
+  abbrev pub TellsNotServed : (ℕ → Type 0) → CoreState D → D → Option (List ℕ) → Option (List ℕ) → Type 0
+  TellsNotServed has_port core disk before after = TellsEntries core disk before after ⊎ BreaksServing has_port before after
 
 -- the status is 0, or 1 and this is so
 abbrev pub IsStatus : Type 0 → ℕ → Type 0

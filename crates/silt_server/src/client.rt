@@ -40,7 +40,8 @@ impl<F: Fn(Event) -> Option<Reply<()>> + Drop> Asking for AskBy<F> {
     }
 }
 
-/// Forwards each event and its reply. Where no reply comes back the session is lost: nothing more is asked, and its outlet is cut.
+/// Forwards each event and its reply. Where no reply comes back the session is lost: nothing more is asked, each event is given the one reply of a step
+/// that is not served, and the session's outlet is cut, so that none of these is sent.
 /// Contracts see how events are asked, and whether the session is lost.
 #[derive(Drop)]
 pub struct Client<'a, A: Asking> {
@@ -61,6 +62,8 @@ impl<'a, A: Asking> Model for Client<'a, A> {
 }
 
 impl<'a, A: Asking> Client<'a, A> {
+    ghost use Rattle.silt_event.specs.declared.reply.Reply.TheVariants.{NotServed};
+
     /// A client whose events are asked so, and whose values have so many bytes.
     pub fn new(value_len: usize, asking: A, cut: &'a AtomicU64) -> Client<'a, A>
         requires { A.can_ask asking }
@@ -76,6 +79,7 @@ impl<'a, A: Asking> Client<'a, A> {
 
     // No reply came back.
     fn lose(&mut self) -> Reply<()>
+        ensures reply { result ≡ NotServed }
         ensures lost { self.new.is_lost ≡ true }
         ensures same { (self.new.value_len ≡ self.old.value_len) × (self.new.asking ≡ self.old.asking) }
     {
@@ -87,10 +91,11 @@ impl<'a, A: Asking> Client<'a, A> {
 
 impl<A: Asking> Answerer for Client<'_, A> {
     ghost use Rattle.std.specs.Prelude.{◌≡◌, ◌⊎◌, true};
+    ghost use Rattle.silt_event.specs.declared.reply.Reply.TheVariants.{NotServed};
 
     ghost value_len = { λ client. client.value_len };
 
-    ghost answers = { λ old new event reply. (new.is_lost ≡ true) ⊎ A.gives old.asking event reply };
+    ghost answers = { λ old new event reply. ((new.is_lost ≡ true) × (reply ≡ NotServed)) ⊎ A.gives old.asking event reply };
 
     fn answer(&mut self, _alloc: Global, event: Event) -> Reply<()> {
         if self.is_lost {

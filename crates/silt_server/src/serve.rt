@@ -57,7 +57,7 @@ pub fn serve_on<L: Listens, D: Disk, G: Gate + Sync, R: Threads + Wait + Sync, W
 ) -> (D, io::Result<u8>)
     ensures served { result.1 ≡ Ok 0 → ServesAt (L.has_port listener.now) (D.content result.0) (W.contents out.old) (W.contents out.new) }
     ensures kept { result.1 ≡ Ok 0 → IfSome audit (λ _. ServesKept D.content (L.has_port listener.now) result.0 (W.contents out.old) (W.contents out.new)) }
-    ensures told { IfOk result.1 (IsStatus (TellsNotServed D.content (GaveAny D.gave) (L.has_port listener.now) result.0 (W.contents out.old) (W.contents out.new))) }
+    ensures told { IfOk result.1 (IsStatus (TellsNotServed (GaveAny D.gave) (L.has_port listener.now) core result.0 (W.contents out.old) (W.contents out.new))) }
     ensures left { (shape : Shape) × LeavesBegun (D.content result.0) shape }
 {
     match audit {
@@ -120,7 +120,7 @@ fn serve_kept<L: Listens, D: Disk, G: Gate + Sync, R: Threads + Wait + Sync, W: 
 ) -> (D, io::Result<u8>)
     ensures served { result.1 ≡ Ok 0 → ServesAt (L.has_port listener.now) (D.content result.0) (W.contents out.old) (W.contents out.new) }
     ensures kept { result.1 ≡ Ok 0 → ServesKept D.content (L.has_port listener.now) result.0 (W.contents out.old) (W.contents out.new) }
-    ensures told { IfOk result.1 (IsStatus (TellsNotServed D.content (GaveAny D.gave) (L.has_port listener.now) result.0 (W.contents out.old) (W.contents out.new))) }
+    ensures told { IfOk result.1 (IsStatus (TellsNotServed (GaveAny D.gave) (L.has_port listener.now) core result.0 (W.contents out.old) (W.contents out.new))) }
     ensures left { (shape : Shape) × LeavesBegun (D.content result.0) shape }
 {
     match Kept::new(alloc, &core, most) {

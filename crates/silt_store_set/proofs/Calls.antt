@@ -1,5 +1,5 @@
 -- What the calls of a store do, from what the calls of its stores in memory do.
-use Rattle.std.proofs.Common.{◌≡◌, ℕ, ◌+◌, ◌%◌, ◌^◌, Bool, true, false, IsTrue, List, [], ◌++◌, refl, ap, sym, ◌∙◌, subst}
+use Rattle.std.proofs.Common.{◌≡◌, ◌≤◌, ◌<◌, ℕ, ◌+◌, ◌%◌, ◌^◌, Bool, true, false, IsTrue, List, [], ◌++◌, length, refl, ap, sym, ◌∙◌, subst, arith, length-append}
 use Rattle.silt_device.specs.Disk.{Content, LeavesOnly}
 use Rattle.silt_device.specs.Layout.{device_size}
 use Rattle.silt_event.specs.Commands.{Command, Map, map_after}
@@ -65,6 +65,12 @@ map_seen {D} content disk stores count failed core is holds =
     subst (λ (c : CoreState D). c.failed ≡ false → IsTrue (content c.disk).honest → map_of c ≡ map_after c.base c.waiting) is
     (λ working. (stands_seen content disk stores count failed (holds.stands working)).has_map)
 
+-- and no more commands wait than were accepted
+pub few_seen : {D : Type 0} (content : D → Content) (disk : D) (stores : TiersState) (count : ℕ) (failed : Bool) (core : CoreState D) → seen content disk stores count failed ≡ core
+    → IsCore (content disk) stores count failed → core.failed ≡ false → IsTrue (content core.disk).honest → length core.waiting ≤ core.count
+few_seen {D} content disk stores count failed core is holds =
+    subst (λ (c : CoreState D). c.failed ≡ false → IsTrue (content c.disk).honest → length c.waiting ≤ c.count) is holds.few
+
 -- each image stands for the base after a beginning of what waits, where the store is failed and where it is not
 pub left_seen : {D : Type 0} (content : D → Content) (disk : D) (stores : TiersState) (count : ℕ) (failed : Bool) → IsCore (content disk) stores count failed → LeavesBegun (content disk) stores.manifest.shape
 left_seen content disk stores count failed holds =
@@ -91,7 +97,30 @@ core_broke old new stores after count failed holds same shape breaks = record {
   has_size = same.size ∙ holds.has_size ∙ ap device_size (sym shape);
   count_most = holds.count_most;
   stands = λ f. absurd (cc);
+  few = λ f. absurd (cc);
   left = λ _. subst (LeavesBegun new) (sym shape) (record { base = base_map old stores; waiting = waiting_commands old stores; begun = breaks });
+}
+
+-- what is true of a store after a call that was answered, by which these commands were accepted
+pub core_went : (adds : List Command) (old new : Content) (stores after : TiersState) (count next : ℕ) (failed : Bool) → IsCore old stores count failed → failed ≡ false → SameDisk old new
+    → Advances adds old new stores after → next ≡ count + length adds → next < 2 ^ 63 → IsCore new after next failed
+core_went adds old new stores after count next failed holds working same goes is most = record {
+  has_size = same.size ∙ holds.has_size ∙ ap device_size (sym goes.shape);
+  count_most = most;
+  stands = λ _. goes.stands;
+  few = λ _ h.
+      let there : IsTrue old.honest = sym same.honest ∙ h in
+      let moves = goes.moves there in
+      let long : length (moves.moved ++ waiting_commands new after) ≡ length (waiting_commands old stores ++ adds) = ap length moves.rest in
+      omega (
+        arith,
+        long,
+        length-append moves.moved (waiting_commands new after),
+        length-append (waiting_commands old stores) adds,
+        holds.few working there,
+        is,
+      );
+  left = λ f. absurd (let no : false ≡ true = sym working ∙ f in cc);
 }
 
 -- ---- calls that change nothing

@@ -1,12 +1,12 @@
 -- What is true of each store.
-use Rattle.std.specs.Prelude.{◌≡◌, ◌<◌, ◌^◌, ℕ, Bool, true, false, List}
+use Rattle.std.specs.Prelude.{◌≡◌, ◌<◌, ◌≤◌, ◌^◌, ℕ, Bool, true, false, IsTrue, List, length}
 use Rattle.silt_device.specs.Disk.{Content, LeavesOnly, size}
 use Rattle.silt_device.specs.Layout.{Shape, device_size}
 use Rattle.silt_event.specs.Commands.{Command, Map}
 use Rattle.silt_device.specs.Header.{shape_of}
 use Rattle.silt_image.specs.Meaning.{image_map, IsGood}
 use Rattle.silt_tiers.specs.Calls.{HasBegun}
-use Rattle.silt_tiers.specs.Standing.{Stands}
+use Rattle.silt_tiers.specs.Standing.{Stands, waiting_commands}
 use Rattle.silt_tiers.specs.State.{TiersState}
 
 -- There are a map and a list of commands such that each image that a stop may leave stands for the map after a beginning of the list.
@@ -15,11 +15,13 @@ pub record LeavesBegun (content : Content) (shape : Shape) : Type 0 where
   pub waiting : List Command
   pub begun : LeavesOnly content (HasBegun shape base waiting)
 
--- What is true of each store: as long as it is not failed, what it holds in memory fits its disk. Once it is failed it knows what a stop may leave.
+-- What is true of each store: as long as it is not failed, what it holds in memory fits its disk, and no more commands wait than it accepted. Once it is failed
+-- it knows what a stop may leave.
 pub record IsCore (content : Content) (stores : TiersState) (count : ℕ) (failed : Bool) : Type 0 where
   pub has_size : size content ≡ device_size stores.manifest.shape
   pub count_most : count < 2 ^ 63
   pub stands : failed ≡ false → Stands content stores
+  pub few : failed ≡ false → IsTrue content.honest → length (waiting_commands content stores) ≤ count
   pub left : failed ≡ true → LeavesBegun content stores.manifest.shape
 
 -- a good image, with values of this length, stands for this map

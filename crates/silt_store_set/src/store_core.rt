@@ -123,11 +123,12 @@ impl<D: Disk> Core<D> {
     }
 
     /// Says what is true of the store at every moment, and does nothing: each image that a stop may leave of its device stands for the
-    /// base, and gets answer from the base after the commands that wait; or, where the store is failed, each image stands for one map
-    /// after a beginning of one list of commands.
+    /// base, gets answer from the base after the commands that wait, and no more wait than this life has accepted; or, where the store is
+    /// failed, each image stands for one map after a beginning of one list of commands.
     pub fn standing(&self)
         ensures safe { self.now.failed ≡ false → LeavesOnly (D.content self.now.disk) (StandsFor self.now.shape self.now.base) }
         ensures has_map { self.now.failed ≡ false → IsTrue (D.content self.now.disk).honest → map_of self.now ≡ map_after self.now.base self.now.waiting }
+        ensures few { self.now.failed ≡ false → IsTrue (D.content self.now.disk).honest → length self.now.waiting ≤ self.now.count }
         ensures left { LeavesBegun (D.content self.now.disk) self.now.shape }
     {
         let _ = &self.disk; // the store is as it was made

@@ -7,7 +7,7 @@ pub returns-in-Ok-clause-failed : goal.returns-in-Ok-clause-failed
 returns-in-Ok-clause-failed g c = λ is. rw (c.serve_store-disk.ensures.quiet is) at c.tell_failures.ensures
 
 pub returns-in-Ok-clause-told : goal.returns-in-Ok-clause-told
-returns-in-Ok-clause-told g c = told_weaker c.serve_store-disk.result.1 (λ told. inr told) c.serve_store-disk.ensures.told
+returns-in-Ok-clause-told g c = told_weaker c.serve_store-disk.result.1 (λ told. inr (c.in-Ok.core, rw c.tell_at_once.ensures.disk at c.in-Ok.ensures.ok, told)) c.serve_store-disk.ensures.told
 
 pub returns-in-Ok-clause-left : goal.returns-in-Ok-clause-left
 returns-in-Ok-clause-left g c = inr c.serve_store-disk.ensures.left
