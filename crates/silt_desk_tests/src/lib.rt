@@ -4,8 +4,4 @@
 #![tactic(auto)]
 
 #[cfg(test)]
-mod desk;
-#[cfg(test)]
-mod inbox;
-#[cfg(test)]
-mod server;
+mod tests;

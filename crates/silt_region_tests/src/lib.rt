@@ -4,16 +4,4 @@
 #![tactic(auto)]
 
 #[cfg(test)]
-mod hash_store;
-#[cfg(test)]
-mod image;
-#[cfg(test)]
-mod log;
-#[cfg(test)]
-mod log_store;
-#[cfg(test)]
-mod manifest;
-#[cfg(test)]
-mod merge;
-#[cfg(test)]
-mod sorted_store;
+mod tests;

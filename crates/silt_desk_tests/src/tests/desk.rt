@@ -1,0 +1,134 @@
+// What no contract says of a desk: that calls succeed where they may, what one thread does between the steps of another, and what is found
+// when many threads call at once.
+ghost use Rattle.std.specs.Prelude.{◌≡◌};
+
+mod converter;
+mod failing;
+mod history;
+mod lacking;
+mod looks;
+mod memory;
+mod sessions;
+mod steps;
+
+use silt_desk::{Desk, Kept, Naming, Seat, Shared, Trace};
+use silt_device::Disk;
+use silt_event::Refusal;
+use silt_frame::Key;
+use silt_store_set::Core;
+use std::alloc::Global;
+use std::sync::Wait;
+use std::sync::ledger::Blank;
+use std::test::Fail;
+use std::thread;
+use std::thread::Threads;
+
+// A key that begins with this byte and goes on with zeros.
+fn key(first: u8) -> Key {
+    let mut bytes = [0; 20];
+    bytes[0] = first;
+    Key(bytes)
+}
+
+// A put, where the store has values of this length.
+fn put<D: Disk, T: Trace, N: Naming>(
+    desk: &mut Desk<D, T, N>,
+    alloc: Global,
+    seat: &mut Seat<N>,
+    key: &Key,
+    value: &[u8],
+) -> Option<Result<u64, Refusal<D::Fault>>> {
+    if desk.geometry().value_len() as usize != value.len() {
+        return None;
+    }
+    Some(desk.put(alloc, seat, key, value))
+}
+
+// A get, where the store has values of this length.
+fn get<D: Disk, T: Trace, N: Naming>(
+    desk: &mut Desk<D, T, N>,
+    alloc: Global,
+    seat: &mut Seat<N>,
+    key: &Key,
+    out: &mut [u8],
+) -> Option<Result<bool, Refusal<D::Fault>>> {
+    if desk.geometry().value_len() as usize != out.len() {
+        return None;
+    }
+    Some(desk.get(alloc, seat, key, out))
+}
+
+// A look, where the store has values of this length.
+fn look<D: Disk, T: Trace, N: Naming>(
+    desk: &Desk<D, T, N>,
+    key: &Key,
+    out: &mut [u8],
+) -> Option<(u64, bool)> {
+    if desk.geometry().value_len() as usize != out.len() {
+        return None;
+    }
+    desk.look(key, out).ok()
+}
+
+// A desk that keeps at most so many calls, and its two seats, the first one first.
+fn two_seats<D: Disk, N: Naming>(
+    alloc: Global,
+    core: Core<D>,
+    most: u64,
+    calls: Blank,
+    accepted: Blank,
+) -> Result<(Desk<D, Kept, N>, Seat<N>, Seat<N>), Fail>
+    requires calls { (calls.name ≡ N.calls_name) × (calls.parts ≡ N.seats) }
+    requires accepted { (accepted.name ≡ N.accepted_name) × (accepted.parts ≡ N.seats) }
+    requires seats { N.seats ≡ 2 }
+{
+    let Ok(trace) = Kept::new(alloc, &core, most) else {
+        return Err("a trace".into());
+    };
+    let Ok((desk, mut seats)) = Desk::<D, Kept, N>::new(alloc, core, trace, 2, calls, accepted)
+    else {
+        return Err("a desk".into());
+    };
+    let second = seats.pop().ok_or("a seat")?;
+    let first = seats.pop().ok_or("a seat")?;
+    Ok((desk, first, second))
+}
+
+// Two calls on one value, by two threads, until both are done.
+fn join_over<S: Sync, X: Send, Y, A: FnOnce(&S) -> X + Send, B: FnOnce(&S) -> Y, R: Threads>(
+    rt: &R,
+    shared: &S,
+    first: A,
+    second: B,
+) -> (X, Y)
+    requires first { A.IsAlwaysCallable first }
+    requires second { B.IsAlwaysCallable second }
+{
+    thread::join(
+        rt,
+        move || -> X
+            requires { A.IsAlwaysCallable first }
+        { first(shared) },
+        move || -> Y
+            requires { B.IsAlwaysCallable second }
+        { second(shared) },
+    )
+}
+
+// Puts the keys 1 to 5: the fifth put freezes the first log.
+fn put_five<D: Disk, N: Naming, R: Wait>(
+    rt: &R,
+    alloc: Global,
+    shared: &Shared<D, Kept, N>,
+    seat: &mut Seat<N>,
+) {
+    for first in 1..6u8 {
+        let _ = put(
+            &mut *shared.write(rt),
+            alloc,
+            seat,
+            &key(first),
+            &[0, first],
+        );
+    }
+}

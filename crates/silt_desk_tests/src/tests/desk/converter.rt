@@ -1,0 +1,137 @@
+// Commands are answered between two steps of a worker.
+ghost use Rattle.std.specs.Prelude.{◌≡◌};
+
+use crate::tests::desk::{get, join_over, key, put, put_five, two_seats};
+use crate::tests::{opened, reaches, small};
+use crossbeam_channel::{Receiver, Sender};
+use silt_desk::{Gate, Kept, Naming, Seat, Shared, Spot, Wake, converter};
+use silt_device::Disk;
+use silt_event::Progress;
+use silt_store_set::Core;
+use std::alloc::Global;
+use std::marker::Brand;
+use std::process::Abort;
+use std::sync::atomic::{AtomicU64, Ordering};
+use std::sync::ledger::Blank;
+use std::sync::{RwLock, Wait};
+use std::test::Fail;
+use std::thread;
+use std::thread::Threads;
+use std::time::Clock;
+
+/// Holds a worker before its second step until it is opened.
+#[derive(Drop)]
+struct Hold<'a, R: Clock> {
+    rt: &'a R,
+    passes: AtomicU64,
+    opened: AtomicU64,
+    missed: AtomicU64,
+}
+
+impl<R: Clock> Gate for Hold<'_, R> {
+    fn pass(&self, _spot: Spot) {
+        let before = self.passes.fetch_add(1, Ordering::SeqCst);
+        if before == 1 && !reaches(self.rt, &self.opened, 1) {
+            self.missed.store(1, Ordering::SeqCst);
+        }
+    }
+}
+
+/// What another thread was answered while the worker was held.
+#[derive(Drop)]
+struct Seen<N: Naming> {
+    seat: Seat<N>,
+    held: bool,
+    put: Option<u64>,
+    got: Option<bool>,
+    flushed: Option<u64>,
+    step: Option<Progress>,
+}
+
+/// Calls while the worker is held, then frees it and stops it.
+fn call_beside<D: Disk, N: Naming, R: Wait + Clock>(
+    rt: &R,
+    alloc: Global,
+    shared: &Shared<D, Kept, N>,
+    mut seat: Seat<N>,
+    gate: &Hold<'_, R>,
+    wakes: Sender<Wake>,
+) -> Seen<N> {
+    let held = reaches(rt, &gate.passes, 2);
+    let mut out = [0; 2];
+    let put = put(&mut *shared.write(rt), alloc, &mut seat, &key(6), &[0, 6]);
+    let got = get(&mut *shared.write(rt), alloc, &mut seat, &key(6), &mut out);
+    let flushed = shared.write(rt).flush(alloc, &mut seat).ok();
+    let step = shared.write(rt).convert(alloc, &mut seat).ok();
+    gate.opened.store(1, Ordering::SeqCst);
+    let _ = wakes.send(rt, Wake::Stop);
+    Seen {
+        seat,
+        held,
+        put: put.and_then(|answer| answer.ok()),
+        got: got.and_then(|answer| answer.ok()),
+        flushed,
+        step,
+    }
+}
+
+/// The worker and another thread, until both are done.
+fn run_both<D: Disk, N: Naming + Send + Sync, R: Threads + Wait + Clock + Sync>(
+    rt: &R,
+    alloc: Global,
+    shared: &Shared<D, Kept, N>,
+    theirs: Seat<N>,
+    mine: Seat<N>,
+    gate: &Hold<'_, R>,
+    wakes: Receiver<Wake>,
+    other: Sender<Wake>,
+    wake: Sender<Wake>,
+) -> (Seat<N>, Seen<N>) {
+    join_over(
+        rt,
+        shared,
+        move |desk: &Shared<D, Kept, N>| converter(rt, alloc, desk, theirs, gate, wakes, other),
+        move |desk: &Shared<D, Kept, N>| call_beside(rt, alloc, desk, mine, gate, wake),
+    )
+}
+
+/// The worker is held before its second step until another thread's calls are answered.
+fn held_between_steps<D: Disk, N: Naming + Send + Sync, R: Threads + Wait + Clock + Abort + Sync>(
+    rt: &R,
+    alloc: Global,
+    core: Core<D>,
+    calls: Blank,
+    accepted: Blank,
+) -> Result<(), Fail>
+    requires calls { (calls.name ≡ N.calls_name) × (calls.parts ≡ N.seats) }
+    requires accepted { (accepted.name ≡ N.accepted_name) × (accepted.parts ≡ N.seats) }
+    requires seats { N.seats ≡ 2 }
+{
+    let (desk, mut mine, theirs) = two_seats::<D, N>(alloc, core, 100, calls, accepted)?;
+    let shared: Shared<D, Kept, N> = RwLock::new(desk);
+    put_five(rt, alloc, &shared, &mut mine);
+    let gate = Hold {
+        rt,
+        passes: AtomicU64::new(0),
+        opened: AtomicU64::new(0),
+        missed: AtomicU64::new(0),
+    };
+    let (wake, wakes) = crossbeam_channel::unbounded(alloc)?;
+    let (other, others) = crossbeam_channel::unbounded(alloc)?;
+    let (_theirs, seen) = run_both(rt, alloc, &shared, theirs, mine, &gate, wakes, other, wake);
+    assert!(rt; seen.held);
+    assert_eq!(rt; gate.missed.load(Ordering::SeqCst), 0);
+    assert_eq!(rt; seen.put, Some(6));
+    assert_eq!(rt; seen.got, Some(true));
+    assert_eq!(rt; seen.flushed, Some(6));
+    assert_eq!(rt; seen.step, Some(Progress::Moved));
+    assert!(rt; matches!(others.try_recv(rt), Ok(Wake::Go)));
+    Ok(())
+}
+
+#[test]
+fn held_converter(rt: HostRuntime) -> Result<(), Fail> {
+    let alloc = rt.alloc();
+    let core = opened(alloc, small(alloc)?)?;
+    held_between_steps::<_, Brand, _>(&rt, alloc, core, Blank::new(2), Blank::new(2))
+}

@@ -1,0 +1,55 @@
+// A worker whose step fails waits, as one that has nothing to do.
+ghost use Rattle.std.specs.Prelude.{◌≡◌};
+
+use crate::tests::desk::{get, key, put_five, two_seats};
+use crate::tests::{Open, opened, small};
+use silt_desk::{Kept, Naming, Shared, Wake, converter, settle};
+use silt_device::{Call, Disk, FaultDisk};
+use silt_event::Refusal;
+use silt_store_set::Core;
+use std::alloc::Global;
+use std::marker::Brand;
+use std::process::Abort;
+use std::sync::ledger::Blank;
+use std::sync::{RwLock, Wait};
+use std::test::Fail;
+
+// The write of the first step of a conversion fails. The worker then waits, and is stopped by its first message.
+fn failed_step<D: Disk, N: Naming, R: Wait + Abort>(
+    rt: &R,
+    alloc: Global,
+    core: Core<D>,
+    calls: Blank,
+    accepted: Blank,
+) -> Result<(), Fail>
+    requires calls { (calls.name ≡ N.calls_name) × (calls.parts ≡ N.seats) }
+    requires accepted { (accepted.name ≡ N.accepted_name) × (accepted.parts ≡ N.seats) }
+    requires seats { N.seats ≡ 2 }
+{
+    let (desk, mut mine, theirs) = two_seats::<D, N>(alloc, core, 100, calls, accepted)?;
+    let shared: Shared<D, Kept, N> = RwLock::new(desk);
+    put_five(rt, alloc, &shared, &mut mine);
+    let (wake, wakes) = crossbeam_channel::unbounded(alloc)?;
+    let (other, others) = crossbeam_channel::unbounded(alloc)?;
+    let _ = wake.send(rt, Wake::Stop);
+    let theirs = converter(rt, alloc, &shared, theirs, &Open, wakes, other);
+    assert!(rt; others.try_recv(rt).is_err());
+    let mut out = [0; 2];
+    let got = get(&mut *shared.write(rt), alloc, &mut mine, &key(1), &mut out);
+    assert!(rt; matches!(got, Some(Err(Refusal::Failed))));
+    let mut seats = Vec::new(alloc);
+    seats.push(mine)?;
+    seats.push(theirs)?;
+    let settled = settle(rt, &shared, seats).ok().ok_or("both are here")?;
+    assert_eq!(rt; settled, (7, 5));
+    Ok(())
+}
+
+#[test]
+fn a_failed_step_waits(rt: HostRuntime) -> Result<(), Fail> {
+    let alloc = rt.alloc();
+    // five puts make fifteen writes, the last one of them with its freeze seven
+    let disk = FaultDisk::new(small(alloc)?, Call::Write, 16);
+    let core = opened(alloc, disk)?;
+    failed_step::<_, Brand, _>(&rt, alloc, core, Blank::new(2), Blank::new(2))
+}

@@ -1,0 +1,125 @@
+// Each call at a desk, where no memory is found for its record.
+ghost use Rattle.std.specs.Prelude.{◌≡◌};
+
+use crate::tests::desk::{get, key, look, put};
+use crate::tests::{opened, small};
+use silt_desk::{Count, Desk, Kept, Naming, NotPrepared, Note, Seat, Trace};
+use silt_device::Disk;
+use silt_event::Refusal;
+use silt_store_set::Core;
+use std::alloc::Global;
+use std::marker::Brand;
+use std::process::Abort;
+use std::sync::ledger::Blank;
+use std::test::Fail;
+
+/// A trace that never finds memory.
+#[derive(Drop)]
+struct Lacking<T: Trace> {
+    trace: T,
+}
+
+impl<T: Trace> Trace for Lacking<T> {
+    ghost agrees = { λ l s. T.agrees l.trace s };
+
+    ghost counts = { λ l n m. T.counts l.trace n m };
+
+    ghost extends = { λ a c b. T.extends a.trace c b.trace };
+
+    ghost is_full = { λ l. T.is_full l.trace };
+
+    ghost takes_memory = { λ l. Unit {0} };
+
+    ghost fits = { λ capacity len. T.fits capacity len };
+
+    ghost agrees_after = { λ a b c s t agrees extends step. T.agrees_after a.trace b.trace c s t agrees extends step };
+
+    ghost counts_after = { λ a b c n m k l counts extends more accepted. T.counts_after a.trace b.trace c n m k l counts extends more accepted };
+
+    fn prepare(&self, _alloc: Global, _len: usize) -> Result<Vec<u8>, NotPrepared> {
+        Err(NotPrepared::NoMemory)
+    }
+
+    fn record(&mut self, seat: u64, note: Note, value: &[u8], room: Vec<u8>) {
+        self.trace.record(seat, note, value, room);
+    }
+
+    fn numbers(&self) -> (u64, u64) {
+        self.trace.numbers()
+    }
+}
+
+// Whether a call was refused for want of memory.
+fn lacks<A: Drop, F: Drop>(answer: Result<A, Refusal<F>>) -> bool {
+    matches!(answer, Err(Refusal::NoMemory))
+}
+
+// How many of the six calls were refused for want of memory.
+fn six_calls<D: Disk, T: Trace, N: Naming>(
+    desk: &mut Desk<D, T, N>,
+    alloc: Global,
+    seat: &mut Seat<N>,
+) -> [bool; 6] {
+    let mut out = [0; 2];
+    let put = put(desk, alloc, seat, &key(1), &[1, 2]);
+    let get = get(desk, alloc, seat, &key(1), &mut out);
+    [
+        matches!(put, Some(Err(Refusal::NoMemory))),
+        matches!(get, Some(Err(Refusal::NoMemory))),
+        lacks(desk.delete(alloc, seat, &key(1))),
+        lacks(desk.flush(alloc, seat)),
+        lacks(desk.convert(alloc, seat)),
+        lacks(desk.merge(alloc, seat)),
+    ]
+}
+
+// All six calls are refused, and a look finds nothing done.
+fn refuses_all<D: Disk, N: Naming, R: Abort>(
+    rt: &R,
+    alloc: Global,
+    core: Core<D>,
+    calls: Blank,
+    accepted: Blank,
+) -> Result<(), Fail>
+    requires calls { (calls.name ≡ N.calls_name) × (calls.parts ≡ N.seats) }
+    requires accepted { (accepted.name ≡ N.accepted_name) × (accepted.parts ≡ N.seats) }
+    requires seats { N.seats ≡ 1 }
+{
+    let trace = Lacking {
+        trace: Count::new(),
+    };
+    let made = Desk::<D, Lacking<Count>, N>::new(alloc, core, trace, 1, calls, accepted);
+    let Ok((mut desk, mut seats)) = made else {
+        return Err("a desk".into());
+    };
+    let mut seat = seats.pop().ok_or("a seat")?;
+    assert_eq!(rt; six_calls(&mut desk, alloc, &mut seat), [true; 6]);
+    let mut out = [0; 2];
+    assert_eq!(rt; look(&desk, &key(1), &mut out), Some((0, false)));
+    seats.push(seat)?;
+    assert_eq!(rt; desk.settle(seats).ok(), Some((0, 0)));
+    Ok(())
+}
+
+#[test]
+fn each_call_lacks_memory(rt: HostRuntime) -> Result<(), Fail> {
+    let alloc = rt.alloc();
+    let core = opened(alloc, small(alloc)?)?;
+    refuses_all::<_, Brand, _>(&rt, alloc, core, Blank::new(1), Blank::new(1))
+}
+
+// A trace with more places than any memory has is refused, and the store stands as it was: one with three places is made of it.
+#[test]
+fn a_trace_lacks_memory(rt: HostRuntime) -> Result<(), Fail> {
+    let alloc = rt.alloc();
+    let mut core = opened(alloc, small(alloc)?)?;
+    assert_eq!(rt; core.delete(alloc, &key(1)).ok(), Some(1));
+    for most in [u64::MAX, 1 << 62, 1 << 58] {
+        let trace = Kept::new(alloc, &core, most);
+        assert!(rt; matches!(trace, Err(Refusal::NoMemory)), "{most}");
+        assert_eq!(rt; core.count(), 1, "{most}");
+    }
+    let trace = Kept::new(alloc, &core, 3).ok().ok_or("a trace")?;
+    assert_eq!(rt; (trace.count(), trace.calls().len()), (1, 0));
+    Ok(())
+}

@@ -1,0 +1,171 @@
+// Two looks are made side by side: with a lock that lets one in at a time they are not, and that is seen.
+ghost use Rattle.std.specs.Prelude.{◌≡◌};
+
+use crate::tests::desk::{join_over, key, look, put, two_seats};
+use crate::tests::{opened, small};
+use silt_desk::{Kept, Naming, Shared};
+use silt_device::Disk;
+use silt_store_set::Core;
+use std::alloc::Global;
+use std::marker::Brand;
+use std::process::Abort;
+use std::sync::atomic::{AtomicU64, Ordering};
+use std::sync::ledger::Blank;
+use std::sync::{RwLock, Wait};
+use std::test::Fail;
+use std::thread;
+use std::thread::Threads;
+
+/// How many reads have begun since it was armed, and whether one waited in vain.
+#[derive(Drop)]
+struct Reads {
+    armed: AtomicU64,
+    begun: AtomicU64,
+    missed: AtomicU64,
+    turns: u64,
+}
+
+impl Reads {
+    fn new(turns: u64) -> Reads {
+        Reads {
+            armed: AtomicU64::new(0),
+            begun: AtomicU64::new(0),
+            missed: AtomicU64::new(0),
+            turns,
+        }
+    }
+
+    /// Waits, once armed, until a second read has begun, for at most so many turns.
+    fn meet(&self) {
+        if self.armed.load(Ordering::SeqCst) == 0 {
+            return;
+        }
+        self.begun.fetch_add(1, Ordering::SeqCst);
+        for _ in 0..self.turns {
+            if self.begun.load(Ordering::SeqCst) >= 2 {
+                return;
+            }
+            thread::yield_now();
+        }
+        self.missed.store(1, Ordering::SeqCst);
+    }
+}
+
+/// A disk whose reads meet.
+#[derive(Drop)]
+struct Meeting<'a, D: Disk> {
+    disk: D,
+    reads: &'a Reads,
+}
+
+impl<D: Disk> Disk for Meeting<'_, D> {
+    type Fault = D::Fault;
+
+    ghost content = { λ m. D.content m.disk };
+
+    ghost failures = { λ m. D.failures m.disk };
+
+    ghost gave = { λ m fault call at count. D.gave m.disk fault call at count };
+
+    fn len(&self) -> u64 {
+        self.disk.len()
+    }
+
+    fn read(&self, at: u64, buf: &mut [u8]) -> Result<(), D::Fault> {
+        self.reads.meet();
+        self.disk.read(at, buf)
+    }
+
+    fn write(&mut self, at: u64, buf: &[u8]) -> Result<(), D::Fault> {
+        self.disk.write(at, buf)
+    }
+
+    fn sync(&mut self) -> Result<(), D::Fault> {
+        self.disk.sync()
+    }
+}
+
+/// A look under a read guard, or under a write guard.
+fn look_once<D: Disk, N: Naming, R: Wait>(
+    rt: &R,
+    shared: &Shared<D, Kept, N>,
+    alone: bool,
+) -> Option<(u64, bool)> {
+    let mut out = [0; 2];
+    if alone {
+        look(&*shared.write(rt), &key(1), &mut out)
+    } else {
+        look(&*shared.read(rt), &key(1), &mut out)
+    }
+}
+
+/// Two looks by two threads.
+fn both_look<D: Disk, N: Naming + Send + Sync, R: Threads + Wait + Sync>(
+    rt: &R,
+    shared: &Shared<D, Kept, N>,
+    alone: bool,
+) -> (Option<(u64, bool)>, Option<(u64, bool)>) {
+    join_over(
+        rt,
+        shared,
+        move |desk: &Shared<D, Kept, N>| look_once(rt, desk, alone),
+        move |desk: &Shared<D, Kept, N>| look_once(rt, desk, alone),
+    )
+}
+
+/// Whether a read waited in vain for a second one, where two threads look.
+fn misses<D: Disk, N: Naming + Send + Sync, R: Threads + Wait + Abort + Sync>(
+    rt: &R,
+    alloc: Global,
+    core: Core<D>,
+    reads: &Reads,
+    alone: bool,
+    calls: Blank,
+    accepted: Blank,
+) -> Result<(), Fail>
+    requires calls { (calls.name ≡ N.calls_name) × (calls.parts ≡ N.seats) }
+    requires accepted { (accepted.name ≡ N.accepted_name) × (accepted.parts ≡ N.seats) }
+    requires seats { N.seats ≡ 2 }
+{
+    let (desk, mut first, _second) = two_seats::<D, N>(alloc, core, 3, calls, accepted)?;
+    let shared: Shared<D, Kept, N> = RwLock::new(desk);
+    let put = put(&mut *shared.write(rt), alloc, &mut first, &key(1), &[1, 2]);
+    assert_eq!(rt; put.ok_or("two bytes")?.ok(), Some(1));
+    reads.armed.store(1, Ordering::SeqCst);
+    let looked = both_look(rt, &shared, alone);
+    assert_eq!(rt; looked, (Some((1, true)), Some((1, true))));
+    assert_eq!(rt; reads.missed.load(Ordering::SeqCst) == 1, alone);
+    Ok(())
+}
+
+#[test]
+fn two_looks(rt: HostRuntime) -> Result<(), Fail> {
+    let alloc = rt.alloc();
+    let reads = Reads::new(20_000_000);
+    let disk = Meeting {
+        disk: small(alloc)?,
+        reads: &reads,
+    };
+    let core = opened(alloc, disk)?;
+    misses::<_, Brand, _>(
+        &rt,
+        alloc,
+        core,
+        &reads,
+        false,
+        Blank::new(2),
+        Blank::new(2),
+    )
+}
+
+#[test]
+fn two_looks_behind_one_lock(rt: HostRuntime) -> Result<(), Fail> {
+    let alloc = rt.alloc();
+    let reads = Reads::new(100_000);
+    let disk = Meeting {
+        disk: small(alloc)?,
+        reads: &reads,
+    };
+    let core = opened(alloc, disk)?;
+    misses::<_, Brand, _>(&rt, alloc, core, &reads, true, Blank::new(2), Blank::new(2))
+}

@@ -1,0 +1,232 @@
+// Calls at a desk that are refused a request for memory: nothing is done and nothing recorded, and asked again each has its own answer.
+// The test passes whichever one request of the desk's calls is refused, and where none is; docs/contributing.md says how each is
+// refused in turn.
+ghost use Rattle.std.specs.Prelude.{◌≡◌, [], IfSome};
+ghost use Rattle.silt_desk.specs.Seeing.{seen};
+ghost use Rattle.silt_desk.specs.Traces.{IsHistory};
+
+use crate::tests::desk::{get, key, look, put};
+use crate::tests::{opened, small};
+use silt_desk::{Desk, Kept, Naming, NotMade, Seat};
+use silt_device::Disk;
+use silt_event::{Progress, Refusal};
+use silt_store_set::Core;
+use std::alloc::Global;
+use std::marker::Brand;
+use std::process::Abort;
+use std::sync::ledger::Blank;
+use std::test::Fail;
+
+/// A call at a desk. Its key and its value are told by a number.
+#[derive(Clone, Copy)]
+enum Call {
+    Put(u8),
+    Get(u8),
+    Flush,
+    Convert,
+    Merge,
+}
+
+/// What a call is answered.
+#[derive(Clone, Copy, PartialEq)]
+enum Told {
+    Count(u64),
+    Found([u8; 2]),
+    Step(Progress),
+    NoMemory,
+    Other,
+}
+
+// What a refused call is answered.
+fn refused<F: Drop>(refusal: Refusal<F>) -> Told {
+    match refusal {
+        Refusal::NoMemory => Told::NoMemory,
+        _ => Told::Other,
+    }
+}
+
+// What a put or a flush is answered.
+fn counted<F: Drop>(answer: Result<u64, Refusal<F>>) -> Told {
+    match answer {
+        Ok(count) => Told::Count(count),
+        Err(refusal) => refused(refusal),
+    }
+}
+
+// What a step in the background is answered.
+fn stepped<F: Drop>(answer: Result<Progress, Refusal<F>>) -> Told {
+    match answer {
+        Ok(progress) => Told::Step(progress),
+        Err(refusal) => refused(refusal),
+    }
+}
+
+// What a get is answered that left these bytes.
+fn found<F: Drop>(answer: Result<bool, Refusal<F>>, out: [u8; 2]) -> Told {
+    match answer {
+        Ok(true) => Told::Found(out),
+        Ok(false) => Told::Other,
+        Err(refusal) => refused(refusal),
+    }
+}
+
+fn ask_put<D: Disk, N: Naming>(
+    desk: &mut Desk<D, Kept, N>,
+    alloc: Global,
+    seat: &mut Seat<N>,
+    number: u8,
+) -> Told {
+    match put(desk, alloc, seat, &key(number), &[0, number]) {
+        Some(answer) => counted(answer),
+        None => Told::Other,
+    }
+}
+
+fn ask_get<D: Disk, N: Naming>(
+    desk: &mut Desk<D, Kept, N>,
+    alloc: Global,
+    seat: &mut Seat<N>,
+    number: u8,
+) -> Told {
+    let mut out = [7; 2];
+    match get(desk, alloc, seat, &key(number), &mut out) {
+        Some(answer) => found(answer, out),
+        None => Told::Other,
+    }
+}
+
+fn ask<D: Disk, N: Naming>(
+    desk: &mut Desk<D, Kept, N>,
+    alloc: Global,
+    seat: &mut Seat<N>,
+    call: Call,
+) -> Told {
+    match call {
+        Call::Put(number) => ask_put(desk, alloc, seat, number),
+        Call::Get(number) => ask_get(desk, alloc, seat, number),
+        Call::Flush => counted(desk.flush(alloc, seat)),
+        Call::Convert => stepped(desk.convert(alloc, seat)),
+        Call::Merge => stepped(desk.merge(alloc, seat)),
+    }
+}
+
+// The call of this turn, and its answer: five puts, of which the last freezes the full log, a flush, a conversion of nine steps, a
+// merge of thirteen, and five gets.
+fn call_of(turn: u8) -> (Call, Told) {
+    match turn {
+        1..=5 => (Call::Put(turn), Told::Count(u64::from(turn))),
+        6 => (Call::Flush, Told::Count(5)),
+        7..=14 => (Call::Convert, Told::Step(Progress::Moved)),
+        15 => (Call::Convert, Told::Step(Progress::Finished)),
+        16..=27 => (Call::Merge, Told::Step(Progress::Moved)),
+        28 => (Call::Merge, Told::Step(Progress::Finished)),
+        _ => (Call::Get(turn % 28), Told::Found([0, turn % 28])),
+    }
+}
+
+// Whether a look finds that the call of this turn did nothing: a key of this number is put in no earlier turn.
+fn did_nothing<D: Disk, N: Naming>(desk: &Desk<D, Kept, N>, turn: u8) -> bool {
+    let mut out = [7; 2];
+    look(desk, &key(turn), &mut out) == Some((u64::from(turn.saturating_sub(1).min(5)), false))
+}
+
+// What the call of this turn is answered, once more where it is refused memory and did nothing.
+fn ask_again<D: Disk, N: Naming>(
+    desk: &mut Desk<D, Kept, N>,
+    alloc: Global,
+    seat: &mut Seat<N>,
+    turn: u8,
+    call: Call,
+) -> Told {
+    let told = ask(desk, alloc, seat, call);
+    if told == Told::NoMemory && did_nothing(desk, turn) {
+        return ask(desk, alloc, seat, call);
+    }
+    told
+}
+
+// All calls.
+fn ask_all<D: Disk, N: Naming>(
+    rt: &impl Abort,
+    alloc: Global,
+    desk: &mut Desk<D, Kept, N>,
+    seat: &mut Seat<N>,
+) {
+    for turn in 1..34u8 {
+        let (call, due) = call_of(turn);
+        assert!(rt; ask_again(desk, alloc, seat, turn, call) == due, "{turn}");
+    }
+}
+
+// Room for forty calls of this store.
+fn kept_once<D: Disk>(alloc: Global, core: &Core<D>) -> Option<Kept>
+    ensures history { IfSome result (λ kept. IsHistory kept (seen D.content core.now)) }
+    ensures calls { IfSome result (λ kept. kept.calls ≡ []) }
+{
+    match Kept::new(alloc, core, 40) {
+        Ok(trace) => Some(trace),
+        Err(_) => None,
+    }
+}
+
+// The same, asked for once more where memory is refused.
+fn kept_again<D: Disk>(alloc: Global, core: &Core<D>) -> Option<Kept>
+    ensures history { IfSome result (λ kept. IsHistory kept (seen D.content core.now)) }
+    ensures calls { IfSome result (λ kept. kept.calls ≡ []) }
+{
+    match Kept::new(alloc, core, 40) {
+        Ok(trace) => Some(trace),
+        Err(Refusal::NoMemory) => kept_once(alloc, core),
+        Err(_) => None,
+    }
+}
+
+// All calls that were done are recorded, each once.
+fn records_all<D: Disk, N: Naming>(
+    rt: &impl Abort,
+    alloc: Global,
+    desk: &mut Desk<D, Kept, N>,
+    seats: Vec<Seat<N>>,
+) -> Result<(), Fail> {
+    let mut seats = seats;
+    let mut seat = seats.pop().ok_or("a seat")?;
+    ask_all(rt, alloc, desk, &mut seat);
+    seats.push(seat)?;
+    assert_eq!(rt; desk.settle(seats).ok(), Some((33, 5)));
+    Ok(())
+}
+
+// A store that gets no desk is handed back. At a desk all calls that were done are recorded.
+fn records_what_is_done<D: Disk, N: Naming, R: Abort>(
+    rt: &R,
+    alloc: Global,
+    core: Core<D>,
+    calls: Blank,
+    accepted: Blank,
+) -> Result<(), Fail>
+    requires calls { (calls.name ≡ N.calls_name) × (calls.parts ≡ N.seats) }
+    requires accepted { (accepted.name ≡ N.accepted_name) × (accepted.parts ≡ N.seats) }
+    requires seats { N.seats ≡ 1 }
+{
+    let Some(trace) = kept_again(alloc, &core) else {
+        return Err("a trace".into());
+    };
+    assert_eq!(rt;
+        (trace.count(), trace.opening().len(), trace.calls().len()),
+        (0, 0, 0)
+    );
+    match Desk::<D, Kept, N>::new(alloc, core, trace, 1, calls, accepted) {
+        Ok((mut desk, seats)) => records_all(rt, alloc, &mut desk, seats),
+        Err(NotMade::<D, Kept> { core, trace }) => {
+            assert_eq!(rt; (core.count(), trace.calls().len()), (0, 0));
+            Ok(())
+        }
+    }
+}
+
+#[test]
+fn each_call_is_asked_again(rt: HostRuntime) -> Result<(), Fail> {
+    let alloc = rt.alloc();
+    let core = opened(alloc, small(alloc)?)?;
+    records_what_is_done::<_, Brand, _>(&rt, alloc, core, Blank::new(1), Blank::new(1))
+}

@@ -1,0 +1,305 @@
+// Four threads call at once beside both workers, and what they recorded is done again by a plain map.
+ghost use Rattle.std.specs.Prelude.{◌≡◌};
+
+use crate::tests::desk::{get, join_over, put};
+use crate::tests::{Open, are_those, formatted, opened, two_bytes};
+use crossbeam_channel::{Receiver, Sender};
+use silt_desk::{Desk, Kept, Naming, RecordedCall, Seat, Shared, Wake, converter, merger, settle};
+use silt_device::{Disk, Geometry};
+use silt_event::{Event, Reply};
+use silt_frame::{Key, Value};
+use silt_store_set::Core;
+use std::alloc::{AllocError, Global};
+use std::collections::BTreeMap;
+use std::marker::Brand;
+use std::process::Abort;
+use std::sync::ledger::Blank;
+use std::sync::{RwLock, Wait};
+use std::test::Fail;
+use std::thread::Threads;
+
+/// The key of a thread with this number.
+fn key_of(thread: u8, number: u8) -> Key {
+    let mut bytes = [0; 20];
+    bytes[1] = number;
+    bytes[3] = thread;
+    Key(bytes)
+}
+
+/// A put, a get and a delete, each under a guard of its own.
+fn turn<D: Disk, N: Naming, R: Wait>(
+    rt: &R,
+    alloc: Global,
+    shared: &Shared<D, Kept, N>,
+    seat: &mut Seat<N>,
+    thread: u8,
+    number: u8,
+) {
+    let mut out = [0; 2];
+    let key = key_of(thread, number);
+    let _ = put(&mut *shared.write(rt), alloc, seat, &key, &[thread, number]);
+    let _ = get(&mut *shared.write(rt), alloc, seat, &key, &mut out);
+    let other = key_of(thread, number ^ 1);
+    let _ = shared.write(rt).delete(alloc, seat, &other);
+}
+
+/// Turns of one thread, which wakes the workers now and then.
+fn session<D: Disk, N: Naming, R: Wait>(
+    rt: &R,
+    alloc: Global,
+    shared: &Shared<D, Kept, N>,
+    mut seat: Seat<N>,
+    thread: u8,
+    turns: u32,
+    wakes: &Sender<Wake>,
+) -> Seat<N> {
+    for number in 0..turns {
+        turn(rt, alloc, shared, &mut seat, thread, (number % 64) as u8);
+        if number % 32 == 0 {
+            let _ = wakes.send(rt, Wake::Go);
+        }
+    }
+    seat
+}
+
+/// Two sessions at once.
+fn two_sessions<D: Disk, N: Naming + Send + Sync, R: Threads + Wait + Sync>(
+    rt: &R,
+    alloc: Global,
+    shared: &Shared<D, Kept, N>,
+    first: Seat<N>,
+    second: Seat<N>,
+    thread: u8,
+    turns: u32,
+    wakes: &Sender<Wake>,
+) -> (Seat<N>, Seat<N>) {
+    join_over(
+        rt,
+        shared,
+        move |desk: &Shared<D, Kept, N>| session(rt, alloc, desk, first, thread, turns, wakes),
+        move |desk: &Shared<D, Kept, N>| session(rt, alloc, desk, second, thread ^ 1, turns, wakes),
+    )
+}
+
+/// Four sessions at once, and then the workers are stopped.
+fn four_sessions<D: Disk, N: Naming + Send + Sync, R: Threads + Wait + Sync>(
+    rt: &R,
+    alloc: Global,
+    shared: &Shared<D, Kept, N>,
+    seats: (Seat<N>, Seat<N>, Seat<N>, Seat<N>),
+    turns: u32,
+    wakes: &Sender<Wake>,
+    others: &Sender<Wake>,
+) -> ((Seat<N>, Seat<N>), (Seat<N>, Seat<N>)) {
+    let (a, b, c, d) = seats;
+    let seats = join_over(
+        rt,
+        shared,
+        move |desk: &Shared<D, Kept, N>| two_sessions(rt, alloc, desk, a, b, 0, turns, wakes),
+        move |desk: &Shared<D, Kept, N>| two_sessions(rt, alloc, desk, c, d, 2, turns, wakes),
+    );
+    let _ = wakes.send(rt, Wake::Stop);
+    let _ = others.send(rt, Wake::Stop);
+    seats
+}
+
+/// A worker's seat and its channels.
+#[derive(Drop)]
+struct Place<N: Naming> {
+    seat: Seat<N>,
+    wakes: Receiver<Wake>,
+    other: Sender<Wake>,
+}
+
+/// Both workers until they are stopped.
+fn both_workers<D: Disk, N: Naming + Send + Sync, R: Threads + Wait + Sync>(
+    rt: &R,
+    alloc: Global,
+    shared: &Shared<D, Kept, N>,
+    first: Place<N>,
+    second: Place<N>,
+) -> (Seat<N>, Seat<N>) {
+    join_over(
+        rt,
+        shared,
+        move |desk: &Shared<D, Kept, N>| {
+            converter(rt, alloc, desk, first.seat, &Open, first.wakes, first.other)
+        },
+        move |desk: &Shared<D, Kept, N>| {
+            merger(
+                rt,
+                alloc,
+                desk,
+                second.seat,
+                &Open,
+                second.wakes,
+                second.other,
+            )
+        },
+    )
+}
+
+/// What the calls make of these entries, done one after the other; None where a get was answered otherwise.
+fn replayed(
+    alloc: Global,
+    opening: &BTreeMap<Key, Value>,
+    calls: &[RecordedCall],
+) -> Result<Option<BTreeMap<Key, [u8; 2]>>, AllocError> {
+    let mut map = BTreeMap::new(alloc);
+    for (key, value) in opening.iter() {
+        map.insert(*key, two_bytes(value))?;
+    }
+    for call in calls {
+        if !done_again(&mut map, call)? {
+            return Ok(None);
+        }
+    }
+    Ok(Some(map))
+}
+
+/// Does one call again; false where it is a get that finds another value.
+fn done_again(map: &mut BTreeMap<Key, [u8; 2]>, call: &RecordedCall) -> Result<bool, AllocError> {
+    match (&call.event, &call.reply) {
+        (Event::Put(key, value), Reply::Accepted(_)) => {
+            map.insert(*key, two_bytes(value))?;
+            Ok(true)
+        }
+        (Event::Delete(key), Reply::Accepted(_)) => {
+            map.remove(key);
+            Ok(true)
+        }
+        (Event::Get(key), Reply::Found(value)) => Ok(map.get(key) == Some(&two_bytes(value))),
+        (Event::Get(key), Reply::Absent) => Ok(map.get(key).is_none()),
+        _ => Ok(true),
+    }
+}
+
+/// A desk that keeps at most so many calls, with its seats.
+fn seated<D: Disk, N: Naming>(
+    alloc: Global,
+    core: Core<D>,
+    most: u64,
+    calls: Blank,
+    accepted: Blank,
+) -> Result<(Desk<D, Kept, N>, Vec<Seat<N>>), Fail>
+    requires calls { (calls.name ≡ N.calls_name) × (calls.parts ≡ N.seats) }
+    requires accepted { (accepted.name ≡ N.accepted_name) × (accepted.parts ≡ N.seats) }
+    requires seats { N.seats ≡ 6 }
+{
+    let Ok(trace) = Kept::new(alloc, &core, most) else {
+        return Err("a trace".into());
+    };
+    match Desk::<D, Kept, N>::new(alloc, core, trace, 6, calls, accepted) {
+        Ok(made) => Ok(made),
+        Err(_) => Err("a desk".into()),
+    }
+}
+
+/// The sessions and the workers at once. All seats come back.
+fn run_all<D: Disk, N: Naming + Send + Sync, R: Threads + Wait + Sync>(
+    rt: &R,
+    alloc: Global,
+    shared: &Shared<D, Kept, N>,
+    mut seats: Vec<Seat<N>>,
+    turns: u32,
+) -> Result<Vec<Seat<N>>, Fail> {
+    let (wakes, from) = crossbeam_channel::unbounded(alloc)?;
+    let (others, other_from) = crossbeam_channel::unbounded(alloc)?;
+    let first = Place {
+        seat: seats.pop().ok_or("a seat")?,
+        wakes: from,
+        other: others.clone()?,
+    };
+    let second = Place {
+        seat: seats.pop().ok_or("a seat")?,
+        wakes: other_from,
+        other: wakes.clone()?,
+    };
+    let four = (
+        seats.pop().ok_or("a seat")?,
+        seats.pop().ok_or("a seat")?,
+        seats.pop().ok_or("a seat")?,
+        seats.pop().ok_or("a seat")?,
+    );
+    let (workers, sessions) = run_both(
+        rt, alloc, shared, first, second, four, turns, wakes, others,
+    );
+    seats.push(workers.0)?;
+    seats.push(workers.1)?;
+    let ((a, b), (c, d)) = sessions;
+    seats.push(a)?;
+    seats.push(b)?;
+    seats.push(c)?;
+    seats.push(d)?;
+    Ok(seats)
+}
+
+/// The workers in one thread, and the sessions in another.
+fn run_both<D: Disk, N: Naming + Send + Sync, R: Threads + Wait + Sync>(
+    rt: &R,
+    alloc: Global,
+    shared: &Shared<D, Kept, N>,
+    first: Place<N>,
+    second: Place<N>,
+    four: (Seat<N>, Seat<N>, Seat<N>, Seat<N>),
+    turns: u32,
+    wakes: Sender<Wake>,
+    others: Sender<Wake>,
+) -> ((Seat<N>, Seat<N>), ((Seat<N>, Seat<N>), (Seat<N>, Seat<N>))) {
+    join_over(
+        rt,
+        shared,
+        move |desk: &Shared<D, Kept, N>| both_workers(rt, alloc, desk, first, second),
+        move |desk: &Shared<D, Kept, N>| four_sessions(
+            rt, alloc, desk, four, turns, &wakes, &others,
+        ),
+    )
+}
+
+/// The store's entries at the end are what the recorded calls make of those at the opening, and as many calls are settled as recorded.
+fn many_calls<D: Disk, N: Naming + Send + Sync, R: Threads + Wait + Abort + Sync>(
+    rt: &R,
+    alloc: Global,
+    core: Core<D>,
+    turns: u32,
+    calls: Blank,
+    accepted: Blank,
+) -> Result<(), Fail>
+    requires calls { (calls.name ≡ N.calls_name) × (calls.parts ≡ N.seats) }
+    requires accepted { (accepted.name ≡ N.accepted_name) × (accepted.parts ≡ N.seats) }
+    requires seats { N.seats ≡ 6 }
+{
+    let (desk, seats) = seated::<D, N>(alloc, core, 1_000_000, calls, accepted)?;
+    let shared: Shared<D, Kept, N> = RwLock::new(desk);
+    let seats = run_all(rt, alloc, &shared, seats, turns)?;
+    let (settled, _) = settle(rt, &shared, seats).ok().ok_or("all are here")?;
+    let desk = shared.into_inner();
+    assert_eq!(rt; settled, desk.trace().calls().len() as u64);
+    assert!(rt; settled >= 12 * u64::from(turns));
+    ends_as_replayed(rt, alloc, desk)
+}
+
+/// The entries at the end are those of the replay.
+fn ends_as_replayed<D: Disk, N: Naming, R: Abort>(
+    rt: &R,
+    alloc: Global,
+    desk: Desk<D, Kept, N>,
+) -> Result<(), Fail> {
+    let kept = desk.trace();
+    let map = replayed(alloc, kept.opening(), kept.calls())?.ok_or("each get is answered so")?;
+    let core = desk.into_core();
+    let entries = core.entries(alloc).ok().ok_or("has entries")?;
+    assert!(rt; are_those(&entries, &map));
+    assert!(rt; entries.len() > 0);
+    Ok(())
+}
+
+#[test]
+fn four_threads(rt: HostRuntime) -> Result<(), Fail> {
+    let alloc = rt.alloc();
+    let geometry = Geometry::new(2, 16, 64, 8, 16, 4000)
+        .ok()
+        .ok_or("in limits")?;
+    let core = opened(alloc, formatted(alloc, geometry)?)?;
+    many_calls::<_, Brand, _>(&rt, alloc, core, 10_000, Blank::new(6), Blank::new(6))
+}

@@ -1,0 +1,151 @@
+// What no contract says of a server: what a client is answered over a socket, and what threads do side by side.
+
+mod broken;
+mod crowd;
+mod held;
+mod lines;
+mod looks;
+mod network;
+mod record;
+
+use crate::tests::opened;
+use silt_desk::Gate;
+use silt_device::Disk;
+use silt_server::{Listens, serve_on};
+use std::alloc::Global;
+use std::io::{self, ErrorKind, Read, Write};
+use std::net::{Net, Shutdown, SocketAddr, TcpListener, TcpStream};
+use std::sync::Wait;
+use std::test::Fail;
+use std::thread::{self, Threads};
+use std::time::{Clock, Duration};
+
+/// A listener that waits for a connection for at most a million turns.
+#[derive(Drop)]
+struct Patient<'a, R: Clock> {
+    pub rt: &'a R,
+    pub listener: TcpListener,
+}
+
+impl<R: Clock> Listens for Patient<'_, R> {
+    ghost has_port = { λ listener port. Unit {0} };
+
+    fn port(&self) -> io::Result<u16> {
+        Ok(self.listener.local_addr()?.port())
+    }
+
+    fn wait(&self) -> io::Result<TcpStream> {
+        self.listener.set_nonblocking(true)?;
+        for _ in 0..1_000_000u32 {
+            match self.listener.accept() {
+                Ok((stream, _)) => return Ok(stream),
+                Err(error) if error.kind() == ErrorKind::WouldBlock => {}
+                Err(error) => return Err(error),
+            }
+            thread::sleep(self.rt, Duration::from_micros(10));
+        }
+        Err(io::Error::from(ErrorKind::TimedOut))
+    }
+}
+
+/// What a server and its clients gave.
+#[derive(Drop)]
+struct Ended<D: Disk, X: Drop> {
+    pub disk: D,
+    pub status: u8,
+    pub written: Vec<u8>,
+    pub got: X,
+}
+
+// A server of so many sessions in one thread, and its clients in another, until both are done.
+fn serve_beside<
+    D: Disk,
+    G: Gate + Sync,
+    X: Drop,
+    C: FnOnce(SocketAddr) -> X,
+    R: Net<Listener = TcpListener, Stream = TcpStream> + Clock + Threads + Wait + Sync,
+>(
+    rt: &R,
+    alloc: Global,
+    disk: D,
+    audit: Option<u64>,
+    sessions: u32,
+    gate: &G,
+    clients: C,
+) -> Result<Ended<D, X>, Fail>
+    requires { C.IsAlwaysCallable clients }
+{
+    let listener = TcpListener::bind(rt, ("127.0.0.1", 0u16))?;
+    let addr = listener.local_addr()?;
+    let listener = Patient { rt, listener };
+    let core = opened(alloc, disk)?;
+    let mut written = Vec::new(alloc);
+    let (served, got) = thread::join(
+        rt,
+        || serve_on(
+            rt,
+            alloc,
+            &listener,
+            core,
+            audit,
+            sessions,
+            gate,
+            &mut written,
+        ),
+        move || -> X
+            requires { C.IsAlwaysCallable clients }
+        { clients(addr) },
+    );
+    let (disk, status) = served;
+    Ok(Ended {
+        disk,
+        status: status?,
+        written,
+        got,
+    })
+}
+
+// A connection that waits for an answer, or until it has written, for at most half a minute.
+fn connected<R: Net<Stream = TcpStream>>(rt: &R, addr: SocketAddr) -> io::Result<TcpStream> {
+    let stream = TcpStream::connect(rt, addr)?;
+    stream.set_read_timeout(Some(Duration::from_secs(30)))?;
+    stream.set_write_timeout(Some(Duration::from_secs(30)))?;
+    Ok(stream)
+}
+
+// All that one connection is answered to these lines, until the server closes it.
+fn ask<R: Net<Stream = TcpStream>>(
+    rt: &R,
+    alloc: Global,
+    addr: SocketAddr,
+    lines: &[u8],
+) -> io::Result<Vec<u8>> {
+    let mut stream = connected(rt, addr)?;
+    stream.write_all(lines)?;
+    stream.shutdown(Shutdown::Write)?;
+    let mut got = Vec::new(alloc);
+    stream.read_to_end(&mut got)?;
+    Ok(got)
+}
+
+// The next line that is answered, with its line feed, or what there is of it where the connection ends.
+fn read_line(alloc: Global, stream: &mut TcpStream) -> io::Result<Vec<u8>> {
+    let mut line = Vec::new(alloc);
+    let mut byte = [0u8; 1];
+    for _ in 0..20_000u32 {
+        if stream.read(&mut byte)? == 0 {
+            break;
+        }
+        line.push(byte[0])?;
+        if byte[0] == b'\n' {
+            break;
+        }
+    }
+    Ok(line)
+}
+
+// Asks one line, and gives the line that is answered.
+fn ask_line(alloc: Global, stream: &mut TcpStream, line: &[u8]) -> io::Result<Vec<u8>> {
+    stream.write_all(line)?;
+    read_line(alloc, stream)
+}

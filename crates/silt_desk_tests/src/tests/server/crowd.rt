@@ -1,0 +1,103 @@
+// As many sessions as there may be, and one more; and as many that say nothing.
+
+use crate::tests::server::{ask_line, connected, serve_beside};
+use crate::tests::{Open, small};
+use std::alloc::Global;
+use std::net::{Net, SocketAddr, TcpStream};
+use std::test::Fail;
+use std::time::{Clock, Duration};
+use std::{io, thread};
+
+// Sixty-four connections that say nothing but one line each, so that each has its place.
+fn sixty_four<R: Net<Stream = TcpStream>>(
+    rt: &R,
+    alloc: Global,
+    addr: SocketAddr,
+) -> io::Result<Vec<TcpStream>> {
+    let mut streams = Vec::new(alloc);
+    for _ in 0..64u32 {
+        let mut stream = connected(rt, addr)?;
+        let _ = ask_line(alloc, &mut stream, b"get =a\n")?;
+        streams.push(stream)?;
+    }
+    Ok(streams)
+}
+
+// Whether a connection is closed and not answered.
+fn is_closed<R: Net<Stream = TcpStream>>(rt: &R, alloc: Global, addr: SocketAddr) -> bool {
+    let Ok(mut stream) = connected(rt, addr) else {
+        return true;
+    };
+    match ask_line(alloc, &mut stream, b"flush\n") {
+        Ok(line) => line.is_empty(),
+        Err(_) => true,
+    }
+}
+
+// A connection beyond the sixty-fourth is closed; when one has ended a further one is answered, after at most so many turns.
+fn one_more<R: Net<Stream = TcpStream> + Clock>(
+    rt: &R,
+    alloc: Global,
+    addr: SocketAddr,
+) -> io::Result<(bool, bool)> {
+    let mut streams = sixty_four(rt, alloc, addr)?;
+    let closed = is_closed(rt, alloc, addr);
+    drop(streams.pop());
+    for _ in 0..10_000u32 {
+        if !is_closed(rt, alloc, addr) {
+            return Ok((closed, true));
+        }
+        thread::sleep(rt, Duration::from_millis(1));
+    }
+    Ok((closed, false))
+}
+
+#[test]
+fn closes_the_sixty_fifth(rt: HostRuntime) -> Result<(), Fail> {
+    let alloc = rt.alloc();
+    let ended = serve_beside(
+        &rt,
+        alloc,
+        small(alloc)?,
+        None,
+        65,
+        &Open,
+        |addr: SocketAddr| { one_more(&rt, alloc, addr) },
+    )?;
+    let (closed, served) = ended.got?;
+    assert!(rt; closed);
+    assert!(rt; served);
+    assert_eq!(rt; ended.status, 0);
+    Ok(())
+}
+
+// Sixty-four connections that say nothing and are then closed.
+fn say_nothing<R: Net<Stream = TcpStream>>(
+    rt: &R,
+    alloc: Global,
+    addr: SocketAddr,
+) -> io::Result<usize> {
+    let mut streams = Vec::new(alloc);
+    for _ in 0..64u32 {
+        streams.push(connected(rt, addr)?)?;
+    }
+    Ok(streams.len())
+}
+
+#[test]
+fn ends_sessions_that_say_nothing(rt: HostRuntime) -> Result<(), Fail> {
+    let alloc = rt.alloc();
+    let ended = serve_beside(
+        &rt,
+        alloc,
+        small(alloc)?,
+        None,
+        64,
+        &Open,
+        |addr: SocketAddr| { say_nothing(&rt, alloc, addr) },
+    )?;
+    assert_eq!(rt; ended.got?, 64);
+    assert_eq!(rt; ended.status, 0);
+    assert!(rt; ended.written.as_slice().ends_with(b"\ncalls 0\n"));
+    Ok(())
+}

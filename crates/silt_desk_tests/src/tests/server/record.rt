@@ -1,0 +1,153 @@
+// Sixty-four sessions at once: each is answered as by a plain map of its own, all calls are recorded, and what was acknowledged is
+// found again.
+
+mod kept;
+
+use crate::tests::server::{connected, read_line, serve_beside};
+use crate::tests::{Open, formatted, opened};
+use silt_device::{Disk, Geometry};
+use std::alloc::Global;
+use std::io::{self, Write};
+use std::net::{Net, SocketAddr, TcpStream};
+use std::process::Abort;
+use std::test::Fail;
+
+const SESSIONS: u32 = 64;
+
+// How many commands each session asks.
+const COMMANDS: u32 = 200;
+
+/// A connection, and the value that its key should have.
+#[derive(Drop)]
+struct Session {
+    stream: TcpStream,
+    number: u32,
+    value: Option<u32>,
+}
+
+impl Session {
+    // Asks the command of a round: puts, deletes and gets by turns.
+    fn ask(&mut self, alloc: Global, round: u32) -> io::Result<()> {
+        let number = self.number;
+        let low = round % 256;
+        let line = match round % 4 {
+            0 => format!(in alloc; "put =s{number} {low:04x}\n")?,
+            2 => match round % 8 {
+                2 => format!(in alloc; "delete =s{number}\n")?,
+                _ => format!(in alloc; "flush\n")?,
+            },
+            _ => format!(in alloc; "get =s{number}\n")?,
+        };
+        self.stream.write_all(line.as_bytes())
+    }
+
+    // Whether the round's command is answered as by a plain map. A refused command changes nothing.
+    fn is_answered(&mut self, alloc: Global, round: u32) -> io::Result<bool> {
+        let line = read_line(alloc, &mut self.stream)?;
+        let is_accepted = line.as_slice().starts_with(b"accepted ");
+        if round % 4 == 0 {
+            if is_accepted {
+                self.value = Some(round % 256);
+            }
+            return Ok(is_accepted || is_full(line.as_slice()));
+        }
+        if round % 8 == 2 {
+            if is_accepted {
+                self.value = None;
+            }
+            return Ok(is_accepted || is_full(line.as_slice()));
+        }
+        if round % 8 == 6 {
+            return Ok(line.as_slice().starts_with(b"acknowledged "));
+        }
+        let due = match self.value {
+            Some(value) => format!(in alloc; "value {value:04x}\n")?,
+            None => format!(in alloc; "absent\n")?,
+        };
+        Ok(line.as_slice() == due.as_bytes())
+    }
+}
+
+// Whether a command is refused for want of room in the store.
+fn is_full(line: &[u8]) -> bool {
+    line == b"refused 7 StoreFull\n".as_slice() || line == b"refused 8 NoRoom\n".as_slice()
+}
+
+/// What the sessions found.
+#[derive(Clone, Copy, Debug)]
+struct Found {
+    // How many commands were not answered as they should.
+    pub wrong: u32,
+    // How many keys have a value at the end.
+    pub keys: u32,
+}
+
+// How many of the sessions' keys have a value.
+fn count_keys(sessions: &[Session]) -> u32 {
+    let mut keys = 0u32;
+    for session in sessions {
+        if session.value.is_some() {
+            keys = keys.saturating_add(1);
+        }
+    }
+    keys
+}
+
+// All sessions ask at once, round by round.
+fn ask_all<R: Net<Stream = TcpStream>>(
+    rt: &R,
+    alloc: Global,
+    addr: SocketAddr,
+) -> io::Result<Found> {
+    let mut sessions = Vec::new(alloc);
+    for number in 0..SESSIONS {
+        sessions.push(Session {
+            stream: connected(rt, addr)?,
+            number,
+            value: None,
+        })?;
+    }
+    let mut wrong = 0u32;
+    for round in 0..COMMANDS {
+        for session in sessions.iter_mut() {
+            session.ask(alloc, round)?;
+        }
+        for session in sessions.iter_mut() {
+            if !session.is_answered(alloc, round)? {
+                wrong = wrong.saturating_add(1);
+            }
+        }
+    }
+    let keys = count_keys(sessions.as_slice());
+    Ok(Found { wrong, keys })
+}
+
+// The store that the server left has as many keys as its clients had given values.
+fn has_keys<D: Disk, R: Abort>(rt: &R, alloc: Global, disk: D, keys: u32) -> Result<(), Fail> {
+    let core = opened(alloc, disk)?;
+    let entries = core.entries(alloc).ok().ok_or("has entries")?;
+    assert_eq!(rt; entries.len() as u64, u64::from(keys));
+    Ok(())
+}
+
+#[test]
+fn many_sessions(rt: HostRuntime) -> Result<(), Fail> {
+    let alloc = rt.alloc();
+    let geometry = Geometry::new(2, 16, 64, 8, 16, 4000)
+        .ok()
+        .ok_or("in limits")?;
+    let ended = serve_beside(
+        &rt,
+        alloc,
+        formatted(alloc, geometry)?,
+        Some(400_000),
+        SESSIONS,
+        &Open,
+        |addr: SocketAddr| { ask_all(&rt, alloc, addr) },
+    )?;
+    let found = ended.got?;
+    assert_eq!(rt; ended.status, 0);
+    assert_eq!(rt; found.wrong, 0);
+    assert!(rt; found.keys > 0);
+    has_keys(&rt, alloc, ended.disk, found.keys)
+}

@@ -1,0 +1,197 @@
+// What the calls of many sessions were recorded as is done again by a plain map.
+ghost use Rattle.std.specs.Prelude.{◌≡◌, []};
+ghost use Rattle.silt_desk.specs.Seeing.{seen};
+ghost use Rattle.silt_desk.specs.Traces.{IsHistory};
+
+use crate::tests::server::Patient;
+use crate::tests::server::record::{Found, ask_all};
+use crate::tests::{Open, are_those, formatted, two_bytes};
+use silt_desk::{Desk, Kept, Naming, RecordedCall};
+use silt_device::{Disk, Geometry, MemDisk};
+use silt_event::{Event, Reply};
+use silt_frame::Key;
+use silt_inbox::Post;
+use silt_server::{Hall, Listens, serve_desk};
+use silt_store_set::Core;
+use std::alloc::{AllocError, Global};
+use std::collections::BTreeMap;
+use std::io::Write;
+use std::marker::Brand;
+use std::net::{Net, TcpListener, TcpStream};
+use std::sync::Wait;
+use std::sync::ledger::Blank;
+use std::test::Fail;
+use std::thread::{self, Threads};
+use std::time::Clock;
+
+/// A map of one thread, how many commands it has taken, and how many of its calls were answered otherwise than it would.
+#[derive(Drop)]
+struct Again {
+    map: BTreeMap<Key, [u8; 2]>,
+    accepted: u64,
+    wrong: u64,
+}
+
+impl Again {
+    // Does one call again, and answers whether it was answered as by a plain map. A refused call and a step change nothing.
+    fn does(&mut self, call: &RecordedCall) -> Result<bool, AllocError> {
+        match (&call.event, &call.reply) {
+            (Event::Put(key, value), Reply::Accepted(number)) => {
+                self.map.insert(*key, two_bytes(value))?;
+                Ok(self.is_next(*number))
+            }
+            (Event::Delete(key), Reply::Accepted(number)) => {
+                self.map.remove(key);
+                Ok(self.is_next(*number))
+            }
+            (Event::Flush, Reply::Acknowledged(number)) => Ok(*number == self.accepted),
+            (Event::Get(key), Reply::Found(value)) => {
+                Ok(self.map.get(key) == Some(&two_bytes(value)))
+            }
+            (Event::Get(key), Reply::Absent) => Ok(self.map.get(key).is_none()),
+            (Event::Convert | Event::Merge, Reply::Progress(_)) => Ok(true),
+            (_, Reply::Refused(_)) => Ok(true),
+            _ => Ok(false),
+        }
+    }
+
+    // A command more, which should have this number.
+    fn is_next(&mut self, number: u64) -> bool {
+        self.accepted = self.accepted.wrapping_add(1);
+        self.accepted == number
+    }
+}
+
+/// All calls again, on a map that is empty at first.
+fn replayed(alloc: Global, calls: &[RecordedCall]) -> Result<Again, AllocError> {
+    let mut again = Again {
+        map: BTreeMap::new(alloc),
+        accepted: 0,
+        wrong: 0,
+    };
+    for call in calls {
+        if !again.does(call)? {
+            again.wrong = again.wrong.wrapping_add(1);
+        }
+    }
+    Ok(again)
+}
+
+/// What a record tells.
+#[derive(Clone, Copy, Debug)]
+struct Told {
+    // How many calls are recorded.
+    calls: u64,
+    // How many of them a plain map would have answered otherwise.
+    wrong: u64,
+    // How many commands were accepted.
+    accepted: u64,
+    // Whether the store ends with the entries of the plain map.
+    ends_alike: bool,
+}
+
+/// What the record of a desk tells.
+fn tell<D: Disk, N: Naming>(alloc: Global, desk: Desk<D, Kept, N>) -> Option<Told> {
+    let calls = desk.trace().calls().len() as u64;
+    let again = replayed(alloc, desk.trace().calls()).ok()?;
+    let core = desk.into_core();
+    let entries = core.entries(alloc).ok()?;
+    Some(Told {
+        calls,
+        wrong: again.wrong,
+        accepted: again.accepted,
+        ends_alike: are_those(&entries, &again.map),
+    })
+}
+
+/// Serves a store whose calls are kept, and gives what its record tells, with the status. The blanks become the ledgers.
+fn serve_recorded<
+    L: Listens,
+    D: Disk,
+    N: Naming + Send + Sync,
+    P: Post + Send + Sync,
+    R: Threads + Wait + Sync,
+    W: Write,
+>(
+    rt: &R,
+    alloc: Global,
+    listener: &L,
+    core: Core<D>,
+    kept: Kept,
+    desk_blanks: (Blank, Blank),
+    inbox_blanks: (Blank, Blank),
+    sessions: u32,
+    out: &mut W,
+) -> Option<(Told, u8)>
+    requires calls { (desk_blanks.0.name ≡ N.calls_name) × (desk_blanks.0.parts ≡ N.seats) × (N.seats ≡ 3) }
+    requires accepted { (desk_blanks.1.name ≡ N.accepted_name) × (desk_blanks.1.parts ≡ N.seats) }
+    requires put { (inbox_blanks.0.name ≡ P.put_name) × (inbox_blanks.0.parts ≡ P.feeders) × (P.feeders ≡ 64) }
+    requires taken { (inbox_blanks.1.name ≡ P.taken_name) × (inbox_blanks.1.parts ≡ 1) }
+    requires trace { IsHistory kept (seen D.content core) × (kept.calls ≡ []) }
+{
+    let (calls, accepted) = desk_blanks;
+    let (put, taken) = inbox_blanks;
+    let (desk, seats) = Desk::<D, Kept, N>::new(alloc, core, kept, 3, calls, accepted).ok()?;
+    let hall = Hall::<N, P>::new(alloc, seats, put, taken)?;
+    let (desk, status) = serve_desk(rt, alloc, listener, desk, hall, sessions, &Open, out);
+    let told = tell(alloc, desk)?;
+    Some((told, status.ok()?))
+}
+
+/// The same of an empty store.
+fn serve_kept<L: Listens, R: Threads + Wait + Sync>(
+    rt: &R,
+    alloc: Global,
+    listener: &L,
+    disk: MemDisk,
+    sessions: u32,
+) -> Option<(Told, u8)> {
+    let core = Core::open(alloc, disk).ok()?;
+    let Ok(kept) = Kept::new(alloc, &core, 400_000) else {
+        return None;
+    };
+    let mut written = Vec::new(alloc);
+    serve_recorded::<L, MemDisk, Brand, Brand, R, Vec<u8>>(
+        rt,
+        alloc,
+        listener,
+        core,
+        kept,
+        (Blank::new(3), Blank::new(3)),
+        (Blank::new(64), Blank::new(1)),
+        sessions,
+        &mut written,
+    )
+}
+
+/// A server of sixty-four sessions, which ask at once, and what its record tells.
+fn serve_all<R: Net<Listener = TcpListener, Stream = TcpStream> + Clock + Threads + Wait + Sync>(
+    rt: &R,
+    alloc: Global,
+    disk: MemDisk,
+) -> Result<(Option<(Told, u8)>, Found), Fail> {
+    let listener = TcpListener::bind(rt, ("127.0.0.1", 0u16))?;
+    let addr = listener.local_addr()?;
+    let listener = Patient { rt, listener };
+    let (served, asked) = thread::join(
+        rt,
+        || serve_kept(rt, alloc, &listener, disk, 64),
+        || ask_all(rt, alloc, addr),
+    );
+    Ok((served, asked?))
+}
+
+#[test]
+fn records_what_a_plain_map_does(rt: HostRuntime) -> Result<(), Fail> {
+    let alloc = rt.alloc();
+    let geometry = Geometry::new(2, 16, 64, 8, 16, 4000)
+        .ok()
+        .ok_or("in limits")?;
+    let (served, found) = serve_all(&rt, alloc, formatted(alloc, geometry)?)?;
+    let (told, status) = served.ok_or("served")?;
+    assert_eq!(rt; status, 0);
+    assert_eq!(rt; (found.wrong, told.wrong), (0, 0));
+    assert!(rt; told.ends_alike);
+    assert!(rt; told.accepted > 0 && told.accepted < told.calls);
+    Ok(())
+}

@@ -1,6 +1,0 @@
-use Rattle.std.proofs.Common.{◌≡◌}
-use Rattle.silt_device.specs.Disk.{size}
-use Rattle.silt_region_tests.proofs.sorted_store.many.write_keys.Given as goal
-
-abbrev pub invariant-loop-place : goal.invariant-loop-place
-invariant-loop-place g l = size (g.D.Disk.content l.disk) ≡ size (g.D.Disk.content l.initial.disk)

@@ -1,0 +1,188 @@
+// The values of entries: read by their places, and by their keys.
+ghost use Rattle.std.specs.Prelude.{◌≡◌, ◌+◌, ◌≤◌, ◌<◌, IfOk, length};
+ghost use Rattle.silt_device.specs.Disk.{size};
+ghost use Rattle.silt_device.specs.Layout.{device_size};
+ghost use Rattle.silt_device.specs.Memory.{memory_content};
+
+use crate::tests::four_rows;
+use crate::tests::sorted_store::{fill, key};
+use silt_device::{BadGeometry, Call, Disk, FaultDisk, Geometry, MemDisk};
+use silt_frame::Key;
+use silt_sorted_store::{SortedEntries, SortedStore};
+use std::alloc::Global;
+use std::test::Fail;
+
+// The value and the whole bytes of the entry at a place of region 1.
+fn read_both<D: Disk>(
+    disk: &D,
+    geometry: Geometry,
+    place: u32,
+) -> Result<([u8; 2], [u8; 22]), D::Fault>
+    requires value_len { geometry.value_len ≡ 2 }
+    requires place { place < 8 }
+    requires count { 8 ≤ geometry.sorted_capacity }
+    requires size { device_size geometry ≤ size (D.content disk.now) }
+{
+    let store = SortedEntries::new(geometry, 1, 8);
+    let mut value = [0; 2];
+    store.read_value(disk, place, &mut value)?;
+    let mut entry = [0; 22];
+    let _key = store.entry(disk, place, &mut entry)?;
+    Ok((value, entry))
+}
+
+#[test]
+fn reads_values_and_entries(rt: HostRuntime) -> Result<(), Fail> {
+    let geometry = four_rows()?;
+    let mut disk = MemDisk::new(rt.alloc(), geometry.size() as usize)?;
+    fill(&mut disk, 8)?;
+    let (value, entry) = read_both(&disk, geometry, 3)?;
+    assert_eq!(rt; value, [7, 3]);
+    assert_eq!(rt;
+        entry,
+        *b"\x28\x00\x00\x00\x00\x00\x00\x00\x00\x00\x00\x00\x00\x00\x00\x00\x00\x00\x00\x00\x07\x03"
+    );
+    Ok(())
+}
+
+// What a get of a key among eight entries fills these two bytes with, where one has it. None where a read fails.
+fn get<D: Disk>(alloc: Global, disk: &D, geometry: Geometry, key: &Key) -> Option<(bool, [u8; 2])>
+    requires value_len { geometry.value_len ≡ 2 }
+    requires count { 8 ≤ geometry.sorted_capacity }
+    requires size { device_size geometry ≤ size (D.content disk.now) }
+{
+    let Ok(store) = SortedStore::rebuild(alloc, disk, geometry, 1, 8) else {
+        return None;
+    };
+    let mut value = [9; 2];
+    let found = store.get(disk, key, &mut value).ok()?;
+    Some((found, value))
+}
+
+// A get of an absent key leaves what is to be filled, whether the index names a place or none.
+#[test]
+fn gets_the_value_of_each_key(rt: HostRuntime) -> Result<(), Fail> {
+    let geometry = four_rows()?;
+    let mut disk = MemDisk::new(rt.alloc(), geometry.size() as usize)?;
+    fill(&mut disk, 8)?;
+    for place in 0..8 {
+        let first = 10 + 10 * place;
+        assert_eq!(rt;
+            get(rt.alloc(), &disk, geometry, &key(first, 0)),
+            Some((true, [7, place]))
+        );
+        assert_eq!(rt;
+            get(rt.alloc(), &disk, geometry, &key(first, 1)),
+            Some((false, [9, 9]))
+        );
+        assert_eq!(rt;
+            get(rt.alloc(), &disk, geometry, &key(first + 1, 0)),
+            Some((false, [9, 9]))
+        );
+    }
+    Ok(())
+}
+
+// The store that is encoded of keys looks for them in the entries that it is given.
+#[test]
+fn encodes_the_index_of_keys(rt: HostRuntime) -> Result<(), Fail> {
+    let geometry = four_rows()?;
+    let mut disk = MemDisk::new(rt.alloc(), geometry.size() as usize)?;
+    fill(&mut disk, 1)?;
+    let entries = SortedEntries::new(geometry, 1, 1);
+    let store = SortedStore::encode(rt.alloc(), entries, &[key(10, 0)])?;
+    assert_eq!(rt;
+        (store.region(), store.len(), store.is_empty()),
+        (1, 1, false)
+    );
+    assert_eq!(rt; store.geometry(), geometry);
+    assert_eq!(rt; store.entries().len(), 1);
+    Ok(())
+}
+
+// One sorted entry, with a value of this length.
+fn single(value_len: u32) -> Result<Geometry, BadGeometry>
+    ensures { IfOk result (λ geometry. geometry ≡ record { value_len = value_len; buckets = 2; log_capacity = 4; logs = 2; hashes = 1; sorted_capacity = 1 }) }
+{
+    Geometry::new(value_len, 2, 4, 2, 1, 1)
+}
+
+// Writes the only entry of region 1.
+fn write_single<D: Disk>(disk: &mut D, geometry: Geometry, value: &[u8]) -> Result<(), D::Fault>
+    requires single { geometry.sorted_capacity ≡ 1 }
+    requires value { length value.now ≡ geometry.value_len }
+    requires size { device_size geometry ≤ size (D.content disk.old) }
+    ensures { size (D.content disk.new) ≡ size (D.content disk.old) }
+{
+    let at = geometry.sorted_at(1);
+    disk.write(at, &key(3, 4).0)?;
+    disk.write(at + 20, value)?;
+    Ok(())
+}
+
+// Whether a get among the only entry of region 1 finds the key, and fills in this value. None where a read fails.
+fn gets_single<D: Disk>(
+    alloc: Global,
+    disk: &D,
+    geometry: Geometry,
+    value: &[u8],
+    out: &mut [u8],
+) -> Option<bool>
+    requires count { 1 ≤ geometry.sorted_capacity }
+    requires out { length out.old ≡ geometry.value_len }
+    requires size { device_size geometry ≤ size (D.content disk.now) }
+{
+    let Ok(store) = SortedStore::rebuild(alloc, disk, geometry, 1, 1) else {
+        return None;
+    };
+    let found = store.get(disk, &key(3, 4), out).ok()?;
+    Some(found && *out == *value)
+}
+
+// As `gets_single`, on this disk, where the read of this number fails.
+fn gets_with_fault(
+    alloc: Global,
+    disk: MemDisk,
+    geometry: Geometry,
+    number: u64,
+    value: &[u8],
+    out: &mut [u8],
+) -> Option<bool>
+    requires count { 1 ≤ geometry.sorted_capacity }
+    requires out { length out.old ≡ geometry.value_len }
+    requires size { device_size geometry ≤ size (memory_content disk) }
+{
+    let disk = FaultDisk::new(disk, Call::Read, number);
+    gets_single(alloc, &disk, geometry, value, out)
+}
+
+// As `gets_with_fault`, on a disk of its own.
+fn gets_long(alloc: Global, value_len: u32, number: u64) -> Result<Option<bool>, Fail> {
+    let geometry = single(value_len)?;
+    let value = vec![in alloc; 6u8; value_len as usize]?;
+    let mut out = vec![in alloc; 0u8; value_len as usize]?;
+    let mut disk = MemDisk::new(alloc, geometry.size() as usize)?;
+    write_single(&mut disk, geometry, &value)?;
+    Ok(gets_with_fault(alloc, disk, geometry, number, &value, &mut out))
+}
+
+// Behind the one read of the rebuild an entry of 512 bytes is one read, and one of 513 bytes is two.
+#[test]
+fn a_failed_read_of_a_get_is_told(rt: HostRuntime) -> Result<(), Fail> {
+    for (value_len, number, want) in [
+        (492, 2, None),
+        (492, 3, Some(true)),
+        (493, 2, None),
+        (493, 3, None),
+        (493, 4, Some(true)),
+        (4096, 3, None),
+        (4096, 4, Some(true)),
+    ] {
+        assert_eq!(rt;
+            gets_long(rt.alloc(), value_len, number)?,
+            want,
+            "read {number} of a value of {value_len} bytes"
+        );
+    }
+    Ok(())
+}
