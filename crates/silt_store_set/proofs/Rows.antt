@@ -1,5 +1,5 @@
 -- What a put or a delete does, from what taking its row does.
-use Rattle.std.proofs.Common.{◌≡◌, ℕ, ◌+◌, ◌%◌, ◌^◌, inl, inr, true, false, IsTrue, List, [], ◌∷◌, length, refl, ap, sym, ◌∙◌, subst}
+use Rattle.std.proofs.Common.{◌≡◌, ◌<◌, ℕ, ◌+◌, ◌%◌, ◌^◌, inl, inr, true, false, IsTrue, List, [], ◌∷◌, length, refl, ap, sym, ◌∙◌, subst, arith}
 use Rattle.std.proofs.lemmas.List.{length-map}
 use Rattle.silt_device.specs.Disk.{Content}
 use Rattle.silt_frame.specs.declared.key.Key.{Key}
@@ -29,6 +29,11 @@ use Rattle.silt_store_set.proofs.Calls.{seen, advanced, broke, refused}
 pub may_working : {D : Type 0} (k : Kind) (core : CoreState D) → MayWrite k core → core.failed ≡ false
 may_working kind.Put core may = may.may_count.working
 may_working kind.Delete core may = may.working
+
+-- and its next command still has a number
+pub may_count : {D : Type 0} (k : Kind) (core : CoreState D) → MayWrite k core → core.count + 1 < 2 ^ 63
+may_count kind.Put core may = omega (arith, may.may_count.count)
+may_count kind.Delete core may = omega (arith, may.count)
 
 -- a body that is the next one with the lowest free region
 freezes : (logs : ℕ) (old new : Body) (region : ℕ) → IsLowestFree logs old region → new ≡ next_body old region → Freezes logs old new

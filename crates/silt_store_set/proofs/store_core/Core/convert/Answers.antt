@@ -1,5 +1,6 @@
+use Rattle.std.proofs.Common.{[], arith}
 use Rattle.silt_device.specs.Disk.{GaveAny}
-use Rattle.silt_store_set.proofs.Calls.{core_broke}
+use Rattle.silt_store_set.proofs.Calls.{core_broke, core_went}
 use Rattle.silt_store_set.proofs.Converts.{step_broke, step_no_memory, step_spent, step_unread, stepped}
 use Rattle.silt_store_set.proofs.store_core.Core.convert.Goals as goal
 
@@ -41,3 +42,8 @@ pub invariant_of-self-in-Err-Write : goal.invariant_of-self-in-Err-Write
 invariant_of-self-in-Err-Write g c =
     let err = rw c.in-Err-Write.field-0-is at c.in-Err-Write.ensures.err in
     core_broke (g.D.Disk.content c.self.inside.disk) (g.D.Disk.content c.convert.new.disk) c.self.inside.tiers c.convert.new.self c.self.inside.count c.self.inside.failed c.self.invariant c.convert.ensures.same c.convert.ensures.shape err.2
+
+pub invariant_of-self : goal.invariant_of-self
+invariant_of-self g c =
+    core_went [] (g.D.Disk.content c.self.inside.disk) (g.D.Disk.content c.convert.new.disk) c.self.inside.tiers c.convert.new.self c.self.inside.count c.self.inside.count c.self.inside.failed c.self.invariant
+    c.if-self.false c.convert.ensures.same c.in-Ok.ensures.ok (omega arith) c.self.invariant.count_most

@@ -1,6 +1,7 @@
+use Rattle.std.proofs.Common.{◌+◌, [], ◌∷◌, arith}
 use Rattle.silt_device.specs.Disk.{GaveAny}
-use Rattle.silt_store_set.proofs.Calls.{core_broke, seen}
-use Rattle.silt_store_set.proofs.Rows.{may_working, row_taken, row_broke, row_unread, row_no_room, row_spent, row_no_memory}
+use Rattle.silt_store_set.proofs.Calls.{core_broke, core_went, seen}
+use Rattle.silt_store_set.proofs.Rows.{may_count, may_working, row_taken, row_broke, row_unread, row_no_room, row_spent, row_no_memory}
 use Rattle.silt_store_set.proofs.store_core.Core.write_row.Goals as goal
 
 pub returns-in-Ok : goal.returns-in-Ok
@@ -54,3 +55,10 @@ pub invariant_of-self-in-Err-Write : goal.invariant_of-self-in-Err-Write
 invariant_of-self-in-Err-Write g c =
     let err = rw c.in-Err-Write.field-0-is at c.in-Err-Write.ensures.err in
     core_broke (g.D.Disk.content c.self.inside.disk) (g.D.Disk.content c.write.new.disk) c.self.inside.tiers c.write.new.self c.self.inside.count c.self.inside.failed c.self.invariant c.write.ensures.same c.write.ensures.shape err.1
+
+pub invariant_of-self : goal.invariant_of-self
+invariant_of-self g c =
+    let may = rw (← c.self.view_is) at c.requires.may in
+    let before = seen g.D.Disk.content c.self.inside.disk c.self.inside.tiers c.self.inside.count c.self.inside.failed in
+    core_went (_ ∷ []) (g.D.Disk.content c.self.inside.disk) (g.D.Disk.content c.write.new.disk) c.self.inside.tiers c.write.new.self c.self.inside.count (c.self.inside.count + 1) c.self.inside.failed
+    c.self.invariant (may_working c.args.kind before may) c.write.ensures.same c.in-Ok.ensures.ok (omega arith) (may_count c.args.kind before may)
