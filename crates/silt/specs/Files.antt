@@ -1,8 +1,9 @@
 -- What the jobs on the disk of a path do.
 use Rattle.std.specs.Prelude.{◌≡◌, ◌⊎◌, ℕ, List, IfSome, Option, Some}
 use Rattle.std.specs.Option.{IsSomeAnd}
-use Rattle.silt_device.specs.Disk.{Content, size}
+use Rattle.silt_device.specs.Disk.{GaveAny, size}
 use Rattle.silt_device.specs.Layout.{InLimits, Shape, device_size}
+use Rattle.silt_device.specs.declared.disk.Disk.{Ghosts}
 use Rattle.silt_event.specs.declared.refusal.Refusal.{Refusal}
 use Rattle.silt_event.specs.declared.refusal.Refusal.TheVariants.{BadGeometry, Device}
 use Rattle.silt_recovery.specs.Opening.{LeavesNoOther}
@@ -18,49 +19,49 @@ use Rattle.silt.specs.Jobs.{EndsCheck, EndsFormat, EndsRun, Tells, TellsCheck, T
 abbrev pub TellsNoDisk : {E : Type 0} → (E → Type 0) → Option (List ℕ) → Option (List ℕ) → Type 0
 TellsNoDisk {E} IsCause before after = (error : E) × IsCause error × Tells (Device (tt {0})) before after
 
-module _ {D F : Type 0} (content : D → Content) (failures : D → ℕ) (gave : D → F → Type 0) where
+module _ {D F : Type 0} (facts : Ghosts D F) where
   -- one life on a disk that the source opened, which is given back as the store left it; people were told which calls of it failed
   abbrev pub RunsFile : (SessionEnd → D → Type 0) → (D → Type 0) → Option D → Option (List ℕ) → Option (List ℕ) → Option (List ℕ) → Option (List ℕ) → Type 0
   RunsFile told_session Opened given remaining left before after =
-      (old : D) × Opened old × IsSomeAnd given (λ new. EndsRun content failures gave told_session End old new remaining left before after)
+      (old : D) × Opened old × IsSomeAnd given (λ new. EndsRun facts told_session End old new remaining left before after)
 
   -- it was written that the source opened no disk, or why the store was not taken up from the one that it opened, or the session on it broke off
   abbrev pub TellsRunFile : {E : Type 0} → (Refusal F → Type 0) → (SessionEnd → D → Type 0) → (D → Type 0) → (E → Type 0)
       → Option D → Option (List ℕ) → Option (List ℕ) → Option (List ℕ) → Option (List ℕ) → Type 0
   TellsRunFile told_refusal told_session Opened NotOpened given remaining left before after =
       TellsNoDisk NotOpened before after ⊎ ((old : D) × Opened old
-      × IsSomeAnd given (λ new. TellsRun content failures gave told_refusal told_session old new remaining left before after))
+      × IsSomeAnd given (λ new. TellsRun facts told_refusal told_session old new remaining left before after))
 
-module _ {D F E : Type 0} (content : D → Content) (gave : D → F → Type 0) (told : Refusal F → Type 0) (Opened : D → Type 0) (NotOpened : E → Type 0) where
+module _ {D F E : Type 0} (facts : Ghosts D F) (told : Refusal F → Type 0) (Opened : D → Type 0) (NotOpened : E → Type 0) where
   -- it was written that the source opened no disk, or what is wrong with the one that it opened, which is given back
   abbrev pub TellsCheckFile : Option D → Option (List ℕ) → Option (List ℕ) → Type 0
   TellsCheckFile given before after =
-      TellsNoDisk NotOpened before after ⊎ ((disk : D) × Opened disk × (given ≡ Some disk) × TellsCheck content gave told disk before after)
+      TellsNoDisk NotOpened before after ⊎ ((disk : D) × Opened disk × (given ≡ Some disk) × TellsCheck facts told disk before after)
 
 -- the report of a disk that the source opened was written, and the disk is given back
-abbrev pub ChecksFile : {D : Type 0} → (D → Content) → (D → Type 0) → Option D → Option (List ℕ) → Option (List ℕ) → Type 0
-ChecksFile {D} content Opened given before after = (disk : D) × Opened disk × (given ≡ Some disk) × EndsCheck content disk before after
+abbrev pub ChecksFile : {D F : Type 0} → Ghosts D F → (D → Type 0) → Option D → Option (List ℕ) → Option (List ℕ) → Type 0
+ChecksFile {D} facts Opened given before after = (disk : D) × Opened disk × (given ≡ Some disk) × EndsCheck facts disk before after
 
 -- the store on a disk was served to the end; where its calls were kept, they are a history of the store that is left
-abbrev pub EndsServe : {D : Type 0} → (D → Content) → Option ℕ → D → Option (List ℕ) → Option (List ℕ) → Type 0
-EndsServe content audit new before after = IsServed (content new) before after × IfSome audit (λ most. ServesKept content (λ port. Unit {0}) new before after)
+abbrev pub EndsServe : {D F : Type 0} → Ghosts D F → Option ℕ → D → Option (List ℕ) → Option (List ℕ) → Type 0
+EndsServe facts audit new before after = IsServed (facts.content new) before after × IfSome audit (λ most. ServesKept facts (λ port. Unit {0}) new before after)
 
-module _ {D F : Type 0} (content : D → Content) (gave : D → F → Type 0) where
+module _ {D F : Type 0} (facts : Ghosts D F) where
   -- it was written why the store on a disk was not taken up, and people were told; or why the store that was taken up was not served to the end
   abbrev pub TellsServe : (Refusal F → Type 0) → D → D → Option (List ℕ) → Option (List ℕ) → Type 0
   TellsServe told old new before after =
-      TellsOpening content gave told old new before after
-      ⊎ ((core : CoreState D) × Opens content (content old) core × TellsNotServed gave (λ port. Unit {0}) core new before after)
+      TellsOpening facts told old new before after
+      ⊎ ((core : CoreState D) × Opens facts (facts.content old) core × TellsNotServed facts (λ port. Unit {0}) core new before after)
 
   -- what a server gives back, however it ends: each image that a stop may leave might have been left before or stands for what was shown, or all
   -- stand for one map after a beginning of one list of commands
   abbrev pub LeavesServed : D → D → Type 0
-  LeavesServed old new = LeavesNoOther (content old) (content new) ⊎ ((shape : Shape) × LeavesBegun (content new) shape)
+  LeavesServed old new = LeavesNoOther (facts.content old) (facts.content new) ⊎ ((shape : Shape) × LeavesBegun (facts.content new) shape)
 
   -- a disk that the source opened was served to the end, and is given back as a server leaves it; people were told which calls of it failed
   abbrev pub ServesFile : (D → Type 0) → (D → Type 0) → Option ℕ → Option D → Option (List ℕ) → Option (List ℕ) → Type 0
   ServesFile told_failures Opened audit given before after =
-      (old : D) × Opened old × IsSomeAnd given (λ new. EndsServe content audit new before after × LeavesServed old new × told_failures new)
+      (old : D) × Opened old × IsSomeAnd given (λ new. EndsServe facts audit new before after × LeavesServed old new × told_failures new)
 
   -- it was written that the source opened no disk, or why the one that it opened was not served to the end, which is given back as a server leaves it
   abbrev pub TellsServeFile : {E : Type 0} → (Refusal F → Type 0) → (D → Type 0) → (E → Type 0) → Option D → Option (List ℕ) → Option (List ℕ) → Type 0
@@ -69,20 +70,20 @@ module _ {D F : Type 0} (content : D → Content) (gave : D → F → Type 0) wh
       ⊎ ((old : D) × Opened old × IsSomeAnd given (λ new. TellsServe told old new before after × LeavesServed old new))
 
 -- where the disk held a store, people were told that it is gone, or the disk could not be read
-abbrev pub TellsStore : {D F : Type 0} → (D → Content) → (D → F → Type 0) → Type 0 → D → Type 0
-TellsStore {D} {F} content gave told_store disk = HoldsStore (content disk) → told_store ⊎ ((fault : F) × gave disk fault)
+abbrev pub TellsStore : {D F : Type 0} → Ghosts D F → Type 0 → D → Type 0
+TellsStore {D} {F} facts told_store disk = HoldsStore (facts.content disk) → told_store ⊎ ((fault : F) × GaveAny facts.gave disk fault)
 
 -- a disk that the source made at exactly the length of this shape is an empty store, and is given back; people were told of a store that it held
-abbrev pub FormatsFile : {D F : Type 0} → (D → Content) → (D → F → Type 0) → Type 0 → (ℕ → D → Type 0) → Shape → Option D → Option (List ℕ) → Option (List ℕ) → Type 0
-FormatsFile {D} content gave told_store Created shape given before after =
-    (old : D) × Created (device_size shape) old × TellsStore content gave told_store old × IsSomeAnd given (λ new. EndsFormat content shape new before after)
+abbrev pub FormatsFile : {D F : Type 0} → Ghosts D F → Type 0 → (ℕ → D → Type 0) → Shape → Option D → Option (List ℕ) → Option (List ℕ) → Type 0
+FormatsFile {D} facts told_store Created shape given before after =
+    (old : D) × Created (device_size shape) old × TellsStore facts told_store old × IsSomeAnd given (λ new. EndsFormat facts shape new before after)
 
-module _ {D F E : Type 0} (content : D → Content) (gave : D → F → Type 0) (told : Refusal F → Type 0) (Created : ℕ → D → Type 0) (NotCreated : ℕ → E → Type 0) (shape : Shape) where
+module _ {D F E : Type 0} (facts : Ghosts D F) (told : Refusal F → Type 0) (Created : ℕ → D → Type 0) (NotCreated : ℕ → E → Type 0) (shape : Shape) where
   -- it was written that a number is out of its limits, that the source made no disk of the length of this shape, or why the one that it made was
   -- not formatted
   abbrev pub TellsFormatFile : Option D → Option (List ℕ) → Option (List ℕ) → Type 0
   TellsFormatFile given before after =
       ((¬ InLimits shape) × Tells {F = Unit {0}} BadGeometry before after)
       ⊎ ((InLimits shape × TellsNoDisk (NotCreated (device_size shape)) before after)
-      ⊎ (InLimits shape × ((old : D) × Created (device_size shape) old × (size (content old) ≡ device_size shape)
-      × IsSomeAnd given (λ new. TellsFormat content gave told shape old new before after))))
+      ⊎ (InLimits shape × ((old : D) × Created (device_size shape) old × (size (facts.content old) ≡ device_size shape)
+      × IsSomeAnd given (λ new. TellsFormat facts told shape old new before after))))

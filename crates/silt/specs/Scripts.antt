@@ -4,9 +4,9 @@ use Rattle.std.specs.FinMap.{empty}
 use Rattle.std.specs.List.{slice_get}
 use Rattle.std.specs.Io.KnownBytes.{Appends, Consumes, IsAtEnd}
 use Rattle.std.specs.declared.alloc.Global.{Global}
-use Rattle.silt_device.specs.Disk.{GaveAny}
 use Rattle.silt_device.specs.Layout.{InLimits, Shape}
 use Rattle.silt_device.specs.Memory.{memory_content, memory_gave}
+use Rattle.silt_device.specs.declared.disk.Disk.{Ghosts}
 use Rattle.silt_device.specs.declared.life.Stop.{Stop as StopOf}
 use Rattle.silt_device.specs.declared.memory.MemDisk.{MemDisk}
 use Rattle.silt_device.specs.declared.memory.MemFault.{MemFault}
@@ -160,11 +160,15 @@ script_text lives marks = opening_text (slice_get lives 0) ++ marks_text lives s
 
 -- ---- the whole
 
+-- the facts of a disk in memory
+abbrev pub memory_facts : Ghosts MemDisk MemFault
+memory_facts = record { content = memory_content; failures = λ disk. disk.failures; gave = memory_gave }
+
 -- lives with these replies are a history from the empty map, and ran on a new store of this shape, armed with these stops
 abbrev pub RunsLives : Shape → List StopOf → List (Vec EventOf Global) → List (LifeReply MemFault) → Type 0
 RunsLives shape stops lives replies =
     ((to : Map) × LivesHistory empty lives replies to)
-    × ((disk : MemDisk) × IsNewStore shape stops disk × LivesRun memory_content (λ disk. disk.failures) (GaveAny memory_gave) shape.value_len lives replies disk)
+    × ((disk : MemDisk) × IsNewStore shape stops disk × LivesRun memory_facts shape.value_len lives replies disk)
 
 -- A script that ended well: all that the reader had was read; the lives of its lines were run, from the empty map, on a new store of
 -- this shape; and what was written is the text of their replies at the script's lines, and nothing else.

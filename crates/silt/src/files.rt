@@ -1,7 +1,6 @@
 // The jobs on the disk of a path.
 ghost use Rattle.std.specs.Prelude.{◌≡◌, ◌≢◌, Ok, true, IfOk, codes};
 ghost use Rattle.std.specs.Io.KnownBytes.{Appends};
-ghost use Rattle.silt_device.specs.Disk.{GaveAny};
 ghost use Rattle.silt_device.specs.Layout.{InLimits};
 ghost use Rattle.silt_server.specs.Serving.{IsStatus};
 ghost use Rattle.silt.specs.Files.{ChecksFile, FormatsFile, RunsFile, TellsCheckFile, TellsFormatFile, TellsRunFile};
@@ -41,11 +40,11 @@ pub fn format_file<
     notes: &mut N,
 ) -> (Option<S::Disk>, io::Result<u8>)
     ensures refused { ¬ InLimits (shape_asked numbers.now) → IfOk result.1 (λ status. (status ≡ 1) × Appends (W.contents writer.old) (W.contents writer.new) (codes "refused 2 BadGeometry\n")) }
-    ensures told { IfOk result.1 (IsStatus (TellsFormatFile S.Disk.Disk.content (GaveAny S.Disk.Disk.gave)
+    ensures told { IfOk result.1 (IsStatus (TellsFormatFile S.Disk.Disk
         (ToldRefusal N.told_fault N.told_damage notes.old notes.new path.now)
         (S.created source path.now) (NotMadeTold (S.not_created source) (N.told_error notes.old notes.new) path.now)
         (shape_asked numbers.now) result.0 (W.contents writer.old) (W.contents writer.new))) }
-    ensures formatted { result.1 ≡ Ok 0 → FormatsFile S.Disk.Disk.content (GaveAny S.Disk.Disk.gave) (N.told_store notes.old notes.new path.now)
+    ensures formatted { result.1 ≡ Ok 0 → FormatsFile S.Disk.Disk (N.told_store notes.old notes.new path.now)
         (S.created source path.now) (shape_asked numbers.now) result.0 (W.contents writer.old) (W.contents writer.new) }
 {
     let Ok(geometry) = geometry_of(numbers) else {
@@ -96,13 +95,13 @@ pub fn run_file<
 ) -> (Option<S::Disk>, io::Result<u8>)
 where
     S::Disk: Served + Watched,
-    ensures told { IfOk result.1 (IsStatus (TellsRunFile S.Disk.Disk.content S.Disk.Disk.failures (GaveAny S.Disk.Disk.gave)
+    ensures told { IfOk result.1 (IsStatus (TellsRunFile S.Disk.Disk
         (ToldRefusal N.told_fault N.told_damage notes.old notes.new path.now)
         (ToldSession N.told_failure S.Disk.Watched.kept_read S.Disk.Watched.last_failure N.told_end notes.old notes.new
         (R.kept_error reader.new) (W.kept_error writer.new) path.now)
         (S.opened source path.now) (NotOpenedTold (S.not_opened source) (N.told_error notes.old notes.new) path.now)
         result.0 (R.remaining reader.old) (R.remaining reader.new) (W.contents writer.old) (W.contents writer.new))) }
-    ensures answered { result.1 ≡ Ok 0 → RunsFile S.Disk.Disk.content S.Disk.Disk.failures (GaveAny S.Disk.Disk.gave)
+    ensures answered { result.1 ≡ Ok 0 → RunsFile S.Disk.Disk
         (ToldSession N.told_failure S.Disk.Watched.kept_read S.Disk.Watched.last_failure N.told_end notes.old notes.new
         (R.kept_error reader.new) (W.kept_error writer.new) path.now)
         (S.opened source path.now) result.0 (R.remaining reader.old) (R.remaining reader.new) (W.contents writer.old) (W.contents writer.new) }
@@ -136,11 +135,11 @@ pub fn check_file<
     writer: &mut W,
     notes: &mut N,
 ) -> (Option<S::Disk>, io::Result<u8>)
-    ensures told { IfOk result.1 (IsStatus (TellsCheckFile S.Disk.Disk.content (GaveAny S.Disk.Disk.gave)
+    ensures told { IfOk result.1 (IsStatus (TellsCheckFile S.Disk.Disk
         (ToldRefusal N.told_fault N.told_damage notes.old notes.new path.now)
         (S.shared source path.now) (NotOpenedTold (S.not_shared source) (N.told_error notes.old notes.new) path.now)
         result.0 (W.contents writer.old) (W.contents writer.new))) }
-    ensures reported { result.1 ≡ Ok 0 → ChecksFile S.Disk.Disk.content (S.shared source path.now) result.0 (W.contents writer.old) (W.contents writer.new) }
+    ensures reported { result.1 ≡ Ok 0 → ChecksFile S.Disk.Disk (S.shared source path.now) result.0 (W.contents writer.old) (W.contents writer.new) }
 {
     match source.open_shared(path) {
         Ok(disk) => {

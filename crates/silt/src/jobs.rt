@@ -1,7 +1,6 @@
 // The jobs on a disk of any kind.
 ghost use Rattle.std.specs.Prelude.{◌≡◌, Ok, IfOk};
 ghost use Rattle.std.specs.Io.KnownBytes.{Appends};
-ghost use Rattle.silt_device.specs.Disk.{GaveAny};
 ghost use Rattle.silt_device.specs.Layout.{device_size};
 ghost use Rattle.silt_server.specs.Serving.{IsStatus};
 ghost use Rattle.silt_wire.specs.declared.sessions.SessionEnd.{SessionEnd as SessionEndOf};
@@ -42,11 +41,11 @@ pub fn run_on<
     writer: &mut W,
     notes: &mut N,
 ) -> (D, io::Result<u8>)
-    ensures told { IfOk result.1 (IsStatus (TellsRun D.content D.failures (GaveAny D.gave)
+    ensures told { IfOk result.1 (IsStatus (TellsRun D.Disk
         (ToldRefusal N.told_fault N.told_damage notes.old notes.new file.now)
         (ToldSession N.told_failure D.kept_read D.last_failure N.told_end notes.old notes.new (R.kept_error reader.new) (W.kept_error writer.new) file.now)
         disk result.0 (R.remaining reader.old) (R.remaining reader.new) (W.contents writer.old) (W.contents writer.new))) }
-    ensures answered { result.1 ≡ Ok 0 → EndsRun D.content D.failures (GaveAny D.gave)
+    ensures answered { result.1 ≡ Ok 0 → EndsRun D.Disk
         (ToldSession N.told_failure D.kept_read D.last_failure N.told_end notes.old notes.new (R.kept_error reader.new) (W.kept_error writer.new) file.now)
         End disk result.0 (R.remaining reader.old) (R.remaining reader.new) (W.contents writer.old) (W.contents writer.new) }
 {
@@ -92,7 +91,7 @@ fn answer_reader<D: Served, R: Read + KeepsError, W: Write + KeepsError, N: Note
     notes: &mut N,
 ) -> io::Result<u8>
     ensures { IfOk result (λ status. (end : SessionEndOf) × (status ≡ status_of end)
-        × AnswersReader D.content D.failures (GaveAny D.gave) end core.old core.new
+        × AnswersReader D.Disk end core.old core.new
         (R.remaining reader.old) (R.remaining reader.new) (W.contents writer.old) (W.contents writer.new)
         × ToldEnd N.told_end (R.kept_error reader.new) (W.kept_error writer.new) end notes.old notes.new) }
 {
@@ -126,9 +125,9 @@ pub fn check_on<D: Disk, W: Write, N: FaultNotes<D::Fault>>(
     writer: &mut W,
     notes: &mut N,
 ) -> io::Result<u8>
-    ensures told { IfOk result (IsStatus (TellsCheck D.content (GaveAny D.gave)
+    ensures told { IfOk result (IsStatus (TellsCheck D.Disk
         (ToldRefusal N.told_fault N.told_damage notes.old notes.new file.now) disk.now (W.contents writer.old) (W.contents writer.new))) }
-    ensures reported { result ≡ Ok 0 → EndsCheck D.content disk.now (W.contents writer.old) (W.contents writer.new) }
+    ensures reported { result ≡ Ok 0 → EndsCheck D.Disk disk.now (W.contents writer.old) (W.contents writer.new) }
 {
     match check(alloc, disk) {
         Ok(report) => {
@@ -158,9 +157,9 @@ pub fn format_on<D: Disk, W: Write, N: FaultNotes<D::Fault>>(
     writer: &mut W,
     notes: &mut N,
 ) -> (D, io::Result<u8>)
-    ensures told { IfOk result.1 (IsStatus (TellsFormat D.content (GaveAny D.gave)
+    ensures told { IfOk result.1 (IsStatus (TellsFormat D.Disk
         (ToldRefusal N.told_fault N.told_damage notes.old notes.new file.now) geometry disk result.0 (W.contents writer.old) (W.contents writer.new))) }
-    ensures formatted { result.1 ≡ Ok 0 → EndsFormat D.content geometry result.0 (W.contents writer.old) (W.contents writer.new) }
+    ensures formatted { result.1 ≡ Ok 0 → EndsFormat D.Disk geometry result.0 (W.contents writer.old) (W.contents writer.new) }
     ensures quiet { result.1 ≡ Ok 0 → notes.new ≡ notes.old }
 {
     match format(alloc, disk, geometry) {

@@ -2,7 +2,6 @@
 ghost use Rattle.std.specs.Prelude.{◌≡◌, Ok, None, IfOk, map, string_bytes, codes};
 ghost use Rattle.std.specs.Io.KnownBytes.{Appends};
 ghost use Rattle.std.specs.Result.{result_unwrap_or};
-ghost use Rattle.silt_device.specs.Disk.{GaveAny};
 ghost use Rattle.silt_words.specs.declared.job.Job.{Job as JobOf};
 ghost use Rattle.silt_words.specs.Commands.{job_named};
 ghost use Rattle.silt_server.specs.Serving.{IsStatus};
@@ -44,7 +43,7 @@ pub fn program<
 where
     S::Disk: Served + Watched,
     ensures done { result ≡ 0 → (job : JobOf) × NamesJob (map string_bytes words.now) job
-        × EndsJob S.Disk.Disk.content S.Disk.Disk.failures (GaveAny S.Disk.Disk.gave) (N.told_store notes.old notes.new)
+        × EndsJob S.Disk.Disk (N.told_store notes.old notes.new)
         (ToldSession N.told_failure S.Disk.Watched.kept_read S.Disk.Watched.last_failure N.told_end notes.old notes.new
         (R.kept_error reader.new) (W.kept_error writer.new))
         (ToldFailures N.told_failure S.Disk.Watched.kept_read S.Disk.Watched.last_failure notes.old notes.new)
@@ -87,7 +86,7 @@ pub fn answer<
 ) -> io::Result<u8>
 where
     S::Disk: Served + Watched,
-    ensures { IfOk result (λ status. Answers S.Disk.Disk.content S.Disk.Disk.failures (GaveAny S.Disk.Disk.gave)
+    ensures { IfOk result (λ status. Answers S.Disk.Disk
         (ToldRefusal N.told_fault N.told_damage notes.old notes.new)
         (ToldSession N.told_failure S.Disk.Watched.kept_read S.Disk.Watched.last_failure N.told_end notes.old notes.new
         (R.kept_error reader.new) (W.kept_error writer.new))
@@ -135,7 +134,7 @@ fn do_job<
 ) -> io::Result<u8>
 where
     S::Disk: Served + Watched,
-    ensures told { IfOk result (IsStatus (TellsJob S.Disk.Disk.content S.Disk.Disk.failures (GaveAny S.Disk.Disk.gave)
+    ensures told { IfOk result (IsStatus (TellsJob S.Disk.Disk
         (ToldRefusal N.told_fault N.told_damage notes.old notes.new)
         (ToldSession N.told_failure S.Disk.Watched.kept_read S.Disk.Watched.last_failure N.told_end notes.old notes.new
         (R.kept_error reader.new) (W.kept_error writer.new))
@@ -143,7 +142,7 @@ where
         (S.shared source) (NotOpenedTold (S.not_shared source) (N.told_error notes.old notes.new))
         (S.created source) (NotMadeTold (S.not_created source) (N.told_error notes.old notes.new))
         job.entry (R.remaining reader.old) (R.remaining reader.new) (W.contents writer.old) (W.contents writer.new))) }
-    ensures done { result ≡ Ok 0 → EndsJob S.Disk.Disk.content S.Disk.Disk.failures (GaveAny S.Disk.Disk.gave) (N.told_store notes.old notes.new)
+    ensures done { result ≡ Ok 0 → EndsJob S.Disk.Disk (N.told_store notes.old notes.new)
         (ToldSession N.told_failure S.Disk.Watched.kept_read S.Disk.Watched.last_failure N.told_end notes.old notes.new
         (R.kept_error reader.new) (W.kept_error writer.new))
         (ToldFailures N.told_failure S.Disk.Watched.kept_read S.Disk.Watched.last_failure notes.old notes.new)

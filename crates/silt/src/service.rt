@@ -1,6 +1,5 @@
 // The server on the disk of a path.
 ghost use Rattle.std.specs.Prelude.{◌≡◌, Ok, IfOk};
-ghost use Rattle.silt_device.specs.Disk.{GaveAny};
 ghost use Rattle.silt_device.specs.Layout.{Shape};
 ghost use Rattle.silt_store_set.specs.CoreInvariant.{LeavesBegun};
 ghost use Rattle.silt_server.specs.Serving.{IsStatus, TellsNotServed};
@@ -51,10 +50,10 @@ pub fn serve_file<
 ) -> (Option<S::Disk>, io::Result<u8>)
 where
     S::Disk: Watched,
-    ensures told { IfOk result.1 (IsStatus (TellsServeFile S.Disk.Disk.content (GaveAny S.Disk.Disk.gave)
+    ensures told { IfOk result.1 (IsStatus (TellsServeFile S.Disk.Disk
         (ToldRefusal N.told_fault N.told_damage notes.old notes.new service.now.file.now) (S.opened source service.now.file.now)
         (NotOpenedTold (S.not_opened source) (N.told_error notes.old notes.new) service.now.file.now) result.0 (W.contents writer.old) (W.contents writer.new))) }
-    ensures served { result.1 ≡ Ok 0 → ServesFile S.Disk.Disk.content (GaveAny S.Disk.Disk.gave)
+    ensures served { result.1 ≡ Ok 0 → ServesFile S.Disk.Disk
         (ToldFailures N.told_failure S.Disk.Watched.kept_read S.Disk.Watched.last_failure notes.old notes.new service.now.file.now)
         (S.opened source service.now.file.now) service.now.audit result.0 (W.contents writer.old) (W.contents writer.new) }
 {
@@ -84,11 +83,11 @@ fn serve_disk<
     writer: &mut W,
     notes: &mut N,
 ) -> (D, io::Result<u8>)
-    ensures served { result.1 ≡ Ok 0 → EndsServe D.content service.now.audit result.0 (W.contents writer.old) (W.contents writer.new) }
+    ensures served { result.1 ≡ Ok 0 → EndsServe D.Disk service.now.audit result.0 (W.contents writer.old) (W.contents writer.new) }
     ensures failed { result.1 ≡ Ok 0 → ToldFailures N.told_failure D.kept_read D.last_failure notes.old notes.new service.now.file.now result.0 }
-    ensures told { IfOk result.1 (IsStatus (TellsServe D.content (GaveAny D.gave)
+    ensures told { IfOk result.1 (IsStatus (TellsServe D.Disk
         (ToldRefusal N.told_fault N.told_damage notes.old notes.new service.now.file.now) disk result.0 (W.contents writer.old) (W.contents writer.new))) }
-    ensures left { LeavesServed D.content (GaveAny D.gave) disk result.0 }
+    ensures left { LeavesServed D.Disk disk result.0 }
 {
     disk.tell_at_once();
     match Core::open(alloc, disk) {
@@ -115,8 +114,8 @@ fn serve_store<
     writer: &mut W,
     notes: &mut N,
 ) -> (D, io::Result<u8>)
-    ensures served { result.1 ≡ Ok 0 → EndsServe D.content service.now.audit result.0 (W.contents writer.old) (W.contents writer.new) }
-    ensures told { IfOk result.1 (IsStatus (TellsNotServed (GaveAny D.gave) (λ port. Unit {0}) core result.0 (W.contents writer.old) (W.contents writer.new))) }
+    ensures served { result.1 ≡ Ok 0 → EndsServe D.Disk service.now.audit result.0 (W.contents writer.old) (W.contents writer.new) }
+    ensures told { IfOk result.1 (IsStatus (TellsNotServed D.Disk (λ port. Unit {0}) core result.0 (W.contents writer.old) (W.contents writer.new))) }
     ensures left { (shape : Shape) × LeavesBegun (D.content result.0) shape }
     ensures quiet { result.1 ≡ Ok 0 → notes.new ≡ notes.old }
 {

@@ -1,6 +1,6 @@
 -- A call at a desk, from what the store does and what is noted.
 use Rattle.std.proofs.Common.{◌≡◌, ℕ, ◌+◌, ◌++◌, Bool, true, false, IsTrue, List, length, Ok, Err, Result, refl, ap, sym, ◌∙◌, subst, inr}
-use Rattle.silt_device.specs.Disk.{Content}
+use Rattle.silt_device.specs.declared.disk.Disk.{Ghosts}
 use Rattle.silt_event.specs.Commands.{Command, Map}
 use Rattle.silt_event.specs.declared.progress.Progress.{Progress as ProgressOf}
 use Rattle.silt_store_set.proofs.Runs.{does_step}
@@ -145,9 +145,9 @@ fault_plain (Refused Failed) fault = absurd (cc)
 fault_plain (Refused Spent) fault = absurd (cc)
 fault_plain (Refused HistoryFull) fault = absurd (cc)
 
-module _ {D F : Type 0} (content : D → Content) (failures : D → ℕ) (gave : D → F → Type 0) where
+module _ {D F : Type 0} (facts : Ghosts D F) where
   -- an acknowledging reply leaves nothing waiting
-  none_plain : (core : CoreState D) (reply : Reply F) → LeavesNoneWaiting core reply → NoneWaits (seen content core) (plain reply)
+  none_plain : (core : CoreState D) (reply : Reply F) → LeavesNoneWaiting core reply → NoneWaits (seen facts core) (plain reply)
   none_plain core (Accepted n) none = tt
   none_plain core (Acknowledged n) none = none
   none_plain core (Found v) none = tt
@@ -158,16 +158,16 @@ module _ {D F : Type 0} (content : D → Content) (failures : D → ℕ) (gave :
   none_plain core NotServed none = tt
 
   -- what a trace is told of a call
-  pub seen_step : (old new : CoreState D) (event : Event) (reply : Reply F) → Does content failures gave old new event reply → SeenStep (seen content old) (seen content new) event (plain reply)
+  pub seen_step : (old new : CoreState D) (event : Event) (reply : Reply F) → Does facts old new event reply → SeenStep (seen facts old) (seen facts new) event (plain reply)
   seen_step old new event reply does = record {
     honest = does.disk.honest;
     counts = counts_plain old.count new.count reply does.counts;
-    step = λ h. step_plain (map_of old) event reply (map_of new) (does_step content failures gave old new event reply h does);
+    step = λ h. step_plain (map_of old) event reply (map_of new) (does_step facts old new event reply h does);
     shape = does.shape;
-    adds = own_counts content failures gave old new event reply old.count new.count does.cause does.counts ∙ ap (λ (cs : List Command). old.count + length cs) (sym (adds_plain event reply));
+    adds = own_counts facts old new event reply old.count new.count does.cause does.counts ∙ ap (λ (cs : List Command). old.count + length cs) (sym (adds_plain event reply));
     failed = λ failed.
         let is = does.failed failed in
-        (ap (seen content) is.0, ap (plain {F = F}) is.1);
+        (ap (seen facts) is.0, ap (plain {F = F}) is.1);
     faulted = λ working fails. fault_plain reply (does.faulted working fails);
     moves = λ goes h.
         let moves = does.moves goes h in
@@ -178,7 +178,7 @@ module _ {D F : Type 0} (content : D → Content) (failures : D → ℕ) (gave :
   }
 
   -- no store says that a history is full
-  never_full : (old new : CoreState D) (event : Event) → Cause content failures gave old new event (Refused HistoryFull) → ⊥
+  never_full : (old new : CoreState D) (event : Event) → Cause facts old new event (Refused HistoryFull) → ⊥
   never_full old new (Put key value) cause = cause.1
   never_full old new (Delete key) cause = cause.1
   never_full old new Flush cause = cause
@@ -187,7 +187,7 @@ module _ {D F : Type 0} (content : D → Content) (failures : D → ℕ) (gave :
   never_full old new Merge cause = cause
 
   -- a call for which there was no memory changes nothing
-  lacks : (old new : CoreState D) (event : Event) → Does content failures gave old new event (Refused NoMemory) → new ≡ old
+  lacks : (old new : CoreState D) (event : Event) → Does facts old new event (Refused NoMemory) → new ≡ old
   lacks old new event does =
       let go : (b : Bool) → old.failed ≡ b → (d : Bool) → new.failed ≡ d → new ≡ old = elim [
         | true ↦ λ failed d is. (does.failed failed).0
@@ -205,8 +205,8 @@ module _ {D F : Type 0} (content : D → Content) (failures : D → ℕ) (gave :
     same_desk : c1 ≡ c0 → t1 ≡ t0 → desk c1 t1 ≡ desk c0 t0
     same_desk cores traces = ap (λ (core : CoreState D). desk core t1) cores ∙ ap (λ (trace : T). desk c0 trace) traces
 
-    serves_told : (reply : Reply F) → Does content failures gave c0 c1 event reply → Notes extends t0 t1 totals after_totals seat after event (plain reply)
-        → Serves content failures gave extends is_full takes_memory (desk c0 t0) (desk c1 t1) seat after event reply
+    serves_told : (reply : Reply F) → Does facts c0 c1 event reply → Notes extends t0 t1 totals after_totals seat after event (plain reply)
+        → Serves facts extends is_full takes_memory (desk c0 t0) (desk c1 t1) seat after event reply
     serves_told (Accepted n) does notes = record { done = does; recorded = notes.0; seated = notes.1 }
     serves_told (Acknowledged n) does notes = record { done = does; recorded = notes.0; seated = notes.1 }
     serves_told (Found v) does notes = record { done = does; recorded = notes.0; seated = notes.1 }
@@ -225,16 +225,16 @@ module _ {D F : Type 0} (content : D → Content) (failures : D → ℕ) (gave :
     serves_told (Refused Spent) does notes = record { done = does; recorded = notes.0; seated = notes.1 }
     serves_told (Refused NoMemory) does notes =
         let same = lacks c0 c1 event does in
-        record { same = same_desk same notes.0; seated = notes.2; cause = inr (subst (λ (c : CoreState D). Does content failures gave c0 c event (Refused NoMemory)) same does) }
+        record { same = same_desk same notes.0; seated = notes.2; cause = inr (subst (λ (c : CoreState D). Does facts c0 c event (Refused NoMemory)) same does) }
     serves_told (Refused HistoryFull) does notes = absurd (never_full c0 c1 event does.cause)
 
     -- the store did the event, and the call was noted
-    pub serves : (reply : Reply F) (told : Reply (Unit {0})) → told ≡ plain reply → Does content failures gave c0 c1 event reply → Notes extends t0 t1 totals after_totals seat after event told
-        → Serves content failures gave extends is_full takes_memory (desk c0 t0) (desk c1 t1) seat after event reply
+    pub serves : (reply : Reply F) (told : Reply (Unit {0})) → told ≡ plain reply → Does facts c0 c1 event reply → Notes extends t0 t1 totals after_totals seat after event told
+        → Serves facts extends is_full takes_memory (desk c0 t0) (desk c1 t1) seat after event reply
     serves reply told is does notes = serves_told reply does (subst (λ r. Notes extends t0 t1 totals after_totals seat after event r) is notes)
 
-    module _ (agrees : T → SeenStore → Type 0) (law : agrees t0 (seen content c0) → (c : RecordedCall) → extends t0 c t1 → SeenStep (seen content c0) (seen content c1) c.event c.reply → agrees t1 (seen content c1)) where
-      keeps_told : (reply : Reply F) → Does content failures gave c0 c1 event reply → Notes extends t0 t1 totals after_totals seat after event (plain reply) → agrees t0 (seen content c0) → agrees t1 (seen content c1)
+    module _ (agrees : T → SeenStore → Type 0) (law : agrees t0 (seen facts c0) → (c : RecordedCall) → extends t0 c t1 → SeenStep (seen facts c0) (seen facts c1) c.event c.reply → agrees t1 (seen facts c1)) where
+      keeps_told : (reply : Reply F) → Does facts c0 c1 event reply → Notes extends t0 t1 totals after_totals seat after event (plain reply) → agrees t0 (seen facts c0) → agrees t1 (seen facts c1)
       keeps_told (Accepted n) does notes held = law held (call seat.number event (plain {F = F} (Accepted n))) notes.0 (seen_step c0 c1 event (Accepted n) does)
       keeps_told (Acknowledged n) does notes held = law held (call seat.number event (plain {F = F} (Acknowledged n))) notes.0 (seen_step c0 c1 event (Acknowledged n) does)
       keeps_told (Found v) does notes held = law held (call seat.number event (plain {F = F} (Found v))) notes.0 (seen_step c0 c1 event (Found v) does)
@@ -252,11 +252,11 @@ module _ {D F : Type 0} (content : D → Content) (failures : D → ℕ) (gave :
       keeps_told (Refused Failed) does notes held = law held (call seat.number event (plain {F = F} (Refused Failed))) notes.0 (seen_step c0 c1 event (Refused Failed) does)
       keeps_told (Refused Spent) does notes held = law held (call seat.number event (plain {F = F} (Refused Spent))) notes.0 (seen_step c0 c1 event (Refused Spent) does)
       keeps_told (Refused NoMemory) does notes held =
-          subst (λ (t : T). agrees t (seen content c1)) (sym notes.0) (subst (λ (c : CoreState D). agrees t0 (seen content c)) (sym (lacks c0 c1 event does)) held)
+          subst (λ (t : T). agrees t (seen facts c1)) (sym notes.0) (subst (λ (c : CoreState D). agrees t0 (seen facts c)) (sym (lacks c0 c1 event does)) held)
       keeps_told (Refused HistoryFull) does notes held = absurd (never_full c0 c1 event does.cause)
 
       -- the trace agrees with the store on
-      pub keeps_agreeing : (reply : Reply F) (told : Reply (Unit {0})) → told ≡ plain reply → Does content failures gave c0 c1 event reply → Notes extends t0 t1 totals after_totals seat after event told → agrees t0 (seen content c0) → agrees t1 (seen content c1)
+      pub keeps_agreeing : (reply : Reply F) (told : Reply (Unit {0})) → told ≡ plain reply → Does facts c0 c1 event reply → Notes extends t0 t1 totals after_totals seat after event told → agrees t0 (seen facts c0) → agrees t1 (seen facts c1)
       keeps_agreeing reply told is does notes held = keeps_told reply does (subst (λ r. Notes extends t0 t1 totals after_totals seat after event r) is notes) held
 
 module _ {T : Type 0} (counts : T → ℕ → ℕ → Type 0) (extends : T → RecordedCall → T → Type 0) (t0 t1 : T) (totals after_totals : Totals) (seat after : SeatState) (event : Event)

@@ -1,6 +1,6 @@
 -- What contracts see of a desk, and what its calls do.
 use Rattle.std.specs.Prelude.{◌≡◌, ◌⊎◌, ℕ, ◌+◌, Bool, MatchBool, Result, Ok, Err}
-use Rattle.silt_device.specs.Disk.{Content}
+use Rattle.silt_device.specs.declared.disk.Disk.{Ghosts}
 use Rattle.silt_store_set.specs.CoreState.{CoreState, Does}
 use Rattle.silt_event.specs.Events.{plain}
 use Rattle.silt_event.specs.declared.event.Event.{Event}
@@ -17,17 +17,17 @@ pub record DeskState (D T : Type 0) : Type 0 where
   pub core : CoreState D
   pub trace : T
 
-module _ {D F T : Type 0} (content : D → Content) (failures : D → ℕ) (gave : D → F → Type 0) (extends : T → RecordedCall → T → Type 0) (is_full takes_memory : T → Type 0) (old new : DeskState D T) (seat after : SeatState) (event : Event) (reply : Reply F) where
+module _ {D F T : Type 0} (facts : Ghosts D F) (extends : T → RecordedCall → T → Type 0) (is_full takes_memory : T → Type 0) (old new : DeskState D T) (seat after : SeatState) (event : Event) (reply : Reply F) where
   -- the store did the event and gave the reply, and exactly this call was recorded, for this seat
   pub record Records : Type 0 where
-    pub done : Does content failures gave old.core new.core event reply
+    pub done : Does facts old.core new.core event reply
     pub recorded : extends old.trace (call seat.number event (plain reply)) new.trace
     pub seated : after ≡ after_call seat (accepted_by reply)
 
   -- why a call is not recorded: the history is full, or a growth of memory was refused, to the trace or to the store
   abbrev pub UnrecordedCause : Reply F → Type 0
   UnrecordedCause (Refused HistoryFull) = is_full old.trace
-  UnrecordedCause (Refused NoMemory) = takes_memory old.trace ⊎ Does content failures gave old.core old.core event (Refused NoMemory)
+  UnrecordedCause (Refused NoMemory) = takes_memory old.trace ⊎ Does facts old.core old.core event (Refused NoMemory)
   UnrecordedCause other = ⊥
 
   -- nothing is done, nothing is recorded, and the seat is as it was

@@ -2,6 +2,7 @@
 use Rattle.std.specs.Prelude.{◌≡◌, ℕ, ◌+◌, Bool, true, false, IsTrue, List, [], ◌++◌, length}
 use Rattle.silt_device.specs.Disk.{Content, LeavesOnly}
 use Rattle.silt_device.specs.Layout.{Shape}
+use Rattle.silt_device.specs.declared.disk.Disk.{Ghosts}
 use Rattle.silt_event.specs.Commands.{Command, Map, map_after}
 use Rattle.silt_image.specs.Meaning.{StandsFor}
 use Rattle.silt_tiers.specs.Calls.{HasBegun}
@@ -23,9 +24,9 @@ pub record SeenStore : Type 0 where
   pub failed : Bool
 
 -- of a store
-abbrev pub seen : {D : Type 0} → (D → Content) → CoreState D → SeenStore
-seen content core = record {
-  content = content core.disk;
+abbrev pub seen : {D F : Type 0} → Ghosts D F → CoreState D → SeenStore
+seen facts core = record {
+  content = facts.content core.disk;
   shape = core.shape;
   map = map_of core;
   base = core.base;

@@ -44,7 +44,7 @@ impl<D: Disk, T: Trace, N: Naming> Model for Desk<D, T, N> {
 
     ghost view = { λ d. record { core = d.core; trace = d.trace } };
 
-    ghost invariant = { λ d. T.agrees d.trace (seen D.content d.core) × T.counts d.trace d.ledgers.calls d.ledgers.accepted };
+    ghost invariant = { λ d. T.agrees d.trace (seen D.Disk d.core) × T.counts d.trace d.ledgers.calls d.ledgers.accepted };
 }
 
 // Notes one call in the trace, with the seat and in the ledgers, where it is recorded.
@@ -78,7 +78,7 @@ fn refusal<F>(lack: NotPrepared) -> Refusal<F>
 
 impl<D: Disk, T: Trace, N: Naming> Desk<D, T, N> {
     ghost use Rattle.std.specs.Prelude.{IsErrOf};
-    ghost use Rattle.silt_device.specs.Disk.{GaveAny, LeavesOnly};
+    ghost use Rattle.silt_device.specs.Disk.{LeavesOnly};
     ghost use Rattle.silt_image.specs.Meaning.{StandsFor};
     ghost use Rattle.silt_store_set.specs.CoreInvariant.{LeavesBegun};
     ghost use Rattle.silt_event.specs.Commands.{map_after};
@@ -104,7 +104,7 @@ impl<D: Disk, T: Trace, N: Naming> Desk<D, T, N> {
         requires calls { (calls.name ≡ N.calls_name) × (calls.parts ≡ N.seats) }
         requires accepted { (accepted.name ≡ N.accepted_name) × (accepted.parts ≡ N.seats) }
         requires seats { seats ≡ N.seats }
-        requires trace { T.agrees trace (seen D.content core) × T.counts trace 0 0 }
+        requires trace { T.agrees trace (seen D.Disk core) × T.counts trace 0 0 }
         ensures desk { IfOk result (λ r. (r.0.core ≡ core) × (r.0.trace ≡ trace)) }
         ensures seats { IfOk result (λ r. (vec_len r.1 ≡ seats) × ((k : ℕ) → k < seats → slice_get r.1.items k ≡ Some (fresh k))) }
         ensures err { IfErr result (λ e. (e.core ≡ core) × (e.trace ≡ trace)) }
@@ -148,7 +148,7 @@ impl<D: Disk, T: Trace, N: Naming> Desk<D, T, N> {
         value: &[u8],
     ) -> Result<u64, Refusal<D::Fault>>
         requires { length value.now ≡ self.old.core.shape.value_len }
-        ensures { Serves D.content D.failures (GaveAny D.gave) T.extends T.is_full T.takes_memory self.old self.new seat.old seat.new (Put key.now value.now) (change_reply result) }
+        ensures { Serves D.Disk T.extends T.is_full T.takes_memory self.old self.new seat.old seat.new (Put key.now value.now) (change_reply result) }
     {
         let room = match self.trace.prepare(alloc, value.len()) {
             Ok(room) => room,
@@ -167,7 +167,7 @@ impl<D: Disk, T: Trace, N: Naming> Desk<D, T, N> {
         seat: &mut Seat<N>,
         key: &Key,
     ) -> Result<u64, Refusal<D::Fault>>
-        ensures { Serves D.content D.failures (GaveAny D.gave) T.extends T.is_full T.takes_memory self.old self.new seat.old seat.new (Delete key.now) (change_reply result) }
+        ensures { Serves D.Disk T.extends T.is_full T.takes_memory self.old self.new seat.old seat.new (Delete key.now) (change_reply result) }
     {
         let room = match self.trace.prepare(alloc, 0) {
             Ok(room) => room,
@@ -181,7 +181,7 @@ impl<D: Disk, T: Trace, N: Naming> Desk<D, T, N> {
 
     /// Acknowledges all commands accepted so far, as a recorded call, and answers their number.
     pub fn flush(&mut self, alloc: Global, seat: &mut Seat<N>) -> Result<u64, Refusal<D::Fault>>
-        ensures { Serves D.content D.failures (GaveAny D.gave) T.extends T.is_full T.takes_memory self.old self.new seat.old seat.new Flush (flush_reply result) }
+        ensures { Serves D.Disk T.extends T.is_full T.takes_memory self.old self.new seat.old seat.new Flush (flush_reply result) }
     {
         let room = match self.trace.prepare(alloc, 0) {
             Ok(room) => room,
@@ -202,7 +202,7 @@ impl<D: Disk, T: Trace, N: Naming> Desk<D, T, N> {
         out: &mut [u8],
     ) -> Result<bool, Refusal<D::Fault>>
         requires { length out.old ≡ self.old.core.shape.value_len }
-        ensures reply { Serves D.content D.failures (GaveAny D.gave) T.extends T.is_full T.takes_memory self.old self.new seat.old seat.new (Get key.now) (get_reply out.new result) }
+        ensures reply { Serves D.Disk T.extends T.is_full T.takes_memory self.old self.new seat.old seat.new (Get key.now) (get_reply out.new result) }
         ensures absent { result ≡ Ok false → out.new ≡ out.old }
         ensures memory { IsErrOf result Refusal.NoMemory → T.takes_memory self.old.trace }
     {
@@ -222,7 +222,7 @@ impl<D: Disk, T: Trace, N: Naming> Desk<D, T, N> {
         alloc: Global,
         seat: &mut Seat<N>,
     ) -> Result<Progress, Refusal<D::Fault>>
-        ensures { Serves D.content D.failures (GaveAny D.gave) T.extends T.is_full T.takes_memory self.old self.new seat.old seat.new Convert (progress_reply result) }
+        ensures { Serves D.Disk T.extends T.is_full T.takes_memory self.old self.new seat.old seat.new Convert (progress_reply result) }
     {
         let room = match self.trace.prepare(alloc, 0) {
             Ok(room) => room,
@@ -240,7 +240,7 @@ impl<D: Disk, T: Trace, N: Naming> Desk<D, T, N> {
         alloc: Global,
         seat: &mut Seat<N>,
     ) -> Result<Progress, Refusal<D::Fault>>
-        ensures { Serves D.content D.failures (GaveAny D.gave) T.extends T.is_full T.takes_memory self.old self.new seat.old seat.new Merge (progress_reply result) }
+        ensures { Serves D.Disk T.extends T.is_full T.takes_memory self.old self.new seat.old seat.new Merge (progress_reply result) }
     {
         let room = match self.trace.prepare(alloc, 0) {
             Ok(room) => room,
@@ -270,7 +270,7 @@ impl<D: Disk, T: Trace, N: Naming> Desk<D, T, N> {
     /// and nothing is changed: looks may be made side by side.
     pub fn look(&self, key: &Key, out: &mut [u8]) -> Result<(u64, bool), Refusal<D::Fault>>
         requires { length out.old ≡ self.now.core.shape.value_len }
-        ensures reply { Does D.content D.failures (GaveAny D.gave) self.now.core self.now.core (Get key.now) (get_reply out.new (found_of result)) }
+        ensures reply { Does D.Disk self.now.core self.now.core (Get key.now) (get_reply out.new (found_of result)) }
         ensures count { IfOk result (λ r. r.0 ≡ self.now.core.count) }
         ensures absent { found_of result ≡ Ok false → out.new ≡ out.old }
         ensures memory { ¬ IsErrOf result Refusal.NoMemory }
@@ -284,7 +284,7 @@ impl<D: Disk, T: Trace, N: Naming> Desk<D, T, N> {
     /// The trace, which agrees with the store as it now stands.
     pub fn trace(&self) -> &T
         ensures trace { result.now ≡ self.now.trace }
-        ensures agrees { T.agrees self.now.trace (seen D.content self.now.core) }
+        ensures agrees { T.agrees self.now.trace (seen D.Disk self.now.core) }
     {
         &self.trace
     }
@@ -310,7 +310,7 @@ impl<D: Disk, T: Trace, N: Naming> Desk<D, T, N> {
     /// The store. Its trace and its seats are given up.
     pub fn into_core(self) -> Core<D>
         ensures core { result ≡ self.core }
-        ensures agrees { T.agrees self.trace (seen D.content self.core) }
+        ensures agrees { T.agrees self.trace (seen D.Disk self.core) }
     {
         let Desk {
             core,

@@ -1,6 +1,5 @@
 // A trace that keeps every call.
 ghost use Rattle.std.specs.Prelude.{◌≡◌, ◌≤◌, ◌≢◌, [], length, false, IsTrue, IfOk, IfErr, OnOk, vec_capacity};
-ghost use Rattle.silt_device.specs.Disk.{GaveAny};
 ghost use Rattle.silt_store_set.specs.CoreState.{EntriesCause, map_of};
 ghost use Rattle.silt_desk.specs.Seeing.{seen};
 ghost use Rattle.silt_desk.specs.Traces.{ListsMap, IsHistory};
@@ -50,8 +49,8 @@ impl Kept {
         ensures count { IfOk result (λ kept. kept.count ≡ core.now.count) }
         ensures calls { IfOk result (λ kept. (kept.calls ≡ []) × (kept.most ≡ most)) }
         ensures working { OnOk result (core.now.failed ≡ false) }
-        ensures cause { IfErr result (EntriesCause (GaveAny D.gave) core.now) }
-        ensures history { IfOk result (λ kept. IsHistory kept (seen D.content core.now)) }
+        ensures cause { IfErr result (EntriesCause D.Disk core.now) }
+        ensures history { IfOk result (λ kept. IsHistory kept (seen D.Disk core.now)) }
     {
         let opening = core.entries(alloc)?;
         core.standing(); // what a stop leaves of the store as it stands

@@ -5,7 +5,7 @@ use Rattle.silt_wire.proofs.Streams.{Appends-append}
 use Rattle.silt_server.specs.Serving.{BreaksServing, IsStatus, TellsCalls, TellsServed, head_text, network_text, no_memory_text}
 use Rattle.std.proofs.lemmas.Fmt.{decimal_digit}
 use Rattle.std.specs.Io.KnownBytes.{Appends}
-use Rattle.silt_device.specs.Disk.{Content}
+use Rattle.silt_device.specs.declared.disk.Disk.{Ghosts}
 use Rattle.silt_frame.specs.declared.key.Key.{Key}
 use Rattle.silt_event.specs.Events.{PlainReply}
 use Rattle.silt_event.specs.declared.event.Event.TheVariants.{Get}
@@ -15,9 +15,9 @@ use Rattle.silt_store_set.specs.CoreState.{CoreState}
 use Rattle.silt_server.specs.Sessions.{AnswersGet, IsAnswer}
 use Rattle.silt_server.specs.Texts.{calls_text, listening_text, refused_text}
 
-module _ {D F : Type 0} (content : D → Content) (failures : D → ℕ) (gave : D → F → Type 0) where
+module _ {D F : Type 0} (facts : Ghosts D F) where
   -- what a look finds is an answer to a get
-  pub found_answers : (core : CoreState D) (key : Key) (reply : Option PlainReply) → IfSome reply (AnswersGet content failures gave core key) → IfSome reply (IsAnswer content failures gave (Get key))
+  pub found_answers : (core : CoreState D) (key : Key) (reply : Option PlainReply) → IfSome reply (AnswersGet facts core key) → IfSome reply (IsAnswer facts (Get key))
   found_answers core key None found = found
   found_answers core key (Some reply) found = inr (core, found)
 

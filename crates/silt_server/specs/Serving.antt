@@ -3,6 +3,7 @@ use Rattle.std.specs.Prelude.{◌≡◌, ◌⊎◌, ℕ, List, length, ◌++◌,
 use Rattle.std.specs.Io.KnownBytes.{Appends}
 use Rattle.silt_device.specs.Disk.{Content}
 use Rattle.silt_device.specs.Layout.{Shape}
+use Rattle.silt_device.specs.declared.disk.Disk.{Ghosts}
 use Rattle.silt_event.specs.declared.refusal.Refusal.{Refusal}
 use Rattle.silt_event.specs.declared.refusal.Refusal.TheVariants.{NoMemory}
 use Rattle.silt_store_set.specs.CoreInvariant.{LeavesBegun}
@@ -50,9 +51,9 @@ abbrev pub counts_kept : Keeping → ℕ → ℕ → Type 0
 counts_kept kept calls accepted = (length kept.calls ≡ calls) × (count_accepted kept.calls ≡ accepted)
 
 -- calls were kept that are a history of the store on the disk, and their number was written behind the head
-abbrev pub ServesKept : {D : Type 0} → (D → Content) → (ℕ → Type 0) → D → Option (List ℕ) → Option (List ℕ) → Type 0
-ServesKept {D} content has_port disk before after =
-    (core : CoreState D) × (kept : Keeping) × (core.disk ≡ disk) × IsHistory kept (seen content core) × TellsServed has_port counts_kept kept before after
+abbrev pub ServesKept : {D F : Type 0} → Ghosts D F → (ℕ → Type 0) → D → Option (List ℕ) → Option (List ℕ) → Type 0
+ServesKept {D} facts has_port disk before after =
+    (core : CoreState D) × (kept : Keeping) × (core.disk ≡ disk) × IsHistory kept (seen facts core) × TellsServed has_port counts_kept kept before after
 
 -- ---- a server that did not serve to its end
 
@@ -63,10 +64,10 @@ BreaksServing has_port before after =
     ⊎ (Appends before after (codes "opened\n" ++ network_text)
     ⊎ ((port : ℕ) × has_port port × (Appends before after (head_text port ++ no_memory_text) ⊎ Appends before after (head_text port ++ network_text))))
 
-module _ {D F : Type 0} (gave : D → F → Type 0) where
+module _ {D F : Type 0} (facts : Ghosts D F) where
   -- the disk is as this store had it, and it was written that the store's entries could not be kept, for their cause
   abbrev pub TellsEntries : CoreState D → D → Option (List ℕ) → Option (List ℕ) → Type 0
-  TellsEntries core disk before after = (core.disk ≡ disk) × ((refusal : Refusal F) × EntriesCause gave core refusal × Appends before after (refused_text refusal))
+  TellsEntries core disk before after = (core.disk ≡ disk) × ((refusal : Refusal F) × EntriesCause facts core refusal × Appends before after (refused_text refusal))
 
   -- it was written why this store is not served to the end
   abbrev pub TellsNotServed : (ℕ → Type 0) → CoreState D → D → Option (List ℕ) → Option (List ℕ) → Type 0

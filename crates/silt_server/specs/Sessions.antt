@@ -1,6 +1,6 @@
 -- What the events of a session are answered.
 use Rattle.std.specs.Prelude.{◌≡◌, ◌⊎◌, ℕ, Bool, true}
-use Rattle.silt_device.specs.Disk.{Content}
+use Rattle.silt_device.specs.declared.disk.Disk.{Ghosts}
 use Rattle.silt_frame.specs.declared.key.Key.{Key}
 use Rattle.silt_event.specs.Events.{PlainReply, plain}
 use Rattle.silt_event.specs.declared.event.Event.{Event}
@@ -11,10 +11,10 @@ use Rattle.silt_event.specs.declared.reply.Reply.TheVariants.{Refused, NotServed
 use Rattle.silt_inbox.specs.Answers.{is_allowed, event_kind}
 use Rattle.silt_store_set.specs.CoreState.{CoreState, Does}
 
-module _ {D F : Type 0} (content : D → Content) (failures : D → ℕ) (gave : D → F → Type 0) where
+module _ {D F : Type 0} (facts : Ghosts D F) where
   -- a look at this store, which changes nothing, finds so
   abbrev pub AnswersGet : CoreState D → Key → PlainReply → Type 0
-  AnswersGet core key reply = (told : Reply F) × Does content failures gave core core (Get key) told × (reply ≡ plain told)
+  AnswersGet core key reply = (told : Reply F) × Does facts core core (Get key) told × (reply ≡ plain told)
 
   -- a get is answered by a look, or for want of memory; a step is not served; and all else is given a reply that it may have
   abbrev pub IsAnswer : Event → PlainReply → Type 0

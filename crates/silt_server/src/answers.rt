@@ -1,6 +1,5 @@
 // The reply to one event of a session.
 ghost use Rattle.std.specs.Prelude.{◌≡◌, ◌≢◌, ◌+◌, true, IfSome, IfNone, MatchResult, vec_len};
-ghost use Rattle.silt_device.specs.Disk.{GaveAny};
 ghost use Rattle.silt_event.specs.declared.event.Event.TheVariants as event_case;
 ghost use Rattle.silt_inbox.specs.Answers.{is_allowed, event_kind};
 ghost use Rattle.silt_server.specs.Requests.{asked_event};
@@ -23,7 +22,7 @@ fn look_up<D: Disk, T: Trace, N: Naming>(
     key: &Key,
     mut out: Vec<u8>,
 ) -> Option<Reply<()>>
-    ensures found { IfSome result (AnswersGet D.content D.failures (GaveAny D.gave) desk.now.core key.now) }
+    ensures found { IfSome result (AnswersGet D.Disk desk.now.core key.now) }
     ensures none { IfNone result (vec_len out ≢ desk.now.core.shape.value_len) }
 {
     if desk.geometry().value_len() as usize != out.len() {
@@ -95,7 +94,7 @@ fn find<D: Disk, T: Trace, N: Naming, R: Wait>(
     value_len: usize,
     key: &Key,
 ) -> Option<Reply<()>>
-    ensures { IfSome result (λ reply. IsAnswer D.content D.failures (GaveAny D.gave) (event_case.Get key.now) reply) }
+    ensures { IfSome result (λ reply. IsAnswer D.Disk (event_case.Get key.now) reply) }
 {
     let Ok(out) = vec![in alloc; 0u8; value_len] else {
         return Some(Reply::Refused(Refusal::NoMemory));
@@ -115,7 +114,7 @@ pub fn answer<D: Disk, T: Trace, N: Naming, P: Post, R: Wait>(
     place: &Mutex<Place<P>>,
     event: Event,
 ) -> Option<Reply<()>>
-    ensures { IfSome result (λ reply. IsAnswer D.content D.failures (GaveAny D.gave) event reply) }
+    ensures { IfSome result (λ reply. IsAnswer D.Disk event reply) }
 {
     match event {
         Event::Put(key, value) => ask(rt, alloc, inbox, place, Request::Put(key, value)),

@@ -1,7 +1,6 @@
 // A server on one listener.
 ghost use Rattle.std.specs.Prelude.{◌≡◌, ◌⊎◌, ◌++◌, Ok, IfOk, IfSome, OnOk, codes};
 ghost use Rattle.std.specs.Io.KnownBytes.{Appends};
-ghost use Rattle.silt_device.specs.Disk.{GaveAny};
 ghost use Rattle.silt_device.specs.Layout.{Shape};
 ghost use Rattle.silt_store_set.specs.CoreInvariant.{LeavesBegun};
 ghost use Rattle.silt_store_set.specs.CoreState.{CoreState};
@@ -56,8 +55,8 @@ pub fn serve_on<L: Listens, D: Disk, G: Gate + Sync, R: Threads + Wait + Sync, W
     out: &mut W,
 ) -> (D, io::Result<u8>)
     ensures served { result.1 ≡ Ok 0 → ServesAt (L.has_port listener.now) (D.content result.0) (W.contents out.old) (W.contents out.new) }
-    ensures kept { result.1 ≡ Ok 0 → IfSome audit (λ _. ServesKept D.content (L.has_port listener.now) result.0 (W.contents out.old) (W.contents out.new)) }
-    ensures told { IfOk result.1 (IsStatus (TellsNotServed (GaveAny D.gave) (L.has_port listener.now) core result.0 (W.contents out.old) (W.contents out.new))) }
+    ensures kept { result.1 ≡ Ok 0 → IfSome audit (λ _. ServesKept D.Disk (L.has_port listener.now) result.0 (W.contents out.old) (W.contents out.new)) }
+    ensures told { IfOk result.1 (IsStatus (TellsNotServed D.Disk (L.has_port listener.now) core result.0 (W.contents out.old) (W.contents out.new))) }
     ensures left { (shape : Shape) × LeavesBegun (D.content result.0) shape }
 {
     match audit {
@@ -119,8 +118,8 @@ fn serve_kept<L: Listens, D: Disk, G: Gate + Sync, R: Threads + Wait + Sync, W: 
     out: &mut W,
 ) -> (D, io::Result<u8>)
     ensures served { result.1 ≡ Ok 0 → ServesAt (L.has_port listener.now) (D.content result.0) (W.contents out.old) (W.contents out.new) }
-    ensures kept { result.1 ≡ Ok 0 → ServesKept D.content (L.has_port listener.now) result.0 (W.contents out.old) (W.contents out.new) }
-    ensures told { IfOk result.1 (IsStatus (TellsNotServed (GaveAny D.gave) (L.has_port listener.now) core result.0 (W.contents out.old) (W.contents out.new))) }
+    ensures kept { result.1 ≡ Ok 0 → ServesKept D.Disk (L.has_port listener.now) result.0 (W.contents out.old) (W.contents out.new) }
+    ensures told { IfOk result.1 (IsStatus (TellsNotServed D.Disk (L.has_port listener.now) core result.0 (W.contents out.old) (W.contents out.new))) }
     ensures left { (shape : Shape) × LeavesBegun (D.content result.0) shape }
 {
     match Kept::new(alloc, &core, most) {
@@ -185,8 +184,8 @@ fn serve_traced<
     requires accepted { (blanks.accepted.name ≡ N.accepted_name) × (blanks.accepted.parts ≡ N.seats) }
     requires put { (blanks.put.name ≡ P.put_name) × (blanks.put.parts ≡ P.feeders) × (P.feeders ≡ 64) }
     requires taken { (blanks.taken.name ≡ P.taken_name) × (blanks.taken.parts ≡ 1) }
-    requires trace { T.agrees trace (seen D.content core) × T.counts trace 0 0 }
-    ensures served { result.1 ≡ Ok 0 → (core : CoreState D) × (trace : T) × (core.disk ≡ result.0) × T.agrees trace (seen D.content core)
+    requires trace { T.agrees trace (seen D.Disk core) × T.counts trace 0 0 }
+    ensures served { result.1 ≡ Ok 0 → (core : CoreState D) × (trace : T) × (core.disk ≡ result.0) × T.agrees trace (seen D.Disk core)
         × TellsServed (L.has_port listener.now) T.counts trace (W.contents out.old) (W.contents out.new) }
     ensures told { IfOk result.1 (IsStatus (BreaksServing (L.has_port listener.now) (W.contents out.old) (W.contents out.new))) }
     ensures left { (shape : Shape) × LeavesBegun (D.content result.0) shape }

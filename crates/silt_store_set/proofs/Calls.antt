@@ -2,6 +2,7 @@
 use Rattle.std.proofs.Common.{◌≡◌, ◌≤◌, ◌<◌, ℕ, ◌+◌, ◌%◌, ◌^◌, Bool, true, false, IsTrue, List, [], ◌++◌, length, refl, ap, sym, ◌∙◌, subst, arith, length-append}
 use Rattle.silt_device.specs.Disk.{Content, LeavesOnly}
 use Rattle.silt_device.specs.Layout.{device_size}
+use Rattle.silt_device.specs.declared.disk.Disk.{Ghosts}
 use Rattle.silt_event.specs.Commands.{Command, Map, map_after}
 use Rattle.silt_image.specs.Meaning.{image_map, StandsFor}
 use Rattle.silt_tiers.specs.Calls.{Advances, Breaks, HasBegun, SameDisk}
@@ -21,14 +22,14 @@ use Rattle.silt_store_set.specs.CoreState.{CoreState, map_of, Cause, LeavesNoneW
 use Rattle.silt_store_set.proofs.Maps.{append_nil, map_after-append}
 
 -- what contracts see of a store with these fields
-abbrev pub seen : {D : Type 0} → (D → Content) → D → TiersState → ℕ → Bool → CoreState D
-seen content disk stores count failed = record {
+abbrev pub seen : {D F : Type 0} → Ghosts D F → D → TiersState → ℕ → Bool → CoreState D
+seen facts disk stores count failed = record {
   disk = disk;
   shape = stores.manifest.shape;
   body = stores.manifest.ruling;
-  full = full_image (content disk) stores;
-  base = image_map (content disk).shown;
-  waiting = waiting_commands (content disk) stores;
+  full = full_image (facts.content disk) stores;
+  base = image_map (facts.content disk).shown;
+  waiting = waiting_commands (facts.content disk) stores;
   converting = convert_work stores.converting;
   merging = merge_work stores.merging;
   charge = stores.charge;
@@ -37,53 +38,53 @@ seen content disk stores count failed = record {
 }
 
 -- the map is the base after the waiting commands, the numbers are the full image's, and each image stands for the base
-pub record Standing {D : Type 0} (content : D → Content) (core : CoreState D) : Type 0 where
-  pub numbers : IsTrue (content core.disk).honest → IsGoodWith core.shape core.body core.charge core.full
-  pub has_map : IsTrue (content core.disk).honest → map_of core ≡ map_after core.base core.waiting
-  pub safe : LeavesOnly (content core.disk) (StandsFor core.shape core.base)
+pub record Standing {D F : Type 0} (facts : Ghosts D F) (core : CoreState D) : Type 0 where
+  pub numbers : IsTrue (facts.content core.disk).honest → IsGoodWith core.shape core.body core.charge core.full
+  pub has_map : IsTrue (facts.content core.disk).honest → map_of core ≡ map_after core.base core.waiting
+  pub safe : LeavesOnly (facts.content core.disk) (StandsFor core.shape core.base)
 
 -- a store that is not failed stands
-pub stands_seen : {D : Type 0} (content : D → Content) (disk : D) (stores : TiersState) (count : ℕ) (failed : Bool) → Stands (content disk) stores → Standing content (seen content disk stores count failed)
-stands_seen content disk stores count failed stands = record {
-  numbers = (meaning (content disk) stores stands).numbers;
-  has_map = λ h. (meaning (content disk) stores stands).full h ∙ ap (λ m. map_after m (waiting_commands (content disk) stores)) (sym ((meaning (content disk) stores stands).shown h));
+pub stands_seen : {D F : Type 0} (facts : Ghosts D F) (disk : D) (stores : TiersState) (count : ℕ) (failed : Bool) → Stands (facts.content disk) stores → Standing facts (seen facts disk stores count failed)
+stands_seen facts disk stores count failed stands = record {
+  numbers = (meaning (facts.content disk) stores stands).numbers;
+  has_map = λ h. (meaning (facts.content disk) stores stands).full h ∙ ap (λ m. map_after m (waiting_commands (facts.content disk) stores)) (sym ((meaning (facts.content disk) stores stands).shown h));
   safe = record {
-    each = λ h image left. subst (λ m. StandsFor stores.manifest.shape m image) (sym ((meaning (content disk) stores stands).shown h)) ((meaning (content disk) stores stands).safe.each h image left);
+    each = λ h image left. subst (λ m. StandsFor stores.manifest.shape m image) (sym ((meaning (facts.content disk) stores stands).shown h)) ((meaning (facts.content disk) stores stands).safe.each h image left);
   };
 }
 
 -- of a store as contracts see it, each image stands for the base as long as it is not failed
-pub safe_seen : {D : Type 0} (content : D → Content) (disk : D) (stores : TiersState) (count : ℕ) (failed : Bool) (core : CoreState D) → seen content disk stores count failed ≡ core
-    → IsCore (content disk) stores count failed → core.failed ≡ false → LeavesOnly (content core.disk) (StandsFor core.shape core.base)
-safe_seen {D} content disk stores count failed core is holds =
-    subst (λ (c : CoreState D). c.failed ≡ false → LeavesOnly (content c.disk) (StandsFor c.shape c.base)) is (λ working. (stands_seen content disk stores count failed (holds.stands working)).safe)
+pub safe_seen : {D F : Type 0} (facts : Ghosts D F) (disk : D) (stores : TiersState) (count : ℕ) (failed : Bool) (core : CoreState D) → seen facts disk stores count failed ≡ core
+    → IsCore (facts.content disk) stores count failed → core.failed ≡ false → LeavesOnly (facts.content core.disk) (StandsFor core.shape core.base)
+safe_seen {D} facts disk stores count failed core is holds =
+    subst (λ (c : CoreState D). c.failed ≡ false → LeavesOnly (facts.content c.disk) (StandsFor c.shape c.base)) is (λ working. (stands_seen facts disk stores count failed (holds.stands working)).safe)
 
 -- and its map is the base after the waiting commands
-pub map_seen : {D : Type 0} (content : D → Content) (disk : D) (stores : TiersState) (count : ℕ) (failed : Bool) (core : CoreState D) → seen content disk stores count failed ≡ core
-    → IsCore (content disk) stores count failed → core.failed ≡ false → IsTrue (content core.disk).honest → map_of core ≡ map_after core.base core.waiting
-map_seen {D} content disk stores count failed core is holds =
-    subst (λ (c : CoreState D). c.failed ≡ false → IsTrue (content c.disk).honest → map_of c ≡ map_after c.base c.waiting) is
-    (λ working. (stands_seen content disk stores count failed (holds.stands working)).has_map)
+pub map_seen : {D F : Type 0} (facts : Ghosts D F) (disk : D) (stores : TiersState) (count : ℕ) (failed : Bool) (core : CoreState D) → seen facts disk stores count failed ≡ core
+    → IsCore (facts.content disk) stores count failed → core.failed ≡ false → IsTrue (facts.content core.disk).honest → map_of core ≡ map_after core.base core.waiting
+map_seen {D} facts disk stores count failed core is holds =
+    subst (λ (c : CoreState D). c.failed ≡ false → IsTrue (facts.content c.disk).honest → map_of c ≡ map_after c.base c.waiting) is
+    (λ working. (stands_seen facts disk stores count failed (holds.stands working)).has_map)
 
 -- and no more commands wait than were accepted
-pub few_seen : {D : Type 0} (content : D → Content) (disk : D) (stores : TiersState) (count : ℕ) (failed : Bool) (core : CoreState D) → seen content disk stores count failed ≡ core
-    → IsCore (content disk) stores count failed → core.failed ≡ false → IsTrue (content core.disk).honest → length core.waiting ≤ core.count
-few_seen {D} content disk stores count failed core is holds =
-    subst (λ (c : CoreState D). c.failed ≡ false → IsTrue (content c.disk).honest → length c.waiting ≤ c.count) is holds.few
+pub few_seen : {D F : Type 0} (facts : Ghosts D F) (disk : D) (stores : TiersState) (count : ℕ) (failed : Bool) (core : CoreState D) → seen facts disk stores count failed ≡ core
+    → IsCore (facts.content disk) stores count failed → core.failed ≡ false → IsTrue (facts.content core.disk).honest → length core.waiting ≤ core.count
+few_seen {D} facts disk stores count failed core is holds =
+    subst (λ (c : CoreState D). c.failed ≡ false → IsTrue (facts.content c.disk).honest → length c.waiting ≤ c.count) is holds.few
 
 -- each image stands for the base after a beginning of what waits, where the store is failed and where it is not
-pub left_seen : {D : Type 0} (content : D → Content) (disk : D) (stores : TiersState) (count : ℕ) (failed : Bool) → IsCore (content disk) stores count failed → LeavesBegun (content disk) stores.manifest.shape
-left_seen content disk stores count failed holds =
-    let go : (b : Bool) → failed ≡ b → LeavesBegun (content disk) stores.manifest.shape = elim [
+pub left_seen : {D F : Type 0} (facts : Ghosts D F) (disk : D) (stores : TiersState) (count : ℕ) (failed : Bool) → IsCore (facts.content disk) stores count failed → LeavesBegun (facts.content disk) stores.manifest.shape
+left_seen facts disk stores count failed holds =
+    let go : (b : Bool) → failed ≡ b → LeavesBegun (facts.content disk) stores.manifest.shape = elim [
       | true ↦ λ fails. holds.left fails
       | false ↦ λ working. record {
-        base = image_map (content disk).shown;
-        waiting = waiting_commands (content disk) stores;
+        base = image_map (facts.content disk).shown;
+        waiting = waiting_commands (facts.content disk) stores;
         begun = record {
           each = λ h image left. record {
             kept = [];
-            begins = record { rest = waiting_commands (content disk) stores; is = refl };
-            stands = (stands_seen content disk stores count failed (holds.stands working)).safe.each h image left;
+            begins = record { rest = waiting_commands (facts.content disk) stores; is = refl };
+            stands = (stands_seen facts disk stores count failed (holds.stands working)).safe.each h image left;
           };
         };
       }
@@ -141,13 +142,13 @@ none_refused (Get key) refusal = refl
 none_refused Convert refusal = refl
 none_refused Merge refusal = refl
 
-module _ {D F : Type 0} (content : D → Content) (failures : D → ℕ) (gave : D → F → Type 0) where
+module _ {D F : Type 0} (facts : Ghosts D F) where
   -- a call that leaves the store as it was
-  pub unchanged : (core : CoreState D) (event : Event) (reply : Reply F) → Counts core.count reply core.count → Cause content failures gave core core event reply
+  pub unchanged : (core : CoreState D) (event : Event) (reply : Reply F) → Counts core.count reply core.count → Cause facts core core event reply
       → (core.failed ≡ true → reply ≡ Refused Failed) → (IsTrue (is_failed reply) → core.failed ≡ true)
-      → (core.failed ≡ false → IsTrue (content core.disk).honest → Step (map_of core) event reply (map_of core))
-      → accepted_command event reply ≡ [] → (IsTrue (content core.disk).honest → LeavesNoneWaiting core reply)
-      → (core.failed ≡ false → Standing content core) → Does content failures gave core core event reply
+      → (core.failed ≡ false → IsTrue (facts.content core.disk).honest → Step (map_of core) event reply (map_of core))
+      → accepted_command event reply ≡ [] → (IsTrue (facts.content core.disk).honest → LeavesNoneWaiting core reply)
+      → (core.failed ≡ false → Standing facts core) → Does facts core core event reply
   unchanged core event reply counts cause failed told step none settles stands = record {
     disk = record { size = refl; honest = refl };
     shape = refl;
@@ -172,62 +173,62 @@ module _ {D F : Type 0} (content : D → Content) (failures : D → ℕ) (gave :
   }
 
   -- a failed store refuses
-  pub refused_failed : (core : CoreState D) (event : Event) → core.failed ≡ true → Cause content failures gave core core event (Refused Failed) → Does content failures gave core core event (Refused Failed)
+  pub refused_failed : (core : CoreState D) (event : Event) → core.failed ≡ true → Cause facts core core event (Refused Failed) → Does facts core core event (Refused Failed)
   refused_failed core event failed cause =
       unchanged core event (Refused Failed) refl cause (λ _. refl) (λ _. failed) (λ f. absurd (let no : false ≡ true = sym f ∙ failed in cc)) (none_refused {F = F} event Failed) (λ _. tt)
       (λ f. absurd (let no : false ≡ true = sym f ∙ failed in cc))
 
   -- a store that is not failed refuses, for another cause than a failure, and is as it was
-  pub refused : (disk : D) (stores : TiersState) (count : ℕ) (failed : Bool) (event : Event) (refusal : Refusal F) → failed ≡ false → Stands (content disk) stores → is_failed (Refused refusal) ≡ false
-      → Cause content failures gave (seen content disk stores count failed) (seen content disk stores count failed) event (Refused refusal)
-      → Does content failures gave (seen content disk stores count failed) (seen content disk stores count failed) event (Refused refusal)
+  pub refused : (disk : D) (stores : TiersState) (count : ℕ) (failed : Bool) (event : Event) (refusal : Refusal F) → failed ≡ false → Stands (facts.content disk) stores → is_failed (Refused refusal) ≡ false
+      → Cause facts (seen facts disk stores count failed) (seen facts disk stores count failed) event (Refused refusal)
+      → Does facts (seen facts disk stores count failed) (seen facts disk stores count failed) event (Refused refusal)
   refused disk stores count failed event refusal working stands other cause =
-      unchanged (seen content disk stores count failed) event (Refused refusal) refl cause (λ f. absurd (let no : false ≡ true = sym working ∙ f in cc)) (λ t. absurd (let no : false ≡ true = sym other ∙ t in cc))
-      (λ _ _. step_refused (image_map (full_image (content disk) stores)) event refusal) (none_refused event refusal) (λ _. tt) (λ _. stands_seen content disk stores count failed stands)
+      unchanged (seen facts disk stores count failed) event (Refused refusal) refl cause (λ f. absurd (let no : false ≡ true = sym working ∙ f in cc)) (λ t. absurd (let no : false ≡ true = sym other ∙ t in cc))
+      (λ _ _. step_refused (image_map (full_image (facts.content disk) stores)) event refusal) (none_refused event refusal) (λ _. tt) (λ _. stands_seen facts disk stores count failed stands)
 
   -- a store that is not failed answers without a change
   pub answered : (disk : D) (stores : TiersState) (count : ℕ) (failed : Bool) (event : Event) (reply : Reply F)
-      → failed ≡ false → Stands (content disk) stores → Counts count reply count → is_failed reply ≡ false → accepted_command event reply ≡ []
-      → Cause content failures gave (seen content disk stores count failed) (seen content disk stores count failed) event reply
-      → (IsTrue (content disk).honest → Step (image_map (full_image (content disk) stores)) event reply (image_map (full_image (content disk) stores)))
-      → (IsTrue (content disk).honest → LeavesNoneWaiting (seen content disk stores count failed) reply)
-      → Does content failures gave (seen content disk stores count failed) (seen content disk stores count failed) event reply
+      → failed ≡ false → Stands (facts.content disk) stores → Counts count reply count → is_failed reply ≡ false → accepted_command event reply ≡ []
+      → Cause facts (seen facts disk stores count failed) (seen facts disk stores count failed) event reply
+      → (IsTrue (facts.content disk).honest → Step (image_map (full_image (facts.content disk) stores)) event reply (image_map (full_image (facts.content disk) stores)))
+      → (IsTrue (facts.content disk).honest → LeavesNoneWaiting (seen facts disk stores count failed) reply)
+      → Does facts (seen facts disk stores count failed) (seen facts disk stores count failed) event reply
   answered disk stores count failed event reply working stands counts other none cause step settles =
-      unchanged (seen content disk stores count failed) event reply counts cause (λ f. absurd (let no : false ≡ true = sym working ∙ f in cc)) (λ t. absurd (let no : false ≡ true = sym other ∙ t in cc))
-      (λ _ h. step h) none settles (λ _. stands_seen content disk stores count failed stands)
+      unchanged (seen facts disk stores count failed) event reply counts cause (λ f. absurd (let no : false ≡ true = sym working ∙ f in cc)) (λ t. absurd (let no : false ≡ true = sym other ∙ t in cc))
+      (λ _ h. step h) none settles (λ _. stands_seen facts disk stores count failed stands)
 
   -- ---- calls that write
 
-  module _ (disk new : D) (stores after : TiersState) (same : SameDisk (content disk) (content new)) (stands : Stands (content disk) stores) where
-    there : IsTrue (content disk).honest → IsTrue (content new).honest
+  module _ (disk new : D) (stores after : TiersState) (same : SameDisk (facts.content disk) (facts.content new)) (stands : Stands (facts.content disk) stores) where
+    there : IsTrue (facts.content disk).honest → IsTrue (facts.content new).honest
     there h = same.honest ∙ h
 
-    back : IsTrue (content new).honest → IsTrue (content disk).honest
+    back : IsTrue (facts.content new).honest → IsTrue (facts.content disk).honest
     back h = sym same.honest ∙ h
 
     -- the map after a call that was answered
-    pub advanced_map : (adds : List Command) → Advances adds (content disk) (content new) stores after → IsTrue (content disk).honest
-        → image_map (full_image (content new) after) ≡ map_after (image_map (full_image (content disk) stores)) adds
+    pub advanced_map : (adds : List Command) → Advances adds (facts.content disk) (facts.content new) stores after → IsTrue (facts.content disk).honest
+        → image_map (full_image (facts.content new) after) ≡ map_after (image_map (full_image (facts.content disk) stores)) adds
     advanced_map adds goes h =
         let moves = goes.moves h in
-        (meaning (content new) after goes.stands).full (there h)
-        ∙ ap (λ m. map_after m (waiting_commands (content new) after)) moves.base
-        ∙ sym (map_after-append (base_map (content disk) stores) moves.moved (waiting_commands (content new) after))
-        ∙ ap (map_after (base_map (content disk) stores)) moves.rest
-        ∙ map_after-append (base_map (content disk) stores) (waiting_commands (content disk) stores) adds
-        ∙ ap (λ m. map_after m adds) (sym ((meaning (content disk) stores stands).full h))
+        (meaning (facts.content new) after goes.stands).full (there h)
+        ∙ ap (λ m. map_after m (waiting_commands (facts.content new) after)) moves.base
+        ∙ sym (map_after-append (base_map (facts.content disk) stores) moves.moved (waiting_commands (facts.content new) after))
+        ∙ ap (map_after (base_map (facts.content disk) stores)) moves.rest
+        ∙ map_after-append (base_map (facts.content disk) stores) (waiting_commands (facts.content disk) stores) adds
+        ∙ ap (λ m. map_after m adds) (sym ((meaning (facts.content disk) stores stands).full h))
 
     -- a call is answered, and these commands are accepted
-    pub advanced : (adds : List Command) (count next : ℕ) (event : Event) (reply : Reply F) → Advances adds (content disk) (content new) stores after
+    pub advanced : (adds : List Command) (count next : ℕ) (event : Event) (reply : Reply F) → Advances adds (facts.content disk) (facts.content new) stores after
         → Counts count reply next → accepted_command event reply ≡ adds → is_refused reply ≡ false → is_failed reply ≡ false
-        → Cause content failures gave (seen content disk stores count false) (seen content new after next false) event reply
+        → Cause facts (seen facts disk stores count false) (seen facts new after next false) event reply
         → ((m to : Map) → to ≡ map_after m adds → Step m event reply to)
         → (adds ≡ [] → is_finished reply ≡ false → after.manifest.ruling ≡ stores.manifest.ruling)
         → (is_convert event ≡ false → after.converting ≡ stores.converting) → (is_merge event ≡ false → after.merging ≡ stores.merging)
-        → (IsTrue (content disk).honest → LeavesNoneWaiting (seen content new after next false) reply) → failures new ≡ failures disk
-        → Does content failures gave (seen content disk stores count false) (seen content new after next false) event reply
+        → (IsTrue (facts.content disk).honest → LeavesNoneWaiting (seen facts new after next false) reply) → facts.failures new ≡ facts.failures disk
+        → Does facts (seen facts disk stores count false) (seen facts new after next false) event reply
     advanced adds count next event reply goes counts own answers tells cause step named converts merges settles none_failed =
-        let standing = stands_seen content new after next false goes.stands in
+        let standing = stands_seen facts new after next false goes.stands in
         record {
           disk = same;
           shape = goes.shape;
@@ -249,8 +250,8 @@ module _ {D F : Type 0} (content : D → Content) (failures : D → ℕ) (gave :
               let moves = goes.moves h in
               record {
                 moved = moves.moved;
-                rest = moves.rest ∙ ap (λ cs. waiting_commands (content disk) stores ++ cs) (sym own);
-                base = (meaning (content new) after goes.stands).shown (there h) ∙ moves.base ∙ ap (λ m. map_after m moves.moved) (sym ((meaning (content disk) stores stands).shown h));
+                rest = moves.rest ∙ ap (λ cs. waiting_commands (facts.content disk) stores ++ cs) (sym own);
+                base = (meaning (facts.content new) after goes.stands).shown (there h) ∙ moves.base ∙ ap (λ m. map_after m moves.moved) (sym ((meaning (facts.content disk) stores stands).shown h));
               };
           settles = settles;
           safe = λ _. standing.safe;
@@ -258,11 +259,11 @@ module _ {D F : Type 0} (content : D → Content) (failures : D → ℕ) (gave :
         }
 
     -- a write or sync failed
-    pub broke : (count : ℕ) (event : Event) (fault : F) → Breaks (content disk) (content new) stores → after.manifest.shape ≡ stores.manifest.shape
-        → (IsTrue (content disk).honest → image_map (full_image (content new) after) ≡ image_map (full_image (content disk) stores))
-        → Cause content failures gave (seen content disk stores count false) (seen content new after count true) event (Refused (Device fault))
-        → failures new ≡ (failures disk + 1) % 2 ^ 64
-        → Does content failures gave (seen content disk stores count false) (seen content new after count true) event (Refused (Device fault))
+    pub broke : (count : ℕ) (event : Event) (fault : F) → Breaks (facts.content disk) (facts.content new) stores → after.manifest.shape ≡ stores.manifest.shape
+        → (IsTrue (facts.content disk).honest → image_map (full_image (facts.content new) after) ≡ image_map (full_image (facts.content disk) stores))
+        → Cause facts (seen facts disk stores count false) (seen facts new after count true) event (Refused (Device fault))
+        → facts.failures new ≡ (facts.failures disk + 1) % 2 ^ 64
+        → Does facts (seen facts disk stores count false) (seen facts new after count true) event (Refused (Device fault))
     broke count event fault breaks shape maps cause one_failed = record {
       disk = same;
       shape = shape;
@@ -277,7 +278,7 @@ module _ {D F : Type 0} (content : D → Content) (failures : D → ℕ) (gave :
       keeps_body = λ f. absurd (cc);
       keeps_converting = λ f. absurd (cc);
       keeps_merging = λ f. absurd (cc);
-      step = λ _ h. subst (Step (image_map (full_image (content disk) stores)) event (Refused (Device fault))) (sym (maps h)) (step_refused (image_map (full_image (content disk) stores)) event (Device fault));
+      step = λ _ h. subst (Step (image_map (full_image (facts.content disk) stores)) event (Refused (Device fault))) (sym (maps h)) (step_refused (image_map (full_image (facts.content disk) stores)) event (Device fault));
       has_map = λ f. absurd (cc);
       numbers = λ f. absurd (cc);
       moves = λ f. absurd (cc);
@@ -285,6 +286,6 @@ module _ {D F : Type 0} (content : D → Content) (failures : D → ℕ) (gave :
       safe = λ f. absurd (cc);
       crash = λ _ _. record {
         each = λ h image left.
-            subst (λ m. HasBegun stores.manifest.shape m (waiting_commands (content disk) stores) image) (sym ((meaning (content disk) stores stands).shown (back h))) (breaks.each h image left);
+            subst (λ m. HasBegun stores.manifest.shape m (waiting_commands (facts.content disk) stores) image) (sym ((meaning (facts.content disk) stores stands).shown (back h))) (breaks.each h image left);
       };
     }

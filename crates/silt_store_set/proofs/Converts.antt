@@ -1,7 +1,8 @@
 -- What a step of conversion does, from what that of the stores in memory does.
 use Rattle.std.proofs.Common.{◌≡◌, ℕ, ◌+◌, ◌*◌, ◌%◌, ◌^◌, inl, inr, false, true, [], length, Option, Some, None, refl, ap, sym, ◌∙◌}
 use Rattle.std.proofs.lemmas.List.{length-map}
-use Rattle.silt_device.specs.Disk.{Content}
+use Rattle.silt_device.specs.Disk.{GaveAny}
+use Rattle.silt_device.specs.declared.disk.Disk.{Ghosts}
 use Rattle.silt_hash_store.specs.Conversion.{ConversionState}
 use Rattle.silt_tiers.specs.Calls.{Advances, Breaks, IsLastGeneration, Remaps, SameDisk}
 use Rattle.silt_tiers.specs.Conversion.{Converts, Finishes, IsNextStep, MovesOn, convert_turn, is_work, progress_due, written_by}
@@ -25,10 +26,10 @@ goes_on : (s : TiersState) (before : Option ConversionState) (after : Conversion
 goes_on s None after step = step
 goes_on s (Some before) after step = step
 
-module _ {D F : Type 0} (content : D → Content) (failures : D → ℕ) (gave : D → F → Type 0) (disk : D) (stores : TiersState) (count : ℕ) (stands : Stands (content disk) stores) where
+module _ {D F : Type 0} (facts : Ghosts D F) (disk : D) (stores : TiersState) (count : ℕ) (stands : Stands (facts.content disk) stores) where
   -- the store before
   abbrev before : CoreState D
-  before = seen content disk stores count false
+  before = seen facts disk stores count false
 
   -- what is due is the same in memory and in the body's words
   pub due_same : convert_due before ≡ convert_turn stores
@@ -40,15 +41,15 @@ module _ {D F : Type 0} (content : D → Content) (failures : D → ℕ) (gave :
       ∙ ap (progress_due (length stores.frozen) (length stores.hashes) stores.manifest.shape.hashes (4 * stores.manifest.shape.buckets)) (written_same stores.converting)
 
   -- nothing was to be done
-  stood : (progress : ProgressOf) (new : D) (after : TiersState) → progress ≡ convert_turn stores → new ≡ disk → after ≡ stores → failures new ≡ failures disk
-      → ConvertsTo content failures gave before before progress → is_work progress ≡ false → Does content failures gave before (seen content new after count false) Convert (Progress progress)
+  stood : (progress : ProgressOf) (new : D) (after : TiersState) → progress ≡ convert_turn stores → new ≡ disk → after ≡ stores → facts.failures new ≡ facts.failures disk
+      → ConvertsTo facts before before progress → is_work progress ≡ false → Does facts before (seen facts new after count false) Convert (Progress progress)
   stood progress new after due same_disk same counted does idle =
-      rw (same_disk, same) (answered content failures gave disk stores count false Convert (Progress progress) refl stands refl refl refl (refl, due ∙ sym due_same, does, refl) (λ _. refl) (λ _. tt))
+      rw (same_disk, same) (answered facts disk stores count false Convert (Progress progress) refl stands refl refl refl (refl, due ∙ sym due_same, does, refl) (λ _. refl) (λ _. tt))
 
   -- a step was answered
-  pub stepped : (progress : ProgressOf) (new : D) (after : TiersState) → SameDisk (content disk) (content new) → Advances [] (content disk) (content new) stores after
-      → Converts progress stores after → (is_work progress ≡ false → new ≡ disk) → failures new ≡ failures disk
-      → Does content failures gave before (seen content new after count false) Convert (Progress progress)
+  pub stepped : (progress : ProgressOf) (new : D) (after : TiersState) → SameDisk (facts.content disk) (facts.content new) → Advances [] (facts.content disk) (facts.content new) stores after
+      → Converts progress stores after → (is_work progress ≡ false → new ≡ disk) → facts.failures new ≡ facts.failures disk
+      → Does facts before (seen facts new after count false) Convert (Progress progress)
   stepped Idle new after same goes converts quiet counted = stood Idle new after converts.due (quiet refl) converts.done counted refl refl
   stepped Waiting new after same goes converts quiet counted = stood Waiting new after converts.due (quiet refl) converts.done counted refl refl
   stepped Moved new after same goes converts quiet counted =
@@ -56,11 +57,11 @@ module _ {D F : Type 0} (content : D → Content) (failures : D → ℕ) (gave :
       let ruling : after.manifest.ruling ≡ stores.manifest.ruling = ap (λ (s : TiersState). s.manifest.ruling) moves.is in
       let work : after.converting ≡ Some moves.conversion = ap (λ (s : TiersState). s.converting) moves.is in
       let on : ConvertGoesOn stores.manifest.shape.hashes stores.manifest.ruling (convert_work stores.converting) (convert_work after.converting) = rw work (goes_on stores stores.converting moves.conversion moves.step) in
-      advanced content failures gave disk new stores after same stands [] count count Convert (Progress Moved) goes refl refl refl refl
+      advanced facts disk new stores after same stands [] count count Convert (Progress Moved) goes refl refl refl refl
       (refl, converts.due ∙ sym due_same, (ruling, on), counted) (λ m to e. e) (λ _ _. ruling) (λ other. absurd (cc)) (λ _. ap (λ (s : TiersState). s.merging) moves.is) (λ _. tt) counted
   stepped Finished new after same goes converts quiet counted =
       let ends : Finishes stores after = converts.done in
-      advanced content failures gave disk new stores after same stands [] count count Convert (Progress Finished) goes refl refl refl refl (
+      advanced facts disk new stores after same stands [] count count Convert (Progress Finished) goes refl refl refl refl (
         refl,
         converts.due ∙ sym due_same,
         record { work = record { region = ends.conversion.region; written = ends.conversion.next }; was = ap convert_work ends.was; none = ap convert_work ends.none; body = ends.ruling },
@@ -70,23 +71,23 @@ module _ {D F : Type 0} (content : D → Content) (failures : D → ℕ) (gave :
 
   -- ---- a step was refused
 
-  pub step_unread : (new : D) (after : TiersState) (fault : F) → after ≡ stores → new ≡ disk → convert_turn stores ≡ Moved → gave disk fault
-      → Does content failures gave before (seen content new after count false) Convert (Refused (Device fault))
+  pub step_unread : (new : D) (after : TiersState) (fault : F) → after ≡ stores → new ≡ disk → convert_turn stores ≡ Moved → GaveAny facts.gave disk fault
+      → Does facts before (seen facts new after count false) Convert (Refused (Device fault))
   step_unread new after fault same same_disk due given =
-      rw (same_disk, same) (refused content failures gave disk stores count false Convert (Device fault) refl stands refl (inl (due_same ∙ due, record { given = given; working = refl; same = refl })))
+      rw (same_disk, same) (refused facts disk stores count false Convert (Device fault) refl stands refl (inl (due_same ∙ due, record { given = given; working = refl; same = refl })))
 
   pub step_spent : (new : D) (after : TiersState) → after ≡ stores → new ≡ disk → convert_turn stores ≡ Finished → IsLastGeneration stores
-      → Does content failures gave before (seen content new after count false) Convert (Refused Spent)
-  step_spent new after same same_disk due last = rw (same_disk, same) (refused content failures gave disk stores count false Convert Spent refl stands refl (refl, due_same ∙ due, last))
+      → Does facts before (seen facts new after count false) Convert (Refused Spent)
+  step_spent new after same same_disk due last = rw (same_disk, same) (refused facts disk stores count false Convert Spent refl stands refl (refl, due_same ∙ due, last))
 
   pub step_no_memory : (new : D) (after : TiersState) → after ≡ stores → new ≡ disk → convert_turn stores ≡ Moved → stores.converting ≡ None
-      → Does content failures gave before (seen content new after count false) Convert (Refused NoMemory)
-  step_no_memory new after same same_disk due none = rw (same_disk, same) (refused content failures gave disk stores count false Convert NoMemory refl stands refl (refl, due_same ∙ due, ap convert_work none))
+      → Does facts before (seen facts new after count false) Convert (Refused NoMemory)
+  step_no_memory new after same same_disk due none = rw (same_disk, same) (refused facts disk stores count false Convert NoMemory refl stands refl (refl, due_same ∙ due, ap convert_work none))
 
   -- a write or a sync failed
-  pub step_broke : (new : D) (after : TiersState) (fault : F) → SameDisk (content disk) (content new) → is_work (convert_turn stores) ≡ true → Breaks (content disk) (content new) stores
-      → Remaps [] (content disk) (content new) stores after → after.manifest.shape ≡ stores.manifest.shape → gave new fault → failures new ≡ (failures disk + 1) % 2 ^ 64
-      → Does content failures gave before (seen content new after count true) Convert (Refused (Device fault))
+  pub step_broke : (new : D) (after : TiersState) (fault : F) → SameDisk (facts.content disk) (facts.content new) → is_work (convert_turn stores) ≡ true → Breaks (facts.content disk) (facts.content new) stores
+      → Remaps [] (facts.content disk) (facts.content new) stores after → after.manifest.shape ≡ stores.manifest.shape → GaveAny facts.gave new fault → facts.failures new ≡ (facts.failures disk + 1) % 2 ^ 64
+      → Does facts before (seen facts new after count true) Convert (Refused (Device fault))
   step_broke new after fault same work breaks remaps shape given counted =
-      broke content failures gave disk new stores after same stands count Convert fault breaks shape remaps
+      broke facts disk new stores after same stands count Convert fault breaks shape remaps
       (inr (ap is_work due_same ∙ work, record { given = given; counted = counted; failed = refl })) counted

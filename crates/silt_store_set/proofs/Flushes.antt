@@ -3,7 +3,8 @@ use Rattle.std.proofs.Common.{◌≡◌, ◌<◌, ◌-◌, ℕ, ◌+◌, ◌%◌
 use Rattle.std.proofs.lemmas.List.{length-map}
 use Rattle.std.proofs.lemmas.List.FromFn.{length-map-range_with_len}
 use Rattle.std.proofs.lemmas.Bool.Decides.{nat_tests}
-use Rattle.silt_device.specs.Disk.{Content}
+use Rattle.silt_device.specs.Disk.{Content, GaveAny}
+use Rattle.silt_device.specs.declared.disk.Disk.{Ghosts}
 use Rattle.silt_event.specs.Rows.{command_of}
 use Rattle.silt_log.specs.Rows.{row_at, rows_from}
 use Rattle.silt_log.specs.State.{LogState, waiting_rows}
@@ -27,29 +28,29 @@ some_wait content log waits none =
     let len : length (waiting_rows content log) ≡ log.used - log.settled = length-map-range_with_len (row_at log.shape log.region content.shown) log.settled (log.used - log.settled) in
     omega (arith, waits, len, length-map (waiting_rows content log) command_of, ap length none)
 
-module _ {D F : Type 0} (content : D → Content) (failures : D → ℕ) (gave : D → F → Type 0) (disk : D) (stores : TiersState) (count : ℕ) (stands : Stands (content disk) stores) where
+module _ {D F : Type 0} (facts : Ghosts D F) (disk : D) (stores : TiersState) (count : ℕ) (stands : Stands (facts.content disk) stores) where
   -- where no row waits nothing is done
   pub flushed_none : (failed : _) → failed ≡ false → nat_lt stores.active.log.settled stores.active.log.used ≡ false
-      → Does content failures gave (seen content disk stores count failed) (seen content disk stores count failed) Flush (Acknowledged count)
+      → Does facts (seen facts disk stores count failed) (seen facts disk stores count failed) Flush (Acknowledged count)
   flushed_none failed working none =
       let settled : stores.active.log.settled ≡ stores.active.log.used = grind (arith, nat_tests, none, stands.active.bounds.order) in
-      answered content failures gave disk stores count failed Flush (Acknowledged count) working stands (refl, refl) refl refl (working, refl, λ _. refl) (λ _. refl)
-      (λ _. ap (map command_of) (none_wait (content disk) stores.active.log settled))
+      answered facts disk stores count failed Flush (Acknowledged count) working stands (refl, refl) refl refl (working, refl, λ _. refl) (λ _. refl)
+      (λ _. ap (map command_of) (none_wait (facts.content disk) stores.active.log settled))
 
   -- the waiting rows are settled
-  pub flushed : (new : D) (after : TiersState) → nat_lt stores.active.log.settled stores.active.log.used ≡ true → SameDisk (content disk) (content new) → Advances [] (content disk) (content new) stores after → IsQuiet (content new) after
-      → after.manifest ≡ stores.manifest → after.converting ≡ stores.converting → after.merging ≡ stores.merging → failures new ≡ failures disk
-      → Does content failures gave (seen content disk stores count false) (seen content new after count false) Flush (Acknowledged count)
+  pub flushed : (new : D) (after : TiersState) → nat_lt stores.active.log.settled stores.active.log.used ≡ true → SameDisk (facts.content disk) (facts.content new) → Advances [] (facts.content disk) (facts.content new) stores after → IsQuiet (facts.content new) after
+      → after.manifest ≡ stores.manifest → after.converting ≡ stores.converting → after.merging ≡ stores.merging → facts.failures new ≡ facts.failures disk
+      → Does facts (seen facts disk stores count false) (seen facts new after count false) Flush (Acknowledged count)
   flushed new after some same goes quiet manifest converting merging counted =
       let waits = tells_below stores.active.log.settled stores.active.log.used some in
-      advanced content failures gave disk new stores after same stands [] count count Flush (Acknowledged count) goes (refl, refl) refl refl refl
-      (refl, counted, λ none. absurd (some_wait (content disk) stores.active.log waits none)) (λ m to e. e)
+      advanced facts disk new stores after same stands [] count count Flush (Acknowledged count) goes (refl, refl) refl refl refl
+      (refl, counted, λ none. absurd (some_wait (facts.content disk) stores.active.log waits none)) (λ m to e. e)
       (λ _ _. ap (λ m. m.ruling) manifest) (λ _. converting) (λ _. merging) (λ _. quiet.none_wait) counted
 
   -- a sync or the write of the gates failed
-  pub flush_broke : (new : D) (after : TiersState) (fault : F) → SameDisk (content disk) (content new) → Breaks (content disk) (content new) stores → Remaps [] (content disk) (content new) stores after
-      → after.manifest ≡ stores.manifest → gave new fault → failures new ≡ (failures disk + 1) % 2 ^ 64
-      → Does content failures gave (seen content disk stores count false) (seen content new after count true) Flush (Refused (Device fault))
+  pub flush_broke : (new : D) (after : TiersState) (fault : F) → SameDisk (facts.content disk) (facts.content new) → Breaks (facts.content disk) (facts.content new) stores → Remaps [] (facts.content disk) (facts.content new) stores after
+      → after.manifest ≡ stores.manifest → GaveAny facts.gave new fault → facts.failures new ≡ (facts.failures disk + 1) % 2 ^ 64
+      → Does facts (seen facts disk stores count false) (seen facts new after count true) Flush (Refused (Device fault))
   flush_broke new after fault same breaks remaps manifest given counted =
-      broke content failures gave disk new stores after same stands count Flush fault breaks (ap (λ m. m.shape) manifest) remaps
+      broke facts disk new stores after same stands count Flush fault breaks (ap (λ m. m.shape) manifest) remaps
       (record { given = given; counted = counted; failed = refl }) counted

@@ -15,6 +15,7 @@ use Rattle.silt_event.specs.Events.{Legal, accepted_commands, LifeHistory, Lives
 use Rattle.silt_store_set.specs.CoreState.{CoreState, map_of, Runs, Opens}
 use Rattle.silt_store_set.specs.CoreInvariant.{IsSafe}
 use Rattle.silt_device.specs.Header.{shape_of}
+use Rattle.silt_device.specs.declared.disk.Disk.{Ghosts}
 use Rattle.silt_image.specs.Meaning.{StandsFor}
 use Rattle.silt_tiers.specs.Calls.{SameDisk}
 use Rattle.silt_recovery.specs.Opening.{LeavesNoOther}
@@ -41,44 +42,44 @@ stands_safe value_len shape m image same stands = record {
   has_map = stands.has_map;
 }
 
-module _ {D F : Type 0} (content : D → Content) (failures : D → ℕ) (gave : D → F → Type 0) (old : Content) (value_len : ℕ) (m : Map) (h : IsTrue old.honest) (safe : LeavesOnly old (IsSafe value_len m)) (events : List Event) where
+module _ {D F : Type 0} (facts : Ghosts D F) (old : Content) (value_len : ℕ) (m : Map) (h : IsTrue old.honest) (safe : LeavesOnly old (IsSafe value_len m)) (events : List Event) where
   shown_safe : IsSafe value_len m old.shown
   shown_safe = safe.each h old.shown (shown_left old)
 
   -- a store that was not opened
-  pub life_unopened : (disk : D) (refusal : Refusal F) (new : Content) → LeavesNoOther old (content disk) → OpeningCause content gave old disk refusal → Restarts (content disk) new
+  pub life_unopened : (disk : D) (refusal : Refusal F) (new : Content) → LeavesNoOther old (facts.content disk) → OpeningCause facts old disk refusal → Restarts (facts.content disk) new
       → (to : Map) × LifeHistory {F = F} m events (NotOpened refusal) to × LeavesOnly new (IsSafe value_len to)
   life_unopened disk refusal new leaves cause restarts = (
     m,
-    (opening_refused content gave old disk refusal h shown_safe.good cause, refl),
-    restarted value_len m (content disk) new restarts (λ honest image left. elim (leaves.each honest image left) [
+    (opening_refused facts old disk refusal h shown_safe.good cause, refl),
+    restarted value_len m (facts.content disk) new restarts (λ honest image left. elim (leaves.each honest image left) [
       | inl was ↦ safe.each h image was
       | inr stands ↦ stands_safe value_len (shape_of old.shown) m image shown_safe.has_len (subst (λ (n : Map). StandsFor (shape_of old.shown) n image) shown_safe.has_map stands)
     ]),
   )
 
   -- the store has values of this length
-  pub opened_len : (core : CoreState D) → Opens content old core → core.shape.value_len ≡ value_len
+  pub opened_len : (core : CoreState D) → Opens facts old core → core.shape.value_len ≡ value_len
   opened_len core opens = ap (λ (s : Shape). s.value_len) (opens.has_shape h) ∙ shown_safe.has_len
 
   -- a store that was opened, and whose replies found no memory
-  pub life_idle : (core : CoreState D) (new : Content) → Opens content old core → Restarts (content core.disk) new
+  pub life_idle : (core : CoreState D) (new : Content) → Opens facts old core → Restarts (facts.content core.disk) new
       → (to : Map) × LifeHistory {F = F} m events (NotOpened NoMemory) to × LeavesOnly new (IsSafe value_len to)
   life_idle core new opens restarts = (
     m,
     (tt, refl),
-    restarted value_len m (content core.disk) new restarts (λ honest image left.
+    restarted value_len m (facts.content core.disk) new restarts (λ honest image left.
         stands_safe value_len core.shape m image (opened_len core opens) (subst (λ (n : Map). StandsFor core.shape n image) (opens.base h ∙ shown_safe.has_map) (opens.safe.each honest image left))),
   )
 
   -- a store that was opened and did its events
-  pub life_ran : (core after : CoreState D) (replies : Vec (Reply F) Global) (new : Content) → Opens content old core → Runs content failures gave core events replies.items after → Restarts (content after.disk) new → SameDisk (content core.disk) (content after.disk)
+  pub life_ran : (core after : CoreState D) (replies : Vec (Reply F) Global) (new : Content) → Opens facts old core → Runs facts core events replies.items after → Restarts (facts.content after.disk) new → SameDisk (facts.content core.disk) (facts.content after.disk)
       → (to : Map) × LifeHistory m events (Opened replies) to × LeavesOnly new (IsSafe value_len to)
   life_ran core after replies new opens runs restarts same =
-      let here : IsTrue (content core.disk).honest = opens.disk.honest ∙ h in
-      let there : IsTrue (content after.disk).honest = same.honest ∙ here in
-      let kept = keeps_runs content failures gave core after events replies.items opens.working opens.safe runs here new.shown (restarts.left there) in
-      let legal = legal_runs content failures gave core after events replies.items here runs in
+      let here : IsTrue (facts.content core.disk).honest = opens.disk.honest ∙ h in
+      let there : IsTrue (facts.content after.disk).honest = same.honest ∙ here in
+      let kept = keeps_runs facts core after events replies.items opens.working opens.safe runs here new.shown (restarts.left there) in
+      let legal = legal_runs facts core after events replies.items here runs in
       let start : map_of core ≡ m = opens.has_map h ∙ shown_safe.has_map in
       let base : core.base ≡ m = opens.base h ∙ shown_safe.has_map in
       let none : core.waiting ≡ [] = opens.waiting h in (
@@ -92,7 +93,7 @@ module _ {D F : Type 0} (content : D → Content) (failures : D → ℕ) (gave :
             begins = record { rest = kept.1.begins.rest; is = kept.1.begins.is ∙ ap (λ (cs : List Command). cs ++ accepted_commands events replies.items) none };
             acknowledged = let settled : 0 + length core.waiting ≡ core.count = omega (arith, ap length none, opens.count) in omega (arith, kept.1.acknowledged 0 settled);
           },
-          nines content failures gave core after events replies.items false opens.working runs,
+          nines facts core after events replies.items false opens.working runs,
           refl,
         ),
         record {

@@ -1,7 +1,8 @@
 -- What a stop keeps of a run.
 use Rattle.std.proofs.Common.{◌≡◌, ◌≤◌, ℕ, ◌+◌, ◌||◌, Bool, true, false, IsTrue, List, [], ◌∷◌, ◌++◌, length, refl, ap, sym, ◌∙◌, subst, arith, append_assoc, length-append}
-use Rattle.silt_device.specs.Disk.{Content, Left, LeavesOnly}
+use Rattle.silt_device.specs.Disk.{Left, LeavesOnly}
 use Rattle.silt_device.specs.Layout.{Shape}
+use Rattle.silt_device.specs.declared.disk.Disk.{Ghosts}
 use Rattle.silt_image.specs.Meaning.{StandsFor}
 use Rattle.silt_event.specs.declared.event.Event.{Event}
 use Rattle.silt_event.specs.declared.event.Event.TheVariants.{Put, Delete, Flush, Get, Convert, Merge}
@@ -21,50 +22,50 @@ or_true true = refl
 or_true false = refl
 
 -- as many commands are counted as an event adds
-pub own_counts : {D F : Type 0} (content : D → Content) (failures : D → ℕ) (gave : D → F → Type 0) (old new : CoreState D) (event : Event) (reply : Reply F) (c d : ℕ) → Cause content failures gave old new event reply → Counts c reply d → d ≡ c + length (accepted_command event reply)
-own_counts content failures gave old new (Put key value) (Accepted n) c d cause counts = counts.1
-own_counts content failures gave old new (Delete key) (Accepted n) c d cause counts = counts.1
-own_counts content failures gave old new Flush (Accepted n) c d cause counts = absurd cause
-own_counts content failures gave old new (Get key) (Accepted n) c d cause counts = absurd cause
-own_counts content failures gave old new Convert (Accepted n) c d cause counts = absurd cause
-own_counts content failures gave old new Merge (Accepted n) c d cause counts = absurd cause
-own_counts content failures gave old new (Put key value) (Acknowledged n) c d cause counts = absurd cause
-own_counts content failures gave old new (Delete key) (Acknowledged n) c d cause counts = absurd cause
-own_counts content failures gave old new Flush (Acknowledged n) c d cause counts = omega (arith, counts.1)
-own_counts content failures gave old new (Get key) (Acknowledged n) c d cause counts = absurd cause
-own_counts content failures gave old new Convert (Acknowledged n) c d cause counts = absurd cause
-own_counts content failures gave old new Merge (Acknowledged n) c d cause counts = absurd cause
-own_counts content failures gave old new (Put key value) (Found v) c d cause counts = absurd cause
-own_counts content failures gave old new (Delete key) (Found v) c d cause counts = absurd cause
-own_counts content failures gave old new Flush (Found v) c d cause counts = absurd cause
-own_counts content failures gave old new (Get key) (Found v) c d cause counts = omega (arith, counts)
-own_counts content failures gave old new Convert (Found v) c d cause counts = absurd cause
-own_counts content failures gave old new Merge (Found v) c d cause counts = absurd cause
-own_counts content failures gave old new (Put key value) Absent c d cause counts = absurd cause
-own_counts content failures gave old new (Delete key) Absent c d cause counts = absurd cause
-own_counts content failures gave old new Flush Absent c d cause counts = absurd cause
-own_counts content failures gave old new (Get key) Absent c d cause counts = omega (arith, counts)
-own_counts content failures gave old new Convert Absent c d cause counts = absurd cause
-own_counts content failures gave old new Merge Absent c d cause counts = absurd cause
-own_counts content failures gave old new (Put key value) (Progress p) c d cause counts = absurd cause
-own_counts content failures gave old new (Delete key) (Progress p) c d cause counts = absurd cause
-own_counts content failures gave old new Flush (Progress p) c d cause counts = absurd cause
-own_counts content failures gave old new (Get key) (Progress p) c d cause counts = absurd cause
-own_counts content failures gave old new Convert (Progress p) c d cause counts = omega (arith, counts)
-own_counts content failures gave old new Merge (Progress p) c d cause counts = omega (arith, counts)
-own_counts content failures gave old new event (Refused refusal) c d cause counts = omega (arith, counts, ap length (none_refused event refusal))
-own_counts content failures gave old new (Put key value) (Unsettled n) c d cause counts = absurd cause
-own_counts content failures gave old new (Put key value) NotServed c d cause counts = absurd cause
-own_counts content failures gave old new (Delete key) (Unsettled n) c d cause counts = absurd cause
-own_counts content failures gave old new (Delete key) NotServed c d cause counts = absurd cause
-own_counts content failures gave old new Flush (Unsettled n) c d cause counts = absurd cause
-own_counts content failures gave old new Flush NotServed c d cause counts = absurd cause
-own_counts content failures gave old new (Get key) (Unsettled n) c d cause counts = absurd cause
-own_counts content failures gave old new (Get key) NotServed c d cause counts = absurd cause
-own_counts content failures gave old new Convert (Unsettled n) c d cause counts = absurd cause
-own_counts content failures gave old new Convert NotServed c d cause counts = absurd cause
-own_counts content failures gave old new Merge (Unsettled n) c d cause counts = absurd cause
-own_counts content failures gave old new Merge NotServed c d cause counts = absurd cause
+pub own_counts : {D F : Type 0} (facts : Ghosts D F) (old new : CoreState D) (event : Event) (reply : Reply F) (c d : ℕ) → Cause facts old new event reply → Counts c reply d → d ≡ c + length (accepted_command event reply)
+own_counts facts old new (Put key value) (Accepted n) c d cause counts = counts.1
+own_counts facts old new (Delete key) (Accepted n) c d cause counts = counts.1
+own_counts facts old new Flush (Accepted n) c d cause counts = absurd cause
+own_counts facts old new (Get key) (Accepted n) c d cause counts = absurd cause
+own_counts facts old new Convert (Accepted n) c d cause counts = absurd cause
+own_counts facts old new Merge (Accepted n) c d cause counts = absurd cause
+own_counts facts old new (Put key value) (Acknowledged n) c d cause counts = absurd cause
+own_counts facts old new (Delete key) (Acknowledged n) c d cause counts = absurd cause
+own_counts facts old new Flush (Acknowledged n) c d cause counts = omega (arith, counts.1)
+own_counts facts old new (Get key) (Acknowledged n) c d cause counts = absurd cause
+own_counts facts old new Convert (Acknowledged n) c d cause counts = absurd cause
+own_counts facts old new Merge (Acknowledged n) c d cause counts = absurd cause
+own_counts facts old new (Put key value) (Found v) c d cause counts = absurd cause
+own_counts facts old new (Delete key) (Found v) c d cause counts = absurd cause
+own_counts facts old new Flush (Found v) c d cause counts = absurd cause
+own_counts facts old new (Get key) (Found v) c d cause counts = omega (arith, counts)
+own_counts facts old new Convert (Found v) c d cause counts = absurd cause
+own_counts facts old new Merge (Found v) c d cause counts = absurd cause
+own_counts facts old new (Put key value) Absent c d cause counts = absurd cause
+own_counts facts old new (Delete key) Absent c d cause counts = absurd cause
+own_counts facts old new Flush Absent c d cause counts = absurd cause
+own_counts facts old new (Get key) Absent c d cause counts = omega (arith, counts)
+own_counts facts old new Convert Absent c d cause counts = absurd cause
+own_counts facts old new Merge Absent c d cause counts = absurd cause
+own_counts facts old new (Put key value) (Progress p) c d cause counts = absurd cause
+own_counts facts old new (Delete key) (Progress p) c d cause counts = absurd cause
+own_counts facts old new Flush (Progress p) c d cause counts = absurd cause
+own_counts facts old new (Get key) (Progress p) c d cause counts = absurd cause
+own_counts facts old new Convert (Progress p) c d cause counts = omega (arith, counts)
+own_counts facts old new Merge (Progress p) c d cause counts = omega (arith, counts)
+own_counts facts old new event (Refused refusal) c d cause counts = omega (arith, counts, ap length (none_refused event refusal))
+own_counts facts old new (Put key value) (Unsettled n) c d cause counts = absurd cause
+own_counts facts old new (Put key value) NotServed c d cause counts = absurd cause
+own_counts facts old new (Delete key) (Unsettled n) c d cause counts = absurd cause
+own_counts facts old new (Delete key) NotServed c d cause counts = absurd cause
+own_counts facts old new Flush (Unsettled n) c d cause counts = absurd cause
+own_counts facts old new Flush NotServed c d cause counts = absurd cause
+own_counts facts old new (Get key) (Unsettled n) c d cause counts = absurd cause
+own_counts facts old new (Get key) NotServed c d cause counts = absurd cause
+own_counts facts old new Convert (Unsettled n) c d cause counts = absurd cause
+own_counts facts old new Convert NotServed c d cause counts = absurd cause
+own_counts facts old new Merge (Unsettled n) c d cause counts = absurd cause
+own_counts facts old new Merge NotServed c d cause counts = absurd cause
 
 -- more that was acknowledged before is more after
 acknowledged_more : {F : Type 0} (a b : ℕ) (replies : List (Reply F)) → a ≤ b → acknowledged_after a replies ≤ acknowledged_after b replies
@@ -87,37 +88,37 @@ pub record Ended {D F : Type 0} (old new : CoreState D) (events : List Event) (r
   pub acknowledged : (n : ℕ) → acknowledged_after n replies ≡ n
   pub nines : FailsAfterFault true replies
 
-pub ended : {D F : Type 0} (content : D → Content) (failures : D → ℕ) (gave : D → F → Type 0) (old new : CoreState D) (events : List Event) (replies : List (Reply F)) → old.failed ≡ true → Runs content failures gave old events replies new → Ended old new events replies
-ended content failures gave old new [] [] failed runs = record { same = runs; none = refl; acknowledged = λ n. refl; nines = tt }
-ended {D} {F} content failures gave old new (event ∷ events) (reply ∷ replies) failed runs =
+pub ended : {D F : Type 0} (facts : Ghosts D F) (old new : CoreState D) (events : List Event) (replies : List (Reply F)) → old.failed ≡ true → Runs facts old events replies new → Ended old new events replies
+ended facts old new [] [] failed runs = record { same = runs; none = refl; acknowledged = λ n. refl; nines = tt }
+ended {D} {F} facts old new (event ∷ events) (reply ∷ replies) failed runs =
     let is = runs.1.failed failed in
-    let rest : Ended old new events replies = ended content failures gave old new events replies failed (subst (λ (c : CoreState D). Runs content failures gave c events replies new) is.0 runs.2) in
+    let rest : Ended old new events replies = ended facts old new events replies failed (subst (λ (c : CoreState D). Runs facts c events replies new) is.0 runs.2) in
     record {
       same = rest.same;
       none = ap (λ (r : Reply F). accepted_command event r ++ accepted_commands events replies) is.1 ∙ ap (λ (cs : List Command). cs ++ accepted_commands events replies) (none_refused {F = F} event Failed) ∙ rest.none;
       acknowledged = λ n. ap (λ (r : Reply F). acknowledged_after (acknowledged_by n r) replies) is.1 ∙ rest.acknowledged n;
       nines = (λ _. refl, rest.nines);
     }
-ended content failures gave old new [] (reply ∷ replies) failed runs = absurd runs
-ended content failures gave old new (event ∷ events) [] failed runs = absurd runs
+ended facts old new [] (reply ∷ replies) failed runs = absurd runs
+ended facts old new (event ∷ events) [] failed runs = absurd runs
 
 -- ---- runs of a store that is not failed
 
 -- Failed comes only after a fault
-pub nines : {D F : Type 0} (content : D → Content) (failures : D → ℕ) (gave : D → F → Type 0) (old new : CoreState D) (events : List Event) (replies : List (Reply F)) (before : Bool) → old.failed ≡ false → Runs content failures gave old events replies new → FailsAfterFault before replies
-nines content failures gave old new [] [] before working runs = tt
-nines content failures gave old new (event ∷ events) (reply ∷ replies) before working runs =
+pub nines : {D F : Type 0} (facts : Ghosts D F) (old new : CoreState D) (events : List Event) (replies : List (Reply F)) (before : Bool) → old.failed ≡ false → Runs facts old events replies new → FailsAfterFault before replies
+nines facts old new [] [] before working runs = tt
+nines facts old new (event ∷ events) (reply ∷ replies) before working runs =
     let next = runs.0 in
     let told : IsTrue (is_failed reply) → IsTrue before = λ t. absurd (let no : false ≡ true = sym working ∙ runs.1.failed_only t in cc) in
     let go : (b : Bool) → next.failed ≡ b → FailsAfterFault (before || is_fault reply) replies = elim [
-      | false ↦ λ e. nines content failures gave next new events replies (before || is_fault reply) e runs.2
+      | false ↦ λ e. nines facts next new events replies (before || is_fault reply) e runs.2
       | true ↦ λ e.
           let fault : (before || is_fault reply) ≡ true = ap (λ (b : Bool). before || b) (runs.1.faulted working e) ∙ or_true before in
-          subst (λ (b : Bool). FailsAfterFault b replies) (sym fault) (ended content failures gave next new events replies e runs.2).nines
+          subst (λ (b : Bool). FailsAfterFault b replies) (sym fault) (ended facts next new events replies e runs.2).nines
     ] in
     (told, go next.failed refl)
-nines content failures gave old new [] (reply ∷ replies) before working runs = absurd runs
-nines content failures gave old new (event ∷ events) [] before working runs = absurd runs
+nines facts old new [] (reply ∷ replies) before working runs = absurd runs
+nines facts old new (event ∷ events) [] before working runs = absurd runs
 
 -- what was acknowledged by one reply is settled after it
 acknowledged_one : {D F : Type 0} (old next : CoreState D) (reply : Reply F) (settled moved : ℕ) → Counts old.count reply next.count → LeavesNoneWaiting next reply → settled + moved + length next.waiting ≡ next.count → acknowledged_by settled reply ≤ settled + moved
@@ -141,15 +142,15 @@ fault_adds event (Unsettled n) fault = absurd (cc)
 fault_adds event NotServed fault = absurd (cc)
 fault_adds event (Refused r) fault = (none_refused event r, λ n. refl)
 
-module _ {D F : Type 0} (content : D → Content) (failures : D → ℕ) (gave : D → F → Type 0) where
+module _ {D F : Type 0} (facts : Ghosts D F) where
   -- the first call did not fail
-  keeps_on : (old next : CoreState D) (event : Event) (reply : Reply F) (events : List Event) (replies : List (Reply F)) (image : List ℕ) → old.failed ≡ false → next.failed ≡ false → IsTrue (content old.disk).honest
-      → Does content failures gave old next event reply → StandsKept next events replies image → StandsKept old (event ∷ events) (reply ∷ replies) image
+  keeps_on : (old next : CoreState D) (event : Event) (reply : Reply F) (events : List Event) (replies : List (Reply F)) (image : List ℕ) → old.failed ≡ false → next.failed ≡ false → IsTrue (facts.content old.disk).honest
+      → Does facts old next event reply → StandsKept next events replies image → StandsKept old (event ∷ events) (reply ∷ replies) image
   keeps_on old next event reply events replies image working goes h does kept =
       let moves = does.moves goes h in
       let own : List Command = accepted_command event reply in
       let more : List Command = accepted_commands events replies in
-      let counts : next.count ≡ old.count + length own = own_counts content failures gave old next event reply old.count next.count does.cause does.counts in
+      let counts : next.count ≡ old.count + length own = own_counts facts old next event reply old.count next.count does.cause does.counts in
       let waits : length moves.moved + length next.waiting ≡ length old.waiting + length own = sym (length-append moves.moved next.waiting) ∙ ap length moves.rest ∙ length-append old.waiting own in (
         moves.moved ++ kept.0,
         record {
@@ -168,11 +169,11 @@ module _ {D F : Type 0} (content : D → Content) (failures : D → ℕ) (gave :
       )
 
   -- the first call failed, and so did all after it
-  keeps_out : (old next new : CoreState D) (event : Event) (reply : Reply F) (events : List Event) (replies : List (Reply F)) (image : List ℕ) → old.failed ≡ false → next.failed ≡ true → IsTrue (content next.disk).honest
-      → Does content failures gave old next event reply → Runs content failures gave next events replies new → Left (content new.disk) image → StandsKept old (event ∷ events) (reply ∷ replies) image
+  keeps_out : (old next new : CoreState D) (event : Event) (reply : Reply F) (events : List Event) (replies : List (Reply F)) (image : List ℕ) → old.failed ≡ false → next.failed ≡ true → IsTrue (facts.content next.disk).honest
+      → Does facts old next event reply → Runs facts next events replies new → Left (facts.content new.disk) image → StandsKept old (event ∷ events) (reply ∷ replies) image
   keeps_out old next new event reply events replies image working fails h does runs left =
-      let rest = ended content failures gave next new events replies fails runs in
-      let torn = (does.crash working fails).each h image (subst (λ (c : CoreState D). Left (content c.disk) image) rest.same left) in
+      let rest = ended facts next new events replies fails runs in
+      let torn = (does.crash working fails).each h image (subst (λ (c : CoreState D). Left (facts.content c.disk) image) rest.same left) in
       let adds = fault_adds event reply (does.faulted working fails) in
       let none : accepted_command event reply ++ accepted_commands events replies ≡ [] = ap (λ (cs : List Command). cs ++ accepted_commands events replies) adds.0 ∙ rest.none in (
         torn.kept,
@@ -184,16 +185,16 @@ module _ {D F : Type 0} (content : D → Content) (failures : D → ℕ) (gave :
       )
 
   -- after a run each image stands for the base after what a stop may keep
-  pub keeps_runs : (old new : CoreState D) (events : List Event) (replies : List (Reply F)) → old.failed ≡ false → LeavesOnly (content old.disk) (StandsFor old.shape old.base)
-      → Runs content failures gave old events replies new → IsTrue (content old.disk).honest → (image : List ℕ) → Left (content new.disk) image → StandsKept old events replies image
+  pub keeps_runs : (old new : CoreState D) (events : List Event) (replies : List (Reply F)) → old.failed ≡ false → LeavesOnly (facts.content old.disk) (StandsFor old.shape old.base)
+      → Runs facts old events replies new → IsTrue (facts.content old.disk).honest → (image : List ℕ) → Left (facts.content new.disk) image → StandsKept old events replies image
   keeps_runs old new [] [] working safe runs h image left = (
     [],
     record { begins = record { rest = old.waiting ++ []; is = refl }; acknowledged = λ settled sum. omega arith },
-    safe.each h image (subst (λ (c : CoreState D). Left (content c.disk) image) runs left),
+    safe.each h image (subst (λ (c : CoreState D). Left (facts.content c.disk) image) runs left),
   )
   keeps_runs old new (event ∷ events) (reply ∷ replies) working safe runs h image left =
       let next = runs.0 in
-      let there : IsTrue (content next.disk).honest = runs.1.disk.honest ∙ h in
+      let there : IsTrue (facts.content next.disk).honest = runs.1.disk.honest ∙ h in
       let go : (b : Bool) → next.failed ≡ b → StandsKept old (event ∷ events) (reply ∷ replies) image = elim [
         | false ↦ λ goes. keeps_on old next event reply events replies image working goes h runs.1 (keeps_runs next new events replies goes (runs.1.safe goes) runs.2 there image left)
         | true ↦ λ fails. keeps_out old next new event reply events replies image working fails there runs.1 runs.2 left

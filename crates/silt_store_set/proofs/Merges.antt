@@ -5,8 +5,9 @@ use Rattle.std.proofs.lemmas.Bool.{cases_Bool, eqb-true, eq-eqb}
 use Rattle.std.proofs.lemmas.List.{length-map}
 use Rattle.std.proofs.lemmas.Nat.{mul-add-lt}
 use Rattle.std.proofs.Math.Nat.{mul_comm}
-use Rattle.silt_device.specs.Disk.{Content}
+use Rattle.silt_device.specs.Disk.{GaveAny}
 use Rattle.silt_device.specs.Layout.{Shape}
+use Rattle.silt_device.specs.declared.disk.Disk.{Ghosts}
 use Rattle.silt_event.specs.declared.event.Event.TheVariants.{Merge}
 use Rattle.silt_event.specs.declared.progress.Progress.{Progress as ProgressOf}
 use Rattle.silt_event.specs.declared.progress.Progress.TheVariants.{Idle, Waiting, Moved, Finished}
@@ -47,10 +48,10 @@ goes_on : (s : TiersState) (before : Option MergeState) (after : MergeState) →
 goes_on s None after named step = (step.0 ∙ named, step.1)
 goes_on s (Some before) after named step = (step.0.stores, step.1)
 
-module _ {D F : Type 0} (content : D → Content) (failures : D → ℕ) (gave : D → F → Type 0) (disk : D) (stores : TiersState) (count : ℕ) (stands : Stands (content disk) stores) where
+module _ {D F : Type 0} (facts : Ghosts D F) (disk : D) (stores : TiersState) (count : ℕ) (stands : Stands (facts.content disk) stores) where
   -- the store before
   abbrev before : CoreState D
-  before = seen content disk stores count false
+  before = seen facts disk stores count false
 
   -- as many hash stores are in memory as the body names
   hash_count : length stores.hashes ≡ length stores.manifest.ruling.hashed
@@ -58,19 +59,19 @@ module _ {D F : Type 0} (content : D → Content) (failures : D → ℕ) (gave :
 
   -- ---- what is due
 
-  decided_same : (o : Option MergeState) → IfSome o (IsMerging stores) → IfSome o (IsDoneBySteps (content disk) stores)
+  decided_same : (o : Option MergeState) → IfSome o (IsMerging stores) → IfSome o (IsDoneBySteps (facts.content disk) stores)
       → option_map (has_decided before) (merge_work o) ≡ option_map (λ (merge : MergeState). is_done merge stores.sorted) o
   decided_same None merging done = refl
   decided_same (Some merge) merging done =
-      let keys : ℕ = key_count (merge_sources merge.stores (full_stores (content disk) stores)) in
+      let keys : ℕ = key_count (merge_sources merge.stores (full_stores (facts.content disk) stores)) in
       let slots : merge.stores * (4 * stores.manifest.shape.buckets) + keys ≡ merge.stores * (4 * merge.shape.buckets) + keys = ap (λ (s : Shape). merge.stores * (4 * s.buckets) + keys) (sym merging.has_shape) in
       ap Some (tells_same (steps_of merge) (merge.stores * (4 * stores.manifest.shape.buckets) + keys) (is_done merge stores.sorted) (λ d. done.0 d ∙ sym slots) (λ e. done.1 (e ∙ slots)))
 
   -- what is due is the same in memory and in the body's words: on an honest disk
-  due_same : IsTrue (content disk).honest → merge_due before ≡ merge_turn stores
+  due_same : IsTrue (facts.content disk).honest → merge_due before ≡ merge_turn stores
   due_same h =
       ap (λ (n : ℕ). merge_progress n (option_map (has_decided before) (merge_work stores.merging))) (sym hash_count)
-      ∙ ap (merge_progress (length stores.hashes)) (decided_same stores.merging stands.whole.merging ((meaning (content disk) stores stands).merging h))
+      ∙ ap (merge_progress (length stores.hashes)) (decided_same stores.merging stands.whole.merging ((meaning (facts.content disk) stores stands).merging h))
 
   both_work : (o : Option MergeState)
       → is_work (merge_progress (length stores.hashes) (option_map (has_decided before) (merge_work o))) ≡ is_work (merge_progress (length stores.hashes) (option_map (λ (merge : MergeState). is_done merge stores.sorted) o))
@@ -83,7 +84,7 @@ module _ {D F : Type 0} (content : D → Content) (failures : D → ℕ) (gave :
       ap (λ (n : ℕ). is_work (merge_progress n (option_map (has_decided before) (merge_work stores.merging)))) (sym hash_count)
       ∙ both_work stores.merging
 
-  due : (progress : ProgressOf) → progress ≡ merge_turn stores → IsMergeDue content before progress
+  due : (progress : ProgressOf) → progress ≡ merge_turn stores → IsMergeDue facts before progress
   due progress is = record { work = ap is_work is ∙ sym work_same; exact = λ h. is ∙ sym (due_same h) }
 
   -- ---- a step was answered
@@ -96,29 +97,29 @@ module _ {D F : Type 0} (content : D → Content) (failures : D → ℕ) (gave :
       let named : stores.sorted.region ≡ stores.manifest.ruling.sorted = ap (λ s. s.region) stands.whole.sorted in
       omega (arith, is.apart, is.held.there, stands.whole.held.region, named)
 
-  entries_are : (new : D) (after : TiersState) (merge : MergeState) → stores.merging ≡ Some merge → HasMergedEntries (content disk) (content new) stores after
-      → (full_stores (content new) after).entries ≡ merged_rows (merge_sources merge.stores (full_stores (content disk) stores))
+  entries_are : (new : D) (after : TiersState) (merge : MergeState) → stores.merging ≡ Some merge → HasMergedEntries (facts.content disk) (facts.content new) stores after
+      → (full_stores (facts.content new) after).entries ≡ merged_rows (merge_sources merge.stores (full_stores (facts.content disk) stores))
   entries_are new after merge was has =
-      subst (λ (o : Option MergeState). IfSome o (λ m. (full_stores (content new) after).entries ≡ merged_rows (merge_sources m.stores (full_stores (content disk) stores)))) was has
+      subst (λ (o : Option MergeState). IfSome o (λ m. (full_stores (facts.content new) after).entries ≡ merged_rows (merge_sources m.stores (full_stores (facts.content disk) stores)))) was has
 
-  pub stepped : (progress : ProgressOf) (new : D) (after : TiersState) → SameDisk (content disk) (content new) → Advances [] (content disk) (content new) stores after
-      → Merges progress stores after → (progress ≡ Finished → IsTrue (content disk).honest → HasMergedEntries (content disk) (content new) stores after)
-      → (is_work progress ≡ false → new ≡ disk) → failures new ≡ failures disk
-      → Does content failures gave before (seen content new after count false) Merge (Progress progress)
+  pub stepped : (progress : ProgressOf) (new : D) (after : TiersState) → SameDisk (facts.content disk) (facts.content new) → Advances [] (facts.content disk) (facts.content new) stores after
+      → Merges progress stores after → (progress ≡ Finished → IsTrue (facts.content disk).honest → HasMergedEntries (facts.content disk) (facts.content new) stores after)
+      → (is_work progress ≡ false → new ≡ disk) → facts.failures new ≡ facts.failures disk
+      → Does facts before (seen facts new after count false) Merge (Progress progress)
   stepped Idle new after same goes merges entries quiet counted =
-      rw (quiet refl, merges.done) (answered content failures gave disk stores count false Merge (Progress Idle) refl stands refl refl refl (refl, due Idle merges.due, refl, refl) (λ _. refl) (λ _. tt))
+      rw (quiet refl, merges.done) (answered facts disk stores count false Merge (Progress Idle) refl stands refl refl refl (refl, due Idle merges.due, refl, refl) (λ _. refl) (λ _. tt))
   stepped Waiting new after same goes merges entries quiet counted = absurd merges.done
   stepped Moved new after same goes merges entries quiet counted =
       let moves : MergesOn stores after = merges.done in
       let ruling : after.manifest.ruling ≡ stores.manifest.ruling = ap (λ (s : TiersState). s.manifest.ruling) moves.is in
       let merging : after.merging ≡ Some moves.merge = ap (λ (s : TiersState). s.merging) moves.is in
       let on : MergeGoesOn stores.manifest.ruling (merge_work stores.merging) (merge_work after.merging) = rw merging (goes_on stores stores.merging moves.merge hash_count moves.step) in
-      advanced content failures gave disk new stores after same stands [] count count Merge (Progress Moved) goes refl refl refl refl
+      advanced facts disk new stores after same stands [] count count Merge (Progress Moved) goes refl refl refl refl
       (refl, due Moved merges.due, (ruling, on), counted) (λ m to e. e) (λ _ _. ruling) (λ _. ap (λ (s : TiersState). s.converting) moves.is) (λ other. absurd (cc)) (λ _. tt) counted
   stepped Finished new after same goes merges entries quiet counted =
       let ends : EndsMerged stores after = merges.done in
       let region : ends.merge.region ≡ 1 - stores.manifest.ruling.sorted = other_region stores.merging stands.whole.merging ends.merge ends.was in
-      advanced content failures gave disk new stores after same stands [] count count Merge (Progress Finished) goes refl refl refl refl (
+      advanced facts disk new stores after same stands [] count count Merge (Progress Finished) goes refl refl refl refl (
         refl,
         due Finished merges.due,
         record {
@@ -135,17 +136,17 @@ module _ {D F : Type 0} (content : D → Content) (failures : D → ℕ) (gave :
 
   -- ---- a step was refused
 
-  pub step_unread : (new : D) (after : TiersState) (fault : F) → after ≡ stores → new ≡ disk → merge_turn stores ≡ Moved → gave disk fault
-      → Does content failures gave before (seen content new after count false) Merge (Refused (Device fault))
+  pub step_unread : (new : D) (after : TiersState) (fault : F) → after ≡ stores → new ≡ disk → merge_turn stores ≡ Moved → GaveAny facts.gave disk fault
+      → Does facts before (seen facts new after count false) Merge (Refused (Device fault))
   step_unread new after fault same same_disk turn given =
-      rw (same_disk, same) (refused content failures gave disk stores count false Merge (Device fault) refl stands refl (inl (due Moved (sym turn), record { given = given; working = refl; same = refl })))
+      rw (same_disk, same) (refused facts disk stores count false Merge (Device fault) refl stands refl (inl (due Moved (sym turn), record { given = given; working = refl; same = refl })))
 
   pub step_spent : (new : D) (after : TiersState) → after ≡ stores → new ≡ disk → merge_turn stores ≡ Finished → IsLastGeneration stores
-      → Does content failures gave before (seen content new after count false) Merge (Refused Spent)
-  step_spent new after same same_disk turn last = rw (same_disk, same) (refused content failures gave disk stores count false Merge Spent refl stands refl (refl, due Finished (sym turn), last))
+      → Does facts before (seen facts new after count false) Merge (Refused Spent)
+  step_spent new after same same_disk turn last = rw (same_disk, same) (refused facts disk stores count false Merge Spent refl stands refl (refl, due Finished (sym turn), last))
 
   -- a merge that gathers a slot has not gathered all of them
-  gathers : (o : Option MergeState) → IfSome o (IsMerging stores) → IfSome o (λ (merge : MergeState). TakesMemory (content disk) (oldest_stores merge.stores stores.hashes) merge)
+  gathers : (o : Option MergeState) → IfSome o (IsMerging stores) → IfSome o (λ (merge : MergeState). TakesMemory (facts.content disk) (oldest_stores merge.stores stores.hashes) merge)
       → GathersNext stores.manifest.shape (merge_work o)
   gathers None merging takes = tt
   gathers (Some merge) merging takes =
@@ -153,20 +154,20 @@ module _ {D F : Type 0} (content : D → Content) (failures : D → ℕ) (gave :
       let below : merge.store * (4 * merge.shape.buckets) + merge.slot < merge.stores * (4 * merge.shape.buckets) = slot_below merge.store merge.stores merge.slot (4 * merge.shape.buckets) takes.gathers merging.held.slot in
       subst (λ (n : ℕ). steps_of merge < merge.stores * n) slots (omega (arith, below, merging.held.gathers takes.gathers))
 
-  lacks : ((merge_turn stores ≡ Moved) × MayLackMemory (content disk) stores) ⊎ ((merge_turn stores ≡ Finished) × (IsLastGeneration stores → ⊥))
-      → MergeLacksMemory content failures gave before before
+  lacks : ((merge_turn stores ≡ Moved) × MayLackMemory (facts.content disk) stores) ⊎ ((merge_turn stores ≡ Finished) × (IsLastGeneration stores → ⊥))
+      → MergeLacksMemory facts before before
   lacks (inl (turn, may)) = inl (due Moved (sym turn), gathers stores.merging stands.whole.merging may)
   lacks (inr (turn, more)) = inr (due Finished (sym turn), more)
 
   pub step_no_memory : (new : D) (after : TiersState) → after ≡ stores → new ≡ disk
-      → ((merge_turn stores ≡ Moved) × MayLackMemory (content disk) stores) ⊎ ((merge_turn stores ≡ Finished) × (IsLastGeneration stores → ⊥))
-      → Does content failures gave before (seen content new after count false) Merge (Refused NoMemory)
-  step_no_memory new after same same_disk why = rw (same_disk, same) (refused content failures gave disk stores count false Merge NoMemory refl stands refl (refl, lacks why))
+      → ((merge_turn stores ≡ Moved) × MayLackMemory (facts.content disk) stores) ⊎ ((merge_turn stores ≡ Finished) × (IsLastGeneration stores → ⊥))
+      → Does facts before (seen facts new after count false) Merge (Refused NoMemory)
+  step_no_memory new after same same_disk why = rw (same_disk, same) (refused facts disk stores count false Merge NoMemory refl stands refl (refl, lacks why))
 
   -- a write or a sync failed
-  pub step_broke : (new : D) (after : TiersState) (fault : F) → SameDisk (content disk) (content new) → is_work (merge_turn stores) ≡ true → Breaks (content disk) (content new) stores
-      → Remaps [] (content disk) (content new) stores after → after.manifest.shape ≡ stores.manifest.shape → gave new fault → failures new ≡ (failures disk + 1) % 2 ^ 64
-      → Does content failures gave before (seen content new after count true) Merge (Refused (Device fault))
+  pub step_broke : (new : D) (after : TiersState) (fault : F) → SameDisk (facts.content disk) (facts.content new) → is_work (merge_turn stores) ≡ true → Breaks (facts.content disk) (facts.content new) stores
+      → Remaps [] (facts.content disk) (facts.content new) stores after → after.manifest.shape ≡ stores.manifest.shape → GaveAny facts.gave new fault → facts.failures new ≡ (facts.failures disk + 1) % 2 ^ 64
+      → Does facts before (seen facts new after count true) Merge (Refused (Device fault))
   step_broke new after fault same work breaks remaps shape given counted =
-      broke content failures gave disk new stores after same stands count Merge fault breaks shape remaps
+      broke facts disk new stores after same stands count Merge fault breaks shape remaps
       (inr (work_same ∙ work, record { given = given; counted = counted; failed = refl })) counted

@@ -1,6 +1,7 @@
 -- What an opening answers, from what recovery finds.
 use Rattle.std.proofs.Common.{◌≡◌, ◌-◌, false, IsTrue, [], Option, Some, None, refl, ap, sym, ◌∙◌, arith}
-use Rattle.silt_device.specs.Disk.{Content}
+use Rattle.silt_device.specs.Disk.{Content, GaveAny}
+use Rattle.silt_device.specs.declared.disk.Disk.{Ghosts}
 use Rattle.silt_event.specs.Commands.{map_after}
 use Rattle.silt_image.specs.Meaning.{IsGood}
 use Rattle.silt_log.specs.Rows.{rows_from}
@@ -23,27 +24,27 @@ use Rattle.silt_store_set.proofs.Calls.{seen, stands_seen}
 -- ---- why an opening is refused
 
 -- as the device is refused, so is the opening
-pub opening_cause : {D F : Type 0} (content : D → Content) (gave : D → F → Type 0) (old : Content) (disk : D) (error : OpenError F)
-    → IsRefusedLook (λ found. IsTrue old.honest → IsFound old.shown found) (gave disk) error → IsUnwrittenUnlessFailed old (content disk) error
-    → OpeningCause content gave old disk (refusal_of_opening error)
-opening_cause content gave old disk NotFormatted found unwritten = (found, unwritten)
-opening_cause content gave old disk (Damaged place) found unwritten = (found, unwritten)
-opening_cause content gave old disk Crowded found unwritten = (found, unwritten)
-opening_cause content gave old disk (Device fault) given unwritten = given
-opening_cause content gave old disk NoMemory none unwritten = unwritten
+pub opening_cause : {D F : Type 0} (facts : Ghosts D F) (old : Content) (disk : D) (error : OpenError F)
+    → IsRefusedLook (λ found. IsTrue old.honest → IsFound old.shown found) (GaveAny facts.gave disk) error → IsUnwrittenUnlessFailed old (facts.content disk) error
+    → OpeningCause facts old disk (refusal_of_opening error)
+opening_cause facts old disk NotFormatted found unwritten = (found, unwritten)
+opening_cause facts old disk (Damaged place) found unwritten = (found, unwritten)
+opening_cause facts old disk Crowded found unwritten = (found, unwritten)
+opening_cause facts old disk (Device fault) given unwritten = given
+opening_cause facts old disk NoMemory none unwritten = unwritten
 
 never : {A : Type 0} (found : Option A) (x : A) → found ≡ None → found ≡ Some x → ⊥
 never found x none some = absurd (let no : None ≡ Some x = sym none ∙ some in cc)
 
 -- an opening of a good image is refused by its device or for want of memory alone
-pub opening_refused : {D F : Type 0} (content : D → Content) (gave : D → F → Type 0) (old : Content) (disk : D) (r : Refusal F)
-    → IsTrue old.honest → IsGood old.shown → OpeningCause content gave old disk r → IsOpeningRefusal r
-opening_refused content gave old disk refusal.NotFormatted h good cause = absurd (never _ _ good (cause.0 h))
-opening_refused content gave old disk (refusal.Damaged place) h good cause = absurd (never _ _ good (cause.0 h))
-opening_refused content gave old disk refusal.Crowded h good cause = absurd (never _ _ good (cause.0 h))
-opening_refused content gave old disk (refusal.Device fault) h good cause = tt
-opening_refused content gave old disk refusal.NoMemory h good cause = tt
-opening_refused content gave old disk r h good cause = absurd cause
+pub opening_refused : {D F : Type 0} (facts : Ghosts D F) (old : Content) (disk : D) (r : Refusal F)
+    → IsTrue old.honest → IsGood old.shown → OpeningCause facts old disk r → IsOpeningRefusal r
+opening_refused facts old disk refusal.NotFormatted h good cause = absurd (never _ _ good (cause.0 h))
+opening_refused facts old disk (refusal.Damaged place) h good cause = absurd (never _ _ good (cause.0 h))
+opening_refused facts old disk refusal.Crowded h good cause = absurd (never _ _ good (cause.0 h))
+opening_refused facts old disk (refusal.Device fault) h good cause = tt
+opening_refused facts old disk refusal.NoMemory h good cause = tt
+opening_refused facts old disk r h good cause = absurd cause
 
 -- ---- what an opening takes up
 
@@ -55,11 +56,11 @@ none_wait content log settled =
     rw none refl
 
 -- a store that was taken up
-pub opened : {D : Type 0} (content : D → Content) (old : Content) (disk : D) (stores : TiersState) → TakesUp old (content disk) stores → Opens content old (seen content disk stores 0 false)
-opened content old disk stores takes =
-    let means = meaning (content disk) stores takes.stands in
-    let there : IsTrue old.honest → IsTrue (content disk).honest = λ h. takes.disk.honest ∙ h in
-    let waits : waiting_commands (content disk) stores ≡ [] = takes.quiet.none_wait in
+pub opened : {D F : Type 0} (facts : Ghosts D F) (old : Content) (disk : D) (stores : TiersState) → TakesUp old (facts.content disk) stores → Opens facts old (seen facts disk stores 0 false)
+opened facts old disk stores takes =
+    let means = meaning (facts.content disk) stores takes.stands in
+    let there : IsTrue old.honest → IsTrue (facts.content disk).honest = λ h. takes.disk.honest ∙ h in
+    let waits : waiting_commands (facts.content disk) stores ≡ [] = takes.quiet.none_wait in
     record {
       disk = takes.disk;
       count = refl;
@@ -72,5 +73,5 @@ opened content old disk stores takes =
       base = λ h. means.shown (there h) ∙ takes.has_map h;
       has_map = λ h. means.full (there h) ∙ ap (map_after _) waits ∙ takes.has_map h;
       numbers = λ h. means.numbers (there h);
-      safe = (stands_seen content disk stores 0 false takes.stands).safe;
+      safe = (stands_seen facts disk stores 0 false takes.stands).safe;
     }

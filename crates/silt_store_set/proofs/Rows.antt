@@ -1,7 +1,8 @@
 -- What a put or a delete does, from what taking its row does.
 use Rattle.std.proofs.Common.{◌≡◌, ◌<◌, ℕ, ◌+◌, ◌%◌, ◌^◌, inl, inr, true, false, IsTrue, List, [], ◌∷◌, length, refl, ap, sym, ◌∙◌, subst, arith}
 use Rattle.std.proofs.lemmas.List.{length-map}
-use Rattle.silt_device.specs.Disk.{Content}
+use Rattle.silt_device.specs.Disk.{GaveAny}
+use Rattle.silt_device.specs.declared.disk.Disk.{Ghosts}
 use Rattle.silt_frame.specs.declared.key.Key.{Key}
 use Rattle.silt_frame.specs.declared.key.Kind.{Kind}
 use Rattle.silt_frame.specs.declared.key.Kind.TheVariants as kind
@@ -41,16 +42,16 @@ freezes logs old new region lowest is =
     let active : region ≡ new.active = sym (ap (λ (b : Body). b.active) is) in
     record { lowest = subst (IsLowestFree logs old) active lowest; is = is ∙ ap (next_body old) active }
 
-module _ {D F : Type 0} (content : D → Content) (failures : D → ℕ) (gave : D → F → Type 0) (disk : D) (stores : TiersState) (count : ℕ) (stands : Stands (content disk) stores) where
+module _ {D F : Type 0} (facts : Ghosts D F) (disk : D) (stores : TiersState) (count : ℕ) (stands : Stands (facts.content disk) stores) where
   -- the store before
   abbrev before : CoreState D
-  before = seen content disk stores count false
+  before = seen facts disk stores count false
 
   -- the rows of the active log, in memory's words and in those of the full image
-  rows_are : IsTrue (content disk).honest → all_rows (content disk) stores.active.log ≡ log_rows stores.manifest.shape stores.manifest.ruling.active (full_image (content disk) stores)
-  rows_are h = sym ((meaning (content disk) stores stands).rows h)
+  rows_are : IsTrue (facts.content disk).honest → all_rows (facts.content disk) stores.active.log ≡ log_rows stores.manifest.shape stores.manifest.ruling.active (full_image (facts.content disk) stores)
+  rows_are h = sym ((meaning (facts.content disk) stores stands).rows h)
 
-  stopped : (next : CoreState D) (key : List ℕ) → NeedsNext (content disk) stores key → IsStuck content failures gave before next key
+  stopped : (next : CoreState D) (key : List ℕ) → NeedsNext (facts.content disk) stores key → IsStuck facts before next key
   stopped next key needs = λ h. subst (λ (rows : List StoredRow). CannotTake stores.manifest.shape rows key) (rows_are h) (needs h)
 
   -- as many logs are frozen as the body names
@@ -63,92 +64,92 @@ module _ {D F : Type 0} (content : D → Content) (failures : D → ℕ) (gave :
   has_free : (AllInUse stores → ⊥) → HasFreeLog before
   has_free free = λ all. free (ap (λ (n : ℕ). n + 1) frozen_count ∙ all)
 
-  takes : (new : D) (after : TiersState) (next : ℕ) (key : List ℕ) (command : Command) → SameDisk (content disk) (content new) → Stands (content new) after
-      → WritesKey (content disk) (content new) stores after key command → Takes content failures gave before (seen content new after next false) key command
+  takes : (new : D) (after : TiersState) (next : ℕ) (key : List ℕ) (command : Command) → SameDisk (facts.content disk) (facts.content new) → Stands (facts.content new) after
+      → WritesKey (facts.content disk) (facts.content new) stores after key command → Takes facts before (seen facts new after next false) key command
   takes new after next key command same stood (inl stays) = inl (
     (stays.ruling, λ h cannot. stays.has_place h (subst (λ (rows : List StoredRow). CannotTake stores.manifest.shape rows key) (sym (rows_are h)) cannot)),
     λ h. record {
       waiting = (stays.waits h).waiting;
-      base = (meaning (content new) after stood).shown (same.honest ∙ h) ∙ (stays.waits h).base ∙ sym ((meaning (content disk) stores stands).shown h);
+      base = (meaning (facts.content new) after stood).shown (same.honest ∙ h) ∙ (stays.waits h).base ∙ sym ((meaning (facts.content disk) stores stands).shown h);
     },
   )
   takes new after next key command same stood (inr turns) = inr (
     (
       freezes stores.manifest.shape.logs stores.manifest.ruling after.manifest.ruling turns.region turns.lowest turns.ruling,
-      stopped (seen content new after next false) key turns.needs,
+      stopped (seen facts new after next false) key turns.needs,
     ),
     λ h. record {
       waiting = (turns.waits h).waiting;
       base =
-          (meaning (content new) after stood).shown (same.honest ∙ h) ∙ (turns.waits h).base
-          ∙ ap (λ (m : Map). map_after m (waiting_commands (content disk) stores)) (sym ((meaning (content disk) stores stands).shown h));
+          (meaning (facts.content new) after stood).shown (same.honest ∙ h) ∙ (turns.waits h).base
+          ∙ ap (λ (m : Map). map_after m (waiting_commands (facts.content disk) stores)) (sym ((meaning (facts.content disk) stores stands).shown h));
     },
   )
 
   -- ---- the row was taken
 
-  pub row_taken : (new : D) (after : TiersState) (k : Kind) (key : Key) (value : List ℕ) → MayWrite k before → SameDisk (content disk) (content new)
-      → Advances (command_of (stored_row k key value) ∷ []) (content disk) (content new) stores after → WritesKey (content disk) (content new) stores after key.0 (command_of (stored_row k key value)) → after.converting ≡ stores.converting → after.merging ≡ stores.merging → failures new ≡ failures disk
-      → Does content failures gave before (seen content new after (count + 1) false) (row_event k key value) (Accepted (count + 1))
+  pub row_taken : (new : D) (after : TiersState) (k : Kind) (key : Key) (value : List ℕ) → MayWrite k before → SameDisk (facts.content disk) (facts.content new)
+      → Advances (command_of (stored_row k key value) ∷ []) (facts.content disk) (facts.content new) stores after → WritesKey (facts.content disk) (facts.content new) stores after key.0 (command_of (stored_row k key value)) → after.converting ≡ stores.converting → after.merging ≡ stores.merging → facts.failures new ≡ facts.failures disk
+      → Does facts before (seen facts new after (count + 1) false) (row_event k key value) (Accepted (count + 1))
   row_taken new after kind.Put key value may same goes taken converting merging counted =
-      advanced content failures gave disk new stores after same stands (command_of (stored_row kind.Put key value) ∷ []) count (count + 1) (Put key value) (Accepted (count + 1)) goes (refl, refl) refl refl refl
+      advanced facts disk new stores after same stands (command_of (stored_row kind.Put key value) ∷ []) count (count + 1) (Put key value) (Accepted (count + 1)) goes (refl, refl) refl refl refl
       (may, (takes new after (count + 1) key.0 _ same goes.stands taken, counted)) (λ m to e. e) (λ none. absurd (cc)) (λ _. converting) (λ _. merging) (λ _. tt) counted
   row_taken new after kind.Delete key value may same goes taken converting merging counted =
-      advanced content failures gave disk new stores after same stands (command_of (stored_row kind.Delete key value) ∷ []) count (count + 1) (Delete key) (Accepted (count + 1)) goes (refl, refl) refl refl refl
+      advanced facts disk new stores after same stands (command_of (stored_row kind.Delete key value) ∷ []) count (count + 1) (Delete key) (Accepted (count + 1)) goes (refl, refl) refl refl refl
       (may, (takes new after (count + 1) key.0 _ same goes.stands taken, counted)) (λ m to e. e) (λ none. absurd (cc)) (λ _. converting) (λ _. merging) (λ _. tt) counted
 
   -- ---- a call failed
 
-  broke_cause : (next : CoreState D) (k : Kind) (key : Key) (value : List ℕ) (fault : F) → MayWrite k before → FailsBy failures gave before next fault → Cause content failures gave before next (row_event k key value) (Refused (Device fault))
+  broke_cause : (next : CoreState D) (k : Kind) (key : Key) (value : List ℕ) (fault : F) → MayWrite k before → FailsBy facts before next fault → Cause facts before next (row_event k key value) (Refused (Device fault))
   broke_cause next kind.Put key value fault may fails = (may, inr fails)
   broke_cause next kind.Delete key value fault may fails = (may, inr fails)
 
-  read_cause : (next : CoreState D) (k : Kind) (key : Key) (value : List ℕ) (fault : F) → MayWrite k before → FailsRead gave before next fault → Cause content failures gave before next (row_event k key value) (Refused (Device fault))
+  read_cause : (next : CoreState D) (k : Kind) (key : Key) (value : List ℕ) (fault : F) → MayWrite k before → FailsRead facts before next fault → Cause facts before next (row_event k key value) (Refused (Device fault))
   read_cause next kind.Put key value fault may fails = (may, inl fails)
   read_cause next kind.Delete key value fault may fails = (may, inl fails)
 
-  pub row_broke : (new : D) (after : TiersState) (k : Kind) (key : Key) (value : List ℕ) (fault : F) → MayWrite k before → SameDisk (content disk) (content new)
-      → Breaks (content disk) (content new) stores → Remaps [] (content disk) (content new) stores after → after.manifest.shape ≡ stores.manifest.shape
-      → gave new fault → failures new ≡ (failures disk + 1) % 2 ^ 64
-      → Does content failures gave before (seen content new after count true) (row_event k key value) (Refused (Device fault))
+  pub row_broke : (new : D) (after : TiersState) (k : Kind) (key : Key) (value : List ℕ) (fault : F) → MayWrite k before → SameDisk (facts.content disk) (facts.content new)
+      → Breaks (facts.content disk) (facts.content new) stores → Remaps [] (facts.content disk) (facts.content new) stores after → after.manifest.shape ≡ stores.manifest.shape
+      → GaveAny facts.gave new fault → facts.failures new ≡ (facts.failures disk + 1) % 2 ^ 64
+      → Does facts before (seen facts new after count true) (row_event k key value) (Refused (Device fault))
   row_broke new after k key value fault may same breaks remaps shape given counted =
-      broke content failures gave disk new stores after same stands count (row_event k key value) fault breaks shape remaps
-      (broke_cause (seen content new after count true) k key value fault may (record { given = given; counted = counted; failed = refl })) counted
+      broke facts disk new stores after same stands count (row_event k key value) fault breaks shape remaps
+      (broke_cause (seen facts new after count true) k key value fault may (record { given = given; counted = counted; failed = refl })) counted
 
   -- ---- the row was refused
 
   -- nothing was changed
   kept : (new : D) (after : TiersState) (k : Kind) (key : Key) (value : List ℕ) (refusal : Refusal F) → after ≡ stores → new ≡ disk → is_failed (Refused refusal) ≡ false
-      → Cause content failures gave before before (row_event k key value) (Refused refusal)
-      → Does content failures gave before (seen content new after count false) (row_event k key value) (Refused refusal)
+      → Cause facts before before (row_event k key value) (Refused refusal)
+      → Does facts before (seen facts new after count false) (row_event k key value) (Refused refusal)
   kept new after k key value refusal same_stores same_disk other cause =
-      rw (same_stores, same_disk) (refused content failures gave disk stores count false (row_event k key value) refusal refl stands other cause)
+      rw (same_stores, same_disk) (refused facts disk stores count false (row_event k key value) refusal refl stands other cause)
 
-  pub row_unread : (new : D) (after : TiersState) (k : Kind) (key : Key) (value : List ℕ) (fault : F) → MayWrite k before → after ≡ stores → new ≡ disk → gave disk fault
-      → Does content failures gave before (seen content new after count false) (row_event k key value) (Refused (Device fault))
+  pub row_unread : (new : D) (after : TiersState) (k : Kind) (key : Key) (value : List ℕ) (fault : F) → MayWrite k before → after ≡ stores → new ≡ disk → GaveAny facts.gave disk fault
+      → Does facts before (seen facts new after count false) (row_event k key value) (Refused (Device fault))
   row_unread new after k key value fault may same_stores same_disk given =
       kept new after k key value (Device fault) same_stores same_disk refl (read_cause before k key value fault may (record { given = given; working = refl; same = refl }))
 
-  no_room_cause : (k : Kind) (key : Key) (value : List ℕ) → MayWrite k before → NeedsNext (content disk) stores key.0 → AllInUse stores → Cause content failures gave before before (row_event k key value) (Refused NoRoom)
+  no_room_cause : (k : Kind) (key : Key) (value : List ℕ) → MayWrite k before → NeedsNext (facts.content disk) stores key.0 → AllInUse stores → Cause facts before before (row_event k key value) (Refused NoRoom)
   no_room_cause kind.Put key value may needs all = (may, (stopped before key.0 needs, all_in_use all))
   no_room_cause kind.Delete key value may needs all = (may, (stopped before key.0 needs, all_in_use all))
 
-  pub row_no_room : (new : D) (after : TiersState) (k : Kind) (key : Key) (value : List ℕ) → MayWrite k before → after ≡ stores → new ≡ disk → NeedsNext (content disk) stores key.0 → AllInUse stores
-      → Does content failures gave before (seen content new after count false) (row_event k key value) (Refused NoRoom)
+  pub row_no_room : (new : D) (after : TiersState) (k : Kind) (key : Key) (value : List ℕ) → MayWrite k before → after ≡ stores → new ≡ disk → NeedsNext (facts.content disk) stores key.0 → AllInUse stores
+      → Does facts before (seen facts new after count false) (row_event k key value) (Refused NoRoom)
   row_no_room new after k key value may same_stores same_disk needs all = kept new after k key value NoRoom same_stores same_disk refl (no_room_cause k key value may needs all)
 
-  spent_cause : (k : Kind) (key : Key) (value : List ℕ) → MayWrite k before → NeedsNext (content disk) stores key.0 → (AllInUse stores → ⊥) → IsLastGeneration stores → Cause content failures gave before before (row_event k key value) (Refused Spent)
+  spent_cause : (k : Kind) (key : Key) (value : List ℕ) → MayWrite k before → NeedsNext (facts.content disk) stores key.0 → (AllInUse stores → ⊥) → IsLastGeneration stores → Cause facts before before (row_event k key value) (Refused Spent)
   spent_cause kind.Put key value may needs free last = (refl, inr (may, (stopped before key.0 needs, has_free free, last)))
   spent_cause kind.Delete key value may needs free last = (refl, inr (may, (stopped before key.0 needs, has_free free, last)))
 
-  pub row_spent : (new : D) (after : TiersState) (k : Kind) (key : Key) (value : List ℕ) → MayWrite k before → after ≡ stores → new ≡ disk → NeedsNext (content disk) stores key.0 → (AllInUse stores → ⊥) → IsLastGeneration stores
-      → Does content failures gave before (seen content new after count false) (row_event k key value) (Refused Spent)
+  pub row_spent : (new : D) (after : TiersState) (k : Kind) (key : Key) (value : List ℕ) → MayWrite k before → after ≡ stores → new ≡ disk → NeedsNext (facts.content disk) stores key.0 → (AllInUse stores → ⊥) → IsLastGeneration stores
+      → Does facts before (seen facts new after count false) (row_event k key value) (Refused Spent)
   row_spent new after k key value may same_stores same_disk needs free last = kept new after k key value Spent same_stores same_disk refl (spent_cause k key value may needs free last)
 
-  memory_cause : (k : Kind) (key : Key) (value : List ℕ) → MayWrite k before → NeedsNext (content disk) stores key.0 → (AllInUse stores → ⊥) → (IsLastGeneration stores → ⊥) → Cause content failures gave before before (row_event k key value) (Refused NoMemory)
+  memory_cause : (k : Kind) (key : Key) (value : List ℕ) → MayWrite k before → NeedsNext (facts.content disk) stores key.0 → (AllInUse stores → ⊥) → (IsLastGeneration stores → ⊥) → Cause facts before before (row_event k key value) (Refused NoMemory)
   memory_cause kind.Put key value may needs free more = (may, (stopped before key.0 needs, has_free free, more))
   memory_cause kind.Delete key value may needs free more = (may, (stopped before key.0 needs, has_free free, more))
 
-  pub row_no_memory : (new : D) (after : TiersState) (k : Kind) (key : Key) (value : List ℕ) → MayWrite k before → after ≡ stores → new ≡ disk → NeedsNext (content disk) stores key.0 → (AllInUse stores → ⊥) → (IsLastGeneration stores → ⊥)
-      → Does content failures gave before (seen content new after count false) (row_event k key value) (Refused NoMemory)
+  pub row_no_memory : (new : D) (after : TiersState) (k : Kind) (key : Key) (value : List ℕ) → MayWrite k before → after ≡ stores → new ≡ disk → NeedsNext (facts.content disk) stores key.0 → (AllInUse stores → ⊥) → (IsLastGeneration stores → ⊥)
+      → Does facts before (seen facts new after count false) (row_event k key value) (Refused NoMemory)
   row_no_memory new after k key value may same_stores same_disk needs free more = kept new after k key value NoMemory same_stores same_disk refl (memory_cause k key value may needs free more)

@@ -1,6 +1,6 @@
 -- Runs of events, from what each call does.
 use Rattle.std.proofs.Common.{◌≡◌, ℕ, Bool, true, false, IsTrue, List, [], ◌∷◌, ◌++◌, refl, ap, sym, subst}
-use Rattle.silt_device.specs.Disk.{Content}
+use Rattle.silt_device.specs.declared.disk.Disk.{Ghosts}
 use Rattle.silt_event.specs.declared.event.Event.{Event}
 use Rattle.silt_event.specs.declared.refusal.Refusal.TheVariants.{Failed}
 use Rattle.silt_event.specs.declared.reply.Reply.{Reply}
@@ -8,17 +8,17 @@ use Rattle.silt_event.specs.Events.{Step, Legal}
 use Rattle.silt_store_set.specs.CoreState.{CoreState, map_of, Does, Runs}
 use Rattle.silt_store_set.proofs.Calls.{step_refused}
 
-module _ {D F : Type 0} (content : D → Content) (failures : D → ℕ) (gave : D → F → Type 0) where
+module _ {D F : Type 0} (facts : Ghosts D F) where
   -- a run goes on by one call
   pub runs_more : (old mid new : CoreState D) (events : List Event) (replies : List (Reply F)) (event : Event) (reply : Reply F)
-      → Runs content failures gave old events replies mid → Does content failures gave mid new event reply → Runs content failures gave old (events ++ event ∷ []) (replies ++ reply ∷ []) new
-  runs_more old mid new [] [] event reply runs does = (new, subst (λ c. Does content failures gave c new event reply) runs does, refl)
+      → Runs facts old events replies mid → Does facts mid new event reply → Runs facts old (events ++ event ∷ []) (replies ++ reply ∷ []) new
+  runs_more old mid new [] [] event reply runs does = (new, subst (λ c. Does facts c new event reply) runs does, refl)
   runs_more old mid new (e ∷ events) (r ∷ replies) event reply runs does = (runs.0, runs.1, runs_more runs.0 mid new events replies event reply runs.2 does)
   runs_more old mid new [] (r ∷ replies) event reply runs does = absurd runs
   runs_more old mid new (e ∷ events) [] event reply runs does = absurd runs
 
   -- of a failed store, and of one that is not, the reply is that of a map
-  pub does_step : (old new : CoreState D) (event : Event) (reply : Reply F) → IsTrue (content old.disk).honest → Does content failures gave old new event reply → Step (map_of old) event reply (map_of new)
+  pub does_step : (old new : CoreState D) (event : Event) (reply : Reply F) → IsTrue (facts.content old.disk).honest → Does facts old new event reply → Step (map_of old) event reply (map_of new)
   does_step old new event reply h does =
       let go : (b : Bool) → old.failed ≡ b → Step (map_of old) event reply (map_of new) = elim [
         | false ↦ λ working. does.step working h
@@ -30,12 +30,12 @@ module _ {D F : Type 0} (content : D → Content) (failures : D → ℕ) (gave :
       go old.failed refl
 
   -- the replies of a run are those of a map
-  pub legal_runs : (old new : CoreState D) (events : List Event) (replies : List (Reply F)) → IsTrue (content old.disk).honest
-      → Runs content failures gave old events replies new → Legal old.count (map_of old) events replies new.count (map_of new)
+  pub legal_runs : (old new : CoreState D) (events : List Event) (replies : List (Reply F)) → IsTrue (facts.content old.disk).honest
+      → Runs facts old events replies new → Legal old.count (map_of old) events replies new.count (map_of new)
   legal_runs old new [] [] h runs = (ap (λ (c : CoreState D). c.count) runs, ap (λ (c : CoreState D). map_of c) runs)
   legal_runs old new (event ∷ events) (reply ∷ replies) h runs =
       let next = runs.0 in
-      let there : IsTrue (content next.disk).honest = subst IsTrue (sym runs.1.disk.honest) h in
+      let there : IsTrue (facts.content next.disk).honest = subst IsTrue (sym runs.1.disk.honest) h in
       (next.count, map_of next, runs.1.counts, does_step old next event reply h runs.1, legal_runs next new events replies there runs.2)
   legal_runs old new [] (reply ∷ replies) h runs = absurd runs
   legal_runs old new (event ∷ events) [] h runs = absurd runs

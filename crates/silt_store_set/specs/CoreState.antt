@@ -2,13 +2,14 @@
 use Rattle.std.specs.Prelude.{◌≡◌, ◌≢◌, ◌≤◌, ◌<◌, ◌-◌, ◌*◌, ◌^◌, ◌%◌, ◌==◌, ◌&&◌, ◌⊎◌, ℕ, ◌+◌, not, Option, Some, None, Bool, true, false, IsTrue, List, [], ◌∷◌, ◌++◌, length}
 use Rattle.std.specs.FinMap.{get}
 use Rattle.std.specs.Option.{option_map}
-use Rattle.silt_device.specs.Disk.{Content, LeavesOnly}
+use Rattle.silt_device.specs.Disk.{Content, GaveAny, LeavesOnly}
 use Rattle.silt_device.specs.Layout.{Shape}
 use Rattle.silt_frame.specs.declared.key.Key.{Key}
 use Rattle.silt_frame.specs.declared.key.Kind.{Kind}
 use Rattle.silt_frame.specs.declared.key.Kind.TheVariants as kind
 use Rattle.silt_event.specs.Commands.{Begins, Command, Map, WaitsAlone, WaitsBehind, delete, map_after, put}
 use Rattle.silt_device.specs.Header.{shape_of}
+use Rattle.silt_device.specs.declared.disk.Disk.{Ghosts}
 use Rattle.silt_image.specs.Meaning.{image_map, IsGood, StandsFor}
 use Rattle.silt_image.specs.Stores.{Stores, stores_named}
 use Rattle.silt_log.specs.Rows.{log_rows}
@@ -164,10 +165,13 @@ merge_due core = merge_progress (length core.body.hashed) (option_map (has_decid
 abbrev pub wants_merge : {D : Type 0} → CoreState D → Bool
 wants_merge core = not core.failed && is_work (merge_due core)
 
+-- In what follows `facts` is what the trait of disks states of a disk's type: the content, how many writes and syncs have failed, and which call gave
+-- which fault. A clause at `D: Disk` passes `D.Disk`.
+
 -- this progress of merging is due: on any device where there is work, and on an honest one exactly this
-pub record IsMergeDue {D : Type 0} (content : D → Content) (core : CoreState D) (progress : ProgressOf) : Type 0 where
+pub record IsMergeDue {D F : Type 0} (facts : Ghosts D F) (core : CoreState D) (progress : ProgressOf) : Type 0 where
   pub work : is_work progress ≡ is_work (merge_due core)
-  pub exact : IsTrue (content core.disk).honest → progress ≡ merge_due core
+  pub exact : IsTrue (facts.content core.disk).honest → progress ≡ merge_due core
 
 -- the next step of merging gathers a slot: the merge begins, or not all slots of its hash stores are gathered
 abbrev pub GathersNext : Shape → Option MergeWork → Type 0
@@ -182,23 +186,23 @@ MergeGoesOn body before None = ⊥
 
 -- A merge is finished: its hash stores are no longer named, and the other sorted region has the newest rows of what it took, where they
 -- are puts, in the order of their keys.
-pub record IsMerged {D : Type 0} (content : D → Content) (old new : CoreState D) : Type 0 where
+pub record IsMerged {D F : Type 0} (facts : Ghosts D F) (old new : CoreState D) : Type 0 where
   pub work : MergeWork
   pub was : old.merging ≡ Some work
   pub none : new.merging ≡ None
   pub written : ℕ
   pub body : new.body ≡ merged_body old.body work.stores (1 - old.body.sorted) written
-  pub entries : IsTrue (content old.disk).honest → (stores_of new).entries ≡ merged_rows (taken_by old work)
+  pub entries : IsTrue (facts.content old.disk).honest → (stores_of new).entries ≡ merged_rows (taken_by old work)
 
 -- The write or sync that failed gave this fault in this very call, and the store is failed from now on.
-pub record FailsBy {D F : Type 0} (failures : D → ℕ) (gave : D → F → Type 0) (old new : CoreState D) (fault : F) : Type 0 where
-  pub given : gave new.disk fault
-  pub counted : failures new.disk ≡ (failures old.disk + 1) % 2 ^ 64
+pub record FailsBy {D F : Type 0} (facts : Ghosts D F) (old new : CoreState D) (fault : F) : Type 0 where
+  pub given : GaveAny facts.gave new.disk fault
+  pub counted : facts.failures new.disk ≡ (facts.failures old.disk + 1) % 2 ^ 64
   pub failed : new.failed ≡ true
 
 -- the read that failed gave this fault in this very call, and nothing is changed
-pub record FailsRead {D F : Type 0} (gave : D → F → Type 0) (old new : CoreState D) (fault : F) : Type 0 where
-  pub given : gave new.disk fault
+pub record FailsRead {D F : Type 0} (facts : Ghosts D F) (old new : CoreState D) (fault : F) : Type 0 where
+  pub given : GaveAny facts.gave new.disk fault
   pub working : old.failed ≡ false
   pub same : new ≡ old
 
@@ -207,32 +211,32 @@ pub record Freezes (logs : ℕ) (old new : Body) : Type 0 where
   pub lowest : IsLowestFree logs old new.active
   pub is : new ≡ next_body old new.active
 
-module _ {D F : Type 0} (content : D → Content) (failures : D → ℕ) (gave : D → F → Type 0) (old new : CoreState D) where
+module _ {D F : Type 0} (facts : Ghosts D F) (old new : CoreState D) where
   -- the active log cannot take a row of this key: it is full, or the placing rule gives up
   abbrev pub IsStuck : List ℕ → Type 0
-  IsStuck key = IsTrue (content old.disk).honest → CannotTake old.shape (active_rows old) key
+  IsStuck key = IsTrue (facts.content old.disk).honest → CannotTake old.shape (active_rows old) key
 
   -- the active log can take a row of this key, and the same regions are the store
   abbrev pub StaysActive : List ℕ → Type 0
-  StaysActive key = (new.body ≡ old.body) × (IsTrue (content old.disk).honest → ¬ CannotTake old.shape (active_rows old) key)
+  StaysActive key = (new.body ≡ old.body) × (IsTrue (facts.content old.disk).honest → ¬ CannotTake old.shape (active_rows old) key)
 
   -- the active log takes the row, whose command waits behind the others; or where it cannot it is frozen, and another one takes the
   -- row, whose command alone waits
   abbrev pub Takes : List ℕ → Command → Type 0
   Takes key command =
-      (StaysActive key × (IsTrue (content old.disk).honest → WaitsBehind command old.base new.base old.waiting new.waiting))
-      ⊎ ((Freezes old.shape.logs old.body new.body × IsStuck key) × (IsTrue (content old.disk).honest → WaitsAlone command old.base new.base old.waiting new.waiting))
+      (StaysActive key × (IsTrue (facts.content old.disk).honest → WaitsBehind command old.base new.base old.waiting new.waiting))
+      ⊎ ((Freezes old.shape.logs old.body new.body × IsStuck key) × (IsTrue (facts.content old.disk).honest → WaitsAlone command old.base new.base old.waiting new.waiting))
 
   -- a row of this key, which does this command, was written, and no call failed
   abbrev pub WritesRow : List ℕ → Command → Type 0
-  WritesRow key command = Takes key command × (failures new.disk ≡ failures old.disk)
+  WritesRow key command = Takes key command × (facts.failures new.disk ≡ facts.failures old.disk)
 
   -- why a row of this key is not written: a fault, no free log, no further generation, or no memory for a new log
   abbrev pub NoRowCause : List ℕ → Refusal F → Type 0
   NoRowCause key NoRoom = IsStuck key × AreAllInUse old
   NoRowCause key Spent = IsStuck key × HasFreeLog old × (old.body.generation ≡ last_generation)
   NoRowCause key NoMemory = IsStuck key × HasFreeLog old × (old.body.generation ≢ last_generation)
-  NoRowCause key (Device fault) = FailsRead gave old new fault ⊎ FailsBy failures gave old new fault
+  NoRowCause key (Device fault) = FailsRead facts old new fault ⊎ FailsBy facts old new fault
   NoRowCause key refusal = ⊥
 
   -- a put: counted, and under the greatest charge
@@ -254,21 +258,21 @@ module _ {D F : Type 0} (content : D → Content) (failures : D → ℕ) (gave :
 
   -- where nothing waited a flush changes nothing
   abbrev pub FlushCause : Reply F → Type 0
-  FlushCause (Acknowledged n) = (old.failed ≡ false) × (failures new.disk ≡ failures old.disk) × (old.waiting ≡ [] → new ≡ old)
+  FlushCause (Acknowledged n) = (old.failed ≡ false) × (facts.failures new.disk ≡ facts.failures old.disk) × (old.waiting ≡ [] → new ≡ old)
   FlushCause (Refused Failed) = old.failed ≡ true
-  FlushCause (Refused (Device fault)) = FailsBy failures gave old new fault
+  FlushCause (Refused (Device fault)) = FailsBy facts old new fault
   FlushCause reply = ⊥
 
   -- on an honest disk, this key has a value
   abbrev pub HasKey : List ℕ → Type 0
-  HasKey key = IsTrue (content old.disk).honest → (value : List ℕ) × (get (map_of old) key ≡ Some value)
+  HasKey key = IsTrue (facts.content old.disk).honest → (value : List ℕ) × (get (map_of old) key ≡ Some value)
 
   -- a get changes nothing, and takes memory for a value alone
   abbrev pub GetCause : List ℕ → Reply F → Type 0
   GetCause key (Found value) = (old.failed ≡ false) × (new ≡ old)
   GetCause key Absent = (old.failed ≡ false) × (new ≡ old)
   GetCause key (Refused Failed) = old.failed ≡ true
-  GetCause key (Refused (Device fault)) = FailsRead gave old new fault
+  GetCause key (Refused (Device fault)) = FailsRead facts old new fault
   GetCause key (Refused NoMemory) = (old.failed ≡ false) × HasKey key
   GetCause key reply = ⊥
 
@@ -281,12 +285,12 @@ module _ {D F : Type 0} (content : D → Content) (failures : D → ℕ) (gave :
 
   -- a step of conversion: what is due is done; only a first step takes memory, and only the last one writes the manifest
   abbrev pub ConvertCause : Reply F → Type 0
-  ConvertCause (Progress progress) = (old.failed ≡ false) × (progress ≡ convert_due old) × ConvertsTo progress × (failures new.disk ≡ failures old.disk)
+  ConvertCause (Progress progress) = (old.failed ≡ false) × (progress ≡ convert_due old) × ConvertsTo progress × (facts.failures new.disk ≡ facts.failures old.disk)
   ConvertCause (Refused Failed) = old.failed ≡ true
   ConvertCause (Refused Spent) = (old.failed ≡ false) × (convert_due old ≡ Finished) × (old.body.generation ≡ last_generation)
   ConvertCause (Refused NoMemory) = (old.failed ≡ false) × (convert_due old ≡ Moved) × (old.converting ≡ None)
   ConvertCause (Refused (Device fault)) =
-      ((convert_due old ≡ Moved) × FailsRead gave old new fault) ⊎ ((is_work (convert_due old) ≡ true) × FailsBy failures gave old new fault)
+      ((convert_due old ≡ Moved) × FailsRead facts old new fault) ⊎ ((is_work (convert_due old) ≡ true) × FailsBy facts old new fault)
   ConvertCause reply = ⊥
 
   -- what an answered step of merging does: it never waits
@@ -294,20 +298,20 @@ module _ {D F : Type 0} (content : D → Content) (failures : D → ℕ) (gave :
   AnswersMerge Idle = new ≡ old
   AnswersMerge Waiting = ⊥
   AnswersMerge Moved = (new.body ≡ old.body) × MergeGoesOn old.body old.merging new.merging
-  AnswersMerge Finished = IsMerged content old new
+  AnswersMerge Finished = IsMerged facts old new
 
   -- why a step of merging lacks memory: the merge begins, a slot is gathered, or what the new sorted store keeps is made
   abbrev pub MergeLacksMemory : Type 0
-  MergeLacksMemory = (IsMergeDue content old Moved × GathersNext old.shape old.merging) ⊎ (IsMergeDue content old Finished × (old.body.generation ≢ last_generation))
+  MergeLacksMemory = (IsMergeDue facts old Moved × GathersNext old.shape old.merging) ⊎ (IsMergeDue facts old Finished × (old.body.generation ≢ last_generation))
 
   -- a step of merging: what is due is done, and only the last one writes the manifest
   abbrev pub MergeCause : Reply F → Type 0
-  MergeCause (Progress progress) = (old.failed ≡ false) × IsMergeDue content old progress × AnswersMerge progress × (failures new.disk ≡ failures old.disk)
+  MergeCause (Progress progress) = (old.failed ≡ false) × IsMergeDue facts old progress × AnswersMerge progress × (facts.failures new.disk ≡ facts.failures old.disk)
   MergeCause (Refused Failed) = old.failed ≡ true
-  MergeCause (Refused Spent) = (old.failed ≡ false) × IsMergeDue content old Finished × (old.body.generation ≡ last_generation)
+  MergeCause (Refused Spent) = (old.failed ≡ false) × IsMergeDue facts old Finished × (old.body.generation ≡ last_generation)
   MergeCause (Refused NoMemory) = (old.failed ≡ false) × MergeLacksMemory
   MergeCause (Refused (Device fault)) =
-      (IsMergeDue content old Moved × FailsRead gave old new fault) ⊎ ((is_work (merge_due old) ≡ true) × FailsBy failures gave old new fault)
+      (IsMergeDue facts old Moved × FailsRead facts old new fault) ⊎ ((is_work (merge_due old) ≡ true) × FailsBy facts old new fault)
   MergeCause reply = ⊥
 
   -- what stands where an event is given this reply
@@ -353,9 +357,9 @@ is_merge Merge = true
 is_merge event = false
 
 -- What one call does, whatever it answers: what it keeps, why it answers so, what becomes of the map, and what a stop may leave.
-pub record Does {D F : Type 0} (content : D → Content) (failures : D → ℕ) (gave : D → F → Type 0) (old new : CoreState D) (event : Event) (reply : Reply F) : Type 0 where
+pub record Does {D F : Type 0} (facts : Ghosts D F) (old new : CoreState D) (event : Event) (reply : Reply F) : Type 0 where
   -- the disk is as long and as honest as before, and the store has the same shape
-  pub disk : SameDisk (content old.disk) (content new.disk)
+  pub disk : SameDisk (facts.content old.disk) (facts.content new.disk)
   pub shape : new.shape ≡ old.shape
   -- an accepted command is counted, and the reply tells the count
   pub counts : Counts old.count reply new.count
@@ -369,43 +373,43 @@ pub record Does {D F : Type 0} (content : D → Content) (failures : D → ℕ) 
   pub keeps_converting : new.failed ≡ false → is_convert event ≡ false → new.converting ≡ old.converting
   pub keeps_merging : new.failed ≡ false → is_merge event ≡ false → new.merging ≡ old.merging
   -- the reply has its cause, and the store is then as this reply has it
-  pub cause : Cause content failures gave old new event reply
+  pub cause : Cause facts old new event reply
   -- only a failed store answers Failed
   pub failed_only : IsTrue (is_failed reply) → old.failed ≡ true
   -- a store fails only where it answers a fault of its device
   pub faulted : old.failed ≡ false → new.failed ≡ true → IsTrue (is_fault reply)
   -- in a call by which the store does not fail no write or sync fails, and in one by which it does exactly one
-  pub quiet : new.failed ≡ old.failed → failures new.disk ≡ failures old.disk
-  pub counted : old.failed ≡ false → new.failed ≡ true → failures new.disk ≡ (failures old.disk + 1) % 2 ^ 64
+  pub quiet : new.failed ≡ old.failed → facts.failures new.disk ≡ facts.failures old.disk
+  pub counted : old.failed ≡ false → new.failed ≡ true → facts.failures new.disk ≡ (facts.failures old.disk + 1) % 2 ^ 64
   -- the reply is that of a map
-  pub step : old.failed ≡ false → IsTrue (content old.disk).honest → Step (map_of old) event reply (map_of new)
+  pub step : old.failed ≡ false → IsTrue (facts.content old.disk).honest → Step (map_of old) event reply (map_of new)
   -- the map is the base after the commands that wait
-  pub has_map : new.failed ≡ false → IsTrue (content old.disk).honest → map_of new ≡ map_after new.base new.waiting
+  pub has_map : new.failed ≡ false → IsTrue (facts.content old.disk).honest → map_of new ≡ map_after new.base new.waiting
   -- the numbers by which the store refuses are those of what is shown with the gates of the waiting rows open
-  pub numbers : new.failed ≡ false → IsTrue (content old.disk).honest → IsGoodWith new.shape new.body new.charge new.full
+  pub numbers : new.failed ≡ false → IsTrue (facts.content old.disk).honest → IsGoodWith new.shape new.body new.charge new.full
   -- a beginning of what waited, and of what is accepted behind it, goes into the base, and the rest waits
-  pub moves : new.failed ≡ false → IsTrue (content old.disk).honest → Moves old new (accepted_command event reply)
+  pub moves : new.failed ≡ false → IsTrue (facts.content old.disk).honest → Moves old new (accepted_command event reply)
   -- an acknowledging reply leaves nothing waiting
-  pub settles : IsTrue (content old.disk).honest → LeavesNoneWaiting new reply
+  pub settles : IsTrue (facts.content old.disk).honest → LeavesNoneWaiting new reply
   -- whatever a stop leaves stands for the base, or, where the call failed, for the base as it was after a beginning of what waited
-  pub safe : new.failed ≡ false → LeavesOnly (content new.disk) (StandsFor new.shape new.base)
-  pub crash : old.failed ≡ false → new.failed ≡ true → LeavesOnly (content new.disk) (HasBegun old.shape old.base old.waiting)
+  pub safe : new.failed ≡ false → LeavesOnly (facts.content new.disk) (StandsFor new.shape new.base)
+  pub crash : old.failed ≡ false → new.failed ≡ true → LeavesOnly (facts.content new.disk) (HasBegun old.shape old.base old.waiting)
 
 -- why the entries are refused
-abbrev pub EntriesCause : {D F : Type 0} → (D → F → Type 0) → CoreState D → Refusal F → Type 0
-EntriesCause gave core Failed = core.failed ≡ true
-EntriesCause gave core (Device fault) = (core.failed ≡ false) × gave core.disk fault
-EntriesCause gave core NoMemory = core.failed ≡ false
-EntriesCause gave core refusal = ⊥
+abbrev pub EntriesCause : {D F : Type 0} → Ghosts D F → CoreState D → Refusal F → Type 0
+EntriesCause facts core Failed = core.failed ≡ true
+EntriesCause facts core (Device fault) = (core.failed ≡ false) × GaveAny facts.gave core.disk fault
+EntriesCause facts core NoMemory = core.failed ≡ false
+EntriesCause facts core refusal = ⊥
 
 -- ---- runs
 
 -- one call after the other, each given its event and giving its reply
-abbrev pub Runs : {D F : Type 0} → (D → Content) → (D → ℕ) → (D → F → Type 0) → CoreState D → List Event → List (Reply F) → CoreState D → Type 0
-Runs content failures gave old [] [] new = new ≡ old
-Runs {D} content failures gave old (event ∷ events) (reply ∷ replies) new =
-    (next : CoreState D) × Does content failures gave old next event reply × Runs content failures gave next events replies new
-Runs content failures gave old events replies new = ⊥
+abbrev pub Runs : {D F : Type 0} → Ghosts D F → CoreState D → List Event → List (Reply F) → CoreState D → Type 0
+Runs facts old [] [] new = new ≡ old
+Runs {D} facts old (event ∷ events) (reply ∷ replies) new =
+    (next : CoreState D) × Does facts old next event reply × Runs facts next events replies new
+Runs facts old events replies new = ⊥
 
 -- What a stop may keep of a run: a beginning of what waited and of what was then accepted, with each command that was
 -- acknowledged. Of the commands counted before the run all but the waiting ones were settled.
@@ -420,8 +424,8 @@ StandsKept old events replies image = (kept : List Command) × KeepsFrom old.wai
 -- ---- opening
 
 -- a store that was taken up from a device: as the device stood, with nothing waiting, and no conversion and no merge under way
-pub record Opens {D : Type 0} (content : D → Content) (old : Content) (core : CoreState D) : Type 0 where
-  pub disk : SameDisk old (content core.disk)
+pub record Opens {D F : Type 0} (facts : Ghosts D F) (old : Content) (core : CoreState D) : Type 0 where
+  pub disk : SameDisk old (facts.content core.disk)
   pub count : core.count ≡ 0
   pub working : core.failed ≡ false
   pub good : IsTrue old.honest → IsGood old.shown
@@ -432,11 +436,11 @@ pub record Opens {D : Type 0} (content : D → Content) (old : Content) (core : 
   pub base : IsTrue old.honest → core.base ≡ image_map old.shown
   pub has_map : IsTrue old.honest → map_of core ≡ image_map old.shown
   pub numbers : IsTrue old.honest → IsGoodWith core.shape core.body core.charge core.full
-  pub safe : LeavesOnly (content core.disk) (StandsFor core.shape core.base)
+  pub safe : LeavesOnly (facts.content core.disk) (StandsFor core.shape core.base)
 
 -- ---- a store as an answerer
 
-module _ {D F : Type 0} (content : D → Content) (failures : D → ℕ) (gave : D → F → Type 0) where
+module _ {D F : Type 0} (facts : Ghosts D F) where
   -- a store does the event, and its reply is told without its fault
   abbrev pub DoesPlain : CoreState D → CoreState D → Event → PlainReply → Type 0
-  DoesPlain old new event reply = (told : Reply F) × Does content failures gave old new event told × (reply ≡ plain told)
+  DoesPlain old new event reply = (told : Reply F) × Does facts old new event told × (reply ≡ plain told)

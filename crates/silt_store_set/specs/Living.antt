@@ -1,7 +1,8 @@
 -- What lives do: each opens its store, runs its events where it can, and is stopped.
 use Rattle.std.specs.Prelude.{Vec, ◌≡◌, ◌≢◌, ◌⊎◌, ℕ, List, [], ◌∷◌}
 use Rattle.std.specs.declared.alloc.Global.{Global}
-use Rattle.silt_device.specs.Disk.{Content, Restarts}
+use Rattle.silt_device.specs.Disk.{Restarts}
+use Rattle.silt_device.specs.declared.disk.Disk.{Ghosts}
 use Rattle.silt_tiers.specs.Calls.{SameDisk}
 use Rattle.silt_recovery.specs.Opening.{LeavesNoOther}
 use Rattle.silt_event.specs.declared.event.Event.{Event}
@@ -14,38 +15,38 @@ use Rattle.silt_store_set.specs.CoreState.{CoreState, Opens, Runs}
 use Rattle.silt_store_set.specs.Opening.{OpeningCause}
 
 -- an opening of this disk was refused with its cause, and left this one
-pub record Unopened {D F : Type 0} (content : D → Content) (gave : D → F → Type 0) (disk stopped : D) (refusal : Refusal F) : Type 0 where
-  pub same : SameDisk (content disk) (content stopped)
-  pub images : LeavesNoOther (content disk) (content stopped)
-  pub cause : OpeningCause content gave (content disk) stopped refusal
+pub record Unopened {D F : Type 0} (facts : Ghosts D F) (disk stopped : D) (refusal : Refusal F) : Type 0 where
+  pub same : SameDisk (facts.content disk) (facts.content stopped)
+  pub images : LeavesNoOther (facts.content disk) (facts.content stopped)
+  pub cause : OpeningCause facts (facts.content disk) stopped refusal
 
 -- a store whose values have such a length was opened, and stopped before any event
-pub record Idles {D : Type 0} (content : D → Content) (IsLen : ℕ → Type 0) (disk stopped : D) : Type 0 where
+pub record Idles {D F : Type 0} (facts : Ghosts D F) (IsLen : ℕ → Type 0) (disk stopped : D) : Type 0 where
   pub first : CoreState D
-  pub opens : Opens content (content disk) first
+  pub opens : Opens facts (facts.content disk) first
   pub has_len : IsLen first.shape.value_len
   pub is : stopped ≡ first.disk
 
 -- a store of values of this length was opened, did the events with these replies, and was stopped
-pub record Lives {D F : Type 0} (content : D → Content) (failures : D → ℕ) (gave : D → F → Type 0) (value_len : ℕ) (events : List Event) (replies : List (Reply F)) (disk stopped : D) : Type 0 where
+pub record Lives {D F : Type 0} (facts : Ghosts D F) (value_len : ℕ) (events : List Event) (replies : List (Reply F)) (disk stopped : D) : Type 0 where
   pub first : CoreState D
   pub last : CoreState D
-  pub opens : Opens content (content disk) first
+  pub opens : Opens facts (facts.content disk) first
   pub has_len : first.shape.value_len ≡ value_len
-  pub runs : Runs content failures gave first events replies last
+  pub runs : Runs facts first events replies last
   pub is : stopped ≡ last.disk
 
-module _ {D F : Type 0} (content : D → Content) (failures : D → ℕ) (gave : D → F → Type 0) (value_len : ℕ) where
+module _ {D F : Type 0} (facts : Ghosts D F) (value_len : ℕ) where
   -- what a life with this reply made of this disk, until it was stopped
   abbrev pub LifeRun : List Event → LifeReply F → D → D → Type 0
-  LifeRun events (Opened replies) disk stopped = Lives content failures gave value_len events replies.items disk stopped
-  LifeRun events (NotOpened BadGeometry) disk stopped = Idles content (λ len. len ≢ value_len) disk stopped
-  LifeRun events (NotOpened NoMemory) disk stopped = Unopened {F = F} content gave disk stopped NoMemory ⊎ Idles content (λ len. len ≡ value_len) disk stopped
-  LifeRun events (NotOpened refusal) disk stopped = Unopened content gave disk stopped refusal
+  LifeRun events (Opened replies) disk stopped = Lives facts value_len events replies.items disk stopped
+  LifeRun events (NotOpened BadGeometry) disk stopped = Idles facts (λ len. len ≢ value_len) disk stopped
+  LifeRun events (NotOpened NoMemory) disk stopped = Unopened facts disk stopped NoMemory ⊎ Idles facts (λ len. len ≡ value_len) disk stopped
+  LifeRun events (NotOpened refusal) disk stopped = Unopened facts disk stopped refusal
 
   -- one life, and the disk after its stop
   abbrev pub LifeEnds : List Event → LifeReply F → D → D → Type 0
-  LifeEnds events reply disk next = (stopped : D) × LifeRun events reply disk stopped × Restarts (content stopped) (content next)
+  LifeEnds events reply disk next = (stopped : D) × LifeRun events reply disk stopped × Restarts (facts.content stopped) (facts.content next)
 
   -- lives in order, each on the disk that the one before left at its stop
   abbrev pub LivesRun : List (Vec Event Global) → List (LifeReply F) → D → Type 0

@@ -1,6 +1,7 @@
 -- Why an opening is refused, and what it leaves.
 use Rattle.std.specs.Prelude.{IsTrue}
-use Rattle.silt_device.specs.Disk.{Content}
+use Rattle.silt_device.specs.Disk.{Content, GaveAny}
+use Rattle.silt_device.specs.declared.disk.Disk.{Ghosts}
 use Rattle.silt_event.specs.declared.damage.Finding.{Finding}
 use Rattle.silt_event.specs.declared.damage.Finding.TheVariants as finding
 use Rattle.silt_recovery.specs.Opening.{IsUnwritten}
@@ -13,10 +14,10 @@ abbrev pub FoundUnwritten : Content → Content → Finding → Type 0
 FoundUnwritten old new found = (IsTrue old.honest → IsFound old.shown found) × IsUnwritten old new
 
 -- why an opening is refused, and what it leaves: nothing was written but where a write or the sync after it failed
-abbrev pub OpeningCause : {D F : Type 0} → (D → Content) → (D → F → Type 0) → Content → D → Refusal F → Type 0
-OpeningCause content gave old disk NotFormatted = FoundUnwritten old (content disk) finding.NotFormatted
-OpeningCause content gave old disk (Damaged place) = FoundUnwritten old (content disk) (finding.Damaged place)
-OpeningCause content gave old disk Crowded = FoundUnwritten old (content disk) finding.Crowded
-OpeningCause content gave old disk (Device fault) = gave disk fault
-OpeningCause content gave old disk NoMemory = IsUnwritten old (content disk)
-OpeningCause content gave old disk refusal = ⊥
+abbrev pub OpeningCause : {D F : Type 0} → Ghosts D F → Content → D → Refusal F → Type 0
+OpeningCause facts old disk NotFormatted = FoundUnwritten old (facts.content disk) finding.NotFormatted
+OpeningCause facts old disk (Damaged place) = FoundUnwritten old (facts.content disk) (finding.Damaged place)
+OpeningCause facts old disk Crowded = FoundUnwritten old (facts.content disk) finding.Crowded
+OpeningCause facts old disk (Device fault) = GaveAny facts.gave disk fault
+OpeningCause facts old disk NoMemory = IsUnwritten old (facts.content disk)
+OpeningCause facts old disk refusal = ⊥

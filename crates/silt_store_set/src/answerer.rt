@@ -1,5 +1,4 @@
 // A store as what answers events.
-ghost use Rattle.silt_device.specs.Disk.{GaveAny};
 ghost use Rattle.silt_event.specs.Events.{HasValueOf};
 ghost use Rattle.silt_store_set.specs.CoreState.{DoesPlain};
 
@@ -13,7 +12,7 @@ pub trait Served: Disk + Sized {
     /// The reply of a store on such a disk to an event, without its fault.
     fn answer_on(core: &mut Core<Self>, alloc: Global, event: &Event) -> Reply<()>
         requires { HasValueOf core.old.shape.value_len event.now }
-        ensures { DoesPlain Self.content Self.failures (GaveAny Self.gave) core.old core.new event.now result };
+        ensures { DoesPlain Self.Disk core.old core.new event.now result };
 }
 
 impl Served for MemDisk {
@@ -37,7 +36,7 @@ impl Served for FileDisk {
 impl<D: Served> Answerer for Core<D> {
     ghost value_len = { λ core. core.shape.value_len };
 
-    ghost answers = { DoesPlain D.content D.failures (GaveAny D.gave) };
+    ghost answers = { DoesPlain D.Disk };
 
     fn answer(&mut self, alloc: Global, event: Event) -> Reply<()> {
         D::answer_on(self, alloc, &event)
@@ -47,7 +46,7 @@ impl<D: Served> Answerer for Core<D> {
 // A store's reply to an event, without its fault.
 fn answer_plain<D: Disk>(core: &mut Core<D>, alloc: Global, event: &Event) -> Reply<()>
     requires { HasValueOf core.old.shape.value_len event.now }
-    ensures { DoesPlain D.content D.failures (GaveAny D.gave) core.old core.new event.now result }
+    ensures { DoesPlain D.Disk core.old core.new event.now result }
 {
     core.answer(alloc, event).plain()
 }

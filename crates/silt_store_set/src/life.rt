@@ -1,6 +1,6 @@
 // Lives of a store, each ended by a stop.
 ghost use Rattle.std.specs.Prelude.{◌≡◌, All, IsTrue, IfOk};
-ghost use Rattle.silt_device.specs.Disk.{GaveAny, LeavesOnly, Restarts};
+ghost use Rattle.silt_device.specs.Disk.{LeavesOnly, Restarts};
 ghost use Rattle.silt_event.specs.Commands.{Map};
 ghost use Rattle.silt_event.specs.Events.{HasValueOf, LifeHistory, LivesHistory};
 ghost use Rattle.silt_store_set.specs.CoreInvariant.{IsSafe};
@@ -34,7 +34,7 @@ pub fn lives<D: Stoppable>(
     requires { All (λ life. All (HasValueOf value_len) life.items) lives.now }
     ensures history { (map : Map) → IsTrue (D.content disk).honest → LeavesOnly (D.content disk) (IsSafe value_len map) → IfOk result (λ replies. (to : Map)
         × LivesHistory map lives.now replies.items to) }
-    ensures ran { IfOk result (λ replies. LivesRun D.content D.failures (GaveAny D.gave) value_len lives.now replies.items disk) }
+    ensures ran { IfOk result (λ replies. LivesRun D.Disk value_len lives.now replies.items disk) }
 {
     let mut replies = Vec::with_capacity(alloc, lives.len())?;
     let mut disk = disk;
@@ -55,7 +55,7 @@ fn live<D: Stoppable>(
 ) -> (LifeReply<D::Fault>, D)
     requires { All (HasValueOf value_len) events.now }
     ensures honest { (D.content result.1).honest ≡ (D.content disk).honest }
-    ensures ran { LifeEnds D.content D.failures (GaveAny D.gave) value_len events.now result.0 disk result.1 }
+    ensures ran { LifeEnds D.Disk value_len events.now result.0 disk result.1 }
     ensures life { (map : Map) → IsTrue (D.content disk).honest → LeavesOnly (D.content disk) (IsSafe value_len map) → (to : Map) × LifeHistory map events.now result.0 to
         × LeavesOnly (D.content result.1) (IsSafe value_len to) }
 {

@@ -1,7 +1,7 @@
 // The store over one device: what it holds in memory, and its calls.
 ghost use Rattle.std.specs.Prelude.{◌≡◌, ◌<◌, ◌≤◌, length, false, Ok, All, IsTrue, IfOk, IfErr, OnErr, MatchResult};
 ghost use Rattle.silt_event.specs.Events.{Legal};
-ghost use Rattle.silt_device.specs.Disk.{GaveAny, LeavesOnly};
+ghost use Rattle.silt_device.specs.Disk.{LeavesOnly};
 
 use crate::replies::{accepted, copied, is_work, progressed, zeros};
 use crate::{Event, Progress, Refusal, Reply};
@@ -89,9 +89,9 @@ impl<D: Disk> Core<D> {
     /// The first thing that is found (`NotFormatted`, `Damaged`, `Crowded`), and then nothing is written; `Device` with the
     /// fault of a device call; `NoMemory`.
     pub fn open(alloc: Global, disk: D) -> Result<Core<D>, OpenFault<D>>
-        ensures ok { IfOk result (Opens D.content (D.content disk)) }
+        ensures ok { IfOk result (Opens D.Disk (D.content disk)) }
         ensures same { IfErr result (λ fault. SameDisk (D.content disk) (D.content fault.disk)) }
-        ensures cause { IfErr result (λ fault. OpeningCause D.content (GaveAny D.gave) (D.content disk) fault.disk fault.refusal) }
+        ensures cause { IfErr result (λ fault. OpeningCause D.Disk (D.content disk) fault.disk fault.refusal) }
         ensures images { MatchResult result (λ core. LeavesNoOther (D.content disk) (D.content core.disk)) (λ fault. LeavesNoOther (D.content disk) (D.content fault.disk)) }
     {
         match silt_recovery::open(alloc, disk) {
@@ -141,7 +141,7 @@ impl<D: Disk> Core<D> {
     /// row and another one is started.
     pub fn put(&mut self, alloc: Global, key: &Key, value: &[u8]) -> Result<u64, Refusal<D::Fault>>
         requires { length value.now ≡ self.old.shape.value_len }
-        ensures { Does D.content D.failures (GaveAny D.gave) self.old self.new (Put key.now value.now) (change_reply result) }
+        ensures { Does D.Disk self.old self.new (Put key.now value.now) (change_reply result) }
     {
         if self.failed {
             return Err(Refusal::Failed);
@@ -159,7 +159,7 @@ impl<D: Disk> Core<D> {
     ///
     /// It is decided as a put is, without `StoreFull`.
     pub fn delete(&mut self, alloc: Global, key: &Key) -> Result<u64, Refusal<D::Fault>>
-        ensures { Does D.content D.failures (GaveAny D.gave) self.old self.new (Delete key.now) (change_reply result) }
+        ensures { Does D.Disk self.old self.new (Delete key.now) (change_reply result) }
     {
         if self.failed {
             return Err(Refusal::Failed);
@@ -182,7 +182,7 @@ impl<D: Disk> Core<D> {
         requires may { MayWrite kind self.old }
         requires value { length value.now ≡ self.old.shape.value_len }
         requires zeros { IsValueOf kind value.now }
-        ensures { Does D.content D.failures (GaveAny D.gave) self.old self.new (row_event kind key.now value.now) (change_reply result) }
+        ensures { Does D.Disk self.old self.new (row_event kind key.now value.now) (change_reply result) }
     {
         match self.tiers.write(alloc, &mut self.disk, kind, key, value) {
             Ok(()) => {
@@ -202,7 +202,7 @@ impl<D: Disk> Core<D> {
 
     /// Acknowledges all commands accepted so far, and answers their number. Where no row waits it makes no device call.
     pub fn flush(&mut self) -> Result<u64, Refusal<D::Fault>>
-        ensures { Does D.content D.failures (GaveAny D.gave) self.old self.new Flush (flush_reply result) }
+        ensures { Does D.Disk self.old self.new Flush (flush_reply result) }
     {
         if self.failed {
             return Err(Refusal::Failed);
@@ -222,7 +222,7 @@ impl<D: Disk> Core<D> {
     /// Writes a key's value over `out`, and answers whether there is one. Where there is none `out` stays as it was.
     pub fn get(&self, key: &Key, out: &mut [u8]) -> Result<bool, Refusal<D::Fault>>
         requires { length out.old ≡ self.now.shape.value_len }
-        ensures reply { Does D.content D.failures (GaveAny D.gave) self.now self.now (Get key.now) (get_reply out.new result) }
+        ensures reply { Does D.Disk self.now self.now (Get key.now) (get_reply out.new result) }
         ensures absent { result ≡ Ok false → out.new ≡ out.old }
         ensures memory { ¬ IsErrOf result Refusal.NoMemory }
     {
@@ -238,7 +238,7 @@ impl<D: Disk> Core<D> {
     // A key's value: it is read into a buffer that has room for the longest, so that a row takes one read, and memory is asked for
     // where there is a value alone.
     fn read(&self, alloc: Global, key: &Key) -> Result<Option<Value>, Refusal<D::Fault>>
-        ensures { Does D.content D.failures (GaveAny D.gave) self.now self.now (Get key.now) (read_reply result) }
+        ensures { Does D.Disk self.now self.now (Get key.now) (read_reply result) }
     {
         if self.failed {
             return Err(Refusal::Failed);
@@ -262,7 +262,7 @@ impl<D: Disk> Core<D> {
     /// It is decided in this order: `Failed`, `Spent` (the generation, where the manifest is to be written), the read of a row
     /// (`Device`) and `NoMemory` (in a first step alone), its write or syncs (`Device`).
     pub fn convert(&mut self, alloc: Global) -> Result<Progress, Refusal<D::Fault>>
-        ensures { Does D.content D.failures (GaveAny D.gave) self.old self.new Convert (progress_reply result) }
+        ensures { Does D.Disk self.old self.new Convert (progress_reply result) }
     {
         if self.failed {
             return Err(Refusal::Failed);
@@ -287,7 +287,7 @@ impl<D: Disk> Core<D> {
     /// It is decided in this order: `Failed`, `Spent` (the generation, where the manifest is to be written), its reads (`Device`) and
     /// `NoMemory` (while slots are gathered, and where the manifest is to be written), its write or syncs (`Device`).
     pub fn merge(&mut self, alloc: Global) -> Result<Progress, Refusal<D::Fault>>
-        ensures { Does D.content D.failures (GaveAny D.gave) self.old self.new Merge (progress_reply result) }
+        ensures { Does D.Disk self.old self.new Merge (progress_reply result) }
     {
         if self.failed {
             return Err(Refusal::Failed);
@@ -323,7 +323,7 @@ impl<D: Disk> Core<D> {
     /// Does one event. A get whose value finds no memory is refused with `NoMemory`.
     pub fn answer(&mut self, alloc: Global, event: &Event) -> Reply<D::Fault>
         requires { HasValueOf self.old.shape.value_len event.now }
-        ensures { Does D.content D.failures (GaveAny D.gave) self.old self.new event.now result }
+        ensures { Does D.Disk self.old self.new event.now result }
     {
         match event {
             Event::Put(key, value) => accepted(self.put(alloc, key, value.as_slice())),
@@ -354,7 +354,7 @@ impl<D: Disk> Core<D> {
     ) -> Result<Vec<Reply<D::Fault>>, AllocError>
         requires { All (HasValueOf self.old.shape.value_len) events.now }
         ensures same { SameDisk (D.content self.old.disk) (D.content self.new.disk) }
-        ensures runs { IfOk result (λ replies. Runs D.content D.failures (GaveAny D.gave) self.old events.now replies.items self.new) }
+        ensures runs { IfOk result (λ replies. Runs D.Disk self.old events.now replies.items self.new) }
         ensures legal { IsTrue (D.content self.old.disk).honest → IfOk result (λ replies. Legal self.old.count (map_of self.old) events.now replies.items self.new.count (map_of self.new)) }
         ensures kept { self.old.failed ≡ false → IfOk result (λ replies. LeavesOnly (D.content self.new.disk) (StandsKept self.old events.now replies.items)) }
         ensures err { OnErr result (self.new ≡ self.old) }
@@ -376,7 +376,7 @@ impl<D: Disk> Core<D> {
     pub fn entries(&self, alloc: Global) -> Result<BTreeMap<Key, Value>, Refusal<D::Fault>>
         ensures entries { IsTrue (D.content self.now.disk).honest → IfOk result (λ entries. (key : KeyOf) → tree.get key_cmp entries key ≡ get (map_of self.now) key.0) }
         ensures working { OnOk result (self.now.failed ≡ false) }
-        ensures cause { IfErr result (EntriesCause (GaveAny D.gave) self.now) }
+        ensures cause { IfErr result (EntriesCause D.Disk self.now) }
     {
         if self.failed {
             return Err(Refusal::Failed);

@@ -1,5 +1,4 @@
 use Rattle.std.proofs.Common.{ℕ, ap, ◌∙◌, subst}
-use Rattle.silt_device.specs.Disk.{GaveAny}
 use Rattle.silt_device.specs.Layout.{Shape}
 use Rattle.silt_wire.specs.Sessions.{Ends}
 use Rattle.silt_store_set.specs.CoreState.{DoesPlain}
@@ -10,7 +9,7 @@ pub returns : goal.returns
 returns g c =
     let len = c.value_len-value_len.ensures.value ∙ ap (λ (s : Shape). s.value_len) c.geometry.ensures in
     let P = λ (n : ℕ).
-    Ends (DoesPlain g.D.Disk.content g.D.Disk.failures (GaveAny g.D.Disk.gave)) c.session-end.result n c.args.core.now c.session-end.new.answerer
+    Ends (DoesPlain g.D.Disk) c.session-end.result n c.args.core.now c.session-end.new.answerer
     (g.R.Read.remaining c.args.reader.now) (g.R.Read.remaining c.session-end.new.reader) (g.W.Write.contents c.flush.new.self) (g.W.Write.contents c.session-end.new.writer) in (
       c.session-end.result,
       c.status_of.ensures,

@@ -1,4 +1,3 @@
-use Rattle.silt_device.specs.Disk.{GaveAny}
 use Rattle.silt_wire.specs.declared.sessions.SessionEnd.{SessionEnd}
 use Rattle.silt.specs.Notes.{ToldEnd, ToldRefusal, ToldSession}
 use Rattle.silt.proofs.Outcomes.{ran_done, ran_told, unopened_told}
@@ -9,7 +8,7 @@ pub returns-in-Ok-clause-told : goal.returns-in-Ok-clause-told
 returns-in-Ok-clause-told g c =
     let reading = g.R.KeepsError.kept_error c.answer_reader-status.new.reader in
     let writing = g.W.KeepsError.kept_error c.answer_reader-status.new.writer in
-    ran_told g.D.Disk.content g.D.Disk.failures (GaveAny g.D.Disk.gave) (ToldRefusal g.N.FaultNotes.told_fault g.N.FaultNotes.told_damage c.args.notes.now c.tell_failures.new.notes c.args.file.now)
+    ran_told g.D.Disk (ToldRefusal g.N.FaultNotes.told_fault g.N.FaultNotes.told_damage c.args.notes.now c.tell_failures.new.notes c.args.file.now)
     (ToldSession g.N.Notes.told_failure g.D.Watched.kept_read g.D.Watched.last_failure g.N.Notes.told_end c.args.notes.now c.tell_failures.new.notes reading writing c.args.file.now)
     (λ (end : SessionEnd). ToldEnd g.N.Notes.told_end reading writing end c.args.notes.now c.answer_reader-status.new.notes)
     c.answer_reader-status.result c.args.disk c.close-disk.result c.in-Ok.core c.answer_reader-status.new.core _ _ _ _
@@ -19,7 +18,7 @@ pub returns-in-Ok-clause-answered : goal.returns-in-Ok-clause-answered
 returns-in-Ok-clause-answered g c =
     let reading = g.R.KeepsError.kept_error c.answer_reader-status.new.reader in
     let writing = g.W.KeepsError.kept_error c.answer_reader-status.new.writer in
-    ran_done g.D.Disk.content g.D.Disk.failures (GaveAny g.D.Disk.gave) (ToldRefusal g.N.FaultNotes.told_fault g.N.FaultNotes.told_damage c.args.notes.now c.tell_failures.new.notes c.args.file.now)
+    ran_done g.D.Disk (ToldRefusal g.N.FaultNotes.told_fault g.N.FaultNotes.told_damage c.args.notes.now c.tell_failures.new.notes c.args.file.now)
     (ToldSession g.N.Notes.told_failure g.D.Watched.kept_read g.D.Watched.last_failure g.N.Notes.told_end c.args.notes.now c.tell_failures.new.notes reading writing c.args.file.now)
     (λ (end : SessionEnd). ToldEnd g.N.Notes.told_end reading writing end c.args.notes.now c.answer_reader-status.new.notes)
     c.answer_reader-status.result c.args.disk c.close-disk.result c.in-Ok.core c.answer_reader-status.new.core _ _ _ _
@@ -27,7 +26,7 @@ returns-in-Ok-clause-answered g c =
 
 pub returns-in-Err-clause-told : goal.returns-in-Err-clause-told
 returns-in-Err-clause-told g c =
-    unopened_told g.D.Disk.content g.D.Disk.failures (GaveAny g.D.Disk.gave) (ToldRefusal g.N.FaultNotes.told_fault g.N.FaultNotes.told_damage c.args.notes.now c.refuse_opening.new.notes c.args.file.now)
+    unopened_told g.D.Disk (ToldRefusal g.N.FaultNotes.told_fault g.N.FaultNotes.told_damage c.args.notes.now c.refuse_opening.new.notes c.args.file.now)
     (ToldSession g.N.Notes.told_failure g.D.Watched.kept_read g.D.Watched.last_failure g.N.Notes.told_end c.args.notes.now c.refuse_opening.new.notes
     (g.R.KeepsError.kept_error c.args.reader.now) (g.W.KeepsError.kept_error c.refuse_opening.new.writer) c.args.file.now)
     c.refuse_opening.result.1 c.args.disk c.refuse_opening.result.0 c.in-Err.fault.refusal _ _ _ _

@@ -1,10 +1,10 @@
 use Rattle.std.proofs.Common.{◌∙◌, ℕ, refl, ap, sym, subst, length}
 use Rattle.std.specs.FinMap.{empty}
-use Rattle.silt_device.specs.Disk.{GaveAny, LeavesOnly}
-use Rattle.silt_device.specs.Memory.{memory_content, memory_gave}
-use Rattle.silt_device.specs.declared.memory.MemDisk.{MemDisk}
+use Rattle.silt_device.specs.Disk.{LeavesOnly}
+use Rattle.silt_device.specs.Memory.{memory_content}
 use Rattle.silt_store_set.specs.CoreInvariant.{IsSafe}
 use Rattle.silt_store_set.specs.Living.{LivesRun}
+use Rattle.silt.specs.Scripts.{memory_facts}
 use Rattle.silt.proofs.Lives.{new_is_safe, stays_leaves}
 use Rattle.silt.proofs.script.run_lives.Goals as goal
 
@@ -22,6 +22,6 @@ returns-in-Ok-clause-ran c =
           images = images;
           armed = c.arm-disk.ensures.lives;
         },
-        subst (λ (n : ℕ). LivesRun memory_content (λ (d : MemDisk). d.failures) (GaveAny memory_gave) n c.args.events.now c.in-Ok.replies.items disk) c.value_len.ensures.value c.in-Ok.ensures.ran,
+        subst (λ (n : ℕ). LivesRun memory_facts n c.args.events.now c.in-Ok.replies.items disk) c.value_len.ensures.value c.in-Ok.ensures.ran,
       ),
     )

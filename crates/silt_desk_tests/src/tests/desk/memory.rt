@@ -160,7 +160,7 @@ fn ask_all<D: Disk, N: Naming>(
 
 // Room for forty calls of this store.
 fn kept_once<D: Disk>(alloc: Global, core: &Core<D>) -> Option<Kept>
-    ensures history { IfSome result (λ kept. IsHistory kept (seen D.content core.now)) }
+    ensures history { IfSome result (λ kept. IsHistory kept (seen D.Disk core.now)) }
     ensures calls { IfSome result (λ kept. kept.calls ≡ []) }
 {
     match Kept::new(alloc, core, 40) {
@@ -171,7 +171,7 @@ fn kept_once<D: Disk>(alloc: Global, core: &Core<D>) -> Option<Kept>
 
 // The same, asked for once more where memory is refused.
 fn kept_again<D: Disk>(alloc: Global, core: &Core<D>) -> Option<Kept>
-    ensures history { IfSome result (λ kept. IsHistory kept (seen D.content core.now)) }
+    ensures history { IfSome result (λ kept. IsHistory kept (seen D.Disk core.now)) }
     ensures calls { IfSome result (λ kept. kept.calls ≡ []) }
 {
     match Kept::new(alloc, core, 40) {

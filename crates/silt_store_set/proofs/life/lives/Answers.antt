@@ -2,7 +2,6 @@ use Rattle.std.proofs.Common.{◌≡◌, ◌+◌, ◌++◌, ◌∷◌, [], IsTru
 use Rattle.std.specs.declared.alloc.Global.{Global}
 use Rattle.std.proofs.lemmas.List.{take_more, take_all}
 use Rattle.silt_event.specs.declared.event.Event.{Event}
-use Rattle.silt_device.specs.Disk.{GaveAny}
 use Rattle.silt_store_set.proofs.Histories.{lives_more}
 use Rattle.silt_store_set.proofs.Livings.{lives_on, lives_ran}
 use Rattle.silt_store_set.proofs.life.lives.Goals as goal
@@ -21,7 +20,7 @@ loop-events-preserved g c = record {
       let life = rw c.deref.ensures.value at c.live-reply.ensures.ran in
       let taken : take (c.loop-events.events-index + 1) c.args.lives.now ≡ take c.loop-events.events-index c.args.lives.now ++ c.events-item.result ∷ [] =
       take_more c.args.lives.now c.loop-events.events-index c.events-item.result c.loop-events-test.true ∙ ap (λ (x : Vec Event Global). take c.loop-events.events-index c.args.lives.now ++ x ∷ []) (sym c.events-item.is) in
-      rw (taken, c.in_ok-push.ensures.items) (lives_on g.D.Disk.content g.D.Disk.failures (GaveAny g.D.Disk.gave) c.args.value_len (take c.loop-events.events-index c.args.lives.now) c.loop-events.replies.items
+      rw (taken, c.in_ok-push.ensures.items) (lives_on g.D.Disk c.args.value_len (take c.loop-events.events-index c.args.lives.now) c.loop-events.replies.items
       c.args.disk c.loop-events.disk c.live-reply.result.1 c.events-item.result c.live-reply.result.0 c.loop-events.invariant.ran life);
   so_far = λ m h safe.
       let before = c.loop-events.invariant.so_far m h safe in
@@ -45,4 +44,4 @@ returns-clause-history g c = λ m h safe.
 pub returns-clause-ran : goal.returns-clause-ran
 returns-clause-ran g c =
     let all = take_all c.loop-events.events-index c.args.lives.now c.loop-events-test.false in
-    lives_ran g.D.Disk.content g.D.Disk.failures (GaveAny g.D.Disk.gave) c.args.value_len c.args.lives.now c.loop-events.replies.items c.args.disk c.loop-events.disk (rw all at c.loop-events.invariant.ran)
+    lives_ran g.D.Disk c.args.value_len c.args.lives.now c.loop-events.replies.items c.args.disk c.loop-events.disk (rw all at c.loop-events.invariant.ran)

@@ -1,5 +1,5 @@
 use Rattle.std.proofs.Common.{◌≡◌, IsTrue, take}
-use Rattle.silt_device.specs.Disk.{GaveAny, LeavesOnly}
+use Rattle.silt_device.specs.Disk.{LeavesOnly}
 use Rattle.silt_event.specs.Commands.{Map}
 use Rattle.silt_event.specs.Events.{LivesHistory}
 use Rattle.silt_store_set.specs.CoreInvariant.{IsSafe}
@@ -10,7 +10,7 @@ use Rattle.silt_store_set.proofs.life.lives.Given as goal
 abbrev pub invariant-loop-events : goal.invariant-loop-events
 invariant-loop-events g l = record {
   honest : (g.D.Disk.content l.disk).honest ≡ (g.D.Disk.content l.fn.disk).honest;
-  ran : LivesTo g.D.Disk.content g.D.Disk.failures (GaveAny g.D.Disk.gave) l.value_len (take l.events-index l.lives) l.replies.items l.fn.disk l.disk;
+  ran : LivesTo g.D.Disk l.value_len (take l.events-index l.lives) l.replies.items l.fn.disk l.disk;
   so_far : (map : Map) → IsTrue (g.D.Disk.content l.fn.disk).honest → LeavesOnly (g.D.Disk.content l.fn.disk) (IsSafe l.value_len map)
       → (to : Map) × LivesHistory map (take l.events-index l.lives) l.replies.items to × LeavesOnly (g.D.Disk.content l.disk) (IsSafe l.value_len to);
 }

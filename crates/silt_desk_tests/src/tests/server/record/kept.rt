@@ -127,7 +127,7 @@ fn serve_recorded<
     requires accepted { (desk_blanks.1.name ≡ N.accepted_name) × (desk_blanks.1.parts ≡ N.seats) }
     requires put { (inbox_blanks.0.name ≡ P.put_name) × (inbox_blanks.0.parts ≡ P.feeders) × (P.feeders ≡ 64) }
     requires taken { (inbox_blanks.1.name ≡ P.taken_name) × (inbox_blanks.1.parts ≡ 1) }
-    requires trace { IsHistory kept (seen D.content core) × (kept.calls ≡ []) }
+    requires trace { IsHistory kept (seen D.Disk core) × (kept.calls ≡ []) }
 {
     let (calls, accepted) = desk_blanks;
     let (put, taken) = inbox_blanks;

@@ -1,19 +1,18 @@
 use Rattle.std.proofs.Common.{ap, sym, ◌∙◌}
-use Rattle.silt_device.specs.Disk.{GaveAny}
 use Rattle.silt_store_set.proofs.Calls.{core_broke}
 use Rattle.silt_store_set.proofs.Flushes.{flushed_none, flushed, flush_broke}
 use Rattle.silt_store_set.proofs.store_core.Core.flush.Goals as goal
 
 pub returns-then-not-has_waiting : goal.returns-then-not-has_waiting
-returns-then-not-has_waiting g c = rw (← c.self.view_is) (flushed_none g.D.Disk.content g.D.Disk.failures (GaveAny g.D.Disk.gave) c.self.inside.disk c.self.inside.tiers c.self.inside.count
+returns-then-not-has_waiting g c = rw (← c.self.view_is) (flushed_none g.D.Disk c.self.inside.disk c.self.inside.tiers c.self.inside.count
     (c.self.invariant.stands c.if-self.false) c.self.inside.failed c.if-self.false (sym c.has_waiting.ensures ∙ c.if-not-has_waiting.true))
 
 pub returns-in-Ok : goal.returns-in-Ok
-returns-in-Ok g c = rw (← c.self.view_is, c.if-self.false) (flushed g.D.Disk.content g.D.Disk.failures (GaveAny g.D.Disk.gave) c.self.inside.disk c.self.inside.tiers c.self.inside.count
+returns-in-Ok g c = rw (← c.self.view_is, c.if-self.false) (flushed g.D.Disk c.self.inside.disk c.self.inside.tiers c.self.inside.count
     (c.self.invariant.stands c.if-self.false) c.flush.new.disk c.flush.new.self (sym c.has_waiting.ensures ∙ c.if-not-has_waiting.false) c.flush.ensures.same c.in-Ok.ensures.ok c.in-Ok.ensures.quiet c.flush.ensures.behind.manifest c.flush.ensures.behind.converting c.flush.ensures.behind.merging c.in-Ok.ensures.failures)
 
 pub returns-in-Err : goal.returns-in-Err
-returns-in-Err g c = rw (← c.self.view_is, c.if-self.false) (flush_broke g.D.Disk.content g.D.Disk.failures (GaveAny g.D.Disk.gave) c.self.inside.disk c.self.inside.tiers c.self.inside.count
+returns-in-Err g c = rw (← c.self.view_is, c.if-self.false) (flush_broke g.D.Disk c.self.inside.disk c.self.inside.tiers c.self.inside.count
     (c.self.invariant.stands c.if-self.false) c.flush.new.disk c.flush.new.self c.in-Err.fault c.flush.ensures.same c.in-Err.ensures.err c.flush.ensures.map c.flush.ensures.behind.manifest c.in-Err.ensures.failures.1 c.in-Err.ensures.failures.0)
 
 pub invariant_of-self-in-Err : goal.invariant_of-self-in-Err

@@ -1,5 +1,4 @@
 use Rattle.std.proofs.Common.{[], arith}
-use Rattle.silt_device.specs.Disk.{GaveAny}
 use Rattle.silt_store_set.proofs.Calls.{core_broke, core_went}
 use Rattle.silt_store_set.proofs.Merges.{step_broke, step_no_memory, step_spent, step_unread, stepped}
 use Rattle.silt_store_set.proofs.store_core.Core.merge.Goals as goal
@@ -7,35 +6,35 @@ use Rattle.silt_store_set.proofs.store_core.Core.merge.Goals as goal
 pub returns-in-Ok : goal.returns-in-Ok
 returns-in-Ok g c =
     let working = c.if-self.false in
-    rw (← c.self.view_is, working) (stepped g.D.Disk.content g.D.Disk.failures (GaveAny g.D.Disk.gave) c.self.inside.disk c.self.inside.tiers c.self.inside.count
+    rw (← c.self.view_is, working) (stepped g.D.Disk c.self.inside.disk c.self.inside.tiers c.self.inside.count
     (c.self.invariant.stands working) c.in-Ok.merged c.merge.new.disk c.merge.new.self c.merge.ensures.same c.in-Ok.ensures.ok c.in-Ok.ensures.merges c.in-Ok.ensures.entries c.in-Ok.ensures.quiet c.in-Ok.ensures.failures)
 
 pub returns-in-Err-Write : goal.returns-in-Err-Write
 returns-in-Err-Write g c =
     let working = c.if-self.false in
     let err = rw c.in-Err-Write.field-0-is at c.in-Err-Write.ensures.err in
-    rw (← c.self.view_is, working) (step_broke g.D.Disk.content g.D.Disk.failures (GaveAny g.D.Disk.gave) c.self.inside.disk c.self.inside.tiers c.self.inside.count
+    rw (← c.self.view_is, working) (step_broke g.D.Disk c.self.inside.disk c.self.inside.tiers c.self.inside.count
     (c.self.invariant.stands working) c.merge.new.disk c.merge.new.self c.in-Err-Write.fault c.merge.ensures.same err.0 err.2 err.3 c.merge.ensures.shape err.1.1 err.1.0)
 
 pub returns-in-Err-Read : goal.returns-in-Err-Read
 returns-in-Err-Read g c =
     let working = c.if-self.false in
     let err = rw c.in-Err-Read.field-0-is at c.in-Err-Read.ensures.err in
-    rw (← c.self.view_is, working) (step_unread g.D.Disk.content g.D.Disk.failures (GaveAny g.D.Disk.gave) c.self.inside.disk c.self.inside.tiers c.self.inside.count
+    rw (← c.self.view_is, working) (step_unread g.D.Disk c.self.inside.disk c.self.inside.tiers c.self.inside.count
     (c.self.invariant.stands working) c.merge.new.disk c.merge.new.self c.in-Err-Read.fault err.0 err.1 err.2 err.3)
 
 pub returns-in-Err-Spent : goal.returns-in-Err-Spent
 returns-in-Err-Spent g c =
     let working = c.if-self.false in
     let err = rw c.in-Err-Spent.field-0-is at c.in-Err-Spent.ensures.err in
-    rw (← c.self.view_is, working) (step_spent g.D.Disk.content g.D.Disk.failures (GaveAny g.D.Disk.gave) c.self.inside.disk c.self.inside.tiers c.self.inside.count
+    rw (← c.self.view_is, working) (step_spent g.D.Disk c.self.inside.disk c.self.inside.tiers c.self.inside.count
     (c.self.invariant.stands working) c.merge.new.disk c.merge.new.self err.0 err.1 err.2 err.3)
 
 pub returns-in-Err-NoMemory : goal.returns-in-Err-NoMemory
 returns-in-Err-NoMemory g c =
     let working = c.if-self.false in
     let err = rw c.in-Err-NoMemory.field-0-is at c.in-Err-NoMemory.ensures.err in
-    rw (← c.self.view_is, working) (step_no_memory g.D.Disk.content g.D.Disk.failures (GaveAny g.D.Disk.gave) c.self.inside.disk c.self.inside.tiers c.self.inside.count
+    rw (← c.self.view_is, working) (step_no_memory g.D.Disk c.self.inside.disk c.self.inside.tiers c.self.inside.count
     (c.self.invariant.stands working) c.merge.new.disk c.merge.new.self err.0 err.1 err.2)
 
 pub invariant_of-self-in-Err-Write : goal.invariant_of-self-in-Err-Write

@@ -1,5 +1,4 @@
 use Rattle.std.proofs.Common.{◌≡◌, inl, refl, ap, sym, ◌∙◌, arith}
-use Rattle.silt_device.specs.Disk.{GaveAny}
 use Rattle.silt_device.specs.Layout.{Shape}
 use Rattle.silt_event.specs.declared.event.Event.TheVariants.{Put}
 use Rattle.silt_event.specs.declared.refusal.Refusal.TheVariants.{Spent, StoreFull}
@@ -7,11 +6,11 @@ use Rattle.silt_store_set.proofs.Calls.{refused}
 use Rattle.silt_store_set.proofs.store_core.Core.put.Goals as goal
 
 pub returns-then-self-eq-MOST_COMMANDS : goal.returns-then-self-eq-MOST_COMMANDS
-returns-then-self-eq-MOST_COMMANDS g c = rw (← c.self.view_is) (refused g.D.Disk.content g.D.Disk.failures (GaveAny g.D.Disk.gave) c.self.inside.disk c.self.inside.tiers c.self.inside.count c.self.inside.failed (Put c.args.key.now c.args.value.now) Spent
+returns-then-self-eq-MOST_COMMANDS g c = rw (← c.self.view_is) (refused g.D.Disk c.self.inside.disk c.self.inside.tiers c.self.inside.count c.self.inside.failed (Put c.args.key.now c.args.value.now) Spent
     c.if-self.false (c.self.invariant.stands c.if-self.false) refl (c.if-self.false, inl c.if-self-eq-MOST_COMMANDS.true))
 
 pub returns-then-charge-sorted_capacity : goal.returns-then-charge-sorted_capacity
 returns-then-charge-sorted_capacity g c =
     let full : c.self.inside.tiers.charge ≡ c.self.inside.tiers.manifest.shape.sorted_capacity = sym c.charge.ensures.value ∙ c.if-charge-sorted_capacity.true ∙ c.sorted_capacity.ensures.value ∙ ap (λ (s : Shape). s.sorted_capacity) c.geometry.ensures.value in
-    rw (← c.self.view_is) (refused g.D.Disk.content g.D.Disk.failures (GaveAny g.D.Disk.gave) c.self.inside.disk c.self.inside.tiers c.self.inside.count c.self.inside.failed (Put c.args.key.now c.args.value.now) StoreFull
+    rw (← c.self.view_is) (refused g.D.Disk c.self.inside.disk c.self.inside.tiers c.self.inside.count c.self.inside.failed (Put c.args.key.now c.args.value.now) StoreFull
     c.if-self.false (c.self.invariant.stands c.if-self.false) refl (record { working = c.if-self.false; count = omega (arith, c.self.invariant.count_most, c.if-self-eq-MOST_COMMANDS.false) }, full))

@@ -1,6 +1,5 @@
 use Rattle.std.proofs.Common.{◌≡◌, ◌+◌, ◌++◌, ◌∷◌, [], List, take, sym, ◌∙◌, ap, subst, rules}
 use Rattle.std.proofs.lemmas.List.{take_more, take_all}
-use Rattle.silt_device.specs.Disk.{GaveAny}
 use Rattle.silt_event.specs.declared.event.Event.{Event}
 use Rattle.silt_store_set.specs.CoreState.{Runs}
 use Rattle.silt_store_set.proofs.Calls.{safe_seen}
@@ -13,7 +12,7 @@ loop-event-preserved g c = record {
   runs =
       let taken : take (c.loop-event.event-index + 1) c.args.events.now ≡ take c.loop-event.event-index c.args.events.now ++ c.event-item.result ∷ [] =
       take_more c.args.events.now c.loop-event.event-index c.event-item.result c.loop-event-test.true ∙ ap (λ (e : Event). take c.loop-event.event-index c.args.events.now ++ e ∷ []) (sym c.event-item.is) in
-      rw (taken, c.in_ok-push.ensures.items) (runs_more g.D.Disk.content g.D.Disk.failures (GaveAny g.D.Disk.gave) c.args.self.now c.loop-event.self c.answer-reply.new.self
+      rw (taken, c.in_ok-push.ensures.items) (runs_more g.D.Disk c.args.self.now c.loop-event.self c.answer-reply.new.self
       (take c.loop-event.event-index c.args.events.now) c.loop-event.replies.items c.event-item.result c.answer-reply.result c.loop-event.invariant.runs c.answer-reply.ensures);
   same_disk = record {
     size = c.answer-reply.ensures.disk.size ∙ c.loop-event.invariant.same_disk.size;
@@ -27,16 +26,16 @@ loop-event-preserved g c = record {
 pub returns-clause-legal : goal.returns-clause-legal
 returns-clause-legal g c = λ h.
     let all = take_all c.loop-event.event-index c.args.events.now c.loop-event-test.false in
-    legal_runs g.D.Disk.content g.D.Disk.failures (GaveAny g.D.Disk.gave) c.args.self.now c.loop-event.self c.args.events.now c.loop-event.replies.items h
-    (subst (λ (events : List Event). Runs g.D.Disk.content g.D.Disk.failures (GaveAny g.D.Disk.gave) c.args.self.now events c.loop-event.replies.items c.loop-event.self) all c.loop-event.invariant.runs)
+    legal_runs g.D.Disk c.args.self.now c.loop-event.self c.args.events.now c.loop-event.replies.items h
+    (subst (λ (events : List Event). Runs g.D.Disk c.args.self.now events c.loop-event.replies.items c.loop-event.self) all c.loop-event.invariant.runs)
 
 pub returns-clause-kept : goal.returns-clause-kept
 returns-clause-kept g c = λ working.
     let all = take_all c.loop-event.event-index c.args.events.now c.loop-event-test.false in
-    let runs = subst (λ (events : List Event). Runs g.D.Disk.content g.D.Disk.failures (GaveAny g.D.Disk.gave) c.args.self.now events c.loop-event.replies.items c.loop-event.self) all c.loop-event.invariant.runs in
-    let safe = safe_seen g.D.Disk.content c.self.inside.disk c.self.inside.tiers c.self.inside.count c.self.inside.failed c.args.self.now c.self.view_is c.self.invariant working in
+    let runs = subst (λ (events : List Event). Runs g.D.Disk c.args.self.now events c.loop-event.replies.items c.loop-event.self) all c.loop-event.invariant.runs in
+    let safe = safe_seen g.D.Disk c.self.inside.disk c.self.inside.tiers c.self.inside.count c.self.inside.failed c.args.self.now c.self.view_is c.self.invariant working in
     record {
       each = λ h image left.
-          keeps_runs g.D.Disk.content g.D.Disk.failures (GaveAny g.D.Disk.gave) c.args.self.now c.loop-event.self c.args.events.now c.loop-event.replies.items working safe runs
+          keeps_runs g.D.Disk c.args.self.now c.loop-event.self c.args.events.now c.loop-event.replies.items working safe runs
           (sym c.loop-event.invariant.same_disk.honest ∙ h) image left;
     }

@@ -1,6 +1,5 @@
 use Rattle.std.proofs.Common.{◌≡◌, ◌≤◌, length, take, vec_len}
 use Rattle.std.specs.Prelude.{vec_capacity}
-use Rattle.silt_device.specs.Disk.{GaveAny}
 use Rattle.silt_tiers.specs.Calls.{SameDisk}
 use Rattle.silt_store_set.specs.CoreState.{Runs}
 use Rattle.silt_store_set.proofs.store_core.Core.run.Given as goal
@@ -8,7 +7,7 @@ use Rattle.silt_store_set.proofs.store_core.Core.run.Given as goal
 -- the events so far were done, and each has its reply
 abbrev pub invariant-loop-event : goal.invariant-loop-event
 invariant-loop-event g l = record {
-  runs : Runs g.D.Disk.content g.D.Disk.failures (GaveAny g.D.Disk.gave) l.fn.self (take l.event-index l.events) l.replies.items l.self;
+  runs : Runs g.D.Disk l.fn.self (take l.event-index l.events) l.replies.items l.self;
   same_disk : SameDisk (g.D.Disk.content l.fn.self.disk) (g.D.Disk.content l.self.disk);
   same_shape : l.self.shape ≡ l.fn.self.shape;
   count : vec_len l.replies ≡ l.event-index;
