@@ -22,10 +22,9 @@ use Rattle.silt_event.proofs.Rows.{count_law}
 use Rattle.silt_image.proofs.Sound.{taken_law}
 use Rattle.silt_tiers.specs.State.{AreWhole, TiersState}
 use Rattle.silt_tiers.specs.Standing.{Stands, shown_stores, waiting_commands}
-use Rattle.silt_tiers.specs.Calls.{Advances, Breaks, Remaps, SameDisk}
+use Rattle.silt_tiers.specs.Calls.{Advances, SameDisk}
 use Rattle.silt_tiers.proofs.Named.{named_body, named_shape, own_rows, rows_with_more}
 use Rattle.silt_tiers.proofs.Facts.{active_is, base_is, has_active, rows_split}
-use Rattle.silt_tiers.proofs.Chains.{advances_break, advances_remap}
 use Rattle.silt_tiers.proofs.Standing.{Fits, after_same, fits_stand, frozen_stay, hashed_stay, located_stays, merged_stays, named_with, rules_stay, shown_are, written_stays}
 use Rattle.silt_tiers.proofs.Wholes.{whole_with_active, written_with_active}
 
@@ -165,9 +164,6 @@ module _ (old new : Content) (s : TiersState) (after : LogStoreState) (kind : Ki
     appended = extended old new s after (stored_row kind key value ∷ []) charge stands sizes changed shape_same region_same takes.stands images takes.log.settled takes.log.all row_sound
         (counted ∙ ap (λ (n : ℕ). s.charge + n) (sym (counted_stored kind key value))) (omega (arith, counted, most))
 
-    pub appended_map : Remaps (command_of (stored_row kind key value) ∷ []) old new s (with_active s after charge)
-    appended_map = advances_remap (command_of (stored_row kind key value) ∷ []) old new s (with_active s after charge) same_disk stands appended
-
     pub appended_waits : IsTrue old.honest → waiting_commands new (with_active s after charge) ≡ waiting_commands old s ++ command_of (stored_row kind key value) ∷ []
     appended_waits h =
         ap (map command_of) (waits old new s after (stored_row kind key value ∷ []) charge stands sizes changed shape_same region_same takes.stands images takes.log.settled takes.log.all row_sound
@@ -182,9 +178,3 @@ module _ (old new : Content) (s : TiersState) (after : LogStoreState) (kind : Ki
         (λ h. subst (λ (rows : List StoredRow). IsSound (with_log_rows s.manifest.ruling.active rows (shown_stores old s))) (sym (append-nil (all_rows old s.active.log)))
         (subst (λ (n : ℕ). IsSound (with_log_rows n (all_rows old s.active.log) (shown_stores old s))) stands.whole.active_region (stands.sound h)))
         (let none : put_count [] ≡ 0 = refl in omega (arith, none)) stands.whole.most
-
-    pub not_appended_breaks : Breaks old new s
-    not_appended_breaks = advances_break old new s (with_active s after s.charge) same_disk not_appended
-
-    pub not_appended_map : Remaps [] old new s (with_active s after s.charge)
-    not_appended_map = advances_remap [] old new s (with_active s after s.charge) same_disk stands not_appended

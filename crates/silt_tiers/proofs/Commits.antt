@@ -26,13 +26,12 @@ use Rattle.silt_tiers.specs.declared.next_log.NextLog.{NextLog}
 use Rattle.silt_sorted_store.specs.State.{SortedState}
 use Rattle.silt_tiers.specs.State.{AreWhole, IsHashOf, IsSettled, TiersState, oldest_log, region_of, sorted_named}
 use Rattle.silt_tiers.specs.Standing.{IsFrozen, Stands, shown_stores}
-use Rattle.silt_tiers.specs.Calls.{Advances, IsQuiet, Remaps}
+use Rattle.silt_tiers.specs.Calls.{Advances, IsQuiet}
 use Rattle.silt_tiers.specs.NextLog.{HasFrozen, IsEmptied, active_replaced, names_region}
 use Rattle.silt_tiers.specs.Succession.{MayRule, NowRules}
 use Rattle.silt_tiers.proofs.Named.{named_body, named_shape, own_rows}
 use Rattle.silt_tiers.proofs.Facts.{base_is, shown_named, shown_sound}
 use Rattle.silt_tiers.proofs.Elsewhere.{length-log_rows, outside_slot}
-use Rattle.silt_tiers.proofs.Chains.{advances_remap}
 use Rattle.silt_tiers.proofs.Standing.{Fits}
 use Rattle.silt_tiers.proofs.Wholes.{merging_in, oldest_behind, under_way_in, written_in}
 use Rattle.silt_tiers.proofs.NextBodies.{now_named, succeeds}
@@ -201,9 +200,6 @@ module _ (old : Content) (s : TiersState) (next : NextLog) (stands : Stands old 
     unfolding frozen_may_rule
     frozen_advances = succeeds old new s next.body stands frozen_may_rule sizes m now after fits now.has_shape
         (λ h. ap (map command_of) (none_waiting new next.store.log none_used) ∙ ap (map command_of) (sym (none_waiting old s.active.log is_quiet.settled)))
-
-    pub frozen_map : Remaps [] old new s (active_replaced s m next.store)
-    frozen_map = advances_remap [] old new s after (record { size = sizes; honest = now.changes.honest }) stands frozen_advances
 
     pub has_frozen : HasFrozen next new s (active_replaced s m next.store)
     has_frozen = record {

@@ -130,15 +130,9 @@ module _ (old new : Content) (s : TiersState) (stands : Stands old s) (sizes : s
         ap image_stores (left_after_sync settles o image left) ∙ stands.named.each o old.shown (shown_left old);
   })
 
-  failed_advances : Stays old new → Advances [] old new s s
+  pub failed_advances : Stays old new → Advances [] old new s s
   failed_advances stays = still_advances (failed_sync_within 0 0 stays) (record {
     each = λ h image left.
         let o : IsTrue old.honest = subst IsTrue stays.honest h in
         stands.named.each o image (left_after_failed_sync stays o image left);
   })
-
-  failed_disk : Stays old new → SameDisk old new
-  failed_disk stays = record { size = sizes; honest = stays.honest }
-
-  pub failed_breaks : Stays old new → Breaks old new s
-  failed_breaks stays = advances_break old new s s (failed_disk stays) (failed_advances stays)

@@ -1,10 +1,10 @@
 -- The steps of a conversion, at their exits.
-use Rattle.std.proofs.Common.{◌≡◌, ◌≤◌, ◌<◌, ℕ, ◌+◌, ◌-◌, ◌*◌, ◌==◌, Bool, true, if◌then◌else◌, List, [], length, replicate, Option, Some, None, Result, Ok, Err, inl, inr, refl, ap, sym, ◌∙◌, subst, arith}
-use Rattle.std.specs.Prelude.{IfErr, slice_get}
-use Rattle.std.specs.Result.{IsErrAnd}
+use Rattle.std.proofs.Common.{◌≡◌, ◌≤◌, ◌<◌, ℕ, ◌+◌, ◌-◌, ◌*◌, ◌==◌, Bool, true, if◌then◌else◌, List, [], length, replicate, Option, Some, None, inl, inr, refl, ap, sym, ◌∙◌, subst, arith}
+use Rattle.std.specs.Prelude.{slice_get}
 use Rattle.std.proofs.lemmas.Bool.{cases_eq, eq-eqb, ne_eqb}
 use Rattle.std.proofs.lemmas.Option.{get_or_from_slice_get, slice_get_within}
-use Rattle.silt_device.specs.Disk.{ChangesWithin, Content, size}
+use Rattle.silt_device.specs.Disk.{ChangesWithin, Content, CountsFault, GaveAny, size}
+use Rattle.silt_device.specs.declared.disk.Disk.{Ghosts}
 use Rattle.silt_device.specs.Layout.{InLimits, Shape, row_len}
 use Rattle.silt_log_store.specs.State.{IsFrozenStore, LogStoreState}
 use Rattle.silt_log_store.proofs.Buckets.{bucket_count_is}
@@ -15,7 +15,6 @@ use Rattle.silt_hash_store.specs.Conversion.{ConversionState, FailsStep, HasWrit
 use Rattle.silt_hash_store.specs.Slots.{hash_slot_at}
 use Rattle.silt_hash_store.specs.declared.conversion.StepError.{StepError}
 use Rattle.silt_hash_store.specs.declared.conversion.StepError.TheVariants as step_error
-use Rattle.silt_tiers.specs.declared.conversion.ConvertError.{ConvertError}
 use Rattle.silt_event.specs.declared.progress.Progress.{Progress}
 use Rattle.silt_event.specs.declared.progress.Progress.TheVariants.{Finished, Idle, Moved, Waiting}
 use Rattle.silt_tiers.specs.State.{AreWhole, IsUnderWay, TiersState, names_hash, oldest_log}
@@ -100,9 +99,6 @@ module _ (old new : Content) (s : TiersState) (log : LogStoreState) (before afte
     pub step_advances : Advances [] old new s (record s { converting = Some after })
     step_advances = slot_advances old new s before.region before.next stands way.free way.there next_below sizes slot_changes (Some after) way_after written_after
 
-    pub step_map : Remaps [] old new s (record s { converting = Some after })
-    step_map = slot_map old new s before.region before.next stands way.free way.there next_below sizes slot_changes (Some after) way_after written_after
-
 -- ---- the next slot of the conversion under way
 
 module _ (old new : Content) (s : TiersState) (log : LogStoreState) (before after : ConversionState) (stands : Stands old s) (read : Some log ≡ slice_get s.frozen (length s.frozen - 1))
@@ -125,9 +121,6 @@ module _ (old new : Content) (s : TiersState) (log : LogStoreState) (before afte
   module _ (steps : Steps log old new before after) (written : IsFrozenStore old log → HasWritten old log before → HasWritten new log after) where
     pub next_advances : Advances [] old new s (record s { converting = Some after })
     next_advances = step_advances old new s log before after stands (last_log s log read).1 going more wrote sizes changes steps written
-
-    pub next_map : Remaps [] old new s (record s { converting = Some after })
-    next_map = step_map old new s log before after stands (last_log s log read).1 going more wrote sizes changes steps written
 
 -- ---- the first slot of a new one
 
@@ -207,19 +200,11 @@ module _ (s : TiersState) (log : LogStoreState) (ruling : Body) (hashes region :
           pub first_advances : Advances [] old new s (record s { converting = Some after })
           first_advances = step_advances old new s log started after stands (last_log s log read).1 started_way started_below wrote sizes changes steps written
 
-          pub first_map : Remaps [] old new s (record s { converting = Some after })
-          first_map = step_map old new s log started after stands (last_log s log read).1 started_way started_below wrote sizes changes steps written
-
 -- ---- why it was not
 
-module _ {D F : Type 0} (content : D → Content) (gave : D → F → Type 0) (counted : D → D → F → Type 0) (old new : D) (before after : TiersState) where
+module _ {D F : Type 0} (facts : Ghosts D F) (old new : D) (before after : TiersState) where
   -- the cause in place of that of the step
-  pub step_cause : (error : StepError F) → FailsStep gave (counted old new) old new error → after ≡ before → convert_turn before ≡ Moved → Breaks (content old) (content new) before
-      → Remaps [] (content old) (content new) before after → ConvertErrorCause content gave counted old new before after (refusal_of_step error)
+  pub step_cause : (error : StepError F) → FailsStep (GaveAny facts.gave) (CountsFault facts.failures facts.gave old new) old new error → after ≡ before → convert_turn before ≡ Moved → Breaks (facts.content old) (facts.content new) before
+      → Remaps [] (facts.content old) (facts.content new) before after → ConvertErrorCause facts old new before after (refusal_of_step error)
   step_cause (step_error.Read fault) fails same turn breaks remaps = (same, fails.0, turn, fails.1)
-  step_cause (step_error.Write fault) fails same turn breaks remaps = (ap is_work turn, fails, breaks, remaps)
-
--- a result with such an error
-pub err_of : {T F : Type 0} (r : Result T (ConvertError F)) (error : StepError F) (P : ConvertError F → Type 0) → IsErrAnd r (λ converted. converted ≡ refusal_of_step error) → P (refusal_of_step error) → IfErr r P
-err_of (Ok x) error P is p = tt
-err_of (Err converted) error P is p = subst P (sym is) p
+  step_cause (step_error.Write fault) fails same turn breaks remaps = (ap is_work turn, record { counted = fails; breaks = breaks; map = remaps })

@@ -9,9 +9,9 @@ use Rattle.silt_log_store.specs.Calls.{EmptiesStore}
 use Rattle.silt_tiers.specs.declared.next_log.NextLog.{NextLog}
 use Rattle.silt_tiers.specs.State.{TiersState}
 use Rattle.silt_tiers.specs.Standing.{Stands}
-use Rattle.silt_tiers.specs.Calls.{Advances, Breaks, Remaps}
+use Rattle.silt_tiers.specs.Calls.{Advances}
 use Rattle.silt_tiers.specs.NextLog.{IsEmptied, IsNextLog}
-use Rattle.silt_tiers.proofs.Freezes.{cleared, cleared_breaks, cleared_map}
+use Rattle.silt_tiers.proofs.Freezes.{cleared}
 
 module _ (old new : Content) (s : TiersState) (next : NextLog) where
   store_shape : IsNextLog s next → next.store.log.shape ≡ s.manifest.shape
@@ -29,12 +29,6 @@ module _ (old new : Content) (s : TiersState) (next : NextLog) where
 
     pub clear_advances : Advances [] old new s s
     clear_advances = cleared old new s is.region stands is.lowest.below is.lowest.free sizes gates
-
-    pub clear_map : Remaps [] old new s s
-    clear_map = cleared_map old new s is.region stands is.lowest.below is.lowest.free sizes gates
-
-    pub clear_breaks : Breaks old new s
-    clear_breaks = cleared_breaks old new s is.region stands is.lowest.below is.lowest.free sizes gates
 
   -- the new log is as it was in memory, and its region is empty
   module _ (is : IsNextLog s next) (after : LogStoreState) (empties : EmptiesStore new next.store after) where

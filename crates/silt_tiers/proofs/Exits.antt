@@ -1,12 +1,14 @@
 -- Clauses at exits.
-use Rattle.std.proofs.Common.{Result, Ok, Err}
-use Rattle.std.specs.Prelude.{OnErr, OnOk}
+use Rattle.std.proofs.Common.{◌≡◌, Result, Ok, Err, sym, subst}
+use Rattle.std.specs.Prelude.{IfErr, OnOk}
+use Rattle.std.specs.Result.{IsErrAnd}
 
 -- what holds whatever the result is
-pub on_err : {T E P : Type 0} (r : Result T E) → P → OnErr r P
-on_err (Ok x) p = tt
-on_err (Err e) p = p
-
 pub on_ok : {T E P : Type 0} (r : Result T E) → P → OnOk r P
 on_ok (Ok x) p = p
 on_ok (Err e) p = tt
+
+-- what holds of the error that is handed on
+pub on_error : {T F : Type 0} (r : Result T F) (error : F) (P : F → Type 0) → IsErrAnd r (λ e. e ≡ error) → P error → IfErr r P
+on_error (Ok x) error P is p = tt
+on_error (Err e) error P is p = subst P (sym is) p

@@ -22,7 +22,6 @@ use Rattle.silt_tiers.specs.Standing.{Stands, full_image, shown_stores, waiting_
 use Rattle.silt_tiers.specs.Calls.{Advances, Breaks, IsQuiet, Remaps, SameDisk}
 use Rattle.silt_tiers.proofs.Named.{map_with_more, named_body, named_shape, rows_with_more, sound_some, with_body, with_shape}
 use Rattle.silt_tiers.proofs.Facts.{active_is, all_sound, base_is, full_map, has_active, map_with_rows, rows_split, stands_with_rows, torn_active}
-use Rattle.silt_tiers.proofs.Chains.{advances_remap}
 use Rattle.silt_tiers.proofs.Standing.{Fits, fits_stand, frozen_stay, full_with, hashed_stay, located_stays, merged_stays, named_with, rules_stay, shown_are, written_stays}
 use Rattle.silt_tiers.proofs.Appends.{with_active}
 use Rattle.silt_tiers.proofs.Wholes.{whole_with_active, written_with_active}
@@ -128,9 +127,6 @@ module _ (old new : Content) (s : TiersState) (after : LogStoreState) (stands : 
             ∙ ap (λ (m : Map). map_after m (waiting_commands old s)) (sym (base_is old s));
       };
     }
-
-    pub flushed_map : Remaps [] old new s (with_active s after s.charge)
-    flushed_map = advances_remap [] old new s (with_active s after s.charge) flushed_disk stands flushed
 
     pub flushed_quiet : IsQuiet new (with_active s after s.charge)
     flushed_quiet = quiet new (with_active s after s.charge) settled_all

@@ -5,6 +5,7 @@ pub mod Facts
 pub mod Elsewhere
 pub mod Wholes
 pub mod Chains
+pub mod Works
 pub mod Standing
 pub mod Appends
 pub mod Flushes

@@ -1,11 +1,11 @@
 -- The steps of a merge.
-use Rattle.std.proofs.Common.{◌≡◌, ◌≢◌, ◌≤◌, ◌<◌, ℕ, ◌+◌, ◌-◌, ◌*◌, ◌==◌, ◌&&◌, nat_le, Bool, true, false, if◌then◌else◌, List, [], length, drop, Option, Some, None, Result, Ok, Err, inl, refl, ap, sym, ◌∙◌, subst, arith}
-use Rattle.std.specs.Prelude.{All, IfErr, IfSome}
+use Rattle.std.proofs.Common.{◌≡◌, ◌≢◌, ◌≤◌, ◌<◌, ℕ, ◌+◌, ◌-◌, ◌*◌, ◌==◌, ◌&&◌, nat_le, Bool, true, false, if◌then◌else◌, List, [], length, drop, Option, Some, None, inl, refl, ap, sym, ◌∙◌, subst, arith}
+use Rattle.std.specs.Prelude.{All, IfSome}
 use Rattle.std.specs.Option.{option_map}
-use Rattle.std.specs.Result.{IsErrAnd}
 use Rattle.std.proofs.lemmas.Bool.{eq-eqb, eqb-false, ne_eqb}
 use Rattle.std.proofs.lemmas.List.Elements.{All-drop}
-use Rattle.silt_device.specs.Disk.{ChangesWithin, Content, size}
+use Rattle.silt_device.specs.Disk.{ChangesWithin, Content, CountsFault, GaveAny, size}
+use Rattle.silt_device.specs.declared.disk.Disk.{Ghosts}
 use Rattle.silt_device.specs.Layout.{Shape, sorted_at, sorted_size}
 use Rattle.silt_hash_store.specs.State.{HashState}
 use Rattle.silt_merge.specs.Merging.{FailsMerge, HasMerged, IsSameMerge, TakesMemory}
@@ -13,7 +13,6 @@ use Rattle.silt_merge.specs.State.{IsHeldMerge, MergeState, is_done, oldest_stor
 use Rattle.silt_merge.specs.declared.merge.StepError.{StepError}
 use Rattle.silt_merge.specs.declared.merge.StepError.TheVariants as step_error
 use Rattle.silt_sorted_store.specs.State.{SortedState}
-use Rattle.silt_tiers.specs.declared.merge.MergeError.{MergeError}
 use Rattle.silt_event.specs.declared.progress.Progress.{Progress}
 use Rattle.silt_event.specs.declared.progress.Progress.TheVariants.{Finished, Idle, Moved}
 use Rattle.silt_tiers.specs.State.{AreWhole, IsHashOf, IsMerging, TiersState}
@@ -21,7 +20,7 @@ use Rattle.silt_tiers.specs.Standing.{HasGathered, Stands}
 use Rattle.silt_tiers.specs.Calls.{Advances, Breaks, Remaps}
 use Rattle.silt_tiers.specs.Conversion.{is_work}
 use Rattle.silt_tiers.specs.Merge.{IsNextMerge, MayLackMemory, MergeErrorCause, Merges, merge_progress, merge_turn, refusal_of_step}
-use Rattle.silt_tiers.proofs.MergeEntries.{entry_advances, entry_breaks, entry_failed_map, entry_map}
+use Rattle.silt_tiers.proofs.MergeEntries.{entry_advances, entry_breaks, entry_failed_map}
 
 -- ---- the progress that is due
 
@@ -122,9 +121,6 @@ module _ (old new : Content) (s : TiersState) (before after : MergeState) (stand
     pub step_advances : Advances [] old new s (record s { merging = Some after })
     step_advances = entry_advances old new s before.region stands way.held.there way.apart sizes entry_changes (Some after) way_after gathered_after
 
-    pub step_map : Remaps [] old new s (record s { merging = Some after })
-    step_map = entry_map old new s before.region stands way.held.there way.apart sizes entry_changes (Some after) way_after gathered_after
-
 -- ---- the first step
 
 -- hash stores that are not none are some
@@ -185,19 +181,14 @@ next_merges s before after was turn same step = record {
 
 -- ---- why it was not
 
-module _ {D F : Type 0} (content : D → Content) (gave : D → F → Type 0) (counted : D → D → F → Type 0) (old new : D) (before after : TiersState) where
+module _ {D F : Type 0} (facts : Ghosts D F) (old new : D) (before after : TiersState) where
   -- the cause in place of that of the step
-  pub step_cause : {Takes : Type 0} (error : StepError F) → FailsMerge gave (counted old new) Takes old new error → after ≡ before → merge_turn before ≡ Moved → (Takes → MayLackMemory (content old) before)
-      → Breaks (content old) (content new) before → Remaps [] (content old) (content new) before after → MergeErrorCause content gave counted old new before after (refusal_of_step error)
+  pub step_cause : {Takes : Type 0} (error : StepError F) → FailsMerge (GaveAny facts.gave) (CountsFault facts.failures facts.gave old new) Takes old new error → after ≡ before → merge_turn before ≡ Moved → (Takes → MayLackMemory (facts.content old) before)
+      → Breaks (facts.content old) (facts.content new) before → Remaps [] (facts.content old) (facts.content new) before after → MergeErrorCause facts old new before after (refusal_of_step error)
   step_cause step_error.NoMemory fails same turn lacks breaks remaps = (same, fails.0, inl (turn, lacks fails.1))
   step_cause (step_error.Read fault) fails same turn lacks breaks remaps = (same, fails.0, turn, fails.1)
-  step_cause (step_error.Write fault) fails same turn lacks breaks remaps = (ap is_work turn, fails, breaks, remaps)
+  step_cause (step_error.Write fault) fails same turn lacks breaks remaps = (ap is_work turn, record { counted = fails; breaks = breaks; map = remaps })
 
 -- where no merge is under way, any step may lack memory
 pub first_lacks : (content : Content) (s : TiersState) → s.merging ≡ None → MayLackMemory content s
 first_lacks content s none = subst (λ (o : Option MergeState). IfSome o (λ merge. TakesMemory content (oldest_stores merge.stores s.hashes) merge)) (sym none) tt
-
--- a result with such an error
-pub err_of : {T F : Type 0} (r : Result T (MergeError F)) (error : StepError F) (P : MergeError F → Type 0) → IsErrAnd r (λ merged. merged ≡ refusal_of_step error) → P (refusal_of_step error) → IfErr r P
-err_of (Ok x) error P is p = tt
-err_of (Err merged) error P is p = subst P (sym is) p

@@ -1,9 +1,10 @@
 -- What the calls of the stores do.
-use Rattle.std.specs.Prelude.{◌≡◌, ◌+◌, ◌^◌, ◌-◌, ◌⊎◌, ℕ, IsTrue, List, [], ◌∷◌, ◌++◌, length, Some, None}
+use Rattle.std.specs.Prelude.{◌≡◌, ◌+◌, ◌^◌, ◌-◌, ◌⊎◌, ℕ, IsTrue, List, [], ◌∷◌, ◌++◌, length, Some, None, Result, OnOk}
 use Rattle.std.specs.FinMap.{get}
 use Rattle.silt_cuckoo.specs.Index.{index_of_keys}
-use Rattle.silt_device.specs.Disk.{Content, LeavesOnly, size}
+use Rattle.silt_device.specs.Disk.{Content, CountsFault, LeavesOnly, size}
 use Rattle.silt_device.specs.Layout.{Shape}
+use Rattle.silt_device.specs.declared.disk.Disk.{Ghosts}
 use Rattle.silt_event.specs.Commands.{Command, Map, map_after, Begins}
 use Rattle.silt_image.specs.Meaning.{StandsFor, image_map}
 use Rattle.silt_frame.specs.Rows.{keys_of, StoredRow}
@@ -50,6 +51,29 @@ Breaks old new s = LeavesOnly new (HasBegun s.manifest.shape (base_map old s) (w
 -- with the gates of the waiting rows open, what is shown stands for its map of before, after these commands
 abbrev pub Remaps : List Command → Content → Content → TiersState → TiersState → Type 0
 Remaps adds old new before after = IsTrue old.honest → image_map (full_image new after) ≡ map_after (image_map (full_image old before)) adds
+
+-- What a call that writes does, which adds these commands: what holds whatever it answers, and what holds after Ok. What an error
+-- says stands in a clause of its own.
+pub record Works {D F T E : Type 0} (facts : Ghosts D F) (adds : List Command) (old new : D) (before after : TiersState) (result : Result T E) : Type 0 where
+  -- the disk is as long and as honest as before
+  pub same : SameDisk (facts.content old) (facts.content new)
+  -- the shape of the stores is kept
+  pub shape : after.manifest.shape ≡ before.manifest.shape
+  -- after Ok no write and no sync has failed
+  pub failures : OnOk result (facts.failures new ≡ facts.failures old)
+  -- after Ok the stores stand on, and the commands that waited, and the added ones behind them, wait or are in the base
+  pub advances : OnOk result (Advances adds (facts.content old) (facts.content new) before after)
+  -- after Ok the full image stands for its map of before, after the added commands
+  pub map : OnOk result (Remaps adds (facts.content old) (facts.content new) before after)
+
+-- What a call leaves whose write or sync failed with this fault.
+pub record BreaksOff {D F : Type 0} (facts : Ghosts D F) (old new : D) (before after : TiersState) (fault : F) : Type 0 where
+  -- one more write or sync has failed, and the disk gave the fault for it
+  pub counted : CountsFault facts.failures facts.gave old new fault
+  -- whatever a stop leaves stands for the base after a beginning of what waited
+  pub breaks : Breaks (facts.content old) (facts.content new) before
+  -- the full image stands for its map of before
+  pub map : Remaps [] (facts.content old) (facts.content new) before after
 
 -- no command waits
 pub record IsQuiet (content : Content) (s : TiersState) : Type 0 where

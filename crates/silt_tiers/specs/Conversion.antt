@@ -1,6 +1,7 @@
 -- The conversion of the oldest frozen log into a hash store, step by step.
-use Rattle.std.specs.Prelude.{◌≡◌, ◌<◌, ◌+◌, ◌-◌, ◌*◌, ◌^◌, ◌==◌, ℕ, Bool, true, false, if◌then◌else◌, length, take, [], ◌∷◌, Option, Some, None}
-use Rattle.silt_device.specs.Disk.{Content}
+use Rattle.std.specs.Prelude.{◌≡◌, ◌<◌, ◌+◌, ◌-◌, ◌*◌, ◌^◌, ◌==◌, ℕ, Bool, true, false, if◌then◌else◌, length, take, ◌∷◌, Option, Some, None}
+use Rattle.silt_device.specs.Disk.{GaveAny}
+use Rattle.silt_device.specs.declared.disk.Disk.{Ghosts}
 use Rattle.silt_hash_store.specs.Conversion.{ConversionState}
 use Rattle.silt_hash_store.specs.State.{HashState, IsHeldHash}
 use Rattle.silt_hash_store.specs.declared.conversion.StepError.{StepError}
@@ -12,7 +13,7 @@ use Rattle.silt_tiers.specs.declared.conversion.ConvertError.TheVariants.{Spent,
 use Rattle.silt_event.specs.declared.progress.Progress.{Progress}
 use Rattle.silt_event.specs.declared.progress.Progress.TheVariants.{Idle, Waiting, Moved, Finished}
 use Rattle.silt_tiers.specs.State.{AreWhole, TiersState, names_hash, oldest_log}
-use Rattle.silt_tiers.specs.Calls.{Breaks, IsLastGeneration, Remaps}
+use Rattle.silt_tiers.specs.Calls.{BreaksOff, IsLastGeneration}
 
 -- the next progress, with so many frozen logs, hash stores and hash regions, where so many of all slots are written: none where no
 -- conversion is under way
@@ -90,13 +91,13 @@ abbrev pub refusal_of_step : {F : Type 0} → StepError F → ConvertError F
 refusal_of_step (step_error.Read fault) = Read fault
 refusal_of_step (step_error.Write fault) = Write fault
 
-module _ {D F : Type 0} (content : D → Content) (gave : D → F → Type 0) (counted : D → D → F → Type 0) (old new : D) (before after : TiersState) where
+module _ {D F : Type 0} (facts : Ghosts D F) (old new : D) (before after : TiersState) where
   -- why a step was not done, and what was changed
   abbrev pub ConvertErrorCause : ConvertError F → Type 0
   ConvertErrorCause Spent = (after ≡ before) × (new ≡ old) × (convert_turn before ≡ Finished) × IsLastGeneration before
   ConvertErrorCause NoMemory = (after ≡ before) × (new ≡ old) × (convert_turn before ≡ Moved) × (before.converting ≡ None)
-  ConvertErrorCause (Read fault) = (after ≡ before) × (new ≡ old) × (convert_turn before ≡ Moved) × gave old fault
-  ConvertErrorCause (Write fault) = (is_work (convert_turn before) ≡ true) × counted old new fault × Breaks (content old) (content new) before × Remaps [] (content old) (content new) before after
+  ConvertErrorCause (Read fault) = (after ≡ before) × (new ≡ old) × (convert_turn before ≡ Moved) × GaveAny facts.gave old fault
+  ConvertErrorCause (Write fault) = (is_work (convert_turn before) ≡ true) × BreaksOff facts old new before after fault
 
 -- ---- between the steps
 

@@ -1,7 +1,8 @@
 -- The merge of the oldest hash stores and the sorted store into a new sorted store, step by step.
-use Rattle.std.specs.Prelude.{◌≡◌, ◌≤◌, ◌<◌, ◌+◌, ◌-◌, ◌^◌, ◌==◌, ◌⊎◌, ℕ, Bool, true, if◌then◌else◌, length, take, drop, sum_by, [], List, Option, Some, None, IfSome}
+use Rattle.std.specs.Prelude.{◌≡◌, ◌≤◌, ◌<◌, ◌+◌, ◌-◌, ◌^◌, ◌==◌, ◌⊎◌, ℕ, Bool, true, if◌then◌else◌, length, take, drop, sum_by, List, Option, Some, None, IfSome}
 use Rattle.std.specs.Option.{option_map}
-use Rattle.silt_device.specs.Disk.{Content}
+use Rattle.silt_device.specs.Disk.{Content, GaveAny}
+use Rattle.silt_device.specs.declared.disk.Disk.{Ghosts}
 use Rattle.silt_event.specs.declared.progress.Progress.{Progress}
 use Rattle.silt_event.specs.declared.progress.Progress.TheVariants.{Idle, Waiting, Moved, Finished}
 use Rattle.silt_frame.specs.Rows.{StoredRow}
@@ -17,7 +18,7 @@ use Rattle.silt_merge.specs.declared.merge.StepError.{StepError}
 use Rattle.silt_merge.specs.declared.merge.StepError.TheVariants as step_error
 use Rattle.silt_tiers.specs.declared.merge.MergeError.{MergeError}
 use Rattle.silt_tiers.specs.declared.merge.MergeError.TheVariants.{Spent, NoMemory, Read, Write}
-use Rattle.silt_tiers.specs.Calls.{Breaks, IsLastGeneration, Remaps}
+use Rattle.silt_tiers.specs.Calls.{BreaksOff, IsLastGeneration}
 use Rattle.silt_tiers.specs.Conversion.{is_work}
 use Rattle.silt_tiers.specs.Standing.{Stands, full_image}
 use Rattle.silt_sorted_store.specs.Index.{HasIndex, IndexedState}
@@ -101,14 +102,14 @@ refusal_of_step step_error.NoMemory = NoMemory
 refusal_of_step (step_error.Read fault) = Read fault
 refusal_of_step (step_error.Write fault) = Write fault
 
-module _ {D F : Type 0} (content : D → Content) (gave : D → F → Type 0) (counted : D → D → F → Type 0) (old new : D) (before after : TiersState) where
+module _ {D F : Type 0} (facts : Ghosts D F) (old new : D) (before after : TiersState) where
   -- why a step was not done, and what was changed
   abbrev pub MergeErrorCause : MergeError F → Type 0
   MergeErrorCause Spent = (after ≡ before) × (new ≡ old) × (merge_turn before ≡ Finished) × IsLastGeneration before
   MergeErrorCause NoMemory = (after ≡ before) × (new ≡ old)
-      × (((merge_turn before ≡ Moved) × MayLackMemory (content old) before) ⊎ ((merge_turn before ≡ Finished) × (IsLastGeneration before → ⊥)))
-  MergeErrorCause (Read fault) = (after ≡ before) × (new ≡ old) × (merge_turn before ≡ Moved) × gave old fault
-  MergeErrorCause (Write fault) = (is_work (merge_turn before) ≡ true) × counted old new fault × Breaks (content old) (content new) before × Remaps [] (content old) (content new) before after
+      × (((merge_turn before ≡ Moved) × MayLackMemory (facts.content old) before) ⊎ ((merge_turn before ≡ Finished) × (IsLastGeneration before → ⊥)))
+  MergeErrorCause (Read fault) = (after ≡ before) × (new ≡ old) × (merge_turn before ≡ Moved) × GaveAny facts.gave old fault
+  MergeErrorCause (Write fault) = (is_work (merge_turn before) ≡ true) × BreaksOff facts old new before after fault
 
 -- ---- between the steps
 

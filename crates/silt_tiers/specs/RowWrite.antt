@@ -1,13 +1,14 @@
 -- A put or a delete as a whole, and why it is refused.
-use Rattle.std.specs.Prelude.{◌≡◌, ◌⊎◌, ℕ, IsTrue, List, [], ◌∷◌, ◌++◌}
-use Rattle.silt_device.specs.Disk.{Content}
+use Rattle.std.specs.Prelude.{◌≡◌, ◌⊎◌, ℕ, IsTrue, List}
+use Rattle.silt_device.specs.Disk.{Content, GaveAny}
+use Rattle.silt_device.specs.declared.disk.Disk.{Ghosts}
 use Rattle.silt_event.specs.Commands.{Command, WaitsAlone, WaitsBehind}
 use Rattle.silt_log.specs.State.{all_rows}
 use Rattle.silt_tiers.specs.declared.row_write.WriteError.{WriteError}
 use Rattle.silt_tiers.specs.declared.row_write.WriteError.TheVariants.{Read, Write, NoRoom, Spent, NoMemory}
 use Rattle.silt_tiers.specs.State.{TiersState}
 use Rattle.silt_tiers.specs.Standing.{base_map, waiting_commands}
-use Rattle.silt_tiers.specs.Calls.{HasNoFreeLog, Breaks, CannotTake, IsLastGeneration, Remaps}
+use Rattle.silt_tiers.specs.Calls.{BreaksOff, CannotTake, HasNoFreeLog, IsLastGeneration}
 use Rattle.silt_tiers.specs.NextLog.{IsLowestFree, next_body}
 
 -- the active log cannot take a row of this key
@@ -36,15 +37,15 @@ pub record TurnsFor (old new : Content) (before after : TiersState) (key : List 
 abbrev pub WritesKey : Content → Content → TiersState → TiersState → List ℕ → Command → Type 0
 WritesKey old new before after key command = StaysFor old new before after key command ⊎ TurnsFor old new before after key command
 
-module _ {D F : Type 0} (content : D → Content) (gave : D → F → Type 0) (counted : D → D → F → Type 0) (old new : D) (before after : TiersState) (key : List ℕ) where
+module _ {D F : Type 0} (facts : Ghosts D F) (old new : D) (before after : TiersState) (key : List ℕ) where
   -- nothing was changed
   abbrev pub Unchanged : Type 0
   Unchanged = (after ≡ before) × (new ≡ old)
 
   -- why a row of this key was not taken, and what was changed
   abbrev pub WriteCause : WriteError F → Type 0
-  WriteCause (Read fault) = Unchanged × gave old fault
-  WriteCause (Write fault) = counted old new fault × Breaks (content old) (content new) before × Remaps [] (content old) (content new) before after
-  WriteCause NoRoom = Unchanged × NeedsNext (content old) before key × HasNoFreeLog before
-  WriteCause Spent = Unchanged × NeedsNext (content old) before key × (HasNoFreeLog before → ⊥) × IsLastGeneration before
-  WriteCause NoMemory = Unchanged × NeedsNext (content old) before key × (HasNoFreeLog before → ⊥) × (IsLastGeneration before → ⊥)
+  WriteCause (Read fault) = Unchanged × GaveAny facts.gave old fault
+  WriteCause (Write fault) = BreaksOff facts old new before after fault
+  WriteCause NoRoom = Unchanged × NeedsNext (facts.content old) before key × HasNoFreeLog before
+  WriteCause Spent = Unchanged × NeedsNext (facts.content old) before key × (HasNoFreeLog before → ⊥) × IsLastGeneration before
+  WriteCause NoMemory = Unchanged × NeedsNext (facts.content old) before key × (HasNoFreeLog before → ⊥) × (IsLastGeneration before → ⊥)

@@ -1,7 +1,7 @@
 // The conversion of the oldest frozen log into a hash store, one slot a step.
-ghost use Rattle.std.specs.Prelude.{◌≡◌, ◌<◌, ◌*◌, ◌-◌, ◌^◌, [], length, false, true, None, IsSome, IsTrue, IfOk, IfErr, IfSome, IfNone, OnOk, OnErr, MatchResult};
-ghost use Rattle.silt_device.specs.Disk.{CountsFault, GaveAny, Rests};
-ghost use Rattle.silt_tiers.specs.Calls.{Advances, Breaks, Remaps, SameDisk};
+ghost use Rattle.std.specs.Prelude.{◌≡◌, ◌<◌, ◌*◌, ◌-◌, ◌^◌, [], length, false, true, None, IsSome, IsTrue, IfOk, IfErr, IfSome, IfNone, OnOk};
+ghost use Rattle.silt_device.specs.Disk.{Rests};
+ghost use Rattle.silt_tiers.specs.Calls.{BreaksOff, Works};
 ghost use Rattle.silt_tiers.specs.Conversion.{AreAllHashesNamed, ConvertErrorCause, Converts, EndsConversion, Finishes, IsLowestFreeHash};
 ghost use Rattle.silt_tiers.specs.Conversion.{MayReplace, convert_turn, converted_body, is_work, oldest_replaced};
 ghost use Rattle.silt_event.specs.declared.progress.Progress.TheVariants.{Finished, Moved};
@@ -101,14 +101,10 @@ impl Tiers {
     ) -> Result<Progress, ConvertError<D::Fault>>
         requires stands { Stands (D.content disk.old) self.old }
         requires none { self.old.converting ≡ None }
-        ensures same { SameDisk (D.content disk.old) (D.content disk.new) }
-        ensures shape { self.new.manifest.shape ≡ self.old.manifest.shape }
-        ensures failures { OnOk result (D.failures disk.new ≡ D.failures disk.old) }
-        ensures ok { OnOk result (Advances [] (D.content disk.old) (D.content disk.new) self.old self.new) }
-        ensures map { OnOk result (Remaps [] (D.content disk.old) (D.content disk.new) self.old self.new) }
+        ensures works { Works D.Disk [] disk.old disk.new self.old self.new result }
         ensures converts { IfOk result (λ progress. Converts progress self.old self.new) }
         ensures quiet { IfOk result (λ progress. is_work progress ≡ false → disk.new ≡ disk.old) }
-        ensures err { IfErr result (ConvertErrorCause D.content (GaveAny D.gave) (CountsFault D.failures D.gave) disk.old disk.new self.old self.new) }
+        ensures err { IfErr result (ConvertErrorCause D.Disk disk.old disk.new self.old self.new) }
     {
         let Some(oldest) = self.frozen.last() else {
             return Ok(Progress::Idle);
@@ -130,13 +126,9 @@ impl Tiers {
         requires stands { Stands (D.content disk.old) self.old }
         requires some { IsSome self.old.converting }
         requires turn { convert_turn self.old ≡ Moved }
-        ensures same { SameDisk (D.content disk.old) (D.content disk.new) }
-        ensures shape { self.new.manifest.shape ≡ self.old.manifest.shape }
-        ensures failures { OnOk result (D.failures disk.new ≡ D.failures disk.old) }
-        ensures ok { OnOk result (Advances [] (D.content disk.old) (D.content disk.new) self.old self.new) }
-        ensures map { OnOk result (Remaps [] (D.content disk.old) (D.content disk.new) self.old self.new) }
+        ensures works { Works D.Disk [] disk.old disk.new self.old self.new result }
         ensures converts { IfOk result (λ progress. Converts progress self.old self.new) }
-        ensures err { IfErr result (ConvertErrorCause D.content (GaveAny D.gave) (CountsFault D.failures D.gave) disk.old disk.new self.old self.new) }
+        ensures err { IfErr result (ConvertErrorCause D.Disk disk.old disk.new self.old self.new) }
     {
         let Some(conversion) = &mut self.converting else {
             unreachable!()
@@ -151,13 +143,10 @@ impl Tiers {
     // Syncs what a conversion or a merge has written, so that whatever a stop leaves has it.
     pub(crate) fn settle_work<D: Disk>(&self, disk: &mut D) -> Result<(), D::Fault>
         requires stands { Stands (D.content disk.old) self.now }
-        ensures same { SameDisk (D.content disk.old) (D.content disk.new) }
-        ensures failures { MatchResult result (λ _. D.failures disk.new ≡ D.failures disk.old) (CountsFault D.failures D.gave disk.old disk.new) }
-        ensures ok { OnOk result (Advances [] (D.content disk.old) (D.content disk.new) self.now self.now) }
-        ensures map { Remaps [] (D.content disk.old) (D.content disk.new) self.now self.now }
+        ensures works { Works D.Disk [] disk.old disk.new self.now self.now result }
         ensures rests { OnOk result (Rests (D.content disk.new)) }
         ensures stores { OnOk result (IsTrue (D.content disk.old).honest → shown_stores (D.content disk.new) self.now ≡ shown_stores (D.content disk.old) self.now) }
-        ensures err { OnErr result (Breaks (D.content disk.old) (D.content disk.new) self.now) }
+        ensures err { IfErr result (BreaksOff D.Disk disk.old disk.new self.now self.now) }
     {
         disk.sync()?;
         Ok(())
@@ -188,13 +177,9 @@ impl Tiers {
     fn end_conversion<D: Disk>(&mut self, disk: &mut D, body: &Body) -> Result<(), D::Fault>
         requires stands { Stands (D.content disk.old) self.old }
         requires ends { EndsConversion self.old body.now }
-        ensures same { SameDisk (D.content disk.old) (D.content disk.new) }
-        ensures failures { MatchResult result (λ _. D.failures disk.new ≡ D.failures disk.old) (CountsFault D.failures D.gave disk.old disk.new) }
-        ensures ok { OnOk result (Advances [] (D.content disk.old) (D.content disk.new) self.old self.new) }
-        ensures map { Remaps [] (D.content disk.old) (D.content disk.new) self.old self.new }
+        ensures works { Works D.Disk [] disk.old disk.new self.old self.new result }
         ensures finishes { OnOk result (Finishes self.old self.new) }
-        ensures shape { self.new.manifest.shape ≡ self.old.manifest.shape }
-        ensures err { OnErr result (Breaks (D.content disk.old) (D.content disk.new) self.old) }
+        ensures err { IfErr result (BreaksOff D.Disk disk.old disk.new self.old self.new) }
     {
         self.settle_work(disk)?;
         let manifest = self.change_manifest(disk, body)?;
@@ -209,13 +194,9 @@ impl Tiers {
     ) -> Result<Progress, ConvertError<D::Fault>>
         requires stands { Stands (D.content disk.old) self.old }
         requires turn { convert_turn self.old ≡ Finished }
-        ensures same { SameDisk (D.content disk.old) (D.content disk.new) }
-        ensures shape { self.new.manifest.shape ≡ self.old.manifest.shape }
-        ensures failures { OnOk result (D.failures disk.new ≡ D.failures disk.old) }
-        ensures ok { OnOk result (Advances [] (D.content disk.old) (D.content disk.new) self.old self.new) }
-        ensures map { OnOk result (Remaps [] (D.content disk.old) (D.content disk.new) self.old self.new) }
+        ensures works { Works D.Disk [] disk.old disk.new self.old self.new result }
         ensures converts { IfOk result (λ progress. Converts progress self.old self.new) }
-        ensures err { IfErr result (ConvertErrorCause D.content (GaveAny D.gave) (CountsFault D.failures D.gave) disk.old disk.new self.old self.new) }
+        ensures err { IfErr result (ConvertErrorCause D.Disk disk.old disk.new self.old self.new) }
     {
         let ruling = self.manifest.ruling();
         if ruling.generation == LAST_GENERATION {
@@ -246,14 +227,10 @@ impl Tiers {
         disk: &mut D,
     ) -> Result<Progress, ConvertError<D::Fault>>
         requires stands { Stands (D.content disk.old) self.old }
-        ensures same { SameDisk (D.content disk.old) (D.content disk.new) }
-        ensures shape { self.new.manifest.shape ≡ self.old.manifest.shape }
-        ensures failures { OnOk result (D.failures disk.new ≡ D.failures disk.old) }
-        ensures ok { OnOk result (Advances [] (D.content disk.old) (D.content disk.new) self.old self.new) }
-        ensures map { OnOk result (Remaps [] (D.content disk.old) (D.content disk.new) self.old self.new) }
+        ensures works { Works D.Disk [] disk.old disk.new self.old self.new result }
         ensures converts { IfOk result (λ progress. Converts progress self.old self.new) }
         ensures quiet { IfOk result (λ progress. is_work progress ≡ false → disk.new ≡ disk.old) }
-        ensures err { IfErr result (ConvertErrorCause D.content (GaveAny D.gave) (CountsFault D.failures D.gave) disk.old disk.new self.old self.new) }
+        ensures err { IfErr result (ConvertErrorCause D.Disk disk.old disk.new self.old self.new) }
     {
         let Some(conversion) = &self.converting else {
             return self.begin_conversion(alloc, disk);

@@ -1,8 +1,7 @@
 // The merge of the hash stores and the sorted store into a new sorted store, one slot or one key a step.
-ghost use Rattle.std.specs.Prelude.{◌≡◌, ◌<◌, ◌≤◌, ◌-◌, ◌^◌, [], length, false, true, None, IsSome, IsTrue, IfOk, IfErr, IfSome, OnOk, OnErr, MatchResult};
-ghost use Rattle.silt_device.specs.Disk.{CountsFault, GaveAny, Rests};
+ghost use Rattle.std.specs.Prelude.{◌≡◌, ◌<◌, ◌≤◌, ◌-◌, ◌^◌, [], length, false, true, None, IsSome, IsTrue, IfOk, IfErr, IfSome, OnOk};
 ghost use Rattle.silt_event.specs.declared.progress.Progress.TheVariants.{Finished, Moved};
-ghost use Rattle.silt_tiers.specs.Calls.{Advances, Breaks, Remaps, SameDisk};
+ghost use Rattle.silt_tiers.specs.Calls.{BreaksOff, Works};
 ghost use Rattle.silt_tiers.specs.Conversion.{is_work};
 ghost use Rattle.silt_tiers.specs.Merge.{EndsMerge, EndsMerged, HasMergedEntries, MayStandFor, MergeErrorCause, Merges, merge_turn, merged_body, puts_in, sorted_replaced};
 ghost use Rattle.silt_tiers.specs.State.{AreWhole};
@@ -91,15 +90,11 @@ impl Tiers {
     ) -> Result<Progress, MergeError<D::Fault>>
         requires stands { Stands (D.content disk.old) self.old }
         requires none { self.old.merging ≡ None }
-        ensures same { SameDisk (D.content disk.old) (D.content disk.new) }
-        ensures shape { self.new.manifest.shape ≡ self.old.manifest.shape }
-        ensures failures { OnOk result (D.failures disk.new ≡ D.failures disk.old) }
-        ensures ok { OnOk result (Advances [] (D.content disk.old) (D.content disk.new) self.old self.new) }
-        ensures map { OnOk result (Remaps [] (D.content disk.old) (D.content disk.new) self.old self.new) }
+        ensures works { Works D.Disk [] disk.old disk.new self.old self.new result }
         ensures merges { IfOk result (λ progress. Merges progress self.old self.new) }
         ensures moves { IfOk result (λ progress. progress ≡ Finished → ⊥) }
         ensures quiet { IfOk result (λ progress. is_work progress ≡ false → disk.new ≡ disk.old) }
-        ensures err { IfErr result (MergeErrorCause D.content (GaveAny D.gave) (CountsFault D.failures D.gave) disk.old disk.new self.old self.new) }
+        ensures err { IfErr result (MergeErrorCause D.Disk disk.old disk.new self.old self.new) }
     {
         if self.hashes.is_empty() {
             return Ok(Progress::Idle);
@@ -121,14 +116,10 @@ impl Tiers {
         requires stands { Stands (D.content disk.old) self.old }
         requires some { IsSome self.old.merging }
         requires turn { merge_turn self.old ≡ Moved }
-        ensures same { SameDisk (D.content disk.old) (D.content disk.new) }
-        ensures shape { self.new.manifest.shape ≡ self.old.manifest.shape }
-        ensures failures { OnOk result (D.failures disk.new ≡ D.failures disk.old) }
-        ensures ok { OnOk result (Advances [] (D.content disk.old) (D.content disk.new) self.old self.new) }
-        ensures map { OnOk result (Remaps [] (D.content disk.old) (D.content disk.new) self.old self.new) }
+        ensures works { Works D.Disk [] disk.old disk.new self.old self.new result }
         ensures merges { IfOk result (λ progress. Merges progress self.old self.new) }
         ensures moves { IfOk result (λ progress. progress ≡ Moved) }
-        ensures err { IfErr result (MergeErrorCause D.content (GaveAny D.gave) (CountsFault D.failures D.gave) disk.old disk.new self.old self.new) }
+        ensures err { IfErr result (MergeErrorCause D.Disk disk.old disk.new self.old self.new) }
     {
         let Some(merge) = &mut self.merging else {
             unreachable!()
@@ -167,14 +158,10 @@ impl Tiers {
     ) -> Result<(), D::Fault>
         requires stands { Stands (D.content disk.old) self.old }
         requires ends { EndsMerge self.old body.now sorted }
-        ensures same { SameDisk (D.content disk.old) (D.content disk.new) }
-        ensures failures { MatchResult result (λ _. D.failures disk.new ≡ D.failures disk.old) (CountsFault D.failures D.gave disk.old disk.new) }
-        ensures ok { OnOk result (Advances [] (D.content disk.old) (D.content disk.new) self.old self.new) }
-        ensures map { Remaps [] (D.content disk.old) (D.content disk.new) self.old self.new }
+        ensures works { Works D.Disk [] disk.old disk.new self.old self.new result }
         ensures ends { OnOk result (EndsMerged self.old self.new) }
         ensures entries { OnOk result (IsTrue (D.content disk.old).honest → HasMergedEntries (D.content disk.old) (D.content disk.new) self.old self.new) }
-        ensures shape { self.new.manifest.shape ≡ self.old.manifest.shape }
-        ensures err { OnErr result (Breaks (D.content disk.old) (D.content disk.new) self.old) }
+        ensures err { IfErr result (BreaksOff D.Disk disk.old disk.new self.old self.new) }
     {
         self.settle_work(disk)?;
         let manifest = self.change_manifest(disk, body)?;
@@ -191,15 +178,11 @@ impl Tiers {
     ) -> Result<Progress, MergeError<D::Fault>>
         requires stands { Stands (D.content disk.old) self.old }
         requires turn { merge_turn self.old ≡ Finished }
-        ensures same { SameDisk (D.content disk.old) (D.content disk.new) }
-        ensures shape { self.new.manifest.shape ≡ self.old.manifest.shape }
-        ensures failures { OnOk result (D.failures disk.new ≡ D.failures disk.old) }
-        ensures ok { OnOk result (Advances [] (D.content disk.old) (D.content disk.new) self.old self.new) }
-        ensures map { OnOk result (Remaps [] (D.content disk.old) (D.content disk.new) self.old self.new) }
+        ensures works { Works D.Disk [] disk.old disk.new self.old self.new result }
         ensures merges { IfOk result (λ progress. Merges progress self.old self.new) }
         ensures entries { OnOk result (IsTrue (D.content disk.old).honest → HasMergedEntries (D.content disk.old) (D.content disk.new) self.old self.new) }
         ensures finishes { IfOk result (λ progress. progress ≡ Finished) }
-        ensures err { IfErr result (MergeErrorCause D.content (GaveAny D.gave) (CountsFault D.failures D.gave) disk.old disk.new self.old self.new) }
+        ensures err { IfErr result (MergeErrorCause D.Disk disk.old disk.new self.old self.new) }
     {
         let ruling = self.manifest.ruling();
         if ruling.generation == LAST_GENERATION {
@@ -234,15 +217,11 @@ impl Tiers {
         disk: &mut D,
     ) -> Result<Progress, MergeError<D::Fault>>
         requires stands { Stands (D.content disk.old) self.old }
-        ensures same { SameDisk (D.content disk.old) (D.content disk.new) }
-        ensures shape { self.new.manifest.shape ≡ self.old.manifest.shape }
-        ensures failures { OnOk result (D.failures disk.new ≡ D.failures disk.old) }
-        ensures ok { OnOk result (Advances [] (D.content disk.old) (D.content disk.new) self.old self.new) }
-        ensures map { OnOk result (Remaps [] (D.content disk.old) (D.content disk.new) self.old self.new) }
+        ensures works { Works D.Disk [] disk.old disk.new self.old self.new result }
         ensures merges { IfOk result (λ progress. Merges progress self.old self.new) }
         ensures entries { IfOk result (λ progress. progress ≡ Finished → IsTrue (D.content disk.old).honest → HasMergedEntries (D.content disk.old) (D.content disk.new) self.old self.new) }
         ensures quiet { IfOk result (λ progress. is_work progress ≡ false → disk.new ≡ disk.old) }
-        ensures err { IfErr result (MergeErrorCause D.content (GaveAny D.gave) (CountsFault D.failures D.gave) disk.old disk.new self.old self.new) }
+        ensures err { IfErr result (MergeErrorCause D.Disk disk.old disk.new self.old self.new) }
     {
         let Some(merge) = &self.merging else {
             return self.begin_merge(alloc, disk);

@@ -1,11 +1,10 @@
 // A put or a delete as a whole: a row in the active log, which is frozen first where it cannot take the row.
 ghost use Rattle.std.specs.Prelude.{◌≡◌, ◌+◌, ◌≤◌, [], ◌∷◌, length, IfErr, OnOk};
-ghost use Rattle.silt_device.specs.Disk.{CountsFault, GaveAny};
 ghost use Rattle.silt_event.specs.Rows.{command_of};
 ghost use Rattle.silt_log.specs.Rows.{IsValueOf};
 ghost use Rattle.silt_frame.specs.Rows.{stored_row, puts_of};
 ghost use Rattle.silt_tiers.specs.Standing.{Stands};
-ghost use Rattle.silt_tiers.specs.Calls.{Advances, Remaps, SameDisk};
+ghost use Rattle.silt_tiers.specs.Calls.{Works};
 ghost use Rattle.silt_tiers.specs.RowWrite.{NeedsNext, WriteCause, WritesKey, TurnsFor};
 
 use crate::next_log::NoNextLog;
@@ -49,16 +48,12 @@ impl Tiers {
         requires value { length value.now ≡ self.old.manifest.shape.value_len }
         requires zeros { IsValueOf kind value.now }
         requires charge { self.old.charge + puts_of kind ≤ self.old.manifest.shape.sorted_capacity }
-        ensures same { SameDisk (D.content disk.old) (D.content disk.new) }
-        ensures shape { self.new.manifest.shape ≡ self.old.manifest.shape }
-        ensures failures { OnOk result (D.failures disk.new ≡ D.failures disk.old) }
-        ensures ok { OnOk result (Advances (command_of (stored_row kind key.now value.now) ∷ []) (D.content disk.old) (D.content disk.new) self.old self.new) }
-        ensures map { OnOk result (Remaps (command_of (stored_row kind key.now value.now) ∷ []) (D.content disk.old) (D.content disk.new) self.old self.new) }
+        ensures works { Works D.Disk (command_of (stored_row kind key.now value.now) ∷ []) disk.old disk.new self.old self.new result }
         ensures charge { OnOk result (self.new.charge ≡ self.old.charge + puts_of kind) }
         ensures converting { OnOk result (self.new.converting ≡ self.old.converting) }
         ensures merging { OnOk result (self.new.merging ≡ self.old.merging) }
         ensures ruling { OnOk result (WritesKey (D.content disk.old) (D.content disk.new) self.old self.new key.now.0 (command_of (stored_row kind key.now value.now))) }
-        ensures err { IfErr result (WriteCause D.content (GaveAny D.gave) (CountsFault D.failures D.gave) disk.old disk.new self.old self.new key.now.0) }
+        ensures err { IfErr result (WriteCause D.Disk disk.old disk.new self.old self.new key.now.0) }
     {
         match self.placing(disk, key) {
             Ok(Some(placing)) => match self.write_active(disk, kind, key, value, &placing) {
@@ -84,16 +79,12 @@ impl Tiers {
         requires zeros { IsValueOf kind value.now }
         requires charge { self.old.charge + puts_of kind ≤ self.old.manifest.shape.sorted_capacity }
         requires needs { NeedsNext (D.content disk.old) self.old key.now.0 }
-        ensures same { SameDisk (D.content disk.old) (D.content disk.new) }
-        ensures shape { self.new.manifest.shape ≡ self.old.manifest.shape }
-        ensures failures { OnOk result (D.failures disk.new ≡ D.failures disk.old) }
-        ensures ok { OnOk result (Advances (command_of (stored_row kind key.now value.now) ∷ []) (D.content disk.old) (D.content disk.new) self.old self.new) }
-        ensures map { OnOk result (Remaps (command_of (stored_row kind key.now value.now) ∷ []) (D.content disk.old) (D.content disk.new) self.old self.new) }
+        ensures works { Works D.Disk (command_of (stored_row kind key.now value.now) ∷ []) disk.old disk.new self.old self.new result }
         ensures charge { OnOk result (self.new.charge ≡ self.old.charge + puts_of kind) }
         ensures converting { OnOk result (self.new.converting ≡ self.old.converting) }
         ensures merging { OnOk result (self.new.merging ≡ self.old.merging) }
         ensures ruling { OnOk result (TurnsFor (D.content disk.old) (D.content disk.new) self.old self.new key.now.0 (command_of (stored_row kind key.now value.now))) }
-        ensures err { IfErr result (WriteCause D.content (GaveAny D.gave) (CountsFault D.failures D.gave) disk.old disk.new self.old self.new key.now.0) }
+        ensures err { IfErr result (WriteCause D.Disk disk.old disk.new self.old self.new key.now.0) }
     {
         let next = match self.next_log(alloc) {
             Ok(next) => next,

@@ -1,7 +1,7 @@
 // The stores of a device in memory, and their calls.
 ghost use Rattle.std.specs.Prelude.{vec_capacity, ◌≡◌, ◌+◌, ◌<◌, ◌≤◌, [], ◌∷◌, ◌++◌, ◌↔◌, ℕ, length, nat_lt, true};
-ghost use Rattle.std.specs.Prelude.{false, None, Some, Ok, IsTrue, IfOk, IfErr, IfSome, IfNone, OnOk, OnErr, MatchResult, if◌then◌else◌};
-ghost use Rattle.silt_device.specs.Disk.{Content, CountsFault, GaveAny, LeavesOnly, size};
+ghost use Rattle.std.specs.Prelude.{false, None, Some, Ok, IsTrue, IfOk, IfErr, IfSome, IfNone, OnOk, OnErr, if◌then◌else◌};
+ghost use Rattle.silt_device.specs.Disk.{Content, GaveAny, LeavesOnly, size};
 ghost use Rattle.silt_device.specs.Layout.{device_size};
 ghost use Rattle.silt_frame.specs.declared.key.Kind.{Kind};
 ghost use Rattle.silt_event.specs.Rows.{command_of};
@@ -79,7 +79,7 @@ impl Tiers {
     ghost use Rattle.silt_log_store.specs.Calls.{IsPlacingFor};
     ghost use Rattle.silt_tiers.specs.State.{TiersState, AreHeld, AreWhole};
     ghost use Rattle.silt_tiers.specs.Standing.{Stands, waiting_commands};
-    ghost use Rattle.silt_tiers.specs.Calls.{Advances, Breaks, CannotTake, IsQuiet, Remaps, SameDisk, StaysBehind};
+    ghost use Rattle.silt_tiers.specs.Calls.{BreaksOff, CannotTake, IsQuiet, Remaps, SameDisk, StaysBehind, Works};
     ghost use Rattle.silt_tiers.specs.NextLog.{HasFrozen, IsEmptied, IsNextLog, NoNextCause, active_replaced, empty_store};
     ghost use Rattle.silt_tiers.specs.Succession.{MayRule, NowRules};
 
@@ -195,16 +195,12 @@ impl Tiers {
         requires value { length value.now ≡ self.old.manifest.shape.value_len }
         requires zeros { IsValueOf kind value.now }
         requires charge { self.old.charge + puts_of kind ≤ self.old.manifest.shape.sorted_capacity }
-        ensures same { SameDisk (D.content disk.old) (D.content disk.new) }
-        ensures failures { MatchResult result (λ _. D.failures disk.new ≡ D.failures disk.old) (CountsFault D.failures D.gave disk.old disk.new) }
-        ensures ok { OnOk result (Advances (command_of (stored_row kind key.now value.now) ∷ []) (D.content disk.old) (D.content disk.new) self.old self.new) }
-        ensures map { OnOk result (Remaps (command_of (stored_row kind key.now value.now) ∷ []) (D.content disk.old) (D.content disk.new) self.old self.new) }
+        ensures works { Works D.Disk (command_of (stored_row kind key.now value.now) ∷ []) disk.old disk.new self.old self.new result }
         ensures waits { IsTrue (D.content disk.old).honest
             → OnOk result (waiting_commands (D.content disk.new) self.new ≡ waiting_commands (D.content disk.old) self.old ++ command_of (stored_row kind key.now value.now) ∷ []) }
         ensures behind { OnOk result (StaysBehind self.old self.new) }
         ensures charge { OnOk result (self.new.charge ≡ self.old.charge + puts_of kind) }
-        ensures err { OnErr result (Breaks (D.content disk.old) (D.content disk.new) self.old) }
-        ensures unmapped { OnErr result (Remaps [] (D.content disk.old) (D.content disk.new) self.old self.new) }
+        ensures err { IfErr result (BreaksOff D.Disk disk.old disk.new self.old self.new) }
         ensures unchanged { OnErr result (self.new ≡ self.old) }
     {
         let _limits = self.manifest.geometry().sorted_capacity(); // so the charge fits its word
@@ -221,14 +217,11 @@ impl Tiers {
     pub fn flush<D: Disk>(&mut self, disk: &mut D) -> Result<(), D::Fault>
         requires waiting { self.old.active.log.settled < self.old.active.log.used }
         requires stands { Stands (D.content disk.old) self.old }
-        ensures same { SameDisk (D.content disk.old) (D.content disk.new) }
-        ensures failures { MatchResult result (λ _. D.failures disk.new ≡ D.failures disk.old) (CountsFault D.failures D.gave disk.old disk.new) }
-        ensures ok { OnOk result (Advances [] (D.content disk.old) (D.content disk.new) self.old self.new) }
-        ensures map { Remaps [] (D.content disk.old) (D.content disk.new) self.old self.new }
+        ensures works { Works D.Disk [] disk.old disk.new self.old self.new result }
         ensures quiet { OnOk result (IsQuiet (D.content disk.new) self.new) }
         ensures behind { StaysBehind self.old self.new }
         ensures charge { self.new.charge ≡ self.old.charge }
-        ensures err { OnErr result (Breaks (D.content disk.old) (D.content disk.new) self.old) }
+        ensures err { IfErr result (BreaksOff D.Disk disk.old disk.new self.old self.new) }
     {
         self.active.open_gates(disk)?;
         Ok(())
@@ -263,14 +256,11 @@ impl Tiers {
     // Settles the rows that wait, if any do.
     fn settle<D: Disk>(&mut self, disk: &mut D) -> Result<(), D::Fault>
         requires { Stands (D.content disk.old) self.old }
-        ensures same { SameDisk (D.content disk.old) (D.content disk.new) }
-        ensures failures { MatchResult result (λ _. D.failures disk.new ≡ D.failures disk.old) (CountsFault D.failures D.gave disk.old disk.new) }
-        ensures ok { OnOk result (Advances [] (D.content disk.old) (D.content disk.new) self.old self.new) }
-        ensures map { Remaps [] (D.content disk.old) (D.content disk.new) self.old self.new }
+        ensures works { Works D.Disk [] disk.old disk.new self.old self.new result }
         ensures quiet { OnOk result (IsQuiet (D.content disk.new) self.new) }
         ensures behind { StaysBehind self.old self.new }
         ensures charge { self.new.charge ≡ self.old.charge }
-        ensures err { OnErr result (Breaks (D.content disk.old) (D.content disk.new) self.old) }
+        ensures err { IfErr result (BreaksOff D.Disk disk.old disk.new self.old self.new) }
     {
         if !self.has_waiting() {
             return Ok(());
@@ -283,14 +273,11 @@ impl Tiers {
         requires stands { Stands (D.content disk.old) self.now }
         requires quiet { IsQuiet (D.content disk.old) self.now }
         requires next { IsNextLog self.now next.old }
-        ensures same { SameDisk (D.content disk.old) (D.content disk.new) }
-        ensures failures { MatchResult result (λ _. D.failures disk.new ≡ D.failures disk.old) (CountsFault D.failures D.gave disk.old disk.new) }
-        ensures ok { OnOk result (Advances [] (D.content disk.old) (D.content disk.new) self.now self.now) }
-        ensures map { Remaps [] (D.content disk.old) (D.content disk.new) self.now self.now }
+        ensures works { Works D.Disk [] disk.old disk.new self.now self.now result }
         ensures quiet { OnOk result (IsQuiet (D.content disk.new) self.now) }
         ensures emptied { OnOk result (IsEmptied (D.content disk.new) self.now next.new) }
         ensures next { next.new ≡ next.old }
-        ensures err { OnErr result (Breaks (D.content disk.old) (D.content disk.new) self.now) }
+        ensures err { IfErr result (BreaksOff D.Disk disk.old disk.new self.now self.now) }
     {
         next.store.prepare(disk)?;
         Ok(())
@@ -306,10 +293,10 @@ impl Tiers {
         requires stands { Stands (D.content disk.old) self.now }
         requires next { MayRule (D.content disk.old) self.now next.now }
         ensures same { SameDisk (D.content disk.old) (D.content disk.new) }
-        ensures failures { MatchResult result (λ _. D.failures disk.new ≡ D.failures disk.old) (CountsFault D.failures D.gave disk.old disk.new) }
+        ensures failures { OnOk result (D.failures disk.new ≡ D.failures disk.old) }
         ensures ok { IfOk result (NowRules (D.content disk.old) (D.content disk.new) self.now next.now) }
-        ensures map { Remaps [] (D.content disk.old) (D.content disk.new) self.now self.now }
-        ensures err { OnErr result (Breaks (D.content disk.old) (D.content disk.new) self.now) }
+        ensures map { OnOk result (Remaps [] (D.content disk.old) (D.content disk.new) self.now self.now) }
+        ensures err { IfErr result (BreaksOff D.Disk disk.old disk.new self.now self.now) }
     {
         let _sound = self.manifest.ruling(); // the next body is well formed as it is
         let mut manifest = self.manifest;
@@ -339,13 +326,9 @@ impl Tiers {
     pub fn freeze<D: Disk>(&mut self, disk: &mut D, mut next: NextLog) -> Result<(), D::Fault>
         requires stands { Stands (D.content disk.old) self.old }
         requires next { IsNextLog self.old next }
-        ensures same { SameDisk (D.content disk.old) (D.content disk.new) }
-        ensures failures { MatchResult result (λ _. D.failures disk.new ≡ D.failures disk.old) (CountsFault D.failures D.gave disk.old disk.new) }
-        ensures ok { OnOk result (Advances [] (D.content disk.old) (D.content disk.new) self.old self.new) }
-        ensures map { Remaps [] (D.content disk.old) (D.content disk.new) self.old self.new }
+        ensures works { Works D.Disk [] disk.old disk.new self.old self.new result }
         ensures frozen { OnOk result (HasFrozen next (D.content disk.new) self.old self.new) }
-        ensures shape { self.new.manifest.shape ≡ self.old.manifest.shape }
-        ensures err { OnErr result (Breaks (D.content disk.old) (D.content disk.new) self.old) }
+        ensures err { IfErr result (BreaksOff D.Disk disk.old disk.new self.old self.new) }
     {
         self.settle(disk)?;
         self.clear_region(disk, &mut next)?;

@@ -1,15 +1,16 @@
-use Rattle.std.proofs.Common.{◌≡◌, ◌-◌, List, length, None, refl, ap, sym, ◌∙◌, subst, arith}
+use Rattle.std.proofs.Common.{◌≡◌, ◌-◌, List, [], length, None, refl, ap, sym, ◌∙◌, subst, arith}
 use Rattle.std.specs.Prelude.{slice_get}
 use Rattle.std.specs.Option.{option_copied}
-use Rattle.silt_device.specs.Disk.{CountsFault, GaveAny}
 use Rattle.silt_device.specs.Layout.{InLimits, Shape, device_size}
 use Rattle.silt_log_store.specs.State.{LogStoreState}
 use Rattle.silt_tiers.specs.State.{TiersState}
 use Rattle.silt_tiers.specs.Standing.{Stands}
-use Rattle.silt_tiers.specs.Conversion.{convert_turn}
+use Rattle.silt_tiers.specs.Conversion.{convert_turn, refusal_of_step}
 use Rattle.silt_event.specs.declared.progress.Progress.TheVariants.{Moved}
-use Rattle.silt_tiers.proofs.ConvertSteps.{begin_converts, begin_turn, begin_waits, err_of, first_advances, first_failed_breaks, first_failed_map, first_map, started_shape, step_cause}
+use Rattle.silt_tiers.proofs.ConvertSteps.{begin_converts, begin_turn, begin_waits, first_advances, first_failed_breaks, first_failed_map, started_shape, step_cause}
+use Rattle.silt_tiers.proofs.Exits.{on_error}
 use Rattle.silt_tiers.proofs.Viewing.{state_of}
+use Rattle.silt_tiers.proofs.Works.{went}
 use Rattle.silt_tiers.proofs.tiers.Tiers.begin_conversion.Goals as goal
 
 pub returns-in_default-lowest_free_hash-clause-converts :
@@ -54,8 +55,8 @@ returns-in_err-step-clause-err g c =
     c.in-Ok.conversion c.in-Ok.ensures.start limits _ _ c.step.new.self stands (c.in-Ok.ensures.written (g.D.Disk.content c.args.disk.now)) c.step.ensures.size c.step.ensures.changes in
     let remaps = first_failed_map stores c.in-Some.oldest.now c.ruling.result c.hashes.result c.in-Some-lowest_free_hash.region read none c.self.invariant.whole c.ruling.ensures.sound c.ruling.ensures.value hashes c.in-Some-lowest_free_hash.ensures.some
     c.in-Ok.conversion c.in-Ok.ensures.start limits _ _ c.step.new.self stands (c.in-Ok.ensures.written (g.D.Disk.content c.args.disk.now)) c.step.ensures.size c.step.ensures.changes in
-    rw (← c.self.view_is) (err_of c.from_residual.result c.in_err-step.field-0.0 _ c.from_residual.ensures.1
-    (step_cause g.D.Disk.content (GaveAny g.D.Disk.gave) (CountsFault g.D.Disk.failures g.D.Disk.gave) c.args.disk.now c.step.new.disk stores stores c.in_err-step.field-0.0 c.in_err-step.ensures.failures refl turn breaks remaps))
+    rw (← c.self.view_is) (on_error c.from_residual.result (refusal_of_step c.in_err-step.field-0.0) _ c.from_residual.ensures.1
+    (step_cause g.D.Disk c.args.disk.now c.step.new.disk stores stores c.in_err-step.field-0.0 c.in_err-step.ensures.failures refl turn breaks remaps))
 
 pub invariant_of-self : goal.invariant_of-self
 invariant_of-self g c =
@@ -69,27 +70,17 @@ invariant_of-self g c =
     c.in-Ok.conversion c.in-Ok.ensures.start limits _ _ c.step.new.self stands (c.in-Ok.ensures.written (g.D.Disk.content c.args.disk.now)) c.step.ensures.size c.step.ensures.changes c.in_ok-step.ensures.ok c.step.ensures.written in
     record { whole = goes.stands.whole; enough = c.self.invariant.enough; enough_hashes = c.self.invariant.enough_hashes }
 
-pub returns-clause-ok : goal.returns-clause-ok
-returns-clause-ok g c =
+pub returns-clause-works : goal.returns-clause-works
+returns-clause-works g c =
     let stores : TiersState = state_of c.self.inside in
     let none : stores.converting ≡ None = subst (λ (v : TiersState). v.converting ≡ None) (sym c.self.view_is) c.requires.none in
     let read = sym (ap option_copied c.in-Some.is) ∙ c.last.ensures.value ∙ ap (λ (l : List LogStoreState). slice_get l (length l - 1)) c.deref.ensures.value in
     let hashes = c.hashes.ensures.value ∙ ap (λ (sh : Shape). sh.hashes) c.geometry-geometry.ensures.value in
     let limits = subst InLimits c.geometry-geometry.ensures.value c.hashes.ensures.limits in
     let stands = subst (λ (v : TiersState). Stands (g.D.Disk.content c.args.disk.now) v) (sym c.self.view_is) c.requires.stands in
-    rw (← c.self.view_is) (first_advances stores c.in-Some.oldest.now c.ruling.result c.hashes.result c.in-Some-lowest_free_hash.region read none c.self.invariant.whole c.ruling.ensures.sound c.ruling.ensures.value hashes c.in-Some-lowest_free_hash.ensures.some
-    c.in-Ok.conversion c.in-Ok.ensures.start limits _ _ c.step.new.self stands (c.in-Ok.ensures.written (g.D.Disk.content c.args.disk.now)) c.step.ensures.size c.step.ensures.changes c.in_ok-step.ensures.ok c.step.ensures.written)
-
-pub returns-clause-map : goal.returns-clause-map
-returns-clause-map g c =
-    let stores : TiersState = state_of c.self.inside in
-    let none : stores.converting ≡ None = subst (λ (v : TiersState). v.converting ≡ None) (sym c.self.view_is) c.requires.none in
-    let read = sym (ap option_copied c.in-Some.is) ∙ c.last.ensures.value ∙ ap (λ (l : List LogStoreState). slice_get l (length l - 1)) c.deref.ensures.value in
-    let hashes = c.hashes.ensures.value ∙ ap (λ (sh : Shape). sh.hashes) c.geometry-geometry.ensures.value in
-    let limits = subst InLimits c.geometry-geometry.ensures.value c.hashes.ensures.limits in
-    let stands = subst (λ (v : TiersState). Stands (g.D.Disk.content c.args.disk.now) v) (sym c.self.view_is) c.requires.stands in
-    rw (← c.self.view_is) (first_map stores c.in-Some.oldest.now c.ruling.result c.hashes.result c.in-Some-lowest_free_hash.region read none c.self.invariant.whole c.ruling.ensures.sound c.ruling.ensures.value hashes c.in-Some-lowest_free_hash.ensures.some
-    c.in-Ok.conversion c.in-Ok.ensures.start limits _ _ c.step.new.self stands (c.in-Ok.ensures.written (g.D.Disk.content c.args.disk.now)) c.step.ensures.size c.step.ensures.changes c.in_ok-step.ensures.ok c.step.ensures.written)
+    rw (← c.self.view_is) (went g.D.Disk [] c.args.disk.now c.step.new.disk stores _ _ (record { size = c.step.ensures.size; honest = c.step.ensures.changes.honest }) stands c.in_ok-step.ensures.failures
+    (first_advances stores c.in-Some.oldest.now c.ruling.result c.hashes.result c.in-Some-lowest_free_hash.region read none c.self.invariant.whole c.ruling.ensures.sound c.ruling.ensures.value hashes c.in-Some-lowest_free_hash.ensures.some
+    c.in-Ok.conversion c.in-Ok.ensures.start limits _ _ c.step.new.self stands (c.in-Ok.ensures.written (g.D.Disk.content c.args.disk.now)) c.step.ensures.size c.step.ensures.changes c.in_ok-step.ensures.ok c.step.ensures.written))
 
 pub returns-clause-converts : goal.returns-clause-converts
 returns-clause-converts g c =

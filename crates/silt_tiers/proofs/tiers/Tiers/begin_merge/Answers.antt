@@ -1,12 +1,14 @@
-use Rattle.std.proofs.Common.{◌≡◌, ◌<◌, ◌-◌, ℕ, List, length, None, refl, ap, sym, subst}
+use Rattle.std.proofs.Common.{◌≡◌, ◌<◌, ◌-◌, ℕ, List, [], length, None, refl, ap, sym, subst}
 use Rattle.std.specs.Prelude.{All}
-use Rattle.silt_device.specs.Disk.{CountsFault, GaveAny}
 use Rattle.silt_hash_store.specs.State.{HashState}
 use Rattle.silt_merge.specs.State.{oldest_stores}
 use Rattle.silt_tiers.specs.State.{TiersState}
 use Rattle.silt_tiers.specs.Standing.{Stands}
-use Rattle.silt_tiers.proofs.MergeSteps.{begun, err_of, failed_breaks, failed_map, first_lacks, first_turn, kept_by_step, some_stores, started_way, step_advances, step_cause, step_map, taken_shapes}
+use Rattle.silt_tiers.specs.Merge.{refusal_of_step}
+use Rattle.silt_tiers.proofs.MergeSteps.{begun, failed_breaks, failed_map, first_lacks, first_turn, kept_by_step, some_stores, started_way, step_advances, step_cause, taken_shapes}
+use Rattle.silt_tiers.proofs.Exits.{on_error}
 use Rattle.silt_tiers.proofs.Viewing.{state_of}
+use Rattle.silt_tiers.proofs.Works.{went}
 use Rattle.silt_tiers.proofs.tiers.Tiers.begin_merge.Goals as goal
 
 pub step-requires-clause-shapes : goal.step-requires-clause-shapes
@@ -28,8 +30,8 @@ returns-in_err-step-clause-err g c =
     let stands = subst (λ (v : TiersState). Stands (g.D.Disk.content c.args.disk.now) v) (sym c.self.view_is) c.requires.stands in
     let breaks = failed_breaks _ _ stores c.in-Ok.merge c.step.new.self stands way c.step.ensures.size c.step.ensures.region in
     let remaps = failed_map _ _ stores c.in-Ok.merge c.step.new.self stands way c.step.ensures.size c.step.ensures.region stores.merging in
-    rw (← c.self.view_is) (err_of c.from_residual.result c.in_err-step.field-0.0 _ c.from_residual.ensures.1
-    (step_cause g.D.Disk.content (GaveAny g.D.Disk.gave) (CountsFault g.D.Disk.failures g.D.Disk.gave) c.args.disk.now c.step.new.disk stores stores c.in_err-step.field-0.0 c.in_err-step.ensures.failures refl (first_turn stores none some)
+    rw (← c.self.view_is) (on_error c.from_residual.result (refusal_of_step c.in_err-step.field-0.0) _ c.from_residual.ensures.1
+    (step_cause g.D.Disk c.args.disk.now c.step.new.disk stores stores c.in_err-step.field-0.0 c.in_err-step.ensures.failures refl (first_turn stores none some)
     (λ takes. first_lacks (g.D.Disk.content c.args.disk.now) stores none) breaks remaps))
 
 pub invariant_of-self : goal.invariant_of-self
@@ -45,8 +47,8 @@ invariant_of-self g c =
     let goes = step_advances _ _ stores c.in-Ok.merge c.step.new.self stands way c.step.ensures.size c.step.ensures.region c.step.ensures.same c.step.ensures.held gathered merged in
     record { whole = goes.stands.whole; enough = c.self.invariant.enough; enough_hashes = c.self.invariant.enough_hashes }
 
-pub returns-clause-ok : goal.returns-clause-ok
-returns-clause-ok g c =
+pub returns-clause-works : goal.returns-clause-works
+returns-clause-works g c =
     let stores : TiersState = state_of c.self.inside in
     let none : stores.merging ≡ None = subst (λ (v : TiersState). v.merging ≡ None) (sym c.self.view_is) c.requires.none in
     let some : 0 < length stores.hashes = some_stores stores.hashes _ c.is_empty.result c.is_empty.ensures c.if-is_empty.false c.self.inside.hashes.ok.0 in
@@ -55,16 +57,5 @@ returns-clause-ok g c =
     let gathered = begun stores (1 - c.region-region.result) c.deref.result.now none some c.self.invariant.whole other c.deref.ensures.value c.entries-sorted.result.now c.entries-sorted.ensures c.in-Ok.merge c.in-Ok.ensures.start c.in-Ok.ensures.held (g.D.Disk.content c.args.disk.now) (c.in-Ok.ensures.merged (g.D.Disk.content c.args.disk.now)) in
     let stands = subst (λ (v : TiersState). Stands (g.D.Disk.content c.args.disk.now) v) (sym c.self.view_is) c.requires.stands in
     let merged = kept_by_step (g.D.Disk.content c.args.disk.now) (g.D.Disk.content c.step.new.disk) stores c.deref-2.result.now c.entries-sorted.result.now c.in-Ok.merge c.step.new.self c.deref-2.ensures.value c.entries-sorted.ensures c.step.ensures.merged in
-    rw (← c.self.view_is) (step_advances _ _ stores c.in-Ok.merge c.step.new.self stands way c.step.ensures.size c.step.ensures.region c.step.ensures.same c.step.ensures.held gathered merged)
-
-pub returns-clause-map : goal.returns-clause-map
-returns-clause-map g c =
-    let stores : TiersState = state_of c.self.inside in
-    let none : stores.merging ≡ None = subst (λ (v : TiersState). v.merging ≡ None) (sym c.self.view_is) c.requires.none in
-    let some : 0 < length stores.hashes = some_stores stores.hashes _ c.is_empty.result c.is_empty.ensures c.if-is_empty.false c.self.inside.hashes.ok.0 in
-    let other : 1 - c.region-region.result ≡ 1 - stores.sorted.region = ap (λ (n : ℕ). 1 - n) c.region-region.ensures.value in
-    let way = started_way stores (1 - c.region-region.result) c.deref.result.now none some c.self.invariant.whole other c.deref.ensures.value c.entries-sorted.result.now c.entries-sorted.ensures c.in-Ok.merge c.in-Ok.ensures.start c.in-Ok.ensures.held in
-    let gathered = begun stores (1 - c.region-region.result) c.deref.result.now none some c.self.invariant.whole other c.deref.ensures.value c.entries-sorted.result.now c.entries-sorted.ensures c.in-Ok.merge c.in-Ok.ensures.start c.in-Ok.ensures.held (g.D.Disk.content c.args.disk.now) (c.in-Ok.ensures.merged (g.D.Disk.content c.args.disk.now)) in
-    let stands = subst (λ (v : TiersState). Stands (g.D.Disk.content c.args.disk.now) v) (sym c.self.view_is) c.requires.stands in
-    let merged = kept_by_step (g.D.Disk.content c.args.disk.now) (g.D.Disk.content c.step.new.disk) stores c.deref-2.result.now c.entries-sorted.result.now c.in-Ok.merge c.step.new.self c.deref-2.ensures.value c.entries-sorted.ensures c.step.ensures.merged in
-    rw (← c.self.view_is) (step_map _ _ stores c.in-Ok.merge c.step.new.self stands way c.step.ensures.size c.step.ensures.region c.step.ensures.same c.step.ensures.held gathered merged)
+    rw (← c.self.view_is) (went g.D.Disk [] c.args.disk.now c.step.new.disk stores _ _ (record { size = c.step.ensures.size; honest = c.step.ensures.region.honest }) stands c.in_ok-step.ensures.failures
+    (step_advances _ _ stores c.in-Ok.merge c.step.new.self stands way c.step.ensures.size c.step.ensures.region c.step.ensures.same c.step.ensures.held gathered merged))

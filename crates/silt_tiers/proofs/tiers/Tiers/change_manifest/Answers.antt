@@ -1,8 +1,8 @@
-use Rattle.std.proofs.Common.{sym, ◌∙◌, subst}
+use Rattle.std.proofs.Common.{◌+◌, ◌%◌, ◌^◌, ℕ, ap, sym, ◌∙◌, subst}
 use Rattle.silt_tiers.specs.State.{TiersState}
 use Rattle.silt_tiers.specs.Standing.{Stands}
 use Rattle.silt_tiers.specs.Succession.{MayRule}
-use Rattle.silt_tiers.proofs.Exits.{on_err}
+use Rattle.silt_tiers.proofs.Exits.{on_error}
 use Rattle.silt_tiers.proofs.NextBodies.{at_gate, before_gate, both_steps, manifest_breaks, manifest_map, now_rules}
 use Rattle.silt_tiers.proofs.Viewing.{state_of}
 use Rattle.silt_tiers.proofs.tiers.Tiers.change_manifest.Goals as goal
@@ -12,35 +12,29 @@ prepare_next-requires-clause-next g c κs within =
     let may = subst (λ (v : TiersState). MayRule (g.D.Disk.content c.args.disk.now) v c.args.next.now) (sym c.self.view_is) c.requires.next in
     may.follows c.ruling-sound.ensures.sound
 
-pub returns-in_err-prepare_next-clause-map : goal.returns-in_err-prepare_next-clause-map
-returns-in_err-prepare_next-clause-map g c =
-    let stores : TiersState = state_of c.self.inside in
-    let stands = subst (λ (v : TiersState). Stands (g.D.Disk.content c.args.disk.now) v) (sym c.self.view_is) c.requires.stands in
-    let may = subst (λ (v : TiersState). MayRule (g.D.Disk.content c.args.disk.now) v c.args.next.now) (sym c.self.view_is) c.requires.next in
-    rw (← c.self.view_is) (manifest_map (g.D.Disk.content c.args.disk.now) (g.D.Disk.content c.prepare_next.new.disk) stores c.args.next.now stands may c.prepare_next.ensures.size c.prepare_next.ensures.changes (before_gate (g.D.Disk.content c.prepare_next.new.disk) stores c.args.next.now c.prepare_next.ensures.each))
-
 pub returns-in_err-prepare_next-clause-err : goal.returns-in_err-prepare_next-clause-err
 returns-in_err-prepare_next-clause-err g c =
     let stores : TiersState = state_of c.self.inside in
     let stands = subst (λ (v : TiersState). Stands (g.D.Disk.content c.args.disk.now) v) (sym c.self.view_is) c.requires.stands in
     let may = subst (λ (v : TiersState). MayRule (g.D.Disk.content c.args.disk.now) v c.args.next.now) (sym c.self.view_is) c.requires.next in
-    on_err c.from_residual.result (rw (← c.self.view_is) (manifest_breaks (g.D.Disk.content c.args.disk.now) (g.D.Disk.content c.prepare_next.new.disk) stores c.args.next.now stands may c.prepare_next.ensures.size c.prepare_next.ensures.changes (before_gate (g.D.Disk.content c.prepare_next.new.disk) stores c.args.next.now c.prepare_next.ensures.each)))
-
-pub returns-in_err-commit_next-clause-map : goal.returns-in_err-commit_next-clause-map
-returns-in_err-commit_next-clause-map g c =
-    let stores : TiersState = state_of c.self.inside in
-    let stands = subst (λ (v : TiersState). Stands (g.D.Disk.content c.args.disk.now) v) (sym c.self.view_is) c.requires.stands in
-    let may = subst (λ (v : TiersState). MayRule (g.D.Disk.content c.args.disk.now) v c.args.next.now) (sym c.self.view_is) c.requires.next in
-    rw (← c.self.view_is) (manifest_map (g.D.Disk.content c.args.disk.now) (g.D.Disk.content c.commit_next.new.disk) stores c.args.next.now stands may (c.commit_next.ensures.size ∙ c.prepare_next.ensures.size)
-    (both_steps stores c.args.next.now c.prepare_next.new.self c.in_ok-prepare_next.ensures.state (g.D.Disk.content c.args.disk.now) (g.D.Disk.content c.prepare_next.new.disk) (g.D.Disk.content c.commit_next.new.disk) c.prepare_next.ensures.changes c.commit_next.ensures.changes) (at_gate stores c.args.next.now c.prepare_next.new.self c.in_ok-prepare_next.ensures.state (g.D.Disk.content c.commit_next.new.disk) c.commit_next.ensures.each))
+    on_error c.from_residual.result c.in_err-prepare_next.field-0.0 _ c.from_residual.ensures.1 (rw (← c.self.view_is) (record {
+      counted = c.in_err-prepare_next.ensures.failures;
+      breaks = manifest_breaks (g.D.Disk.content c.args.disk.now) (g.D.Disk.content c.prepare_next.new.disk) stores c.args.next.now stands may c.prepare_next.ensures.size c.prepare_next.ensures.changes (before_gate (g.D.Disk.content c.prepare_next.new.disk) stores c.args.next.now c.prepare_next.ensures.each);
+      map = manifest_map (g.D.Disk.content c.args.disk.now) (g.D.Disk.content c.prepare_next.new.disk) stores c.args.next.now stands may c.prepare_next.ensures.size c.prepare_next.ensures.changes (before_gate (g.D.Disk.content c.prepare_next.new.disk) stores c.args.next.now c.prepare_next.ensures.each);
+    }))
 
 pub returns-in_err-commit_next-clause-err : goal.returns-in_err-commit_next-clause-err
 returns-in_err-commit_next-clause-err g c =
     let stores : TiersState = state_of c.self.inside in
     let stands = subst (λ (v : TiersState). Stands (g.D.Disk.content c.args.disk.now) v) (sym c.self.view_is) c.requires.stands in
     let may = subst (λ (v : TiersState). MayRule (g.D.Disk.content c.args.disk.now) v c.args.next.now) (sym c.self.view_is) c.requires.next in
-    on_err c.from_residual-in_err-commit_next.result (rw (← c.self.view_is) (manifest_breaks (g.D.Disk.content c.args.disk.now) (g.D.Disk.content c.commit_next.new.disk) stores c.args.next.now stands may (c.commit_next.ensures.size ∙ c.prepare_next.ensures.size)
-    (both_steps stores c.args.next.now c.prepare_next.new.self c.in_ok-prepare_next.ensures.state (g.D.Disk.content c.args.disk.now) (g.D.Disk.content c.prepare_next.new.disk) (g.D.Disk.content c.commit_next.new.disk) c.prepare_next.ensures.changes c.commit_next.ensures.changes) (at_gate stores c.args.next.now c.prepare_next.new.self c.in_ok-prepare_next.ensures.state (g.D.Disk.content c.commit_next.new.disk) c.commit_next.ensures.each)))
+    on_error c.from_residual-in_err-commit_next.result c.in_err-commit_next.field-0.0 _ c.from_residual-in_err-commit_next.ensures.1 (rw (← c.self.view_is) (record {
+      counted = (c.in_err-commit_next.ensures.failures.0 ∙ ap (λ (n : ℕ). (n + 1) % 2 ^ 64) c.in_ok-prepare_next.ensures.failures, c.in_err-commit_next.ensures.failures.1);
+      breaks = manifest_breaks (g.D.Disk.content c.args.disk.now) (g.D.Disk.content c.commit_next.new.disk) stores c.args.next.now stands may (c.commit_next.ensures.size ∙ c.prepare_next.ensures.size)
+          (both_steps stores c.args.next.now c.prepare_next.new.self c.in_ok-prepare_next.ensures.state (g.D.Disk.content c.args.disk.now) (g.D.Disk.content c.prepare_next.new.disk) (g.D.Disk.content c.commit_next.new.disk) c.prepare_next.ensures.changes c.commit_next.ensures.changes) (at_gate stores c.args.next.now c.prepare_next.new.self c.in_ok-prepare_next.ensures.state (g.D.Disk.content c.commit_next.new.disk) c.commit_next.ensures.each);
+      map = manifest_map (g.D.Disk.content c.args.disk.now) (g.D.Disk.content c.commit_next.new.disk) stores c.args.next.now stands may (c.commit_next.ensures.size ∙ c.prepare_next.ensures.size)
+          (both_steps stores c.args.next.now c.prepare_next.new.self c.in_ok-prepare_next.ensures.state (g.D.Disk.content c.args.disk.now) (g.D.Disk.content c.prepare_next.new.disk) (g.D.Disk.content c.commit_next.new.disk) c.prepare_next.ensures.changes c.commit_next.ensures.changes) (at_gate stores c.args.next.now c.prepare_next.new.self c.in_ok-prepare_next.ensures.state (g.D.Disk.content c.commit_next.new.disk) c.commit_next.ensures.each);
+    }))
 
 pub returns-clause-ok : goal.returns-clause-ok
 returns-clause-ok g c =

@@ -1,15 +1,16 @@
-use Rattle.std.proofs.Common.{◌≡◌, ◌-◌, List, length, Option, Some, ap, sym, ◌∙◌, subst}
+use Rattle.std.proofs.Common.{◌≡◌, ◌-◌, List, [], length, Option, Some, ap, sym, ◌∙◌, subst}
 use Rattle.std.specs.Prelude.{slice_get}
 use Rattle.std.specs.Option.{option_copied}
-use Rattle.silt_device.specs.Disk.{CountsFault, GaveAny}
 use Rattle.silt_log_store.specs.State.{LogStoreState}
 use Rattle.silt_hash_store.specs.Conversion.{ConversionState}
 use Rattle.silt_tiers.specs.State.{TiersState}
 use Rattle.silt_tiers.specs.Standing.{Stands}
-use Rattle.silt_tiers.specs.Conversion.{convert_turn}
+use Rattle.silt_tiers.specs.Conversion.{convert_turn, refusal_of_step}
 use Rattle.silt_event.specs.declared.progress.Progress.TheVariants.{Moved}
-use Rattle.silt_tiers.proofs.ConvertSteps.{err_of, next_advances, next_failed_breaks, next_failed_map, next_map, step_cause}
+use Rattle.silt_tiers.proofs.ConvertSteps.{next_advances, next_failed_breaks, next_failed_map, step_cause}
+use Rattle.silt_tiers.proofs.Exits.{on_error}
 use Rattle.silt_tiers.proofs.Viewing.{state_of}
+use Rattle.silt_tiers.proofs.Works.{went}
 use Rattle.silt_tiers.proofs.tiers.Tiers.step_conversion.Goals as goal
 
 pub returns-in_err-step-clause-err : goal.returns-in_err-step-clause-err
@@ -22,21 +23,14 @@ returns-in_err-step-clause-err g c =
     let same : after ≡ stores = ap (λ (v : ConversionState). record stores { converting = Some v }) c.in_err-step.ensures.err ∙ ap (λ (o : Option ConversionState). record stores { converting = o }) (sym c.in-Some.is) in
     let breaks = next_failed_breaks _ _ stores c.in-Some-last.log.now c.in-Some.conversion c.step.new.self stands read c.in-Some.is turn c.step.ensures.size c.step.ensures.changes in
     let remaps = next_failed_map _ _ stores c.in-Some-last.log.now c.in-Some.conversion c.step.new.self stands read c.in-Some.is turn c.step.ensures.size c.step.ensures.changes (Some c.step.new.self) in
-    rw (← c.self.view_is) (err_of c.from_residual.result c.in_err-step.field-0.0 _ c.from_residual.ensures.1
-    (step_cause g.D.Disk.content (GaveAny g.D.Disk.gave) (CountsFault g.D.Disk.failures g.D.Disk.gave) c.args.disk.now c.step.new.disk stores after c.in_err-step.field-0.0 c.in_err-step.ensures.failures same turn breaks remaps))
+    rw (← c.self.view_is) (on_error c.from_residual.result (refusal_of_step c.in_err-step.field-0.0) _ c.from_residual.ensures.1
+    (step_cause g.D.Disk c.args.disk.now c.step.new.disk stores after c.in_err-step.field-0.0 c.in_err-step.ensures.failures same turn breaks remaps))
 
-pub returns-clause-ok : goal.returns-clause-ok
-returns-clause-ok g c =
+pub returns-clause-works : goal.returns-clause-works
+returns-clause-works g c =
     let stores : TiersState = state_of c.self.inside in
     let stands = subst (λ (v : TiersState). Stands (g.D.Disk.content c.args.disk.now) v) (sym c.self.view_is) c.requires.stands in
     let turn = subst (λ (v : TiersState). convert_turn v ≡ Moved) (sym c.self.view_is) c.requires.turn in
     let read = sym (ap option_copied c.in-Some-last.is) ∙ c.last.ensures.value ∙ ap (λ (l : List LogStoreState). slice_get l (length l - 1)) c.deref.ensures.value in
-    rw (← c.self.view_is) (next_advances _ _ stores c.in-Some-last.log.now c.in-Some.conversion c.step.new.self stands read c.in-Some.is turn c.step.ensures.size c.step.ensures.changes c.in_ok-step.ensures.ok c.step.ensures.written)
-
-pub returns-clause-map : goal.returns-clause-map
-returns-clause-map g c =
-    let stores : TiersState = state_of c.self.inside in
-    let stands = subst (λ (v : TiersState). Stands (g.D.Disk.content c.args.disk.now) v) (sym c.self.view_is) c.requires.stands in
-    let turn = subst (λ (v : TiersState). convert_turn v ≡ Moved) (sym c.self.view_is) c.requires.turn in
-    let read = sym (ap option_copied c.in-Some-last.is) ∙ c.last.ensures.value ∙ ap (λ (l : List LogStoreState). slice_get l (length l - 1)) c.deref.ensures.value in
-    rw (← c.self.view_is) (next_map _ _ stores c.in-Some-last.log.now c.in-Some.conversion c.step.new.self stands read c.in-Some.is turn c.step.ensures.size c.step.ensures.changes c.in_ok-step.ensures.ok c.step.ensures.written)
+    rw (← c.self.view_is) (went g.D.Disk [] c.args.disk.now c.step.new.disk stores _ _ (record { size = c.step.ensures.size; honest = c.step.ensures.changes.honest }) stands c.in_ok-step.ensures.failures
+    (next_advances _ _ stores c.in-Some-last.log.now c.in-Some.conversion c.step.new.self stands read c.in-Some.is turn c.step.ensures.size c.step.ensures.changes c.in_ok-step.ensures.ok c.step.ensures.written))

@@ -1,15 +1,16 @@
-use Rattle.std.proofs.Common.{◌≡◌, List, Option, Some, ap, sym, ◌∙◌, subst}
+use Rattle.std.proofs.Common.{◌≡◌, List, [], Option, Some, ap, sym, ◌∙◌, subst}
 use Rattle.std.specs.Prelude.{All, IfSome}
-use Rattle.silt_device.specs.Disk.{CountsFault, GaveAny}
 use Rattle.silt_hash_store.specs.State.{HashState}
 use Rattle.silt_merge.specs.Merging.{TakesMemory}
 use Rattle.silt_merge.specs.State.{MergeState, oldest_stores}
 use Rattle.silt_tiers.specs.State.{TiersState}
 use Rattle.silt_tiers.specs.Standing.{Stands}
-use Rattle.silt_tiers.specs.Merge.{merge_turn}
+use Rattle.silt_tiers.specs.Merge.{merge_turn, refusal_of_step}
 use Rattle.silt_event.specs.declared.progress.Progress.TheVariants.{Moved}
-use Rattle.silt_tiers.proofs.MergeSteps.{err_of, failed_breaks, failed_map, gathered_of, kept_by_step, merging_of, step_advances, step_cause, step_map, taken_shapes}
+use Rattle.silt_tiers.proofs.MergeSteps.{failed_breaks, failed_map, gathered_of, kept_by_step, merging_of, step_advances, step_cause, taken_shapes}
+use Rattle.silt_tiers.proofs.Exits.{on_error}
 use Rattle.silt_tiers.proofs.Viewing.{state_of}
+use Rattle.silt_tiers.proofs.Works.{went}
 use Rattle.silt_tiers.proofs.tiers.Tiers.step_merge.Goals as goal
 
 pub step-requires-clause-shapes : goal.step-requires-clause-shapes
@@ -28,8 +29,8 @@ returns-in_err-step-clause-err g c =
     let same : after ≡ stores = ap (λ (v : MergeState). record stores { merging = Some v }) c.in_err-step.ensures.err ∙ ap (λ (o : Option MergeState). record stores { merging = o }) (sym c.in-Some.is) in
     let breaks = failed_breaks _ _ stores c.in-Some.merge c.step.new.self stands way c.step.ensures.size c.step.ensures.region in
     let remaps = failed_map _ _ stores c.in-Some.merge c.step.new.self stands way c.step.ensures.size c.step.ensures.region (Some c.step.new.self) in
-    rw (← c.self.view_is) (err_of c.from_residual.result c.in_err-step.field-0.0 _ c.from_residual.ensures.1
-    (step_cause g.D.Disk.content (GaveAny g.D.Disk.gave) (CountsFault g.D.Disk.failures g.D.Disk.gave) c.args.disk.now c.step.new.disk stores after c.in_err-step.field-0.0 c.in_err-step.ensures.failures same turn
+    rw (← c.self.view_is) (on_error c.from_residual.result (refusal_of_step c.in_err-step.field-0.0) _ c.from_residual.ensures.1
+    (step_cause g.D.Disk c.args.disk.now c.step.new.disk stores after c.in_err-step.field-0.0 c.in_err-step.ensures.failures same turn
     (λ takes. subst (λ (o : Option MergeState). IfSome o (λ merge. TakesMemory (g.D.Disk.content c.args.disk.now) (oldest_stores merge.stores stores.hashes) merge)) (sym c.in-Some.is)
     (subst (λ (l : List HashState). TakesMemory (g.D.Disk.content c.args.disk.now) (oldest_stores c.in-Some.merge.stores l) c.in-Some.merge) c.deref.ensures.value takes)) breaks remaps))
 
@@ -43,20 +44,12 @@ invariant_of-self-2 g c =
     let goes = step_advances _ _ stores c.in-Some.merge c.step.new.self stands way c.step.ensures.size c.step.ensures.region c.step.ensures.same c.step.ensures.held gathered merged in
     record { whole = goes.stands.whole; enough = c.self.invariant.enough; enough_hashes = c.self.invariant.enough_hashes }
 
-pub returns-clause-ok : goal.returns-clause-ok
-returns-clause-ok g c =
+pub returns-clause-works : goal.returns-clause-works
+returns-clause-works g c =
     let stores : TiersState = state_of c.self.inside in
     let way = merging_of stores c.in-Some.merge c.self.invariant.whole c.in-Some.is in
     let stands = subst (λ (v : TiersState). Stands (g.D.Disk.content c.args.disk.now) v) (sym c.self.view_is) c.requires.stands in
     let gathered = gathered_of (g.D.Disk.content c.args.disk.now) stores c.in-Some.merge stands c.in-Some.is in
     let merged = kept_by_step (g.D.Disk.content c.args.disk.now) (g.D.Disk.content c.step.new.disk) stores c.deref.result.now c.entries.result.now c.in-Some.merge c.step.new.self c.deref.ensures.value c.entries.ensures c.step.ensures.merged in
-    rw (← c.self.view_is) (step_advances _ _ stores c.in-Some.merge c.step.new.self stands way c.step.ensures.size c.step.ensures.region c.step.ensures.same c.step.ensures.held gathered merged)
-
-pub returns-clause-map : goal.returns-clause-map
-returns-clause-map g c =
-    let stores : TiersState = state_of c.self.inside in
-    let way = merging_of stores c.in-Some.merge c.self.invariant.whole c.in-Some.is in
-    let stands = subst (λ (v : TiersState). Stands (g.D.Disk.content c.args.disk.now) v) (sym c.self.view_is) c.requires.stands in
-    let gathered = gathered_of (g.D.Disk.content c.args.disk.now) stores c.in-Some.merge stands c.in-Some.is in
-    let merged = kept_by_step (g.D.Disk.content c.args.disk.now) (g.D.Disk.content c.step.new.disk) stores c.deref.result.now c.entries.result.now c.in-Some.merge c.step.new.self c.deref.ensures.value c.entries.ensures c.step.ensures.merged in
-    rw (← c.self.view_is) (step_map _ _ stores c.in-Some.merge c.step.new.self stands way c.step.ensures.size c.step.ensures.region c.step.ensures.same c.step.ensures.held gathered merged)
+    rw (← c.self.view_is) (went g.D.Disk [] c.args.disk.now c.step.new.disk stores _ _ (record { size = c.step.ensures.size; honest = c.step.ensures.region.honest }) stands c.in_ok-step.ensures.failures
+    (step_advances _ _ stores c.in-Some.merge c.step.new.self stands way c.step.ensures.size c.step.ensures.region c.step.ensures.same c.step.ensures.held gathered merged))

@@ -9,5 +9,5 @@ returns-in-Ok-clause-ruling g c = inl (record {
   has_place = has_place (g.D.Disk.content c.args.disk.now) c.args.self.now c.args.key.now.0 c.in-Ok-Some.field-0 c.in-Ok-Some.placing c.in-Ok-Some.field-0-is c.in-Ok-Some.ensures.none c.requires.stands;
   ruling = ap (λ m. m.ruling) c.in-Ok.ensures.behind.manifest;
   waits = λ h. waits_behind (command_of (stored_row c.args.kind c.args.key.now c.args.value.now)) (g.D.Disk.content c.args.disk.now) (g.D.Disk.content c.write_active.new.disk) c.args.self.now c.write_active.new.self
-      (c.in-Ok.ensures.ok.moves h) (c.in-Ok.ensures.waits h);
+      (c.in-Ok.ensures.works.advances.moves h) (c.in-Ok.ensures.waits h);
 })
