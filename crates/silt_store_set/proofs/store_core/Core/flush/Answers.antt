@@ -9,13 +9,13 @@ returns-then-not-has_waiting g c = rw (← c.self.view_is) (flushed_none g.D.Dis
 
 pub returns-in-Ok : goal.returns-in-Ok
 returns-in-Ok g c = rw (← c.self.view_is, c.if-self.false) (flushed g.D.Disk c.self.inside.disk c.self.inside.tiers c.self.inside.count
-    (c.self.invariant.stands c.if-self.false) c.flush.new.disk c.flush.new.self (sym c.has_waiting.ensures ∙ c.if-not-has_waiting.false) c.flush.ensures.same c.in-Ok.ensures.ok c.in-Ok.ensures.quiet c.flush.ensures.behind.manifest c.flush.ensures.behind.converting c.flush.ensures.behind.merging c.in-Ok.ensures.failures)
+    (c.self.invariant.stands c.if-self.false) c.flush.new.disk c.flush.new.self (sym c.has_waiting.ensures ∙ c.if-not-has_waiting.false) c.flush.ensures.works.same c.in-Ok.ensures.works.advances c.in-Ok.ensures.quiet c.flush.ensures.behind.manifest c.flush.ensures.behind.converting c.flush.ensures.behind.merging c.in-Ok.ensures.works.failures)
 
 pub returns-in-Err : goal.returns-in-Err
 returns-in-Err g c = rw (← c.self.view_is, c.if-self.false) (flush_broke g.D.Disk c.self.inside.disk c.self.inside.tiers c.self.inside.count
-    (c.self.invariant.stands c.if-self.false) c.flush.new.disk c.flush.new.self c.in-Err.fault c.flush.ensures.same c.in-Err.ensures.err c.flush.ensures.map c.flush.ensures.behind.manifest c.in-Err.ensures.failures.1 c.in-Err.ensures.failures.0)
+    (c.self.invariant.stands c.if-self.false) c.flush.new.disk c.flush.new.self c.in-Err.fault c.flush.ensures.works.same c.in-Err.ensures.err.breaks c.in-Err.ensures.err.map c.flush.ensures.behind.manifest c.in-Err.ensures.err.counted.1 c.in-Err.ensures.err.counted.0)
 
 pub invariant_of-self-in-Err : goal.invariant_of-self-in-Err
 invariant_of-self-in-Err g c =
-    core_broke (g.D.Disk.content c.self.inside.disk) (g.D.Disk.content c.flush.new.disk) c.self.inside.tiers c.flush.new.self c.self.inside.count c.self.inside.failed c.self.invariant c.flush.ensures.same
-    (ap (λ m. m.shape) c.flush.ensures.behind.manifest) c.in-Err.ensures.err
+    core_broke (g.D.Disk.content c.self.inside.disk) (g.D.Disk.content c.flush.new.disk) c.self.inside.tiers c.flush.new.self c.self.inside.count c.self.inside.failed c.self.invariant c.flush.ensures.works.same
+    (ap (λ m. m.shape) c.flush.ensures.behind.manifest) c.in-Err.ensures.err.breaks

@@ -8,7 +8,7 @@ returns-in-Ok g c =
     let may = rw (← c.self.view_is) at c.requires.may in
     let working = may_working c.args.kind (seen g.D.Disk c.self.inside.disk c.self.inside.tiers c.self.inside.count c.self.inside.failed) may in
     rw (← c.self.view_is, working) (row_taken g.D.Disk c.self.inside.disk c.self.inside.tiers c.self.inside.count
-    (c.self.invariant.stands working) c.write.new.disk c.write.new.self c.args.kind c.args.key.now c.args.value.now (rw working at may) c.write.ensures.same c.in-Ok.ensures.ok c.in-Ok.ensures.ruling c.in-Ok.ensures.converting c.in-Ok.ensures.merging c.in-Ok.ensures.failures)
+    (c.self.invariant.stands working) c.write.new.disk c.write.new.self c.args.kind c.args.key.now c.args.value.now (rw working at may) c.write.ensures.works.same c.in-Ok.ensures.works.advances c.in-Ok.ensures.ruling c.in-Ok.ensures.converting c.in-Ok.ensures.merging c.in-Ok.ensures.works.failures)
 
 pub returns-in-Err-Write : goal.returns-in-Err-Write
 returns-in-Err-Write g c =
@@ -16,7 +16,7 @@ returns-in-Err-Write g c =
     let may = rw (← c.self.view_is) at c.requires.may in
     let working = may_working c.args.kind (seen g.D.Disk c.self.inside.disk c.self.inside.tiers c.self.inside.count c.self.inside.failed) may in
     rw (← c.self.view_is, working) (row_broke g.D.Disk c.self.inside.disk c.self.inside.tiers c.self.inside.count
-    (c.self.invariant.stands working) c.write.new.disk c.write.new.self c.args.kind c.args.key.now c.args.value.now c.in-Err-Write.fault (rw working at may) c.write.ensures.same err.1 err.2 c.write.ensures.shape err.0.1 err.0.0)
+    (c.self.invariant.stands working) c.write.new.disk c.write.new.self c.args.kind c.args.key.now c.args.value.now c.in-Err-Write.fault (rw working at may) c.write.ensures.works.same err.breaks err.map c.write.ensures.works.shape err.counted.1 err.counted.0)
 
 pub returns-in-Err-Read : goal.returns-in-Err-Read
 returns-in-Err-Read g c =
@@ -53,11 +53,11 @@ returns-in-Err-NoMemory g c =
 pub invariant_of-self-in-Err-Write : goal.invariant_of-self-in-Err-Write
 invariant_of-self-in-Err-Write g c =
     let err = rw c.in-Err-Write.field-0-is at c.in-Err-Write.ensures.err in
-    core_broke (g.D.Disk.content c.self.inside.disk) (g.D.Disk.content c.write.new.disk) c.self.inside.tiers c.write.new.self c.self.inside.count c.self.inside.failed c.self.invariant c.write.ensures.same c.write.ensures.shape err.1
+    core_broke (g.D.Disk.content c.self.inside.disk) (g.D.Disk.content c.write.new.disk) c.self.inside.tiers c.write.new.self c.self.inside.count c.self.inside.failed c.self.invariant c.write.ensures.works.same c.write.ensures.works.shape err.breaks
 
 pub invariant_of-self : goal.invariant_of-self
 invariant_of-self g c =
     let may = rw (← c.self.view_is) at c.requires.may in
     let before = seen g.D.Disk c.self.inside.disk c.self.inside.tiers c.self.inside.count c.self.inside.failed in
     core_went (_ ∷ []) (g.D.Disk.content c.self.inside.disk) (g.D.Disk.content c.write.new.disk) c.self.inside.tiers c.write.new.self c.self.inside.count (c.self.inside.count + 1) c.self.inside.failed
-    c.self.invariant (may_working c.args.kind before may) c.write.ensures.same c.in-Ok.ensures.ok (omega arith) (may_count c.args.kind before may)
+    c.self.invariant (may_working c.args.kind before may) c.write.ensures.works.same c.in-Ok.ensures.works.advances (omega arith) (may_count c.args.kind before may)
