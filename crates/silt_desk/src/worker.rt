@@ -18,7 +18,6 @@ use silt_device::Disk;
 use silt_event::{Progress, Refusal};
 use std::alloc::Global;
 use std::sync::Wait;
-use std::thread;
 
 /// What a worker is told.
 #[derive(Clone, Copy, Debug, PartialEq, Eq)]
@@ -120,10 +119,7 @@ fn rest<W: Hears, R: Wait>(rt: &R, turn: Turn, wakes: &W, other: &Sender<Wake>) 
     ensures { result ≡ false → W.has_ended wakes.now }
 {
     match turn {
-        Turn::GoOn => {
-            thread::yield_now();
-            true
-        }
+        Turn::GoOn => true,
         Turn::WakeOther => {
             let _ = other.send(rt, Wake::Go); // the other one may have ended
             true
