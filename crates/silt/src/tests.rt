@@ -8,6 +8,7 @@ mod library;
 mod lines;
 mod notes;
 mod scripts;
+mod steps;
 
 use crate::done;
 use crate::failure::{Failure, Watched};
@@ -312,6 +313,19 @@ pub(crate) fn with_keys<S: AllocGlobal>(rt: &S, text: &str) -> Result<Vec<u8>, A
     Ok(bytes)
 }
 
+// Compares the status with which a call ended, if it did, and what it wrote.
+pub(crate) fn compare<S: Abort>(
+    rt: &S,
+    call: &str,
+    code: Option<u8>,
+    out: &[u8],
+    status: u8,
+    output: &[u8],
+) {
+    assert_eq!(rt; out, output, "{call}");
+    assert_eq!(rt; code, Some(status), "{call}");
+}
+
 // Runs the program on a text, and compares its status and what it writes.
 pub(crate) fn answers<
     S: Files<File = File>
@@ -325,9 +339,8 @@ pub(crate) fn answers<
     let text = with_keys(rt, text)?;
     let mut out = Vec::new(rt.alloc());
     let mut reader = Cursor::new(text.as_slice());
-    let code = status_of_call(rt, call, &mut reader, &mut out, &mut Counted::new())?;
-    assert_eq!(rt; out.as_slice(), output.as_bytes(), "{call}: {output}");
-    assert_eq!(rt; code, status, "{call}: {output}");
+    let code = status_of_call(rt, call, &mut reader, &mut out, &mut Counted::new());
+    compare(rt, call, code.ok(), &out, status, output.as_bytes());
     Ok(())
 }
 
@@ -395,9 +408,8 @@ pub(crate) fn reads<
         + Sync,
 >(rt: &S, call: &str, reader: &mut Pieces, status: u8, output: &[u8]) -> Result<(), Fail> {
     let mut out = Vec::new(rt.alloc());
-    let code = status_of_call(rt, call, reader, &mut out, &mut Counted::new())?;
-    assert_eq!(rt; out.as_slice(), output);
-    assert_eq!(rt; code, status);
+    let code = status_of_call(rt, call, reader, &mut out, &mut Counted::new());
+    compare(rt, call, code.ok(), &out, status, output);
     Ok(())
 }
 
@@ -440,9 +452,8 @@ pub(crate) fn writes_short<
         room: output.len(),
     };
     let mut reader = Cursor::new(text);
-    let code = status_of_call(rt, call, &mut reader, &mut writer, &mut Counted::new())?;
-    assert_eq!(rt; code, 1);
-    assert_eq!(rt; writer.taken.as_slice(), output);
+    let code = status_of_call(rt, call, &mut reader, &mut writer, &mut Counted::new());
+    compare(rt, call, code.ok(), &writer.taken, 1, output);
     Ok(())
 }
 

@@ -4,7 +4,7 @@ use crate::failure::Watched;
 use crate::files::{check_file, format_file, run_file};
 use crate::jobs::{check_on, format_on, run_on};
 use crate::tests::scripts::FIVE_PUTS;
-use crate::tests::{Counted, with_keys};
+use crate::tests::{Counted, compare, with_keys};
 use silt_device::{Call, Disk, FaultDisk, Geometry, MemDisk, NamedDisk};
 use silt_store_set::Served;
 use silt_words::Numbers;
@@ -19,7 +19,7 @@ fn formats<S: AllocGlobal + Abort, D: Disk>(
     geometry: Geometry,
     status: u8,
     output: &[u8],
-) -> Result<D, Fail> {
+) -> D {
     let mut out = Vec::new(rt.alloc());
     let (disk, code) = format_on(
         rt.alloc(),
@@ -29,9 +29,8 @@ fn formats<S: AllocGlobal + Abort, D: Disk>(
         &mut out,
         &mut Counted::new(),
     );
-    assert_eq!(rt; out.as_slice(), output);
-    assert_eq!(rt; code?, status);
-    Ok(disk)
+    compare(rt, "format", code.ok(), &out, status, output);
+    disk
 }
 
 // Runs one life on a disk, and compares the status and what is written.
@@ -41,7 +40,7 @@ fn runs<S: AllocGlobal + Abort, D: Served + Watched>(
     text: &[u8],
     status: u8,
     output: &[u8],
-) -> Result<D, Fail> {
+) -> D {
     let mut reader = Cursor::new(text);
     let mut out = Vec::new(rt.alloc());
     let (disk, code) = run_on(
@@ -52,83 +51,88 @@ fn runs<S: AllocGlobal + Abort, D: Served + Watched>(
         &mut out,
         &mut Counted::new(),
     );
-    assert_eq!(rt; out.as_slice(), output);
-    assert_eq!(rt; code?, status);
-    Ok(disk)
+    compare(rt, "run", code.ok(), &out, status, output);
+    disk
 }
 
 // Checks a disk, and compares the status and what is written.
-fn checks<S: AllocGlobal + Abort, D: Disk>(
-    rt: &S,
-    disk: &D,
-    status: u8,
-    output: &[u8],
-) -> Result<(), Fail> {
+fn checks<S: AllocGlobal + Abort, D: Disk>(rt: &S, disk: &D, status: u8, output: &[u8]) {
     let mut out = Vec::new(rt.alloc());
     let code = check_on(rt.alloc(), disk, "disk", &mut out, &mut Counted::new());
-    assert_eq!(rt; out.as_slice(), output);
-    assert_eq!(rt; code?, status);
-    Ok(())
+    compare(rt, "check", code.ok(), &out, status, output);
 }
 
 // A new disk that was formatted, of 45,056 bytes.
 fn formatted<S: AllocGlobal + Abort>(rt: &S, geometry: Geometry) -> Result<MemDisk, Fail> {
     let disk = MemDisk::new(rt.alloc(), 45_056)?;
-    formats(rt, disk, geometry, 0, b"formatted 45056\n")
+    Ok(formats(rt, disk, geometry, 0, b"formatted 45056\n"))
 }
 
 // Two lives on one disk, of which the second finds what was flushed.
-#[test]
-fn runs_on_a_disk(rt: HostRuntime) -> Result<(), Fail> {
-    let disk = formatted(&rt, Geometry::new(2, 2, 4, 2, 2, 8)?)?;
+fn runs_twice<S: AllocGlobal + Abort>(rt: &S, disk: MemDisk) {
     let text = b"put =abc 0102\nflush\nget =abc\n";
     let output = b"opened\naccepted 1\nacknowledged 1\nvalue 0102\n";
-    let disk = runs(&rt, disk, text, 0, output)?;
+    let disk = runs(rt, disk, text, 0, output);
     let text = b"get =abc\nstop 0 old\ndelete =abc\nget =abc";
     let output = b"opened\nvalue 0102\nrefused 20 BadLine\naccepted 1\n";
-    runs(&rt, disk, text, 0, output)?;
+    runs(rt, disk, text, 0, output);
+}
+
+#[test]
+fn runs_on_a_disk(rt: HostRuntime) -> Result<(), Fail> {
+    runs_twice(&rt, formatted(&rt, Geometry::new(2, 2, 4, 2, 2, 8)?)?);
     Ok(())
+}
+
+// Five puts that are flushed, on a disk whose log the last of them freezes, and what the store then consists of.
+fn runs_and_reports<S: AllocGlobal + Abort>(rt: &S, disk: MemDisk, text: &[u8]) {
+    let output =
+        b"opened\naccepted 1\naccepted 2\naccepted 3\naccepted 4\naccepted 5\nacknowledged 5\n";
+    let disk = runs(rt, disk, text, 0, output);
+    let output =
+        b"generation 1\nactive log 1 rows 1\nfrozen logs 1 rows 4\nhash stores 0 rows 0\nsorted entries 0\ncharge 5\n";
+    checks(rt, &disk, 0, output);
 }
 
 #[test]
 fn reports_a_disk(rt: HostRuntime) -> Result<(), Fail> {
-    let disk = formatted(&rt, Geometry::new(2, 2, 8, 2, 2, 16)?)?;
     let mut text = with_keys(&rt, FIVE_PUTS)?;
     text.extend_from_slice(b"flush\n")?;
-    let output =
-        b"opened\naccepted 1\naccepted 2\naccepted 3\naccepted 4\naccepted 5\nacknowledged 5\n";
-    let disk = runs(&rt, disk, &text, 0, output)?;
-    let output =
-        b"generation 1\nactive log 1 rows 1\nfrozen logs 1 rows 4\nhash stores 0 rows 0\nsorted entries 0\ncharge 5\n";
-    checks(&rt, &disk, 0, output)
+    runs_and_reports(
+        &rt,
+        formatted(&rt, Geometry::new(2, 2, 8, 2, 2, 16)?)?,
+        &text,
+    );
+    Ok(())
 }
 
 // A disk that holds no store is refused and stays, and one of another length is not formatted.
+fn refuses_disk<S: AllocGlobal + Abort>(rt: &S, disk: MemDisk, geometry: Geometry) {
+    let reply = b"refused 1 NotFormatted\n";
+    checks(rt, &disk, 1, reply);
+    let disk = runs(rt, disk, b"flush\n", 1, reply);
+    let disk = formats(rt, disk, geometry, 1, b"refused 2 BadGeometry\n");
+    assert_eq!(rt; disk.len(), 45_056);
+    checks(rt, &disk, 1, reply);
+}
+
 #[test]
 fn refuses_disks(rt: HostRuntime) -> Result<(), Fail> {
-    let disk = MemDisk::new(rt.alloc(), 45_056)?;
-    let reply = b"refused 1 NotFormatted\n";
-    checks(&rt, &disk, 1, reply)?;
-    let disk = runs(&rt, disk, b"flush\n", 1, reply)?;
     let geometry = Geometry::new(100, 1024, 3000, 4, 4, 100_000)?;
-    let disk = formats(&rt, disk, geometry, 1, b"refused 2 BadGeometry\n")?;
-    assert_eq!(rt; disk.len(), 45_056);
-    checks(&rt, &disk, 1, reply)
+    refuses_disk(&rt, MemDisk::new(rt.alloc(), 45_056)?, geometry);
+    Ok(())
 }
 
 // A disk that fails within a job is told as one: its first call fails, and then it does its work.
+fn runs_after_a_fault<S: AllocGlobal + Abort>(rt: &S, disk: FaultDisk) {
+    let disk = runs(rt, disk, b"flush\n", 1, b"refused 5 Device\n");
+    runs(rt, disk, b"flush\n", 0, b"opened\nacknowledged 0\n");
+}
+
 #[test]
 fn tells_device_faults(rt: HostRuntime) -> Result<(), Fail> {
     let disk = formatted(&rt, Geometry::new(2, 2, 4, 2, 2, 8)?)?;
-    let reply = b"refused 5 Device\n";
-    let disk = runs(
-        &rt,
-        FaultDisk::new(disk, Call::Sync, 1),
-        b"flush\n",
-        1,
-        reply,
-    )?;
-    runs(&rt, disk, b"flush\n", 0, b"opened\nacknowledged 0\n")?;
+    runs_after_a_fault(&rt, FaultDisk::new(disk, Call::Sync, 1));
     Ok(())
 }
 
@@ -163,48 +167,56 @@ fn formats_path<S: AllocGlobal + Abort>(
         &mut out,
         &mut Counted::new(),
     );
-    assert_eq!(rt; out.as_slice(), output);
-    assert_eq!(rt; code?, status);
+    compare(rt, "format", code.ok(), &out, status, output);
     Ok(disk)
+}
+
+// Runs one life on the disk of the path.
+fn runs_path<S: AllocGlobal + Abort>(rt: &S, source: NamedDisk<MemDisk>) -> Option<MemDisk> {
+    let mut reader = Cursor::new(b"put =abc 0102\nflush\n".as_slice());
+    let mut out = Vec::new(rt.alloc());
+    let (disk, code) = run_file(
+        rt.alloc(),
+        source,
+        "disk",
+        &mut reader,
+        &mut out,
+        &mut Counted::new(),
+    );
+    compare(
+        rt,
+        "run",
+        code.ok(),
+        &out,
+        0,
+        b"opened\naccepted 1\nacknowledged 1\n",
+    );
+    disk
+}
+
+// Checks the disk of the path.
+fn checks_path<S: AllocGlobal + Abort>(rt: &S, source: NamedDisk<MemDisk>) {
+    let mut out = Vec::new(rt.alloc());
+    let (_, code) = check_file(rt.alloc(), source, "disk", &mut out, &mut Counted::new());
+    let output =
+        b"generation 0\nactive log 0 rows 1\nfrozen logs 0 rows 0\nhash stores 0 rows 0\nsorted entries 0\ncharge 1\n";
+    compare(rt, "check", code.ok(), &out, 0, output);
+}
+
+// The disk that a job gave back, as the only one of its source.
+fn given_back<S: AllocGlobal>(rt: &S, disk: Option<MemDisk>) -> Result<NamedDisk<MemDisk>, Fail> {
+    match disk {
+        Some(disk) => named(rt, disk),
+        None => Err(Fail::new("no disk")),
+    }
 }
 
 // The disk of the path is formatted, run and checked, and given back.
 #[test]
 fn works_on_the_disk_of_a_path(rt: HostRuntime) -> Result<(), Fail> {
     let made = formats_path(&rt, "disk", 45_056, 0, b"formatted 45056\n")?;
-    let Some(disk) = made else {
-        return Err(Fail::new("no disk"));
-    };
-    let mut reader = Cursor::new(b"put =abc 0102\nflush\n".as_slice());
-    let mut out = Vec::new(rt.alloc());
-    let (left, code) = run_file(
-        rt.alloc(),
-        named(&rt, disk)?,
-        "disk",
-        &mut reader,
-        &mut out,
-        &mut Counted::new(),
-    );
-    assert_eq!(rt; code?, 0);
-    assert_eq!(rt;
-        out.as_slice(),
-        b"opened\naccepted 1\nacknowledged 1\n".as_slice()
-    );
-    let Some(disk) = left else {
-        return Err(Fail::new("no disk"));
-    };
-    let mut report = Vec::new(rt.alloc());
-    let (_, code) = check_file(
-        rt.alloc(),
-        named(&rt, disk)?,
-        "disk",
-        &mut report,
-        &mut Counted::new(),
-    );
-    assert_eq!(rt; code?, 0);
-    let output =
-        b"generation 0\nactive log 0 rows 1\nfrozen logs 0 rows 0\nhash stores 0 rows 0\nsorted entries 0\ncharge 1\n";
-    assert_eq!(rt; report.as_slice(), output.as_slice());
+    let left = runs_path(&rt, given_back(&rt, made)?);
+    checks_path(&rt, given_back(&rt, left)?);
     Ok(())
 }
 

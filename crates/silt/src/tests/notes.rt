@@ -5,11 +5,13 @@ use crate::files::run_file;
 use crate::note_lines::NoteLines;
 use crate::notes::Notes;
 use crate::streams::{KeepsError, StreamError, WatchedReader, WatchedWriter};
-use crate::tests::{Counted, answers, status_of_call, words};
+use crate::tests::steps::{Step, make_folder, take_in_folder, take_steps};
+use crate::tests::{Counted, answers, compare, status_of_call, words};
 use crate::usage::{FORMS, complaint_of};
 use crate::watched_file::WatchedFiles;
 use silt_device::{Disk, DiskSource, FileDisk, FileDisks, FileSystem};
 use silt_wire::SessionEnd;
+use std::alloc::AllocError;
 use std::fs::{self, File, OpenOptions};
 use std::io::{self, Cursor, Read, Write};
 use std::net::{Net, TcpListener, TcpStream};
@@ -18,14 +20,6 @@ use std::rt::Files;
 use std::sync::Wait;
 use std::test::Fail;
 use std::thread::Threads;
-
-// Makes a folder, without what an earlier run left in it.
-pub(crate) fn make_folder(runtime: &HostRuntime, name: &str) -> io::Result<()> {
-    if fs::exists(runtime, name)? {
-        fs::remove_dir_all(runtime, name)?;
-    }
-    fs::create_dir(runtime, name)
-}
 
 // Runs the program, which is to end with this status, and compares what people are told.
 pub(crate) fn tells<
@@ -41,51 +35,84 @@ pub(crate) fn tells<
     let mut reader = Cursor::new(b"".as_slice());
     let mut out = Vec::new(rt.alloc());
     let mut lines = NoteLines::new(&mut notes);
-    let code = status_of_call(rt, call, &mut reader, &mut out, &mut lines)?;
-    assert_eq!(rt; notes.as_slice(), told.as_bytes(), "{call}");
-    assert_eq!(rt; code, status, "{call}");
+    let code = status_of_call(rt, call, &mut reader, &mut out, &mut lines);
+    compare(rt, call, code.ok(), &notes, status, told.as_bytes());
     Ok(())
 }
 
+// There is no such file.
+const NONE: &str = "silt: why/disk: No such file or directory (os error 2)\n";
+
 // A file that cannot be made or opened is told with the system's words, and nothing is told of a job that is done.
+const REASONS: [Step; 8] = [
+    Step::Tells("silt run why/disk", 1, NONE),
+    Step::Tells("silt check why/disk", 1, NONE),
+    Step::Tells("silt serve why/disk 0", 1, NONE),
+    Step::Tells(
+        "silt format why 2 2 4 2 2 8",
+        1,
+        "silt: why: Is a directory (os error 21)\n",
+    ),
+    Step::Tells("silt format why/disk 2 3 4 2 2 8", 1, ""),
+    Step::Tells("silt format why/disk 2 2 4 2 2 8", 0, ""),
+    Step::Tells("silt run why/disk", 0, ""),
+    Step::Tells("silt check why/disk", 0, ""),
+];
+
 #[test]
 fn tells_why_a_file_is_refused(rt: HostRuntime) -> Result<(), Fail> {
-    make_folder(&rt, "why")?;
-    let missing = "silt: why/disk: No such file or directory (os error 2)\n";
-    tells(&rt, "silt run why/disk", 1, missing)?;
-    tells(&rt, "silt check why/disk", 1, missing)?;
-    tells(&rt, "silt serve why/disk 0", 1, missing)?;
-    let folder = "silt: why: Is a directory (os error 21)\n";
-    tells(&rt, "silt format why 2 2 4 2 2 8", 1, folder)?;
-    tells(&rt, "silt format why/disk 2 3 4 2 2 8", 1, "")?;
-    tells(&rt, "silt format why/disk 2 2 4 2 2 8", 0, "")?;
-    tells(&rt, "silt run why/disk", 0, "")?;
-    tells(&rt, "silt check why/disk", 0, "")?;
-    fs::remove_dir_all(&rt, "why")?;
-    Ok(())
+    take_in_folder(&rt, "why", &REASONS)
 }
+
+// The file is in use.
+const BUSY: &str = "silt: busy/disk: the file is in use\n";
+
+// Each job on a file that is in use.
+const BUSY_JOBS: [Step; 10] = [
+    Step::Answers("silt run busy/disk", "flush\n", 1, "refused 5 Device\n"),
+    Step::Tells("silt run busy/disk", 1, BUSY),
+    Step::Answers("silt check busy/disk", "flush\n", 1, "refused 5 Device\n"),
+    Step::Tells("silt check busy/disk", 1, BUSY),
+    Step::Answers("silt serve busy/disk 0", "flush\n", 1, "refused 5 Device\n"),
+    Step::Tells("silt serve busy/disk 0", 1, BUSY),
+    Step::Answers(
+        "silt format busy/disk 2 2 8 2 2 16",
+        "flush\n",
+        1,
+        "refused 5 Device\n",
+    ),
+    Step::Tells("silt format busy/disk 2 2 8 2 2 16", 1, BUSY),
+    Step::Answers(
+        "silt format busy/disk 100 1024 3000 4 4 100000",
+        "flush\n",
+        1,
+        "refused 5 Device\n",
+    ),
+    Step::Tells("silt format busy/disk 100 1024 3000 4 4 100000", 1, BUSY),
+];
 
 // While a file is in use each job on it is refused, before anything in it is read or written.
 #[test]
 fn one_job_has_a_file(rt: HostRuntime) -> Result<(), Fail> {
     make_folder(&rt, "busy")?;
-    let format = "silt format busy/disk 2 2 4 2 2 8";
-    answers(&rt, format, "", 0, "formatted 45056\n")?;
+    answers(
+        &rt,
+        "silt format busy/disk 2 2 4 2 2 8",
+        "",
+        0,
+        "formatted 45056\n",
+    )?;
     let owner = FileDisk::open(&rt, "busy/disk")?;
-    let told = "silt: busy/disk: the file is in use\n";
-    for call in [
-        "silt run busy/disk",
-        "silt check busy/disk",
-        "silt serve busy/disk 0",
-        "silt format busy/disk 2 2 8 2 2 16",
-        "silt format busy/disk 100 1024 3000 4 4 100000",
-    ] {
-        answers(&rt, call, "flush\n", 1, "refused 5 Device\n")?;
-        tells(&rt, call, 1, told)?;
-    }
-    assert_eq!(rt; fs::metadata(&rt, "busy/disk")?.len(), 45_056);
+    let refused = take_steps(&rt, &BUSY_JOBS);
     drop(owner);
-    answers(&rt, "silt run busy/disk", "", 0, "opened\n")?;
+    refused?;
+    take_steps(
+        &rt,
+        &[
+            Step::HasLength("busy/disk", 45_056),
+            Step::Answers("silt run busy/disk", "", 0, "opened\n"),
+        ],
+    )?;
     fs::remove_dir_all(&rt, "busy")?;
     Ok(())
 }
@@ -94,12 +121,23 @@ fn one_job_has_a_file(rt: HostRuntime) -> Result<(), Fail> {
 #[test]
 fn checks_share_a_file(rt: HostRuntime) -> Result<(), Fail> {
     make_folder(&rt, "looked")?;
-    let format = "silt format looked/disk 2 2 4 2 2 8";
-    answers(&rt, format, "", 0, "formatted 45056\n")?;
+    answers(
+        &rt,
+        "silt format looked/disk 2 2 4 2 2 8",
+        "",
+        0,
+        "formatted 45056\n",
+    )?;
     let reader = FileDisk::open_shared(&rt, "looked/disk")?;
-    tells(&rt, "silt check looked/disk", 0, "")?;
-    answers(&rt, "silt run looked/disk", "", 1, "refused 5 Device\n")?;
+    let shared = take_steps(
+        &rt,
+        &[
+            Step::Tells("silt check looked/disk", 0, ""),
+            Step::Answers("silt run looked/disk", "", 1, "refused 5 Device\n"),
+        ],
+    );
     drop(reader);
+    shared?;
     fs::remove_dir_all(&rt, "looked")?;
     Ok(())
 }
@@ -145,18 +183,12 @@ where
     }
 }
 
-// A write that fails within a session is told behind it, once; what is told is the last one that failed.
-#[test]
-fn tells_a_failed_write(rt: HostRuntime) -> Result<(), Fail> {
-    make_folder(&rt, "failing")?;
-    let format = "silt format failing/disk 2 2 4 2 2 8";
-    answers(&rt, format, "", 0, "formatted 45056\n")?;
-    let files = WatchedFiles::new(
-        ReadFiles {
-            files: FileDisks::new(&rt),
-        },
-        Counted::new(),
-    );
+// Runs a session on a file that cannot be written, and compares what is answered and told.
+fn fails_to_write<S: Files<File = File> + AllocGlobal + Abort>(rt: &S) {
+    let files = ReadFiles {
+        files: FileDisks::new(rt),
+    };
+    let files = WatchedFiles::new(files, Counted::new());
     let mut reader = Cursor::new(b"get =a\nput =a 0102\nput =b 0102\nflush\n".as_slice());
     let mut out = Vec::new(rt.alloc());
     let mut notes = Vec::new(rt.alloc());
@@ -169,11 +201,24 @@ fn tells_a_failed_write(rt: HostRuntime) -> Result<(), Fail> {
         &mut out,
         &mut lines,
     );
-    assert_eq!(rt; status?, 0);
     let output = b"opened\nabsent\nrefused 5 Device\nrefused 9 Failed\nrefused 9 Failed\n";
-    assert_eq!(rt; out.as_slice(), output.as_slice());
+    compare(rt, "run", status.ok(), &out, 0, output);
     let told = b"silt: failing/disk: a write at 16384: Bad file descriptor (os error 9)\n";
-    assert_eq!(rt; notes.as_slice(), told.as_slice());
+    compare(rt, "run", Some(0), &notes, 0, told);
+}
+
+// A write that fails within a session is told behind it, once; what is told is the last one that failed.
+#[test]
+fn tells_a_failed_write(rt: HostRuntime) -> Result<(), Fail> {
+    make_folder(&rt, "failing")?;
+    answers(
+        &rt,
+        "silt format failing/disk 2 2 4 2 2 8",
+        "",
+        0,
+        "formatted 45056\n",
+    )?;
+    fails_to_write(&rt);
     fs::remove_dir_all(&rt, "failing")?;
     Ok(())
 }
@@ -187,28 +232,52 @@ fn fails_twice<D: Disk>(disk: &mut D) -> bool {
     first && disk.write(0, b"row").is_err()
 }
 
+// Whether two writes fail to a disk that is to tell at once, or not.
+fn fails_suddenly<D: Watched>(mut disk: D, at_once: bool) -> bool {
+    if at_once {
+        disk.tell_at_once();
+    }
+    fails_twice(&mut disk)
+}
+
+// The same of the disk of the file `sudden/disk`, which has these notes, if it is opened.
+fn fails_on_file<S: Files<File = File> + AllocGlobal>(
+    rt: &S,
+    notes: &mut Vec<u8>,
+    at_once: bool,
+) -> Option<bool> {
+    let files = ReadFiles {
+        files: FileDisks::new(rt),
+    };
+    let files = WatchedFiles::new(files, NoteLines::new(notes));
+    match files.open("sudden/disk") {
+        Ok(disk) => Some(fails_suddenly(disk, at_once)),
+        Err(_) => None,
+    }
+}
+
+// Two writes fail, and this is told.
+fn tells_suddenly<S: Files<File = File> + AllocGlobal + Abort>(rt: &S, at_once: bool, told: &[u8]) {
+    let mut notes = Vec::new(rt.alloc());
+    let failed = fails_on_file(rt, &mut notes, at_once);
+    compare(rt, "two writes", failed.map(u8::from), &notes, 1, told);
+}
+
 // Where a disk is to tell at once, the first of its writes and syncs that fails is told as it fails, and no other; else none is.
 #[test]
 fn tells_a_failed_store_at_once(rt: HostRuntime) -> Result<(), Fail> {
     make_folder(&rt, "sudden")?;
-    let format = "silt format sudden/disk 2 2 4 2 2 8";
-    answers(&rt, format, "", 0, "formatted 45056\n")?;
+    answers(
+        &rt,
+        "silt format sudden/disk 2 2 4 2 2 8",
+        "",
+        0,
+        "formatted 45056\n",
+    )?;
     let told =
         b"silt: a write at 16384: Bad file descriptor (os error 9); the store takes nothing more until it is opened again\n";
-    for (at_once, told) in [(false, b"".as_slice()), (true, told.as_slice())] {
-        let mut notes = Vec::new(rt.alloc());
-        let files = ReadFiles {
-            files: FileDisks::new(&rt),
-        };
-        let files = WatchedFiles::new(files, NoteLines::new(&mut notes));
-        let mut disk = files.open("sudden/disk")?;
-        if at_once {
-            disk.tell_at_once();
-        }
-        assert!(rt; fails_twice(&mut disk));
-        drop(disk);
-        assert_eq!(rt; notes.as_slice(), told);
-    }
+    tells_suddenly(&rt, false, b"");
+    tells_suddenly(&rt, true, told);
     fs::remove_dir_all(&rt, "sudden")?;
     Ok(())
 }
@@ -237,28 +306,52 @@ impl KeepsError for CuttingReader<'_> {
     }
 }
 
-// A read that fails within a session is told behind it, once; what is told is the first one that failed.
-#[test]
-fn tells_a_failed_read(rt: HostRuntime) -> Result<(), Fail> {
-    make_folder(&rt, "cut")?;
-    let format = "silt format cut/disk 2 2 4 2 2 8";
-    answers(&rt, format, "", 0, "formatted 45056\n")?;
-    let lines = "put =a 0102\nput =b 0304\nflush\n";
-    let output = "opened\naccepted 1\naccepted 2\nacknowledged 2\n";
-    answers(&rt, "silt run cut/disk", lines, 0, output)?;
+// Runs a session on a file that is cut short under it, and compares what is answered and told.
+fn fails_to_read<
+    S: Files<File = File>
+        + AllocGlobal
+        + Abort
+        + Net<Listener = TcpListener, Stream = TcpStream>
+        + Threads
+        + Wait
+        + Sync,
+>(rt: &S, file: File) {
     let mut reader = CuttingReader {
-        file: OpenOptions::new().write(true).open(&rt, "cut/disk")?,
+        file,
         text: b"get =a\nget =b\nflush\n",
     };
     let mut out = Vec::new(rt.alloc());
     let mut notes = Vec::new(rt.alloc());
     let mut lines = NoteLines::new(&mut notes);
-    let code = status_of_call(&rt, "silt run cut/disk", &mut reader, &mut out, &mut lines)?;
-    assert_eq!(rt; code, 0);
+    let code = status_of_call(rt, "silt run cut/disk", &mut reader, &mut out, &mut lines);
     let output = b"opened\nrefused 5 Device\nrefused 5 Device\nacknowledged 0\n";
-    assert_eq!(rt; out.as_slice(), output.as_slice());
+    compare(rt, "run", code.ok(), &out, 0, output);
     let told = b"silt: cut/disk: a read at 16384: failed to fill whole buffer\n";
-    assert_eq!(rt; notes.as_slice(), told.as_slice());
+    compare(rt, "run", Some(0), &notes, 0, told);
+}
+
+// A store with two rows.
+const TWO_ROWS: [Step; 2] = [
+    Step::Answers(
+        "silt format cut/disk 2 2 4 2 2 8",
+        "",
+        0,
+        "formatted 45056\n",
+    ),
+    Step::Answers(
+        "silt run cut/disk",
+        "put =a 0102\nput =b 0304\nflush\n",
+        0,
+        "opened\naccepted 1\naccepted 2\nacknowledged 2\n",
+    ),
+];
+
+// A read that fails within a session is told behind it, once; what is told is the first one that failed.
+#[test]
+fn tells_a_failed_read(rt: HostRuntime) -> Result<(), Fail> {
+    make_folder(&rt, "cut")?;
+    take_steps(&rt, &TWO_ROWS)?;
+    fails_to_read(&rt, OpenOptions::new().write(true).open(&rt, "cut/disk")?);
     fs::remove_dir_all(&rt, "cut")?;
     Ok(())
 }
@@ -312,7 +405,7 @@ fn breaks_off<
         + Sync,
     R: Read + Drop,
     W: Write + Drop,
->(rt: &S, call: &str, reader: R, writer: W, told: &str) -> Result<(), Fail> {
+>(rt: &S, call: &str, reader: R, writer: W, told: &str) {
     let mut notes = Vec::new(rt.alloc());
     let code = status_of_call(
         rt,
@@ -320,43 +413,86 @@ fn breaks_off<
         &mut WatchedReader::new(reader),
         &mut WatchedWriter::new(writer),
         &mut NoteLines::new(&mut notes),
-    )?;
-    assert_eq!(rt; notes.as_slice(), told.as_bytes());
-    assert_eq!(rt; code, 1);
-    Ok(())
+    );
+    compare(rt, call, code.ok(), &notes, 1, told.as_bytes());
+}
+
+// The lines of a session that breaks off.
+const LINES: &[u8] = b"get =abc\nflush\n";
+
+// A session whose writer takes so many bytes, and then fails with this error of the system, is told so.
+fn breaks_at_a_write<
+    S: Files<File = File>
+        + AllocGlobal
+        + Abort
+        + Net<Listener = TcpListener, Stream = TcpStream>
+        + Threads
+        + Wait
+        + Sync,
+>(rt: &S, room: usize, error: i32, told: &str) {
+    let writer = FullWriter { room, error };
+    breaks_off(rt, "silt run broken/disk", Cursor::new(LINES), writer, told);
+}
+
+// A session whose reader fails is told so.
+fn breaks_at_a_read<
+    S: Files<File = File>
+        + AllocGlobal
+        + Abort
+        + Net<Listener = TcpListener, Stream = TcpStream>
+        + Threads
+        + Wait
+        + Sync,
+>(rt: &S) {
+    let reader = BrokenReader {
+        text: LINES,
+        error: 5,
+    };
+    let told = "silt: Input/output error (os error 5)\n";
+    breaks_off(
+        rt,
+        "silt run broken/disk",
+        reader,
+        Vec::new(rt.alloc()),
+        told,
+    );
+}
+
+// A session that broke off for want of memory is told so.
+fn breaks_by_memory<S: AllocGlobal + Abort>(rt: &S) {
+    let mut notes = Vec::new(rt.alloc());
+    NoteLines::new(&mut notes).tell_end(SessionEnd::NoMemory, None);
+    compare(
+        rt,
+        "tell_end",
+        Some(0),
+        &notes,
+        0,
+        b"silt: memory was wanted\n",
+    );
 }
 
 // A session that breaks off is told with the system's words, but not where the reader of the answers has closed the pipe.
 #[test]
 fn tells_why_a_session_broke_off(rt: HostRuntime) -> Result<(), Fail> {
     make_folder(&rt, "broken")?;
-    let format = "silt format broken/disk 2 2 4 2 2 8";
-    answers(&rt, format, "", 0, "formatted 45056\n")?;
-    let run = "silt run broken/disk";
-    let lines = b"get =abc\nflush\n".as_slice();
+    answers(
+        &rt,
+        "silt format broken/disk 2 2 4 2 2 8",
+        "",
+        0,
+        "formatted 45056\n",
+    )?;
     for (room, error, told) in [
         (7, 28, "silt: No space left on device (os error 28)\n"),
         (0, 28, "silt: No space left on device (os error 28)\n"),
         (7, 32, ""),
         (0, 32, ""),
     ] {
-        breaks_off(
-            &rt,
-            run,
-            Cursor::new(lines),
-            FullWriter { room, error },
-            told,
-        )?;
+        breaks_at_a_write(&rt, room, error, told);
     }
-    let reader = BrokenReader {
-        text: lines,
-        error: 5,
-    };
-    let told = "silt: Input/output error (os error 5)\n";
-    breaks_off(&rt, run, reader, Vec::new(rt.alloc()), told)?;
-    let mut notes = Vec::new(rt.alloc());
-    NoteLines::new(&mut notes).tell_end(SessionEnd::NoMemory, None);
-    assert_eq!(rt; notes.as_slice(), b"silt: memory was wanted\n".as_slice());
+    breaks_at_a_read(&rt);
+    breaks_by_memory(&rt);
     fs::remove_dir_all(&rt, "broken")?;
     Ok(())
 }
@@ -369,58 +505,102 @@ fn tells_why_answers_are_not_written(rt: HostRuntime) -> Result<(), Fail> {
     )?;
     let reader = Cursor::new(b"".as_slice());
     let writer = FullWriter { room: 0, error: 28 };
-    breaks_off(&rt, "silt prune", reader, writer, &told)
+    breaks_off(&rt, "silt prune", reader, writer, &told);
+    Ok(())
+}
+
+// A server on the file `port/disk` and this port, which is in use, is refused behind `opened`, and the port is told.
+fn refuses_port<
+    S: Files<File = File>
+        + AllocGlobal
+        + Abort
+        + Net<Listener = TcpListener, Stream = TcpStream>
+        + Threads
+        + Wait
+        + Sync,
+>(rt: &S, port: u16) -> Result<(), Fail> {
+    let call = format!(in rt.alloc(); "silt serve port/disk {port}")?;
+    answers(rt, &call, "", 1, "opened\nnetwork fault\n")?;
+    let told = format!(in rt.alloc();
+        "silt: 127.0.0.1:{port}: Address already in use (os error 98)\n"
+    )?;
+    tells(rt, &call, 1, &told)
 }
 
 // A port that is in use is a fault of the network, behind `opened`.
 #[test]
 fn tells_a_port_that_is_in_use(rt: HostRuntime) -> Result<(), Fail> {
     make_folder(&rt, "port")?;
-    let format = "silt format port/disk 2 2 4 2 2 8";
-    answers(&rt, format, "", 0, "formatted 45056\n")?;
+    answers(
+        &rt,
+        "silt format port/disk 2 2 4 2 2 8",
+        "",
+        0,
+        "formatted 45056\n",
+    )?;
     let listener = TcpListener::bind(&rt, ("127.0.0.1", 0))?;
     let port = listener.local_addr()?.port();
-    let call = format!(in rt.alloc(); "silt serve port/disk {port}")?;
-    answers(&rt, &call, "", 1, "opened\nnetwork fault\n")?;
-    let told = format!(in rt.alloc();
-        "silt: 127.0.0.1:{port}: Address already in use (os error 98)\n"
-    )?;
-    tells(&rt, &call, 1, &told)?;
+    let refused = refuses_port(&rt, port);
+    drop(listener);
+    refused?;
     fs::remove_dir_all(&rt, "port")?;
     Ok(())
+}
+
+// Words that name no job, and what is wrong with them.
+const COMPLAINTS: [(&str, &str); 12] = [
+    ("silt", "no job is named"),
+    ("silt prune disk", "there is no job 'prune'"),
+    ("silt run", "FILE is missing"),
+    ("silt check disk disk2", "'disk2' is one word too many"),
+    ("silt run disk --fast", "'--fast' is no option here"),
+    ("silt format disk 2 2 4 2 2", "S is missing"),
+    ("silt format disk 2 x 4 2 2 8", "B cannot be 'x'"),
+    (
+        "silt script 2 2 4 2 2 4294967296",
+        "S cannot be '4294967296'",
+    ),
+    ("silt serve disk 65536", "PORT cannot be '65536'"),
+    ("silt serve disk 0 --audit", "--audit is missing"),
+    ("silt serve disk 0 --audit x", "--audit cannot be 'x'"),
+    (
+        "silt serve disk 0 --sessions 1 2",
+        "'2' is one word too many",
+    ),
+];
+
+// The complaint of the words of a call, as a text.
+fn complaint<S: AllocGlobal>(rt: &S, call: &str) -> Result<Option<String>, AllocError> {
+    let words = words(rt, call)?;
+    match complaint_of(words.as_slice()) {
+        Some(found) => Ok(Some(format!(in rt.alloc(); "{found}")?)),
+        None => Ok(None),
+    }
+}
+
+// A call is refused with this complaint.
+fn complains<
+    S: Files<File = File>
+        + AllocGlobal
+        + Abort
+        + Net<Listener = TcpListener, Stream = TcpStream>
+        + Threads
+        + Wait
+        + Sync,
+>(rt: &S, call: &str, expected: &str) -> Result<(), Fail> {
+    let Some(found) = complaint(rt, call)? else {
+        return Err(Fail::new("no complaint"));
+    };
+    assert_eq!(rt; found.as_str(), expected);
+    let told = format!(in rt.alloc(); "silt: {found}\n{FORMS}")?;
+    tells(rt, call, 2, &told)
 }
 
 // What is wrong with words that name no job, and nothing where they ask for help.
 #[test]
 fn tells_which_word_is_wrong(rt: HostRuntime) -> Result<(), Fail> {
-    for (call, complaint) in [
-        ("silt", "no job is named"),
-        ("silt prune disk", "there is no job 'prune'"),
-        ("silt run", "FILE is missing"),
-        ("silt check disk disk2", "'disk2' is one word too many"),
-        ("silt run disk --fast", "'--fast' is no option here"),
-        ("silt format disk 2 2 4 2 2", "S is missing"),
-        ("silt format disk 2 x 4 2 2 8", "B cannot be 'x'"),
-        (
-            "silt script 2 2 4 2 2 4294967296",
-            "S cannot be '4294967296'",
-        ),
-        ("silt serve disk 65536", "PORT cannot be '65536'"),
-        ("silt serve disk 0 --audit", "--audit is missing"),
-        ("silt serve disk 0 --audit x", "--audit cannot be 'x'"),
-        (
-            "silt serve disk 0 --sessions 1 2",
-            "'2' is one word too many",
-        ),
-    ] {
-        let words = words(&rt, call)?;
-        let Some(found) = complaint_of(words.as_slice()) else {
-            return Err(Fail::new("no complaint"));
-        };
-        let text = format!(in rt.alloc(); "{found}")?;
-        assert_eq!(rt; text.as_str(), complaint);
-        let told = format!(in rt.alloc(); "silt: {found}\n{FORMS}")?;
-        tells(&rt, call, 2, &told)?;
+    for (call, complaint) in COMPLAINTS {
+        complains(&rt, call, complaint)?;
         answers(&rt, call, "", 2, "usage\n")?;
     }
     for (call, told) in [

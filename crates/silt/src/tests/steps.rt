@@ -1,0 +1,144 @@
+// Tests on files as tables of steps: calls of the program, and what is done to its files and seen of them between the calls.
+
+use crate::tests::answers;
+use crate::tests::notes::tells;
+use silt_device::{Disk, FileDisk};
+use std::fs::{self, File, OpenOptions};
+use std::io;
+use std::net::{Net, TcpListener, TcpStream};
+use std::os::unix::fs::FileExt;
+use std::process::Abort;
+use std::rt::Files;
+use std::sync::Wait;
+use std::test::Fail;
+use std::thread::Threads;
+
+/// A step of a test on files.
+pub(crate) enum Step {
+    /// A call is answered so: its words, the text that it reads, its status, what it writes.
+    Answers(&'static str, &'static str, u8, &'static str),
+    /// Of a call that reads no line people are told so: its words, its status, what is told.
+    Tells(&'static str, u8, &'static str),
+    /// A file is made that holds these bytes.
+    Fill(&'static str, &'static [u8]),
+    /// A file is made, or the one that is there is made a disk of so many bytes.
+    Create(&'static str, u64),
+    /// A file is given this length.
+    Resize(&'static str, u64),
+    /// Bytes are written into a file, from a place on.
+    Overwrite(&'static str, u64, &'static [u8]),
+    /// A file is so long.
+    HasLength(&'static str, u64),
+    /// A file holds these bytes.
+    Holds(&'static str, &'static [u8]),
+    /// There is no such file.
+    IsMissing(&'static str),
+}
+
+// Makes a folder, without what an earlier run left in it.
+pub(crate) fn make_folder<S: Files<File = File> + AllocGlobal>(
+    rt: &S,
+    name: &str,
+) -> io::Result<()> {
+    if fs::exists(rt, name)? {
+        fs::remove_dir_all(rt, name)?;
+    }
+    fs::create_dir(rt, name)
+}
+
+// Makes a disk in a file.
+fn create<S: Files<File = File> + AllocGlobal + Abort>(
+    rt: &S,
+    file: &str,
+    len: u64,
+) -> Result<(), Fail> {
+    let disk = FileDisk::create(rt, file, len)?;
+    assert_eq!(rt; disk.len(), len);
+    Ok(())
+}
+
+fn resize<S: Files<File = File>>(rt: &S, file: &str, len: u64) -> Result<(), Fail> {
+    let file = OpenOptions::new().write(true).open(rt, file)?;
+    file.set_len(len)?;
+    Ok(())
+}
+
+fn overwrite<S: Files<File = File>>(rt: &S, file: &str, at: u64, bytes: &[u8]) -> Result<(), Fail> {
+    let file = OpenOptions::new().write(true).open(rt, file)?;
+    file.write_all_at(bytes, at)?;
+    Ok(())
+}
+
+fn has_length<S: Files<File = File> + Abort>(rt: &S, file: &str, len: u64) -> Result<(), Fail> {
+    assert_eq!(rt; fs::metadata(rt, file)?.len(), len);
+    Ok(())
+}
+
+fn holds<S: Files<File = File> + AllocGlobal + Abort>(
+    rt: &S,
+    file: &str,
+    bytes: &[u8],
+) -> Result<(), Fail> {
+    let held = fs::read(rt, file)?;
+    assert_eq!(rt; held.as_slice(), bytes);
+    Ok(())
+}
+
+fn is_missing<S: Files<File = File> + Abort>(rt: &S, file: &str) -> Result<(), Fail> {
+    assert!(rt; !fs::exists(rt, file)?);
+    Ok(())
+}
+
+fn take_step<
+    S: Files<File = File>
+        + AllocGlobal
+        + Abort
+        + Net<Listener = TcpListener, Stream = TcpStream>
+        + Threads
+        + Wait
+        + Sync,
+>(rt: &S, step: &Step) -> Result<(), Fail> {
+    match *step {
+        Step::Answers(call, text, status, output) => answers(rt, call, text, status, output),
+        Step::Tells(call, status, told) => tells(rt, call, status, told),
+        Step::Fill(file, bytes) => Ok(fs::write(rt, file, bytes)?),
+        Step::Create(file, len) => create(rt, file, len),
+        Step::Resize(file, len) => resize(rt, file, len),
+        Step::Overwrite(file, at, bytes) => overwrite(rt, file, at, bytes),
+        Step::HasLength(file, len) => has_length(rt, file, len),
+        Step::Holds(file, bytes) => holds(rt, file, bytes),
+        Step::IsMissing(file) => is_missing(rt, file),
+    }
+}
+
+// Takes the steps, one after the other.
+pub(crate) fn take_steps<
+    S: Files<File = File>
+        + AllocGlobal
+        + Abort
+        + Net<Listener = TcpListener, Stream = TcpStream>
+        + Threads
+        + Wait
+        + Sync,
+>(rt: &S, steps: &[Step]) -> Result<(), Fail> {
+    for step in steps {
+        take_step(rt, step)?;
+    }
+    Ok(())
+}
+
+// Takes the steps in a folder of this name, which is then removed.
+pub(crate) fn take_in_folder<
+    S: Files<File = File>
+        + AllocGlobal
+        + Abort
+        + Net<Listener = TcpListener, Stream = TcpStream>
+        + Threads
+        + Wait
+        + Sync,
+>(rt: &S, name: &str, steps: &[Step]) -> Result<(), Fail> {
+    make_folder(rt, name)?;
+    take_steps(rt, steps)?;
+    fs::remove_dir_all(rt, name)?;
+    Ok(())
+}
