@@ -21,6 +21,7 @@ mod jobs;
 mod note_lines;
 mod notes;
 mod program;
+mod progress;
 mod refusal;
 mod script;
 mod script_lines;
@@ -34,11 +35,12 @@ mod watched_file;
 
 use note_lines::NoteLines;
 use program::{program, refuse_words, status_of};
+use progress::{AfterProgress, Progress};
 use silt_device::FileDisks;
 use silt_words::WordsError;
 use std::env::{self, Env};
 use std::fs::File;
-use std::io::{self, ErrorKind, Stderr, Write};
+use std::io::{self, ErrorKind, IsTerminal, Stderr, Write};
 use std::net::{Net, TcpListener, TcpStream};
 use std::process::ExitCode;
 use std::rt::{Files, Runtime};
@@ -52,7 +54,7 @@ fn main(rt: HostRuntime) -> ExitCode {
 }
 
 // Does the job that the process's own words name, and gives the status that the process is to end with. Notes go to `errors`, and to `at_once`
-// what cannot wait for the end of the job.
+// what cannot wait for the end of the job, and how far an opening is, where that is a terminal.
 fn done<
     S: Runtime
         + AllocGlobal
@@ -63,20 +65,29 @@ fn done<
         + Sync,
     E: Write + Drop,
 >(rt: &S, errors: E, at_once: Stderr) -> ExitCode {
-    let mut writer = WatchedWriter::new(io::writer(rt));
+    let progress = Progress::new(terminal(at_once));
+    let mut writer = WatchedWriter::new(AfterProgress::new(io::writer(rt), &progress));
     let status = match own_words(rt) {
         Ok(words) => program(
             rt,
             rt.alloc(),
-            WatchedFiles::new(FileDisks::new(rt), NoteLines::new(at_once)),
+            WatchedFiles::new(FileDisks::new(rt), NoteLines::new(at_once), &progress),
             words.as_slice(),
             &mut WatchedReader::new(rt.reader()),
             &mut writer,
-            &mut NoteLines::new(errors),
+            &mut NoteLines::new(AfterProgress::new(errors, &progress)),
         ),
         Err(error) => status_of(refuse_words(error, &mut writer)),
     };
     ExitCode::from(status)
+}
+
+// The standard error, where that is a terminal.
+fn terminal(stderr: Stderr) -> Option<Stderr> {
+    if stderr.is_terminal() {
+        return Some(stderr);
+    }
+    None
 }
 
 // The words that the program was called with, the program's own first. A word that is no text is a bad word.

@@ -7,6 +7,7 @@ mod jobs;
 mod library;
 mod lines;
 mod notes;
+mod progress;
 mod scripts;
 mod steps;
 
@@ -14,6 +15,7 @@ use crate::done;
 use crate::failure::{Failure, Watched};
 use crate::notes::{FaultNotes, Notes, SourceNotes};
 use crate::program::{program, refuse_words};
+use crate::progress::Progress;
 use crate::script_lines::read_script;
 use crate::streams::{KeepsError, StreamError};
 use crate::watched_file::{WatchedFile, WatchedFiles};
@@ -184,7 +186,7 @@ impl Watched for FaultDisk {
     fn tell_at_once(&mut self) {}
 }
 
-impl Served for WatchedFile<Counted> {
+impl Served for WatchedFile<'_, Counted> {
     fn answer_on(core: &mut Core<Self>, alloc: Global, event: &Event) -> Reply<()> {
         core.answer(alloc, event).plain()
     }
@@ -280,7 +282,8 @@ pub(crate) fn status_of_call<
     N: Notes + SourceNotes<io::Error> + FaultNotes<<FileDisk as Disk>::Fault>,
 >(rt: &S, call: &str, reader: &mut R, writer: &mut W, notes: &mut N) -> Result<u8, AllocError> {
     let words = words(rt, call)?;
-    let files = WatchedFiles::new(FileDisks::new(rt), Counted::new());
+    let progress = Progress::new(None);
+    let files = WatchedFiles::new(FileDisks::new(rt), Counted::new(), &progress);
     Ok(program(
         rt,
         rt.alloc(),

@@ -1,11 +1,12 @@
 // Files as disks that keep which of their calls failed.
-ghost use Rattle.std.specs.Prelude.{◌≡◌, ◌+◌, ◌%◌, ◌^◌, ◌≤◌, Some, None, IfErr, MatchResult, length};
-ghost use Rattle.silt_device.specs.Disk.{size};
+ghost use Rattle.std.specs.Prelude.{◌≡◌, ◌+◌, ◌%◌, ◌^◌, ◌≤◌, Some, None, IfErr, MatchResult, OnErr, OnOk, length};
+ghost use Rattle.silt_device.specs.Disk.{Settles, Stays, Tears, Writes, size};
 ghost use Rattle.silt_device.specs.declared.disk.Call.TheVariants.{Write, Sync};
 
 use crate::failure::{Failure, Watched};
 use crate::note_lines::NoteLines;
 use crate::notes::Notes;
+use crate::progress::Progress;
 use silt_device::{Call, CallAt, Disk, DiskSource, FileDisk};
 use silt_event::{Event, Reply};
 use silt_store_set::{Core, Served};
@@ -17,17 +18,19 @@ use std::sync::OnceLock;
 type FileFault = <FileDisk as Disk>::Fault;
 
 /// A disk in a file that keeps which of its reads failed first, and which of its writes and syncs failed last. Reads share the disk, so the
-/// one that failed is kept where it can be written once. Where it is to tell at once, its notes say which write or sync failed first.
+/// one that failed is kept where it can be written once. Where it is to tell at once, its notes say which write or sync failed first. While it is
+/// opened its reads are shown.
 #[derive(Drop)]
-pub struct WatchedFile<N> {
+pub struct WatchedFile<'a, N> {
     disk: FileDisk,
     first_read: OnceLock<Failure>,
     last: Option<Failure>,
     notes: N,
     tells_at_once: bool,
+    progress: &'a Progress,
 }
 
-impl<N: Notes + Send + Sync + Drop> Disk for WatchedFile<N> {
+impl<N: Notes + Send + Sync + Drop> Disk for WatchedFile<'_, N> {
     ghost use Rattle.silt_device.specs.File.{file_content, file_gave};
     ghost use Rattle.silt_device.specs.Buffered.{buffered_content, buffered_gave};
 
@@ -45,7 +48,10 @@ impl<N: Notes + Send + Sync + Drop> Disk for WatchedFile<N> {
 
     fn read(&self, at: u64, buf: &mut [u8]) -> Result<(), FileFault> {
         match self.disk.read(at, buf) {
-            Ok(()) => Ok(()),
+            Ok(()) => {
+                self.progress.add(buf.len(), self.disk.len());
+                Ok(())
+            }
             Err(fault) => {
                 let _ = self.first_read.try_set(failure_of(Call::Read, at, &fault));
                 Err(fault)
@@ -56,6 +62,8 @@ impl<N: Notes + Send + Sync + Drop> Disk for WatchedFile<N> {
     fn write(&mut self, at: u64, buf: &[u8]) -> Result<(), FileFault>
         requires { at + length buf.now ≤ size (buffered_content file_content self.old.disk.inner) }
         ensures size { size (buffered_content file_content self.new.disk.inner) ≡ size (buffered_content file_content self.old.disk.inner) }
+        ensures torn { Tears at (length buf.now) (buffered_content file_content self.old.disk.inner) (buffered_content file_content self.new.disk.inner) }
+        ensures written { OnOk result (Writes at buf.now (buffered_content file_content self.old.disk.inner) (buffered_content file_content self.new.disk.inner)) }
         ensures failures { MatchResult result (λ _. self.new.disk.inner.failures ≡ self.old.disk.inner.failures)
             (λ fault. (self.new.disk.inner.failures ≡ (self.old.disk.inner.failures + 1) % 2 ^ 64)
             × buffered_gave file_gave self.new.disk.inner fault Write at (length buf.now)) }
@@ -69,6 +77,8 @@ impl<N: Notes + Send + Sync + Drop> Disk for WatchedFile<N> {
 
     fn sync(&mut self) -> Result<(), FileFault>
         ensures size { size (buffered_content file_content self.new.disk.inner) ≡ size (buffered_content file_content self.old.disk.inner) }
+        ensures settled { OnOk result (Settles (buffered_content file_content self.old.disk.inner) (buffered_content file_content self.new.disk.inner)) }
+        ensures unchanged { OnErr result (Stays (buffered_content file_content self.old.disk.inner) (buffered_content file_content self.new.disk.inner)) }
         ensures failures { MatchResult result (λ _. self.new.disk.inner.failures ≡ self.old.disk.inner.failures)
             (λ fault. (self.new.disk.inner.failures ≡ (self.old.disk.inner.failures + 1) % 2 ^ 64)
             × buffered_gave file_gave self.new.disk.inner fault Sync 0 (size (buffered_content file_content self.new.disk.inner))) }
@@ -81,7 +91,7 @@ impl<N: Notes + Send + Sync + Drop> Disk for WatchedFile<N> {
     }
 }
 
-impl<N: Notes> WatchedFile<N> {
+impl<N: Notes> WatchedFile<'_, N> {
     // Keeps what failed with this fault, and gives the fault back.
     fn keep(&mut self, call: Call, at: u64, fault: FileFault) -> FileFault
         ensures fault { result ≡ fault }
@@ -90,6 +100,7 @@ impl<N: Notes> WatchedFile<N> {
     {
         let failure = failure_of(call, at, &fault);
         if self.tells_at_once && self.last.is_none() {
+            self.progress.end();
             self.notes.tell_failed_store(&failure);
         }
         self.last = Some(failure);
@@ -107,7 +118,7 @@ fn failure_of(call: Call, at: u64, fault: &FileFault) -> Failure
     }
 }
 
-impl<N: Notes + Send + Sync + Drop> Watched for WatchedFile<N> {
+impl<N: Notes + Send + Sync + Drop> Watched for WatchedFile<'_, N> {
     ghost use Rattle.std.specs.Prelude.{⊤};
 
     ghost last_failure = { λ watched. watched.last };
@@ -128,7 +139,7 @@ impl<N: Notes + Send + Sync + Drop> Watched for WatchedFile<N> {
 }
 
 // For these notes alone: where it is for any, what the checker knows of threads rests on a bound of theirs.
-impl Served for WatchedFile<NoteLines<Stderr>> {
+impl Served for WatchedFile<'_, NoteLines<Stderr>> {
     fn answer_on(core: &mut Core<Self>, alloc: Global, event: &Event) -> Reply<()> {
         core.answer(alloc, event).plain()
     }
@@ -136,22 +147,27 @@ impl Served for WatchedFile<NoteLines<Stderr>> {
 
 /// The files of a source, each a disk that keeps which of its calls failed.
 #[derive(Drop)]
-pub struct WatchedFiles<S, N> {
+pub struct WatchedFiles<'a, S, N> {
     files: S,
     notes: N,
+    progress: &'a Progress,
 }
 
-impl<S, N> WatchedFiles<S, N> {
-    /// The files of this source. Where a disk is to tell at once, these notes take it.
-    pub fn new(files: S, notes: N) -> Self
+impl<'a, S, N> WatchedFiles<'a, S, N> {
+    /// The files of this source. Where a disk is to tell at once, these notes take it, and how far its opening is goes to this progress.
+    pub fn new(files: S, notes: N, progress: &'a Progress) -> WatchedFiles<'a, S, N>
         ensures { result.files ≡ files }
     {
-        WatchedFiles { files, notes }
+        WatchedFiles {
+            files,
+            notes,
+            progress,
+        }
     }
 }
 
 // The disk in a file on which no call has failed.
-fn watched<N>(disk: FileDisk, notes: N) -> WatchedFile<N>
+fn watched<N>(disk: FileDisk, notes: N, progress: &Progress) -> WatchedFile<'_, N>
     ensures { (result.disk ≡ disk) × (result.last ≡ None) }
 {
     WatchedFile {
@@ -160,12 +176,13 @@ fn watched<N>(disk: FileDisk, notes: N) -> WatchedFile<N>
         last: None,
         notes,
         tells_at_once: false,
+        progress,
     }
 }
 
-impl<S: DiskSource<Disk = FileDisk>, N: Notes + Send + Sync + Drop> DiskSource
-    for WatchedFiles<S, N> {
-    type Disk = WatchedFile<N>;
+impl<'a, S: DiskSource<Disk = FileDisk>, N: Notes + Send + Sync + Drop> DiskSource
+    for WatchedFiles<'a, S, N> {
+    type Disk = WatchedFile<'a, N>;
 
     type Error = S::Error;
 
@@ -181,23 +198,23 @@ impl<S: DiskSource<Disk = FileDisk>, N: Notes + Send + Sync + Drop> DiskSource
 
     ghost not_created = { λ source path len error. S.not_created source.files path len error };
 
-    fn open(self, path: &str) -> Result<WatchedFile<N>, S::Error> {
+    fn open(self, path: &str) -> Result<WatchedFile<'a, N>, S::Error> {
         match self.files.open(path) {
-            Ok(disk) => Ok(watched(disk, self.notes)),
+            Ok(disk) => Ok(watched(disk, self.notes, self.progress)),
             Err(error) => Err(error),
         }
     }
 
-    fn open_shared(self, path: &str) -> Result<WatchedFile<N>, S::Error> {
+    fn open_shared(self, path: &str) -> Result<WatchedFile<'a, N>, S::Error> {
         match self.files.open_shared(path) {
-            Ok(disk) => Ok(watched(disk, self.notes)),
+            Ok(disk) => Ok(watched(disk, self.notes, self.progress)),
             Err(error) => Err(error),
         }
     }
 
-    fn create(self, path: &str, len: u64) -> Result<WatchedFile<N>, S::Error> {
+    fn create(self, path: &str, len: u64) -> Result<WatchedFile<'a, N>, S::Error> {
         match self.files.create(path, len) {
-            Ok(disk) => Ok(watched(disk, self.notes)),
+            Ok(disk) => Ok(watched(disk, self.notes, self.progress)),
             Err(error) => Err(error),
         }
     }

@@ -4,6 +4,7 @@ use crate::failure::Watched;
 use crate::files::run_file;
 use crate::note_lines::NoteLines;
 use crate::notes::Notes;
+use crate::progress::Progress;
 use crate::streams::{KeepsError, StreamError, WatchedReader, WatchedWriter};
 use crate::tests::steps::{Step, make_folder, take_in_folder, take_steps};
 use crate::tests::{Counted, answers, compare, status_of_call, words};
@@ -185,10 +186,11 @@ where
 
 // Runs a session on a file that cannot be written, and compares what is answered and told.
 fn fails_to_write<S: Files<File = File> + AllocGlobal + Abort>(rt: &S) {
+    let progress = Progress::new(None);
     let files = ReadFiles {
         files: FileDisks::new(rt),
     };
-    let files = WatchedFiles::new(files, Counted::new());
+    let files = WatchedFiles::new(files, Counted::new(), &progress);
     let mut reader = Cursor::new(b"get =a\nput =a 0102\nput =b 0102\nflush\n".as_slice());
     let mut out = Vec::new(rt.alloc());
     let mut notes = Vec::new(rt.alloc());
@@ -246,10 +248,11 @@ fn fails_on_file<S: Files<File = File> + AllocGlobal>(
     notes: &mut Vec<u8>,
     at_once: bool,
 ) -> Option<bool> {
+    let progress = Progress::new(None);
     let files = ReadFiles {
         files: FileDisks::new(rt),
     };
-    let files = WatchedFiles::new(files, NoteLines::new(notes));
+    let files = WatchedFiles::new(files, NoteLines::new(notes), &progress);
     match files.open("sudden/disk") {
         Ok(disk) => Some(fails_suddenly(disk, at_once)),
         Err(_) => None,

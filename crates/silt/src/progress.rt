@@ -1,0 +1,127 @@
+// How far the opening of a store is, for people.
+ghost use Rattle.std.specs.Prelude.{◌≡◌, ◌-◌, ◌%◌, nat_le};
+ghost use Rattle.std.specs.Io.KnownBytes.{Keeps, WriteAppends};
+ghost use Rattle.std.specs.Io.{WritesAtMost};
+
+use std::io::{self, Stderr, Write};
+use std::sync::atomic::{AtomicBool, AtomicU64, Ordering};
+
+/// The cost of reads after which the line is written anew: 16 MiB, or 65,536 heads of rows.
+const STEP: u64 = 16_777_216;
+
+/// What a read costs at least.
+const LEAST: usize = 256;
+
+/// How far an opening is, as one line of a terminal, which is written anew where much more was read, and ended before anything else is told or
+/// answered. A short opening shows none. The disk that is opened tells of its reads; contracts see nothing of it.
+#[derive(Drop)]
+pub struct Progress {
+    terminal: Option<Stderr>,
+    bytes: AtomicU64,
+    cost: AtomicU64,
+    is_shown: AtomicBool,
+    is_over: AtomicBool,
+}
+
+impl Progress {
+    /// Of an opening that has read nothing. Where there is no terminal nothing is shown.
+    pub fn new(terminal: Option<Stderr>) -> Self {
+        Progress {
+            terminal,
+            bytes: AtomicU64::new(0),
+            cost: AtomicU64::new(0),
+            is_shown: AtomicBool::new(false),
+            is_over: AtomicBool::new(false),
+        }
+    }
+
+    /// So many bytes were read from a file of this length.
+    pub fn add(&self, count: usize, len: u64) {
+        if let Some(bytes) = self.take(count) {
+            self.show(bytes, len);
+        }
+    }
+
+    // Takes so many bytes that were read into account. How many there are now, where the line is due.
+    pub(crate) fn take(&self, count: usize) -> Option<u64> {
+        if self.is_over.load(Ordering::SeqCst) {
+            return None;
+        }
+        let cost = count.max(LEAST) as u64;
+        let before = self.cost.fetch_add(cost, Ordering::SeqCst);
+        let bytes = self.bytes.fetch_add(count as u64, Ordering::SeqCst);
+        if is_due(before, cost) {
+            return Some(bytes.wrapping_add(count as u64));
+        }
+        None
+    }
+
+    // Writes the line anew.
+    fn show(&self, bytes: u64, len: u64) {
+        if let Some(mut terminal) = self.terminal {
+            let _ = write_line(&mut terminal, bytes, len);
+            self.is_shown.store(true, Ordering::SeqCst);
+        }
+    }
+
+    /// The opening is over. The line is ended, where there is one, and none is shown from now on.
+    pub fn end(&self) {
+        if self.is_over.load(Ordering::SeqCst) {
+            return;
+        }
+        self.is_over.store(true, Ordering::SeqCst);
+        if let (Some(mut terminal), true) = (self.terminal, self.is_shown.load(Ordering::SeqCst)) {
+            let _ = terminal.write_all(b"\n");
+        }
+    }
+}
+
+// Whether a read of this cost passes the next step, or comes to it.
+pub(crate) fn is_due(before: u64, cost: u64) -> bool
+    ensures { result ≡ nat_le (16777216 - before % 16777216) cost }
+{
+    STEP - before % STEP <= cost
+}
+
+// Writes how many bytes were read from a file of this length, over what stands in the line.
+pub(crate) fn write_line<W: Write>(to: &mut W, bytes: u64, len: u64) -> io::Result<()> {
+    let (read, whole) = (bytes >> 20, len >> 20);
+    write!(
+        to,
+        "\rsilt: opening: {read} MiB read of a file of {whole} MiB"
+    )
+}
+
+/// A writer before whose first bytes the line of an opening is ended.
+#[derive(Drop)]
+pub struct AfterProgress<'a, W> {
+    writer: W,
+    progress: &'a Progress,
+}
+
+impl<'a, W> AfterProgress<'a, W> {
+    /// This writer, behind the opening whose progress this is.
+    pub fn new(writer: W, progress: &'a Progress) -> AfterProgress<'a, W>
+        ensures { result.writer ≡ writer }
+    {
+        AfterProgress { writer, progress }
+    }
+}
+
+impl<W: Write> Write for AfterProgress<'_, W> {
+    ghost contents = { λ after. W.contents after.writer };
+
+    fn write(&mut self, buf: &[u8]) -> io::Result<usize>
+        ensures bound { WritesAtMost result buf.now }
+        ensures bytes { WriteAppends (W.contents self.old.writer) (W.contents self.new.writer) result buf.now }
+    {
+        self.progress.end();
+        self.writer.write(buf)
+    }
+
+    fn flush(&mut self) -> io::Result<()>
+        ensures bytes { Keeps (W.contents self.old.writer) (W.contents self.new.writer) }
+    {
+        self.writer.flush()
+    }
+}
