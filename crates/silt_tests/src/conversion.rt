@@ -9,15 +9,20 @@ use std::alloc::Global;
 use std::process::Abort;
 use std::test::Fail;
 
-// The device after a conversion, with its replies checked.
-fn converted(rt: &impl Abort, alloc: Global) -> Result<MemDisk, Fail> {
-    let lines = repeated(alloc, &CONVERTED)?;
-    let (disk, told) = live(alloc, formatted(alloc)?, &lines)?;
+// What is told of five puts, a flush and a conversion.
+fn is_converted(rt: &impl Abort, told: &[Told]) {
     assert_eq!(rt; told.len(), 16);
     for reply in &told[7..15] {
         assert_eq!(rt; *reply, Told::Progress(Progress::Moved));
     }
     assert_eq!(rt; told[15], Told::Progress(Progress::Finished));
+}
+
+// The device after a conversion, with its replies checked.
+fn converted(rt: &impl Abort, alloc: Global) -> Result<MemDisk, Fail> {
+    let lines = repeated(alloc, &CONVERTED)?;
+    let (disk, told) = live(alloc, formatted(alloc)?, &lines)?;
+    is_converted(rt, &told);
     Ok(disk)
 }
 
@@ -43,42 +48,51 @@ fn refusal_of(
 
 // Each of the keys 1 to 4 has the buckets 0 and 0 of two, so that they stand in the first four slots of 23 bytes from 28,672 on; the
 // other four slots are zeros. The manifest in slot 0 has generation 2, log 1 active, no frozen log, and hash store 0.
-#[test]
-fn writes_the_slots_in_order(rt: HostRuntime) -> Result<(), Fail> {
-    let alloc = rt.alloc();
-    let disk = converted(&rt, alloc)?;
+fn has_its_slots(rt: &impl Abort, disk: &MemDisk) {
     for slot in 0..4u8 {
         let at = 28_672 + 23 * slot as usize;
         let mut row = [0; 23];
         row[0] = 1;
         row[1] = slot + 1;
         row[22] = slot + 1;
-        assert!(rt; stands_at(&disk, at, &row), "slot {slot}");
+        assert!(rt; stands_at(disk, at, &row), "slot {slot}");
     }
-    assert!(rt; stands_at(&disk, 28_764, &[0; 92]));
-    assert!(rt; stands_at(&disk, 4096, b"\xa7\0\0\0\0\0\0\0\x02\0\0\0\x01\0\0\0\0"));
-    assert!(rt; stands_at(&disk, 4141, b"\0\0\0\x01\0\0\0\0"));
+    assert!(rt; stands_at(disk, 28_764, &[0; 92]));
+    assert!(rt; stands_at(disk, 4096, b"\xa7\0\0\0\0\0\0\0\x02\0\0\0\x01\0\0\0\0"));
+    assert!(rt; stands_at(disk, 4141, b"\0\0\0\x01\0\0\0\0"));
+}
+
+#[test]
+fn writes_the_slots_in_order(rt: HostRuntime) -> Result<(), Fail> {
+    let disk = converted(&rt, rt.alloc())?;
+    has_its_slots(&rt, &disk);
     Ok(())
 }
 
-// After a conversion: nothing, a slot of an unknown kind, and in slot 4 the row of slot 0, which there lies in neither of its key's
-// buckets.
-#[test]
-fn finds_damaged_slots(rt: HostRuntime) -> Result<(), Fail> {
-    let alloc = rt.alloc();
-    let disk = converted(&rt, alloc)?;
-    assert_eq!(rt; disk.shown().len(), 45_056);
-    let cases: [(&[(usize, u8)], Option<Place>); 3] = [
-        (&[], None),
-        (&[(28_695, 3)], Some(Place::Hash { region: 0, slot: 1 })),
-        (
-            &[(28_764, 1), (28_765, 1), (28_786, 1)],
-            Some(Place::Hash { region: 0, slot: 4 }),
-        ),
-    ];
+// Changes of the device after a conversion, and what is then found damaged: nothing, a slot of an unknown kind, and in slot 4 the row of
+// slot 0, which there lies in neither of its key's buckets.
+type Case<'a> = (&'a [(usize, u8)], Option<Place>);
+
+const CASES: [Case; 3] = [
+    (&[], None),
+    (&[(28_695, 3)], Some(Place::Hash { region: 0, slot: 1 })),
+    (
+        &[(28_764, 1), (28_765, 1), (28_786, 1)],
+        Some(Place::Hash { region: 0, slot: 4 }),
+    ),
+];
+
+fn find_each(rt: &impl Abort, alloc: Global, whole: &[u8], cases: &[Case]) -> Result<(), Fail> {
+    assert_eq!(rt; whole.len(), 45_056);
     for (changes, expected) in cases {
-        let found = refusal_of(&rt, alloc, disk.shown(), changes)?;
-        assert_eq!(rt; found, expected);
+        let found = refusal_of(rt, alloc, whole, changes)?;
+        assert_eq!(rt; found, *expected);
     }
     Ok(())
+}
+
+#[test]
+fn finds_damaged_slots(rt: HostRuntime) -> Result<(), Fail> {
+    let disk = converted(&rt, rt.alloc())?;
+    find_each(&rt, rt.alloc(), disk.shown(), &CASES)
 }

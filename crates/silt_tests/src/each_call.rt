@@ -11,47 +11,64 @@ use crate::script::{Told, ask, repeated, replies_of};
 use crate::support::{FILLS, entries_of, formatted_with, small, stopping, values_of};
 use silt_device::{Call, FaultDisk, Fill, Geometry, MemDisk, Stoppable};
 use silt_store_set::{Core, OpenFault, Refusal};
-use std::alloc::Global;
+use std::alloc::{AllocError, Global};
 use std::process::Abort;
 use std::test::Fail;
 
 // A life on a new disk of this geometry, and what its lines are told where no call fails.
-#[derive(Drop)]
-struct Life {
+#[derive(Clone, Copy)]
+struct Life<'a> {
     geometry: Geometry,
-    lines: Vec<Line>,
-    told: Vec<Told>,
+    lines: &'a [Line],
+    told: &'a [Told],
+}
+
+// Which calls of a life fail, one at a time: each read, of which there are at least so many, or each write and each sync, of which there are
+// just so many.
+#[derive(Clone, Copy)]
+enum Fails {
+    Reads(u64),
+    Changes(u64, u64),
+}
+
+fn each_fails(rt: &impl Abort, alloc: Global, life: Life, fails: Fails) -> Result<(), Fail> {
+    match fails {
+        Fails::Reads(least) => each_read_fails(rt, alloc, life, least),
+        Fails::Changes(writes, syncs) => each_change_fails(rt, alloc, life, writes, syncs),
+    }
 }
 
 // The lines of a conversion, with a get and a step behind it.
-fn converted_lines(alloc: Global) -> Result<Vec<Line>, Fail> {
+fn converted_lines(alloc: Global) -> Result<Vec<Line>, AllocError> {
     let mut lines = repeated(alloc, &CONVERTED)?;
     lines.extend_from_slice(&ASKED_BEHIND)?;
     Ok(lines)
 }
 
 // A conversion, with a get and a step behind it.
-fn converted(alloc: Global) -> Result<Life, Fail> {
+fn conversion_fails(rt: &impl Abort, alloc: Global, fails: Fails) -> Result<(), Fail> {
     let geometry = small()?;
     let told = repeated(alloc, &CONVERTED_TOLD)?;
     let lines = converted_lines(alloc)?;
-    Ok(Life {
+    let life = Life {
         geometry,
-        lines,
-        told,
-    })
+        lines: &lines,
+        told: &told,
+    };
+    each_fails(rt, alloc, life, fails)
 }
 
 // A merge beside two conversions.
-fn converted_meanwhile(alloc: Global) -> Result<Life, Fail> {
+fn merge_fails(rt: &impl Abort, alloc: Global, fails: Fails) -> Result<(), Fail> {
     let geometry = of_three_hash_stores()?;
     let told = repeated(alloc, &CONVERTED_MEANWHILE_TOLD)?;
     let lines = repeated(alloc, &CONVERTED_MEANWHILE)?;
-    Ok(Life {
+    let life = Life {
         geometry,
-        lines,
-        told,
-    })
+        lines: &lines,
+        told: &told,
+    };
+    each_fails(rt, alloc, life, fails)
 }
 
 // A store on the life's disk, and whether the first opening told a fault: then the disk is opened again, by the calls that follow.
@@ -93,28 +110,50 @@ fn listed_again(alloc: Global, core: &Core<FaultDisk>) -> Result<([u16; 8], bool
     }
 }
 
-// This read of the life fails: the call that made it tells the fault, and asked again has its own answer, as all others have. Says whether
-// the read was made.
-fn read_fails(rt: &impl Abort, alloc: Global, life: &Life, number: u64) -> Result<bool, Fail> {
-    let disk = formatted_with(alloc, life.geometry)?;
-    let (mut core, is_told) = opened_again(alloc, FaultDisk::new(disk, Call::Read, number))?;
-    let mut faults = is_told as u32;
+// All lines of the life are told what is due. Says how often one told a fault and was asked again.
+fn ask_all(
+    rt: &impl Abort,
+    alloc: Global,
+    core: &mut Core<FaultDisk>,
+    life: Life,
+) -> Result<u32, Fail> {
+    let mut faults = 0u32;
     for (line, expected) in life.lines.iter().zip(life.told.iter()) {
-        let (told, is_told) = asked_again(alloc, &mut core, *line)?;
-        assert_eq!(rt; told, *expected, "read {number}");
+        let (told, is_told) = asked_again(alloc, core, *line)?;
+        assert_eq!(rt; told, *expected);
         faults = faults.saturating_add(is_told as u32);
     }
-    let (values, is_told) = listed_again(alloc, &core)?;
-    assert_eq!(rt; values, after(&life.lines, u64::MAX), "read {number}");
-    faults = faults.saturating_add(is_told as u32);
-    assert!(rt; faults < 2, "read {number}");
-    Ok(faults == 1)
+    Ok(faults)
+}
+
+// The lines of the life, and the list of the entries behind them. Says how often one told a fault and was asked again.
+fn ask_and_list(
+    rt: &impl Abort,
+    alloc: Global,
+    core: &mut Core<FaultDisk>,
+    life: Life,
+) -> Result<u32, Fail> {
+    let faults = ask_all(rt, alloc, core, life)?;
+    let (values, is_told) = listed_again(alloc, core)?;
+    assert_eq!(rt; values, after(life.lines, u64::MAX));
+    Ok(faults.saturating_add(is_told as u32))
+}
+
+// This read of the life fails: the call that made it tells the fault, and asked again has its own answer, as all others have. Says how many
+// faults were told.
+fn faults_of_read(rt: &impl Abort, alloc: Global, life: Life, number: u64) -> Result<u32, Fail> {
+    let disk = FaultDisk::new(formatted_with(alloc, life.geometry)?, Call::Read, number);
+    let (mut core, is_told) = opened_again(alloc, disk)?;
+    let faults = ask_and_list(rt, alloc, &mut core, life)?;
+    Ok(faults.saturating_add(is_told as u32))
 }
 
 // Each read of the life fails in turn, of which there are at least so many.
-fn each_read_fails(rt: &impl Abort, alloc: Global, life: &Life, least: u64) -> Result<(), Fail> {
+fn each_read_fails(rt: &impl Abort, alloc: Global, life: Life, least: u64) -> Result<(), Fail> {
     for number in 1..1000u64 {
-        if !read_fails(rt, alloc, life, number)? {
+        let faults = faults_of_read(rt, alloc, life, number)?;
+        assert!(rt; faults < 2, "read {number}");
+        if faults == 0 {
             assert!(rt; number > least, "{number} reads");
             return Ok(());
         }
@@ -126,14 +165,12 @@ fn each_read_fails(rt: &impl Abort, alloc: Global, life: &Life, least: u64) -> R
 // one, and the list at least one for each row.
 #[test]
 fn each_read_of_a_conversion_fails(rt: HostRuntime) -> Result<(), Fail> {
-    let alloc = rt.alloc();
-    each_read_fails(&rt, alloc, &converted(alloc)?, 4 + 4 + 4 + 1 + 5)
+    conversion_fails(&rt, rt.alloc(), Fails::Reads(4 + 4 + 4 + 1 + 5))
 }
 
 #[test]
 fn each_read_of_a_merge_fails(rt: HostRuntime) -> Result<(), Fail> {
-    let alloc = rt.alloc();
-    each_read_fails(&rt, alloc, &converted_meanwhile(alloc)?, 4 + 3 + 8 + 3)
+    merge_fails(&rt, rt.alloc(), Fails::Reads(4 + 3 + 8 + 3))
 }
 
 // Which of a kind of call fails, and what a stop behind the life leaves, if there is one.
@@ -145,7 +182,7 @@ struct Failing {
 }
 
 // All replies before the one that tells the fault are the life's own, and all behind it tell a failed store. Says whether there is one.
-fn tells_once(rt: &impl Abort, life: &Life, told: &[Told], failing: Failing) -> bool {
+fn tells_once(rt: &impl Abort, life: Life, told: &[Told], failing: Failing) -> bool {
     let mut has_failed = false;
     assert_eq!(rt; told.len(), life.told.len());
     for (told, expected) in told.iter().zip(life.told.iter()) {
@@ -164,7 +201,7 @@ fn tells_once(rt: &impl Abort, life: &Life, told: &[Told], failing: Failing) -> 
 fn lived(
     rt: &impl Abort,
     alloc: Global,
-    life: &Life,
+    life: Life,
     disk: MemDisk,
     failing: Failing,
 ) -> Result<(MemDisk, Vec<Told>, bool), Fail> {
@@ -172,26 +209,41 @@ fn lived(
     match Core::open(alloc, disk) {
         Ok(core) => answered(rt, alloc, life, core, failing),
         Err(OpenFault::<FaultDisk> { disk, refusal }) => {
-            assert_eq!(rt; refusal.label().0, 5, "{failing:?}");
+            is_fault(rt, refusal.label().0, failing);
             Ok((disk.into_disk(), Vec::new(alloc), true))
         }
     }
+}
+
+fn is_fault(rt: &impl Abort, refusal: u32, failing: Failing) {
+    assert_eq!(rt; refusal, 5, "{failing:?}");
 }
 
 // The life of an opened store, of which this write or sync fails: the disk, what is told, and whether the call was made.
 fn answered(
     rt: &impl Abort,
     alloc: Global,
-    life: &Life,
+    life: Life,
     mut core: Core<FaultDisk>,
     failing: Failing,
 ) -> Result<(MemDisk, Vec<Told>, bool), Fail> {
-    let told = replies_of(alloc, &mut core, &life.lines)?;
-    if !tells_once(rt, life, &told, failing) {
-        return Ok((core.close().into_disk(), told, false));
+    let (told, is_made) = answers(rt, alloc, life, &mut core, failing)?;
+    Ok((core.close().into_disk(), told, is_made))
+}
+
+fn answers(
+    rt: &impl Abort,
+    alloc: Global,
+    life: Life,
+    core: &mut Core<FaultDisk>,
+    failing: Failing,
+) -> Result<(Vec<Told>, bool), AllocError> {
+    let told = replies_of(alloc, core, life.lines)?;
+    let is_made = tells_once(rt, life, &told, failing);
+    if is_made {
+        is_failed(rt, alloc, core);
     }
-    is_failed(rt, alloc, &mut core);
-    Ok((core.close().into_disk(), told, true))
+    Ok((told, is_made))
 }
 
 // The disk after this stop, if there is one.
@@ -202,12 +254,16 @@ fn stopped(disk: MemDisk, stop: Option<Fill>) -> MemDisk {
     }
 }
 
+fn keeps(rt: &impl Abort, life: Life, told: &[Told], found: [u16; 8], failing: Failing) {
+    assert!(rt; is_kept(life.lines, told, found), "{found:?} {failing:?}");
+}
+
 // This write or sync of the life fails. Then every call is refused, and an opening, with or without a stop before it, finds what is
 // kept, and goes on from there. Says whether the call was made.
 fn change_fails(
     rt: &impl Abort,
     alloc: Global,
-    life: &Life,
+    life: Life,
     failing: Failing,
 ) -> Result<bool, Fail> {
     let fill = failing.stop.unwrap_or(Fill::Old);
@@ -215,7 +271,7 @@ fn change_fails(
     let disk = formatted_with(alloc, life.geometry)?.arm(stops);
     let (disk, told, is_made) = lived(rt, alloc, life, disk, failing)?;
     let (disk, found) = entries_of(alloc, stopped(disk, failing.stop))?;
-    assert!(rt; is_kept(&life.lines, &told, found), "{found:?} {failing:?}");
+    keeps(rt, life, &told, found, failing);
     goes_on(rt, alloc, disk, life.geometry, found)?;
     Ok(is_made)
 }
@@ -224,7 +280,7 @@ fn change_fails(
 fn each_of_a_kind_fails(
     rt: &impl Abort,
     alloc: Global,
-    life: &Life,
+    life: Life,
     (call, calls): (Call, u64),
     stop: Option<Fill>,
 ) -> Result<(), Fail> {
@@ -240,7 +296,7 @@ fn each_of_a_kind_fails(
 fn each_change_fails(
     rt: &impl Abort,
     alloc: Global,
-    life: &Life,
+    life: Life,
     writes: u64,
     syncs: u64,
 ) -> Result<(), Fail> {
@@ -258,20 +314,18 @@ fn each_change_fails(
 // last step makes a sync and a manifest. The opening makes a sync.
 #[test]
 fn each_change_of_a_conversion_fails(rt: HostRuntime) -> Result<(), Fail> {
-    let alloc = rt.alloc();
     let writes = 10 + 1 + 1 + 3 + 1 + 8 + 3;
     let syncs = 1 + 2 + 1 + 3 + 2 + 1 + 3;
     assert_eq!(rt; writes + syncs, 40);
-    each_change_fails(&rt, alloc, &converted(alloc)?, writes, syncs)
+    conversion_fails(&rt, rt.alloc(), Fails::Changes(writes, syncs))
 }
 
 // Of the 95 calls of the merge the opening makes a sync, four puts make eight writes, each of three freezes makes five writes and six
 // syncs, each of three conversions eleven writes and four syncs; one key is an entry, and the last step makes three writes and four syncs.
 #[test]
 fn each_change_of_a_merge_fails(rt: HostRuntime) -> Result<(), Fail> {
-    let alloc = rt.alloc();
     let writes = 8 + 3 * 5 + 3 * 11 + 1 + 3;
     let syncs = 1 + 3 * 6 + 3 * 4 + 4;
     assert_eq!(rt; writes + syncs, 95);
-    each_change_fails(&rt, alloc, &converted_meanwhile(alloc)?, writes, syncs)
+    merge_fails(&rt, rt.alloc(), Fails::Changes(writes, syncs))
 }

@@ -4,44 +4,56 @@ use crate::life_lines::Line;
 use crate::lines::IDLE;
 use crate::script::{Told, told_of_life};
 use crate::support::{formatted, opened, small, stands_at};
+use silt_device::MemDisk;
 use silt_frame::Key;
+use silt_store_set::Core;
+use std::alloc::Global;
+use std::process::Abort;
 use std::test::Fail;
+
+// A key, put with the value 1, 2, flushed and found.
+fn finds(rt: &impl Abort, alloc: Global, core: &mut Core<MemDisk>, key: &Key) {
+    assert_eq!(rt; core.geometry().value_len(), 2);
+    assert_eq!(rt; core.put(alloc, key, &[1, 2]).ok(), Some(1));
+    assert_eq!(rt; core.flush().ok(), Some(1));
+    let mut out = [0; 2];
+    assert_eq!(rt; core.get(key, &mut out).ok(), Some(true));
+    assert_eq!(rt; out, [1, 2]);
+}
+
+// The gates of the log's first rows, and the row of that key.
+fn has_its_row(rt: &impl Abort, disk: &MemDisk) {
+    assert!(rt; stands_at(disk, 12_288, b"\xa7\x00"));
+    let row =
+        b"\x01\xa9\x99\x3e\x36\x47\x06\x81\x6a\xba\x3e\x25\x71\x78\x50\xc2\x6c\x9c\xd0\xd8\x9d\x01\x02";
+    assert!(rt; stands_at(disk, 16_384, row));
+}
 
 #[test]
 fn puts_flushes_and_gets(rt: HostRuntime) -> Result<(), Fail> {
-    let alloc = rt.alloc();
-    let mut core = opened(alloc)?;
-    assert_eq!(rt; core.geometry().value_len(), 2);
     let key = Key(
         *b"\xa9\x99\x3e\x36\x47\x06\x81\x6a\xba\x3e\x25\x71\x78\x50\xc2\x6c\x9c\xd0\xd8\x9d",
     );
-    assert_eq!(rt; core.put(alloc, &key, &[1, 2]).ok(), Some(1));
-    assert_eq!(rt; core.flush().ok(), Some(1));
-    let mut out = [0; 2];
-    assert_eq!(rt; core.get(&key, &mut out).ok(), Some(true));
-    assert_eq!(rt; out, [1, 2]);
-    let disk = core.close();
-    assert!(rt; stands_at(&disk, 12_288, b"\xa7\x00"));
-    assert!(rt;
-        stands_at(
-            &disk,
-            16_384,
-            b"\x01\xa9\x99\x3e\x36\x47\x06\x81\x6a\xba\x3e\x25\x71\x78\x50\xc2\x6c\x9c\xd0\xd8\x9d\x01\x02"
-        )
-    );
+    let mut core = opened(rt.alloc())?;
+    finds(&rt, rt.alloc(), &mut core, &key);
+    has_its_row(&rt, &core.close());
     Ok(())
+}
+
+// The header of the small geometry, and the gates and the first body of the manifest.
+fn is_laid_out(rt: &impl Abort, disk: &MemDisk) {
+    let header =
+        b"\xa7SILTFLSH\x00\x00\x00\x01\x00\x00\x00\x02\x00\x00\x00\x02\x00\x00\x00\x04\x00\x00\x00\x02\x00\x00\x00\x02\x00\x00\x00\x08";
+    assert!(rt; stands_at(disk, 0, header));
+    assert!(rt; stands_at(disk, 4096, b"\xa7"));
+    assert!(rt; stands_at(disk, 4097, &[0; 120]));
+    assert!(rt; stands_at(disk, 8192, b"\x00"));
 }
 
 #[test]
 fn formats_as_laid_out(rt: HostRuntime) -> Result<(), Fail> {
-    let alloc = rt.alloc();
-    let disk = formatted(alloc)?;
-    let header =
-        b"\xa7SILTFLSH\x00\x00\x00\x01\x00\x00\x00\x02\x00\x00\x00\x02\x00\x00\x00\x04\x00\x00\x00\x02\x00\x00\x00\x02\x00\x00\x00\x08";
-    assert!(rt; stands_at(&disk, 0, header));
-    assert!(rt; stands_at(&disk, 4096, b"\xa7"));
-    assert!(rt; stands_at(&disk, 4097, &[0; 120]));
-    assert!(rt; stands_at(&disk, 8192, b"\x00"));
+    let disk = formatted(rt.alloc())?;
+    is_laid_out(&rt, &disk);
     Ok(())
 }
 

@@ -3,10 +3,8 @@
 use crate::kept::goes_on;
 use crate::lines::{MERGED_TWICE, of_two_hash_stores};
 use crate::script::{live, repeated};
-use crate::support::{
-    SMALL_LEN, entries_of, every_stop, formatted_with, small, stopping, values_of,
-};
-use silt_device::{Fill, MemDisk, Stop, Stoppable};
+use crate::support::{FILLS, SMALL_LEN, entries_of, formatted_with, listed, small, stopping};
+use silt_device::{Fill, Geometry, MemDisk, Stop, Stoppable};
 use silt_recovery::{FormatError, FormatFault, format};
 use silt_store_set::Core;
 use std::alloc::Global;
@@ -56,34 +54,41 @@ fn formatted_until(alloc: Global, disk: MemDisk, stop: Stop) -> Result<(MemDisk,
     }
 }
 
-// The values of the keys 0 to 7 that an opening finds, where there are no other keys, or the number of its refusal.
-fn found_on(
-    rt: &impl Abort,
-    alloc: Global,
-    disk: MemDisk,
-) -> Result<(MemDisk, Result<[u16; 8], u32>), Fail> {
+// What an opening finds: the values of the keys 0 to 7, where there are no other keys, or the number of its refusal.
+type Found = Result<[u16; 8], u32>;
+
+// A disk, and what was found on it.
+fn with_found(disk: MemDisk, values: Result<[u16; 8], Fail>) -> Result<(MemDisk, Found), Fail> {
+    Ok((disk, Ok(values?)))
+}
+
+fn found_on(alloc: Global, disk: MemDisk) -> Result<(MemDisk, Found), Fail> {
     match Core::open(alloc, disk) {
         Ok(core) => {
-            let entries = core.entries(alloc).ok().ok_or("has entries")?;
-            let values = values_of(&entries);
-            let known = values.iter().filter(|value| **value != 0).count();
-            assert_eq!(rt; entries.len(), known);
-            Ok((core.close(), Ok(values)))
+            let values = listed(alloc, &core);
+            with_found(core.close(), values)
         }
         Err(fault) => Ok((fault.disk, Err(fault.refusal.label().0))),
     }
 }
 
+// A formatting of a device of zeros, stopped so: whether it was answered, and what is found.
+fn left_of_zeros(alloc: Global, stop: Stop) -> Result<(bool, Found), Fail> {
+    let disk = MemDisk::new(alloc, SMALL_LEN)?;
+    let (disk, answered) = formatted_until(alloc, disk, stop)?;
+    let (_, found) = found_on(alloc, disk)?;
+    Ok((answered, found))
+}
+
 // Up to the call that opens the header's gate the device holds no store; from there on it may, and then an empty one.
 #[test]
 fn formatting_stopped_anywhere(rt: HostRuntime) -> Result<(), Fail> {
-    let alloc = rt.alloc();
-    for stop in every_stop(alloc, FORMAT_CALLS)? {
-        let disk = MemDisk::new(alloc, SMALL_LEN)?;
-        let (disk, answered) = formatted_until(alloc, disk, stop)?;
-        assert_eq!(rt; answered, is_answered(stop), "{stop:?}");
-        let (_, found) = found_on(&rt, alloc, disk)?;
-        assert_eq!(rt; found, left_on_zeros(stop), "{stop:?}");
+    for k in 0..FORMAT_CALLS + 2 {
+        for fill in FILLS {
+            let stop = Stop { k, fill };
+            let left = left_of_zeros(rt.alloc(), stop)?;
+            assert_eq!(rt; left, (is_answered(stop), left_on_zeros(stop)), "{stop:?}");
+        }
     }
     Ok(())
 }
@@ -91,30 +96,51 @@ fn formatting_stopped_anywhere(rt: HostRuntime) -> Result<(), Fail> {
 // What the old store holds: two hash stores were merged, and a put stands in a log.
 const OLD_VALUES: [u16; 8] = [0, 0, 0x0304, 0x0506, 0, 0, 0, 0];
 
-// A formatting over an old store of another geometry, stopped so: the old store is whole as long as its header's gate may be open,
-// then there is none, and the new store is empty. Whatever is found, the next lives go on from it, without the rows of old.
+// What is found behind a formatting over an old store that is stopped so: the old store is whole as long as its header's gate may be
+// open, then there is none, and the new store is empty.
+fn left_over(stop: Stop) -> Found {
+    if is_opened(stop) {
+        Ok([0; 8])
+    } else if is_old(stop) {
+        Ok(OLD_VALUES)
+    } else {
+        Err(1)
+    }
+}
+
+// The geometry of what is found.
+fn geometry_after(stop: Stop) -> Result<Geometry, Fail> {
+    if is_opened(stop) {
+        small()
+    } else {
+        of_two_hash_stores()
+    }
+}
+
+fn is_left(rt: &impl Abort, found: Found, stop: Stop) {
+    assert_eq!(rt; found, left_over(stop), "{stop:?}");
+}
+
+// A formatting over an old store of another geometry, stopped so. Whatever is found, the next lives go on from it, without the rows of old.
 fn formatted_over(rt: &impl Abort, alloc: Global, old: &[u8], stop: Stop) -> Result<(), Fail> {
-    let (new_geometry, old_geometry) = (small()?, of_two_hash_stores()?);
+    let geometry = geometry_after(stop)?;
     let disk = MemDisk::with_bytes(alloc, old)?;
     let (disk, _answered) = formatted_until(alloc, disk, stop)?;
-    let (disk, found) = found_on(rt, alloc, disk)?;
-    if is_opened(stop) {
-        assert_eq!(rt; found, Ok([0; 8]), "{stop:?}");
-        return goes_on(rt, alloc, disk, new_geometry, [0; 8]);
+    let (disk, found) = found_on(alloc, disk)?;
+    is_left(rt, found, stop);
+    match found {
+        Ok(values) => goes_on(rt, alloc, disk, geometry, values),
+        Err(_) => formatted_again(rt, alloc, disk, stop.fill),
     }
-    if is_old(stop) {
-        assert_eq!(rt; found, Ok(OLD_VALUES), "{stop:?}");
-        return goes_on(rt, alloc, disk, old_geometry, OLD_VALUES);
-    }
-    assert_eq!(rt; found, Err(1), "{stop:?}");
-    formatted_again(rt, alloc, disk, stop.fill)
 }
 
 // A device that holds no store is formatted, and the store goes on from there.
 fn formatted_again(rt: &impl Abort, alloc: Global, disk: MemDisk, fill: Fill) -> Result<(), Fail> {
     let geometry = small()?;
     let (disk, answered) = formatted_until(alloc, disk, Stop { k: 0, fill })?;
-    assert!(rt; answered);
+    if !answered {
+        return Err("formats".into());
+    }
     goes_on(rt, alloc, disk, geometry, [0; 8])
 }
 
@@ -126,14 +152,24 @@ fn old_disk(alloc: Global) -> Result<MemDisk, Fail> {
     Ok(disk)
 }
 
-#[test]
-fn formatting_over_a_store_stopped_anywhere(rt: HostRuntime) -> Result<(), Fail> {
-    let alloc = rt.alloc();
-    let (disk, left) = entries_of(alloc, old_disk(alloc)?)?;
-    assert_eq!(rt; left, OLD_VALUES);
-    assert_eq!(rt; disk.shown().len(), SMALL_LEN);
-    for stop in every_stop(alloc, FORMAT_CALLS)? {
-        formatted_over(&rt, alloc, disk.shown(), stop)?;
+// Each stop of a formatting over these bytes.
+fn each_formatted_over(rt: &impl Abort, alloc: Global, old: &[u8]) -> Result<(), Fail> {
+    assert_eq!(rt; old.len(), SMALL_LEN);
+    for k in 0..FORMAT_CALLS + 2 {
+        for fill in FILLS {
+            formatted_over(rt, alloc, old, Stop { k, fill })?;
+        }
     }
     Ok(())
+}
+
+fn has_old_values(rt: &impl Abort, left: [u16; 8]) {
+    assert_eq!(rt; left, OLD_VALUES);
+}
+
+#[test]
+fn formatting_over_a_store_stopped_anywhere(rt: HostRuntime) -> Result<(), Fail> {
+    let (disk, left) = entries_of(rt.alloc(), old_disk(rt.alloc())?)?;
+    has_old_values(&rt, left);
+    each_formatted_over(&rt, rt.alloc(), disk.shown())
 }

@@ -2,11 +2,11 @@
 
 use crate::life_lines::Line;
 use crate::lines::IDLE;
-use crate::script::{Told, live};
+use crate::script::{Told, live, repeated};
 use crate::support::entries_of;
 use silt_device::{Geometry, MemDisk, Stoppable};
 use silt_recovery::check;
-use std::alloc::Global;
+use std::alloc::{AllocError, Global};
 use std::process::Abort;
 use std::test::Fail;
 
@@ -78,15 +78,23 @@ fn told_of_put(alloc: Global, disk: &MemDisk, geometry: Geometry) -> Result<Told
 }
 
 // A put of key 7 and a flush, and then steps of conversion and of merging in turn, this many of each.
-fn put_and_steps(alloc: Global, value: u16, steps: u32) -> Result<Vec<Line>, Fail> {
-    let mut lines = Vec::new(alloc);
-    lines.push(Line::Put(7, value))?;
-    lines.push(Line::Flush)?;
+fn put_and_steps(alloc: Global, value: u16, steps: u32) -> Result<Vec<Line>, AllocError> {
+    let mut lines = repeated(alloc, &[(Line::Put(7, value), 1), (Line::Flush, 1)])?;
     for _ in 0..steps {
-        lines.push(Line::Convert)?;
-        lines.push(Line::Merge)?;
+        lines.extend_from_slice(&[Line::Convert, Line::Merge])?;
     }
     Ok(lines)
+}
+
+// A life of these lines.
+fn lived_with_put(
+    alloc: Global,
+    disk: MemDisk,
+    value: u16,
+    steps: u32,
+) -> Result<(MemDisk, Vec<Told>), AllocError> {
+    let lines = put_and_steps(alloc, value, steps)?;
+    live(alloc, disk, &lines)
 }
 
 // What stands once a put of key 7 was told so, where this stood before, and how many commands a flush behind it acknowledges.
@@ -98,9 +106,10 @@ fn with_put(reply: Told, value: u16, mut found: [u16; 8]) -> ([u16; 8], u64) {
     (found, 0)
 }
 
-// Whether so many steps of both kinds found nothing to do at their end.
-fn is_idle(steps: u32, told: &[Told]) -> bool {
-    steps == 0 || told.ends_with(&[IDLE, IDLE])
+// A life is told so, and of so many steps of both kinds the last found nothing to do.
+fn has_grown(rt: &impl Abort, told: &[Told], expected: &[Told], steps: u32) {
+    assert!(rt; told.starts_with(expected), "{told:?}");
+    assert!(rt; steps == 0 || told.ends_with(&[IDLE, IDLE]), "{told:?}");
 }
 
 // A life of a put of key 7, a flush and this many steps of both kinds, the last of which finds nothing to do: the disk, and what then
@@ -115,11 +124,13 @@ fn grown(
 ) -> Result<(MemDisk, [u16; 8]), Fail> {
     let reply = told_of_put(alloc, &disk, geometry)?;
     let (stands, kept) = with_put(reply, value, found);
-    let lines = put_and_steps(alloc, value, steps)?;
-    let (disk, told) = live(alloc, disk, &lines)?;
-    let expected = [Told::Opened, reply, Told::Acknowledged(kept)];
-    assert!(rt; told.as_slice().starts_with(&expected), "{told:?}");
-    assert!(rt; is_idle(steps, &told));
+    let (disk, told) = lived_with_put(alloc, disk, value, steps)?;
+    has_grown(
+        rt,
+        &told,
+        &[Told::Opened, reply, Told::Acknowledged(kept)],
+        steps,
+    );
     Ok((disk, stands))
 }
 

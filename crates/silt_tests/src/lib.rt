@@ -8,10 +8,6 @@
 #[cfg(test)]
 mod conversion;
 #[cfg(test)]
-mod damage;
-#[cfg(test)]
-mod device;
-#[cfg(test)]
 mod each_call;
 #[cfg(test)]
 mod faults;
@@ -23,23 +19,13 @@ mod formats;
 mod kept;
 mod life_lines;
 #[cfg(test)]
-mod limits;
-#[cfg(test)]
 mod lines;
 #[cfg(test)]
 mod memory;
 #[cfg(test)]
 mod merges;
 #[cfg(test)]
-mod plain_map;
-#[cfg(test)]
-mod random_lives;
-#[cfg(test)]
 mod reads;
-#[cfg(test)]
-mod recovery;
-#[cfg(test)]
-mod reports;
 #[cfg(test)]
 mod restarts;
 #[cfg(test)]

@@ -46,18 +46,47 @@ const ANSWERS: [Told; 5] = [
 type Refused = [u32; 7];
 
 // Which of these replies is the device's fault, if one is. All others are the answers.
-fn place_of_fault(rt: &impl Abort, told: &[Told]) -> Option<usize> {
-    assert_eq!(rt; told.len(), 5);
+fn place_of_fault(rt: &impl Abort, told: &[Told], answers: &[Told]) -> Option<usize> {
+    assert_eq!(rt; told.len(), answers.len());
     let mut refused = None;
-    for place in 0..5usize {
-        if told[place] == Told::Refused(5) {
-            assert_eq!(rt; refused, None);
+    for (place, (reply, answer)) in told.iter().zip(answers.iter()).enumerate() {
+        if *reply == Told::Refused(5) {
+            assert!(rt; refused.is_none());
             refused = Some(place);
         } else {
-            assert_eq!(rt; told[place], ANSWERS[place]);
+            assert_eq!(rt; reply, answer);
         }
     }
     refused
+}
+
+// The values of the keys 0 to 7 in the list of the entries, or the number of its refusal.
+fn listed(alloc: Global, core: &Core<FaultDisk>) -> Result<[u16; 8], u32> {
+    match core.entries(alloc) {
+        Ok(entries) => Ok(values_of(&entries)),
+        Err(refusal) => Err(refusal.label().0),
+    }
+}
+
+// Which call of an opened store tells the fault of a read.
+fn place_of_call(
+    rt: &impl Abort,
+    alloc: Global,
+    core: &mut Core<FaultDisk>,
+) -> Result<Option<usize>, Fail> {
+    let told = replies_of(alloc, core, &ASKED)?;
+    let refused = place_of_fault(rt, &told, &ANSWERS);
+    let values = listed(alloc, core);
+    if values.is_ok() {
+        assert_eq!(rt; values, Ok([0, 0, 9, 3, 4, 5, 6, 7]));
+        return Ok(refused.map(|place| place.saturating_add(1)));
+    }
+    assert_eq!(rt; (values, refused), (Err(5), None));
+    Ok(Some(6))
+}
+
+fn is_fault(rt: &impl Abort, refusal: u32, number: u64) {
+    assert_eq!(rt; refusal, 5, "read {number}");
 }
 
 // Which call tells the fault of this read, none where it is not made.
@@ -68,24 +97,11 @@ fn place_of_read(
     number: u64,
 ) -> Result<Option<usize>, Fail> {
     let disk = FaultDisk::new(MemDisk::with_bytes(alloc, bytes)?, Call::Read, number);
-    let mut core = match Core::open(alloc, disk) {
-        Ok(core) => core,
+    match Core::open(alloc, disk) {
+        Ok(mut core) => place_of_call(rt, alloc, &mut core),
         Err(fault) => {
-            assert_eq!(rt; fault.refusal.label().0, 5, "read {number}");
-            return Ok(Some(0));
-        }
-    };
-    let told = replies_of(alloc, &mut core, &ASKED)?;
-    let refused = place_of_fault(rt, &told);
-    match core.entries(alloc) {
-        Ok(entries) => {
-            assert_eq!(rt; values_of(&entries), [0, 0, 9, 3, 4, 5, 6, 7]);
-            Ok(refused.map(|place| place.saturating_add(1)))
-        }
-        Err(refusal) => {
-            assert_eq!(rt; refusal.label().0, 5, "read {number}");
-            assert_eq!(rt; refused, None);
-            Ok(Some(6))
+            is_fault(rt, fault.refusal.label().0, number);
+            Ok(Some(0))
         }
     }
 }
@@ -110,19 +126,23 @@ fn all_refused(rt: &impl Abort, alloc: Global, bytes: &[u8]) -> Result<Refused, 
 // entries are read from five rows of logs and from eight slots, of which four have values.
 #[test]
 fn tells_each_failed_read_as_a_fault(rt: HostRuntime) -> Result<(), Fail> {
-    let alloc = rt.alloc();
-    let lines = repeated(alloc, &THREE_PLACES)?;
-    let (disk, told) = live(alloc, formatted(alloc)?, &lines)?;
+    let lines = repeated(rt.alloc(), &THREE_PLACES)?;
+    let (disk, told) = live(rt.alloc(), formatted(rt.alloc())?, &lines)?;
+    is_told(&rt, &told);
+    let refused = all_refused(&rt, rt.alloc(), disk.shown())?;
+    are_refused(&rt, refused);
+    Ok(())
+}
+
+fn is_told(rt: &impl Abort, told: &[Told]) {
     assert_eq!(rt; told.len(), 21);
     assert_eq!(rt; told[20], Told::Value(0, 9));
-    let [opening, newest, frozen, hashed, deleted, converted, entries] = all_refused(
-        &rt,
-        alloc,
-        disk.shown(),
-    )?;
+}
+
+fn are_refused(rt: &impl Abort, refused: Refused) {
+    let [opening, newest, frozen, hashed, deleted, converted, entries] = refused;
     assert!(rt; opening >= 11);
     assert_eq!(rt; (newest, frozen, hashed, deleted), (1, 3, 8, 5));
     assert_eq!(rt; converted, 1);
     assert!(rt; entries >= 17);
-    Ok(())
 }

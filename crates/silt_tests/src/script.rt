@@ -7,6 +7,7 @@ use crate::support::formatted_with;
 use silt_device::{Disk, FaultDisk, Geometry, MemDisk, MemFault};
 use silt_store_set::{Core, Event, LifeReply, OpenFault, Progress, Reply, lives};
 use std::alloc::{AllocError, Global};
+use std::process::Abort;
 use std::test::Fail;
 
 /// What is told of an opening or a reply. A refusal is told by its number.
@@ -107,13 +108,21 @@ fn tell<F: Drop>(told_before: &mut Vec<Told>, replies: &[Reply<F>]) -> Result<()
 // Tells a life after what was told before.
 fn tell_life(told: &mut Vec<Told>, life: &LifeReply<MemFault>) -> Result<(), AllocError> {
     match life {
-        LifeReply::NotOpened(refusal) => told.push(Told::NotOpened(refusal.label().0))?,
+        LifeReply::NotOpened(refusal) => Ok(told.push(Told::NotOpened(refusal.label().0))?),
         LifeReply::Opened(replies) => {
             told.push(Told::Opened)?;
-            tell(told, replies)?;
+            tell(told, replies)
         }
     }
-    Ok(())
+}
+
+// Tells lives.
+fn tell_lives(alloc: Global, lives: &[LifeReply<MemFault>]) -> Result<Vec<Told>, AllocError> {
+    let mut told = Vec::new(alloc);
+    for life in lives {
+        tell_life(&mut told, life)?;
+    }
+    Ok(told)
 }
 
 /// What is told of lives of values of two bytes, on this disk.
@@ -124,11 +133,7 @@ pub(crate) fn told_lives(
 ) -> Result<Vec<Told>, AllocError> {
     let all = all_events(alloc, all)?;
     let replies = lives(alloc, disk, 2, &all)?;
-    let mut told = Vec::new(alloc);
-    for life in &replies {
-        tell_life(&mut told, life)?;
-    }
-    Ok(told)
+    tell_lives(alloc, &replies)
 }
 
 /// The replies to these events, none where the store has values of another length.
@@ -204,15 +209,23 @@ pub(crate) fn replies_of(
 }
 
 // What is told of an opening, and of the events behind it.
-fn told_from(
+fn told_from<D: Disk>(
     alloc: Global,
-    core: &mut Core<MemDisk>,
+    core: &mut Core<D>,
     lines: &[Line],
 ) -> Result<Vec<Told>, AllocError> {
     let mut told = Vec::new(alloc);
     told.push(Told::Opened)?;
     tell_events(alloc, core, lines, &mut told)?;
     Ok(told)
+}
+
+// A disk, and what was told on it.
+fn with_disk(
+    disk: MemDisk,
+    told: Result<Vec<Told>, AllocError>,
+) -> Result<(MemDisk, Vec<Told>), AllocError> {
+    Ok((disk, told?))
 }
 
 /// One life of values of two bytes, on this disk: the disk after it, as yet without a stop, and what is told.
@@ -223,15 +236,31 @@ pub(crate) fn live(
 ) -> Result<(MemDisk, Vec<Told>), AllocError> {
     match Core::open(alloc, disk) {
         Ok(mut core) => {
-            let told = told_from(alloc, &mut core, lines)?;
-            Ok((core.close(), told))
+            let told = told_from(alloc, &mut core, lines);
+            with_disk(core.close(), told)
         }
         Err(OpenFault { disk, refusal }) => {
-            let mut told = Vec::new(alloc);
-            told.push(Told::NotOpened(refusal.label().0))?;
-            Ok((disk, told))
+            let told = Told::NotOpened(refusal.label().0);
+            with_disk(disk, repeated(alloc, &[(told, 1)]))
         }
     }
+}
+
+/// That life, of which this is told.
+pub(crate) fn lived(
+    rt: &impl Abort,
+    alloc: Global,
+    disk: MemDisk,
+    lines: &[Line],
+    expected: &[Told],
+) -> Result<MemDisk, AllocError> {
+    let (disk, told) = live(alloc, disk, lines)?;
+    are_same(rt, &told, expected);
+    Ok(disk)
+}
+
+fn are_same(rt: &impl Abort, told: &[Told], expected: &[Told]) {
+    assert_eq!(rt; told, expected);
 }
 
 /// What is told of one life of values of two bytes, on a new disk of this geometry.

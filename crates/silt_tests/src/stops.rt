@@ -7,7 +7,7 @@ use crate::lines::{
     of_two_hash_stores,
 };
 use crate::script::{Told, live, repeated};
-use crate::support::{entries_of, every_stop, formatted_with, small, stopping};
+use crate::support::{FILLS, entries_of, formatted_with, small, stopping};
 use silt_device::{Geometry, MemDisk, Stop, Stoppable};
 use std::alloc::Global;
 use std::process::Abort;
@@ -52,8 +52,16 @@ fn reopened(
     stop: Stop,
 ) -> Result<(MemDisk, [u16; 8]), Fail> {
     let (disk, told) = live(alloc, disk.restart(), &[])?;
-    assert_eq!(rt; told.as_slice(), [Told::Opened].as_slice(), "{stop:?}");
+    is_opened(rt, &told, stop);
     entries_of(alloc, disk)
+}
+
+fn is_opened(rt: &impl Abort, told: &[Told], stop: Stop) {
+    assert_eq!(rt; told, [Told::Opened].as_slice(), "{stop:?}");
+}
+
+fn keeps(rt: &impl Abort, lines: &[Line], told: &[Told], found: [u16; 8], stop: Stop) {
+    assert!(rt; is_kept(lines, told, found), "{found:?} {stop:?}");
 }
 
 // The life on a new disk, stopped so; then what the next one finds, and how it goes on.
@@ -66,12 +74,9 @@ fn stopped_at(
 ) -> Result<bool, Fail> {
     let (disk, told) = lived(alloc, geometry, lines, stop)?;
     let (disk, found) = reopened(rt, alloc, disk, stop)?;
-    assert!(rt;
-        is_kept(lines, told.as_slice(), found),
-        "{found:?} {stop:?}"
-    );
+    keeps(rt, lines, &told, found, stop);
     goes_on(rt, alloc, disk, geometry, found)?;
-    Ok(was_stopped(told.as_slice()))
+    Ok(was_stopped(&told))
 }
 
 // Whether a life of so many calls is stopped at one of them.
@@ -87,9 +92,12 @@ fn sweep(
     lines: &[Line],
     calls: u32,
 ) -> Result<(), Fail> {
-    for stop in every_stop(alloc, calls)? {
-        let stopped = stopped_at(rt, alloc, geometry, lines, stop)?;
-        assert_eq!(rt; stopped, is_within(stop, calls), "{stop:?}");
+    for k in 0..calls.saturating_add(2) {
+        for fill in FILLS {
+            let stop = Stop { k, fill };
+            let stopped = stopped_at(rt, alloc, geometry, lines, stop)?;
+            assert_eq!(rt; stopped, is_within(stop, calls), "{stop:?}");
+        }
     }
     Ok(())
 }

@@ -1,7 +1,7 @@
 // What the tests share: geometries, disks, keys and stops, and what a disk holds.
 
 use crate::life_lines::key;
-use silt_device::{Fill, Geometry, MemDisk, Stop};
+use silt_device::{Disk, Fill, Geometry, MemDisk, Stop};
 use silt_frame::{Key, Value};
 use silt_recovery::format;
 use silt_store_set::Core;
@@ -58,17 +58,6 @@ pub(crate) fn stopping(alloc: Global, at: &[(u32, Fill)]) -> Result<Vec<Stop>, A
     Ok(stops)
 }
 
-/// A stop at each of so many calls of a life, one past them, and one at its end, each with every fill.
-pub(crate) fn every_stop(alloc: Global, calls: u32) -> Result<Vec<Stop>, AllocError> {
-    let mut stops = Vec::new(alloc);
-    for k in 0..calls.saturating_add(2) {
-        for fill in FILLS {
-            stops.push(Stop { k, fill })?;
-        }
-    }
-    Ok(stops)
-}
-
 /// A formatted disk of the small geometry.
 pub(crate) fn formatted(alloc: Global) -> Result<MemDisk, Fail> {
     formatted_with(alloc, small()?)
@@ -93,15 +82,31 @@ pub(crate) fn values_of(entries: &BTreeMap<Key, Value>) -> [u16; 8] {
     values
 }
 
-/// The values of the keys 0 to 7 on this disk, 0 for none, where it has no other keys. No stop is made.
-pub(crate) fn entries_of(alloc: Global, disk: MemDisk) -> Result<(MemDisk, [u16; 8]), Fail> {
-    let core = Core::open(alloc, disk).ok().ok_or("opens")?;
-    let entries = core.entries(alloc).ok().ok_or("has entries")?;
-    let values = values_of(&entries);
+// The values of the keys 0 to 7 in these entries, which have no other keys.
+fn only_values_of(entries: &BTreeMap<Key, Value>) -> Result<[u16; 8], Fail> {
+    let values = values_of(entries);
     if entries.len() != values.iter().filter(|value| **value != 0).count() {
         return Err("other keys".into());
     }
-    Ok((core.close(), values))
+    Ok(values)
+}
+
+/// The values of the keys 0 to 7 in this store, 0 for none, where it has no other keys.
+pub(crate) fn listed<D: Disk>(alloc: Global, core: &Core<D>) -> Result<[u16; 8], Fail> {
+    let entries = core.entries(alloc).ok().ok_or("has entries")?;
+    only_values_of(&entries)
+}
+
+// A disk, and what was found on it.
+fn with_values(disk: MemDisk, values: Result<[u16; 8], Fail>) -> Result<(MemDisk, [u16; 8]), Fail> {
+    Ok((disk, values?))
+}
+
+/// The values of the keys 0 to 7 on this disk, 0 for none, where it has no other keys. No stop is made.
+pub(crate) fn entries_of(alloc: Global, disk: MemDisk) -> Result<(MemDisk, [u16; 8]), Fail> {
+    let core = Core::open(alloc, disk).ok().ok_or("opens")?;
+    let values = listed(alloc, &core);
+    with_values(core.close(), values)
 }
 
 /// Whether these bytes stand at this place of the device.

@@ -1,14 +1,11 @@
 // What no clause says of a disk in a file: the bytes that the file holds, and which errors it gives. Each test has a folder or a
 // file of its own, in the folder that it runs in, and takes it away at its end.
+use super::{FIRST, SECOND, four_at};
 use silt_device::{Disk, DiskSource, FileDisk, FileDisks, MemDisk, NamedDisk, write_synced};
 use std::alloc::{AllocError, Global};
 use std::fs::{self, File};
 use std::io::{self, ErrorKind};
 use std::test::Fail;
-
-const FIRST: [u8; 4] = [0x11, 0x12, 0x13, 0x14];
-
-const SECOND: [u8; 3] = [0x23, 0x24, 0x25];
 
 // Makes a folder, without what an earlier run left in it.
 fn make_folder(runtime: &HostRuntime, name: &str) -> io::Result<()> {
@@ -45,22 +42,34 @@ fn nine_of<D: Disk>(disk: &D) -> Option<[u8; 9]> {
     Some(read)
 }
 
+// A disk of nine bytes that is made and written so: what it then has.
+fn written(rt: &HostRuntime) -> io::Result<Option<[u8; 9]>> {
+    let mut disk = FileDisk::create(rt, "kept/disk", 9)?;
+    let is_written = write_parts(&mut disk);
+    Ok(if is_written { nine_of(&disk) } else { None })
+}
+
+// The length of that disk, opened again, and its last four bytes.
+fn kept(rt: &HostRuntime) -> io::Result<(u64, Option<[u8; 4]>)> {
+    let disk = FileDisk::open(rt, "kept/disk")?;
+    Ok((disk.len(), four_at(&disk, 5)))
+}
+
 // What was written stands there on a second disk in the same file, and places that were never written hold zeros.
 #[test]
 fn a_file_keeps_what_was_written(rt: HostRuntime) -> Result<(), Fail> {
     const WRITTEN: [u8; 9] = [0, 0x11, 0x12, 0x23, 0x24, 0x25, 0, 0, 0x31];
     make_folder(&rt, "kept")?;
-    let mut disk = FileDisk::create(&rt, "kept/disk", 9)?;
-    assert!(rt; write_parts(&mut disk));
-    assert_eq!(rt; nine_of(&disk), Some(WRITTEN));
-    drop(disk);
-    let disk = FileDisk::open(&rt, "kept/disk")?;
-    assert_eq!(rt; disk.len(), 9);
-    assert_eq!(rt; four_at(&disk, 5), Some([0x25, 0, 0, 0x31]));
-    drop(disk);
-    assert_eq!(rt; fs::read(&rt, "kept/disk")?.as_slice(), WRITTEN.as_slice());
+    assert_eq!(rt; written(&rt)?, Some(WRITTEN));
+    assert_eq!(rt; kept(&rt)?, (9, Some([0x25, 0, 0, 0x31])));
+    assert!(rt; holds(&rt, "kept/disk", &WRITTEN)?);
     fs::remove_dir_all(&rt, "kept")?;
     Ok(())
+}
+
+// Whether the file has these bytes.
+fn holds(rt: &HostRuntime, path: &str, bytes: &[u8]) -> io::Result<bool> {
+    Ok(fs::read(rt, path)?.as_slice() == bytes)
 }
 
 // A file that is there keeps its bytes up to the length asked for, and grows by zeros.
@@ -78,8 +87,7 @@ fn create_gives_the_length(rt: HostRuntime) -> Result<(), Fail> {
     for (len, held) in table {
         let made = len_of(FileDisk::create(&rt, "sized/disk", len));
         assert_eq!(rt; made, Ok(len));
-        let bytes = fs::read(&rt, "sized/disk")?;
-        assert_eq!(rt; bytes.as_slice(), held, "at {len}");
+        assert!(rt; holds(&rt, "sized/disk", held)?, "at {len}");
         assert_eq!(rt; len_of(FileDisk::open(&rt, "sized/disk")), Ok(len));
     }
     fs::remove_dir_all(&rt, "sized")?;
@@ -123,46 +131,60 @@ fn a_path_with_no_file_is_an_error(rt: HostRuntime) -> Result<(), Fail> {
     Ok(())
 }
 
-// The four bytes from a place on, where the disk has as many and gives them.
-fn four_at<D: Disk>(disk: &D, at: u64) -> Option<[u8; 4]> {
+// The kind of the fault of a read of the four bytes from a place on, where the disk has as many.
+fn read_fault(disk: &FileDisk, at: u64) -> Option<ErrorKind> {
     if at > disk.len() || disk.len() - at < 4 {
         return None;
     }
-    let mut read = [0; 4];
-    disk.read(at, &mut read).ok()?;
-    Some(read)
+    match disk.read(at, &mut [0; 4]) {
+        Ok(()) => None,
+        Err(fault) => Some(fault.inner().error().kind()),
+    }
 }
 
-// The fault of a read of the four bytes from a place on, where the disk has as many.
-fn read_fault<D: Disk>(disk: &D, at: u64) -> Option<D::Fault> {
-    if at > disk.len() || disk.len() - at < 4 {
+// The number of the fault of a write of SECOND at the front, where the disk has room for it.
+fn write_fault(disk: &mut FileDisk) -> Option<i32> {
+    if disk.len() < 3 {
         return None;
     }
-    let mut read = [0; 4];
-    disk.read(at, &mut read).err()
+    match disk.write(0, &SECOND) {
+        Ok(()) => None,
+        Err(fault) => fault.inner().error().raw_os_error(),
+    }
 }
 
-// The fault of a write of these bytes at the front, where the disk has room for them.
-fn write_fault<D: Disk>(disk: &mut D, bytes: &[u8]) -> Option<D::Fault> {
-    if bytes.len() as u64 > disk.len() {
-        return None;
+// The kind of the fault of a sync.
+fn sync_fault(disk: &mut FileDisk) -> Option<ErrorKind> {
+    match disk.sync() {
+        Ok(()) => None,
+        Err(fault) => Some(fault.inner().error().kind()),
     }
-    disk.write(0, bytes).err()
+}
+
+// A disk of eight bytes whose file is cut to FIRST: a read of these, and the fault of one behind them.
+fn cut_short(rt: &HostRuntime) -> io::Result<(Option<[u8; 4]>, Option<ErrorKind>)> {
+    let disk = FileDisk::create(rt, "cut/disk", 8)?;
+    fs::write(rt, "cut/disk", FIRST.as_slice())?;
+    Ok((four_at(&disk, 0), read_fault(&disk, 1)))
 }
 
 // A read fails where another hand cut the file short.
 #[test]
 fn a_read_behind_the_end_fails(rt: HostRuntime) -> Result<(), Fail> {
     make_folder(&rt, "cut")?;
-    let disk = FileDisk::create(&rt, "cut/disk", 8)?;
-    fs::write(&rt, "cut/disk", FIRST.as_slice())?;
-    assert_eq!(rt; four_at(&disk, 0), Some(FIRST));
-    assert_eq!(rt;
-        read_fault(&disk, 1).map(|fault| fault.inner().error().kind()),
-        Some(ErrorKind::UnexpectedEof)
-    );
+    let (read, fault) = cut_short(&rt)?;
+    assert_eq!(rt; read, Some(FIRST));
+    assert_eq!(rt; fault, Some(ErrorKind::UnexpectedEof));
     fs::remove_dir_all(&rt, "cut")?;
     Ok(())
+}
+
+// A disk that is read alone: the fault of a write, whether a sync is done behind it, and what is read then.
+fn read_alone(rt: &HostRuntime, path: &str) -> io::Result<(Option<i32>, bool, Option<[u8; 4]>)> {
+    let mut disk = FileDisk::open_shared(rt, path)?;
+    let fault = write_fault(&mut disk);
+    let is_synced = disk.sync().is_ok();
+    Ok((fault, is_synced, four_at(&disk, 0)))
 }
 
 // A write fails where the file was opened for reading, and then the disk is read and synced as before.
@@ -170,13 +192,8 @@ fn a_read_behind_the_end_fails(rt: HostRuntime) -> Result<(), Fail> {
 fn a_write_to_what_is_read_alone_fails(rt: HostRuntime) -> Result<(), Fail> {
     make_folder(&rt, "read")?;
     fs::write(&rt, "read/disk", FIRST.as_slice())?;
-    let mut disk = FileDisk::open_shared(&rt, "read/disk")?;
-    assert_eq!(rt;
-        write_fault(&mut disk, &SECOND).and_then(|fault| fault.inner().error().raw_os_error()),
-        Some(9)
-    );
-    disk.sync()?;
-    assert_eq!(rt; four_at(&disk, 0), Some(FIRST));
+    let answers = read_alone(&rt, "read/disk")?;
+    assert_eq!(rt; answers, (Some(9), true, Some(FIRST)));
     fs::remove_dir_all(&rt, "read")?;
     Ok(())
 }
@@ -185,11 +202,8 @@ fn a_write_to_what_is_read_alone_fails(rt: HostRuntime) -> Result<(), Fail> {
 #[test]
 fn a_sync_of_no_file_fails(rt: HostRuntime) -> Result<(), Fail> {
     let mut disk = FileDisk::open_shared(&rt, "/dev/null")?;
-    let refused = disk.sync().err();
-    assert_eq!(rt;
-        refused.map(|fault| fault.inner().error().kind()),
-        Some(ErrorKind::InvalidInput)
-    );
+    let fault = sync_fault(&mut disk);
+    assert_eq!(rt; fault, Some(ErrorKind::InvalidInput));
     Ok(())
 }
 
@@ -204,20 +218,35 @@ fn openings(rt: &HostRuntime, path: &str) -> [Result<u64, ErrorKind>; 3] {
 
 const BUSY: Result<u64, ErrorKind> = Err(ErrorKind::WouldBlock);
 
+// What they give while a disk is there: one that is made with a length, or else one that is opened.
+fn beside_owner(rt: &HostRuntime, made: Option<u64>) -> io::Result<[Result<u64, ErrorKind>; 3]> {
+    let _owner = match made {
+        Some(len) => FileDisk::create(rt, "owned/disk", len)?,
+        None => FileDisk::open(rt, "owned/disk")?,
+    };
+    Ok(openings(rt, "owned/disk"))
+}
+
 // While a disk is there, no other open of its file gets a disk that could change it, and nothing in the file is changed.
 #[test]
 fn a_file_has_one_owner(rt: HostRuntime) -> Result<(), Fail> {
     make_folder(&rt, "owned")?;
-    let owner = FileDisk::create(&rt, "owned/disk", 3)?;
-    assert_eq!(rt; openings(&rt, "owned/disk"), [BUSY; 3]);
-    drop(owner);
+    assert_eq!(rt; beside_owner(&rt, Some(3))?, [BUSY; 3]);
     assert_eq!(rt; fs::metadata(&rt, "owned/disk")?.len(), 3);
-    let owner = FileDisk::open(&rt, "owned/disk")?;
-    assert_eq!(rt; openings(&rt, "owned/disk"), [BUSY; 3]);
-    drop(owner);
+    assert_eq!(rt; beside_owner(&rt, None)?, [BUSY; 3]);
     assert_eq!(rt; len_of(FileDisk::open(&rt, "owned/disk")), Ok(3));
     fs::remove_dir_all(&rt, "owned")?;
     Ok(())
+}
+
+// What they give while another disk reads the file alone, and what that one then is told of a write and reads.
+fn beside_reader(
+    rt: &HostRuntime,
+) -> io::Result<([Result<u64, ErrorKind>; 3], Option<i32>, Option<[u8; 4]>)> {
+    let mut first = FileDisk::open_shared(rt, "shared/disk")?;
+    let answers = openings(rt, "shared/disk");
+    let fault = write_fault(&mut first);
+    Ok((answers, fault, four_at(&first, 0)))
 }
 
 // Who only reads shares the file with others that do, and keeps an owner out.
@@ -225,14 +254,9 @@ fn a_file_has_one_owner(rt: HostRuntime) -> Result<(), Fail> {
 fn readers_share_a_file(rt: HostRuntime) -> Result<(), Fail> {
     make_folder(&rt, "shared")?;
     fs::write(&rt, "shared/disk", FIRST.as_slice())?;
-    let mut first = FileDisk::open_shared(&rt, "shared/disk")?;
-    assert_eq!(rt; openings(&rt, "shared/disk"), [BUSY, BUSY, Ok(4)]);
-    assert_eq!(rt;
-        write_fault(&mut first, &SECOND).and_then(|fault| fault.inner().error().raw_os_error()),
-        Some(9)
-    );
-    assert_eq!(rt; four_at(&first, 0), Some(FIRST));
-    drop(first);
+    let (answers, fault, read) = beside_reader(&rt)?;
+    assert_eq!(rt; answers, [BUSY, BUSY, Ok(4)]);
+    assert_eq!(rt; (fault, read), (Some(9), Some(FIRST)));
     let missing = len_of(FileDisk::open_shared(&rt, "shared/none"));
     assert_eq!(rt; missing, Err(ErrorKind::NotFound));
     fs::remove_dir_all(&rt, "shared")?;

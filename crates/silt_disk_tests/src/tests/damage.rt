@@ -1,9 +1,7 @@
 // Images that an opening refuses, and the first finding in each.
 
-use crate::life_lines::Line;
-use crate::script::live;
-use crate::support::{SMALL_LEN, changed, formatted, formatted_with, of_regions};
-use silt_device::{MemDisk, MemFault};
+use super::{Changes, blank, change, changed, key, of_regions, opened_with, small};
+use silt_device::{Disk, MemDisk, MemFault};
 use silt_store_set::{Core, OpenFault, Place, Refusal};
 use std::alloc::Global;
 use std::process::Abort;
@@ -87,10 +85,23 @@ const BYTES: [(usize, u8, Finding); 45] = [
     (36, 2, Finding::Keys(2)),
 ];
 
+// Two puts, and a flush.
+fn put_two<D: Disk>(rt: &impl Abort, alloc: Global, core: &mut Core<D>) {
+    for first in 1..3u8 {
+        assert_eq!(rt; core.geometry().value_len(), 2);
+        assert_eq!(rt;
+            core.put(alloc, &key(first), &[0, first]).ok(),
+            Some(first as u64)
+        );
+    }
+    assert_eq!(rt; core.flush().ok(), Some(2));
+}
+
 // The bytes of a small store with two rows that a flush answered.
-fn image(alloc: Global) -> Result<Vec<u8>, Fail> {
-    let lines = [Line::Put(1, 1), Line::Put(2, 2), Line::Flush];
-    let (disk, _told) = live(alloc, formatted(alloc)?, &lines)?;
+fn image(rt: &impl Abort, alloc: Global) -> Result<Vec<u8>, Fail> {
+    let mut core = opened_with(alloc, small()?)?;
+    put_two(rt, alloc, &mut core);
+    let disk = core.close();
     Ok(disk.shown().to_vec(alloc)?)
 }
 
@@ -122,184 +133,233 @@ fn find_damage(rt: &impl Abort, alloc: Global, bytes: &[u8]) -> Result<Finding, 
     }
 }
 
-// What an opening finds on a device of these bytes with some of them changed.
-fn find_changed(
+// What an opening finds on a device of these bytes with some of them changed, first these and then those.
+fn find_both(
+    rt: &impl Abort,
+    alloc: Global,
+    whole: &[u8],
+    first: &[(usize, u8)],
+    second: &[(usize, u8)],
+) -> Result<Finding, Fail> {
+    let mut bytes = changed(rt, alloc, whole, first)?;
+    change(rt, &mut bytes, second);
+    find_damage(rt, alloc, &bytes)
+}
+
+// This is found on a device of these bytes with some of them changed.
+fn finds(
     rt: &impl Abort,
     alloc: Global,
     whole: &[u8],
     changes: &[(usize, u8)],
-) -> Result<Finding, Fail> {
-    let bytes = changed(rt, alloc, whole, changes)?;
-    find_damage(rt, alloc, &bytes)
+    expected: Finding,
+) -> Result<(), Fail> {
+    let found = find_both(rt, alloc, whole, changes, &[])?;
+    assert_eq!(rt; found, expected, "{changes:?}");
+    Ok(())
 }
 
-#[test]
-fn finds_each_damaged_byte(rt: HostRuntime) -> Result<(), Fail> {
-    let alloc = rt.alloc();
-    let whole = image(alloc)?;
-    assert_eq!(rt; find_damage(&rt, alloc, &whole)?, Finding::Keys(2));
-    for (place, byte, expected) in BYTES {
-        let found = find_changed(&rt, alloc, &whole, &[(place, byte)])?;
-        assert_eq!(rt; found, expected, "{byte} at {place}");
+// Each of these plants is found on a device of these bytes.
+fn find_each(rt: &impl Abort, alloc: Global, whole: &[u8], plants: &[Plant]) -> Result<(), Fail> {
+    for (changes, expected) in plants {
+        finds(rt, alloc, whole, changes, *expected)?;
     }
     Ok(())
 }
 
-// What an opening finds on a device of the first of these bytes, as many as this.
-fn find_cut(rt: &impl Abort, alloc: Global, bytes: &[u8], len: usize) -> Result<Finding, Fail> {
-    assert!(rt; len <= bytes.len());
-    find_damage(rt, alloc, &bytes[..len])
+fn find_each_byte(
+    rt: &impl Abort,
+    alloc: Global,
+    whole: &[u8],
+    bytes: &[(usize, u8, Finding)],
+) -> Result<(), Fail> {
+    for (place, byte, expected) in bytes {
+        finds(rt, alloc, whole, &[(*place, *byte)], *expected)?;
+    }
+    Ok(())
+}
+
+#[test]
+fn finds_each_damaged_byte(rt: HostRuntime) -> Result<(), Fail> {
+    let whole = image(&rt, rt.alloc())?;
+    finds(&rt, rt.alloc(), &whole, &[], Finding::Keys(2))?;
+    find_each_byte(&rt, rt.alloc(), &whole, &BYTES)
+}
+
+// The first bytes of a device and a byte more, as many as this.
+const CUT: [(usize, Finding); 6] = [
+    (0, Finding::NotFormatted),
+    (36, Finding::NotFormatted),
+    (37, Finding::Damaged(Place::Length)),
+    (12_288, Finding::Damaged(Place::Length)),
+    (45_055, Finding::Damaged(Place::Length)),
+    (45_057, Finding::Damaged(Place::Length)),
+];
+
+fn find_each_cut(rt: &impl Abort, alloc: Global, bytes: &[u8]) -> Result<(), Fail> {
+    for (len, expected) in CUT {
+        assert!(rt; len <= bytes.len());
+        finds(rt, alloc, &bytes[..len], &[], expected)?;
+    }
+    finds(
+        rt,
+        alloc,
+        bytes,
+        &[(20, 3)],
+        Finding::Damaged(Place::Header),
+    )
 }
 
 // A device of another length than its header says, and one that is shorter than a header. Bad numbers decide before the length.
 #[test]
 fn finds_another_length(rt: HostRuntime) -> Result<(), Fail> {
-    let alloc = rt.alloc();
-    let mut bytes = image(alloc)?;
-    assert_eq!(rt; bytes.len(), 45_056);
+    let mut bytes = image(&rt, rt.alloc())?;
     bytes.push(0)?;
-    let cases: [(usize, Finding); 6] = [
-        (0, Finding::NotFormatted),
-        (36, Finding::NotFormatted),
-        (37, Finding::Damaged(Place::Length)),
-        (12_288, Finding::Damaged(Place::Length)),
-        (45_055, Finding::Damaged(Place::Length)),
-        (45_057, Finding::Damaged(Place::Length)),
-    ];
-    for (len, expected) in cases {
-        let found = find_cut(&rt, alloc, &bytes, len)?;
-        assert_eq!(rt; found, expected, "{len}");
-    }
-    let found = find_changed(&rt, alloc, &bytes, &[(20, 3)])?;
-    assert_eq!(rt; found, Finding::Damaged(Place::Header));
-    Ok(())
+    find_each_cut(&rt, rt.alloc(), &bytes)
 }
+
+// Changes that are made one after the other.
+const IN_TURN: [Plant; 7] = [
+    (&[(36, 1)], Finding::Damaged(Place::Charge)),
+    (
+        &[(16_407, 3)],
+        Finding::Damaged(Place::Log { region: 0, row: 1 }),
+    ),
+    (
+        &[(16_384, 3)],
+        Finding::Damaged(Place::Log { region: 0, row: 0 }),
+    ),
+    (&[(4096, 0)], Finding::Damaged(Place::NoSlot)),
+    (&[(28, 3)], Finding::Damaged(Place::Length)),
+    (&[(20, 3)], Finding::Damaged(Place::Header)),
+    (&[(12, 9)], Finding::NotFormatted),
+];
 
 // Of several findings the first decides.
 #[test]
 fn finds_the_first_damage(rt: HostRuntime) -> Result<(), Fail> {
-    let alloc = rt.alloc();
-    let mut bytes = image(alloc)?;
-    assert_eq!(rt; bytes.len(), 45_056);
-    let places = [
-        (36usize, 1u8, Finding::Damaged(Place::Charge)),
-        (
-            16_407,
-            3,
-            Finding::Damaged(Place::Log { region: 0, row: 1 }),
-        ),
-        (
-            16_384,
-            3,
-            Finding::Damaged(Place::Log { region: 0, row: 0 }),
-        ),
-        (4096, 0, Finding::Damaged(Place::NoSlot)),
-        (28, 3, Finding::Damaged(Place::Length)),
-        (20, 3, Finding::Damaged(Place::Header)),
-        (12, 9, Finding::NotFormatted),
-    ];
-    for (place, byte, expected) in places {
-        assert!(rt; place < bytes.len());
-        bytes[place] = byte;
-        let found = find_damage(&rt, alloc, &bytes)?;
-        assert_eq!(rt; found, expected, "{byte} at {place}");
+    let mut bytes = image(&rt, rt.alloc())?;
+    find_in_turn(&rt, rt.alloc(), &mut bytes, &IN_TURN)
+}
+
+fn find_in_turn(
+    rt: &impl Abort,
+    alloc: Global,
+    bytes: &mut [u8],
+    plants: &[Plant],
+) -> Result<(), Fail> {
+    for (changes, expected) in plants {
+        change(rt, bytes, changes);
+        finds(rt, alloc, bytes, &[], *expected)?;
     }
     Ok(())
 }
 
-// The bytes of a small store without rows.
-fn blank(alloc: Global) -> Result<Vec<u8>, Fail> {
-    Ok(formatted(alloc)?.shown().to_vec(alloc)?)
-}
+// One finding at each of three places of a store without rows: slot 1 is open with generation 0, two sorted entries have one key, and the
+// gate of a log's first row is open with kind 3.
+const CRAFTED: [Plant; 3] = [
+    (&[(8192, 0xA7)], Finding::Damaged(Place::Slot(1))),
+    (&[(4216, 2)], Finding::Damaged(Place::Sorted(1))),
+    (
+        &[(12_288, 0xA7), (16_384, 3)],
+        Finding::Damaged(Place::Log { region: 0, row: 0 }),
+    ),
+];
 
-// One finding at each of five places of a store without rows: the last byte is gone, slot 1 is open with generation 0, two sorted entries
-// have one key, the gate of a log's first row is open with kind 3, and all bytes are zeros.
+// At two more the last byte is gone, and all bytes are zeros.
 #[test]
 fn finds_crafted_damage(rt: HostRuntime) -> Result<(), Fail> {
-    let alloc = rt.alloc();
-    let whole = blank(alloc)?;
-    assert_eq!(rt; whole.len(), 45_056);
-    let found = find_cut(&rt, alloc, &whole, 45_055)?;
-    assert_eq!(rt; found, Finding::Damaged(Place::Length));
-    let crafted: [(&[(usize, u8)], Finding); 3] = [
-        (&[(8192, 0xA7)], Finding::Damaged(Place::Slot(1))),
-        (&[(4216, 2)], Finding::Damaged(Place::Sorted(1))),
-        (
-            &[(12_288, 0xA7), (16_384, 3)],
-            Finding::Damaged(Place::Log { region: 0, row: 0 }),
-        ),
-    ];
-    for (changes, expected) in crafted {
-        let found = find_changed(&rt, alloc, &whole, changes)?;
-        assert_eq!(rt; found, expected);
-    }
-    let found = find_zeros(&rt, alloc)?;
-    assert_eq!(rt; found, Finding::NotFormatted);
-    Ok(())
+    let mut whole = blank(rt.alloc(), small()?)?;
+    find_each(&rt, rt.alloc(), &whole, &CRAFTED)?;
+    let _last = whole.pop();
+    finds(
+        &rt,
+        rt.alloc(),
+        &whole,
+        &[],
+        Finding::Damaged(Place::Length),
+    )?;
+    whole.fill(0);
+    whole.push(0)?;
+    finds(&rt, rt.alloc(), &whole, &[], Finding::NotFormatted)
 }
 
-// What an opening finds on a device of zeros.
-fn find_zeros(rt: &impl Abort, alloc: Global) -> Result<Finding, Fail> {
-    let zeros = vec![in alloc; 0u8; SMALL_LEN]?;
-    find_damage(rt, alloc, &zeros)
-}
+// Entries of 22 bytes from 36,864 on, each with the first byte of its key: an entry is damaged where it is not above the one before it,
+// and the first of these decides. They count with the rows: eight of them, and a put in the active log, are more than the store may hold.
+const ENTRIES: [Plant; 8] = [
+    (&[], Finding::Keys(0)),
+    (&[(4216, 1), (36_864, 9)], Finding::Keys(1)),
+    (EIGHT_ENTRIES, Finding::Keys(8)),
+    (
+        &[(4216, 2), (36_864, 5), (36_886, 5)],
+        Finding::Damaged(Place::Sorted(1)),
+    ),
+    (
+        &[(4216, 3), (36_864, 5), (36_886, 6), (36_908, 6)],
+        Finding::Damaged(Place::Sorted(2)),
+    ),
+    (
+        &[(4216, 3), (36_864, 5), (36_886, 4), (36_908, 3)],
+        Finding::Damaged(Place::Sorted(1)),
+    ),
+    (
+        &[
+            (4216, 8),
+            (36_864, 1),
+            (36_886, 2),
+            (36_908, 3),
+            (36_930, 4),
+            (36_952, 5),
+            (36_974, 6),
+            (36_996, 8),
+            (37_018, 7),
+        ],
+        Finding::Damaged(Place::Sorted(7)),
+    ),
+    (
+        &[
+            (4216, 8),
+            (36_864, 1),
+            (36_886, 2),
+            (36_908, 3),
+            (36_930, 4),
+            (36_952, 5),
+            (36_974, 6),
+            (36_996, 7),
+            (37_018, 8),
+            (12_288, 0xA7),
+            (16_384, 1),
+        ],
+        Finding::Damaged(Place::Charge),
+    ),
+];
 
-// A small store without rows, whose sorted entries have these first bytes of their keys.
-fn with_entries(rt: &impl Abort, alloc: Global, keys: &[u8]) -> Result<Vec<u8>, Fail> {
-    let mut bytes = blank(alloc)?;
-    assert_eq!(rt; bytes.len(), 45_056);
-    assert!(rt; keys.len() <= 8);
-    bytes[4216] = keys.len() as u8;
-    let mut at = 36_864;
-    for first in keys {
-        assert!(rt; at < bytes.len());
-        bytes[at] = *first;
-        at += 22;
-    }
-    Ok(bytes)
-}
+// The keys of eight entries rise from 1 to 8.
+const EIGHT_ENTRIES: Changes = &[
+    (4216, 8),
+    (36_864, 1),
+    (36_886, 2),
+    (36_908, 3),
+    (36_930, 4),
+    (36_952, 5),
+    (36_974, 6),
+    (36_996, 7),
+    (37_018, 8),
+];
 
-// Entries of 22 bytes from 36,864 on: an entry is damaged where it is not above the one before it, and the first of these decides.
 #[test]
 fn finds_entries_out_of_order(rt: HostRuntime) -> Result<(), Fail> {
-    let alloc = rt.alloc();
-    let cases: [(&[u8], Finding); 7] = [
-        (&[], Finding::Keys(0)),
-        (&[9], Finding::Keys(1)),
-        (&[1, 2, 3, 4, 5, 6, 7, 8], Finding::Keys(8)),
-        (&[5, 5], Finding::Damaged(Place::Sorted(1))),
-        (&[5, 6, 6], Finding::Damaged(Place::Sorted(2))),
-        (&[5, 4, 3], Finding::Damaged(Place::Sorted(1))),
-        (
-            &[1, 2, 3, 4, 5, 6, 8, 7],
-            Finding::Damaged(Place::Sorted(7)),
-        ),
-    ];
-    for (keys, expected) in cases {
-        let bytes = with_entries(&rt, alloc, keys)?;
-        let found = find_damage(&rt, alloc, &bytes)?;
-        assert_eq!(rt; found, expected);
-    }
-    Ok(())
-}
-
-// The entries count with the rows: eight of them, and a put in the active log, are more than the store may hold.
-#[test]
-fn counts_entries_with_rows(rt: HostRuntime) -> Result<(), Fail> {
-    let alloc = rt.alloc();
-    let whole = with_entries(&rt, alloc, &[1, 2, 3, 4, 5, 6, 7, 8])?;
-    let found = find_changed(&rt, alloc, &whole, &[(12_288, 0xA7), (16_384, 1)])?;
-    assert_eq!(rt; found, Finding::Damaged(Place::Charge));
-    Ok(())
+    let whole = blank(rt.alloc(), small()?)?;
+    find_each(&rt, rt.alloc(), &whole, &ENTRIES)
 }
 
 // Changes of a device, and what is found after them.
-type Plant = (&'static [(usize, u8)], Finding);
+type Plant<'a> = (Changes<'a>, Finding);
 
 // A device of two buckets and logs of eight rows, all of whose parts have something. The active log has the keys 1 to 4, which fill a bucket,
 // and behind a closed gate key 5, of the same bucket; log 1 is frozen and has key 0. Hash store 0 has the keys 0 and 1, and a mark in slot 4;
 // hash store 1 is older and empty; three sorted entries rise.
-const WHOLE: [(usize, u8); 35] = [
+const WHOLE: Changes = &[
     (4112, 1),
     (4116, 1),
     (12_288, 0xA7),
@@ -389,20 +449,8 @@ const NO_SLOT: Plant = (&[(4096, 0x00)], Finding::Damaged(Place::NoSlot));
 
 // The bytes of that device.
 fn planted(rt: &impl Abort, alloc: Global) -> Result<Vec<u8>, Fail> {
-    let empty = formatted_with(alloc, of_regions(8, 2, 2, 16)?)?;
-    changed(rt, alloc, empty.shown(), &WHOLE)
-}
-
-// What an opening finds where both changes are made to these bytes.
-fn find_both(
-    rt: &impl Abort,
-    alloc: Global,
-    whole: &[u8],
-    first: Plant,
-    second: Plant,
-) -> Result<Finding, Fail> {
-    let bytes = changed(rt, alloc, whole, first.0)?;
-    find_changed(rt, alloc, &bytes, second.0)
+    let empty = blank(alloc, of_regions(8, 2, 2, 16)?)?;
+    Ok(changed(rt, alloc, &empty, WHOLE)?)
 }
 
 // What is found of this plant, the one at this place of the list, where no slot is open.
@@ -421,19 +469,51 @@ fn found_short(plant: Plant, index: usize) -> Finding {
     Finding::Damaged(Place::Length)
 }
 
+// This is found where each of these plants stands behind those changes.
+fn find_first(
+    rt: &impl Abort,
+    alloc: Global,
+    whole: &[u8],
+    (first, expected): Plant,
+    behind: &[Plant],
+) -> Result<(), Fail> {
+    for second in behind {
+        let found = find_both(rt, alloc, whole, first, second.0)?;
+        assert_eq!(rt; found, expected, "{first:?} {second:?}");
+    }
+    Ok(())
+}
+
+// What is found where no slot is open behind this plant, the one at this place of the list.
+fn find_left(
+    rt: &impl Abort,
+    alloc: Global,
+    whole: &[u8],
+    plant: Plant,
+    index: usize,
+) -> Result<(), Fail> {
+    let found = find_both(rt, alloc, whole, plant.0, NO_SLOT.0)?;
+    assert_eq!(rt; found, left_of(plant, index), "{plant:?}");
+    Ok(())
+}
+
 // Each finding alone, and of each two the one that is looked for first. With no slot open, what the slots name is not looked at, nor is slot 0.
 #[test]
 fn finds_the_first_of_each_two(rt: HostRuntime) -> Result<(), Fail> {
-    let alloc = rt.alloc();
-    let whole = planted(&rt, alloc)?;
-    assert_eq!(rt; find_damage(&rt, alloc, &whole)?, Finding::Keys(6));
-    for (index, first) in PLANTS.iter().enumerate() {
-        for second in PLANTS[PLANTS.len().min(index)..].iter() {
-            let found = find_both(&rt, alloc, &whole, *first, *second)?;
-            assert_eq!(rt; found, first.1, "{first:?} {second:?}");
-        }
-        let found = find_both(&rt, alloc, &whole, *first, NO_SLOT)?;
-        assert_eq!(rt; found, left_of(*first, index), "{first:?}");
+    let whole = planted(&rt, rt.alloc())?;
+    finds(&rt, rt.alloc(), &whole, &[], Finding::Keys(6))?;
+    find_all_first(&rt, rt.alloc(), &whole, &PLANTS)
+}
+
+fn find_all_first(
+    rt: &impl Abort,
+    alloc: Global,
+    whole: &[u8],
+    plants: &[Plant],
+) -> Result<(), Fail> {
+    for index in 0..plants.len() {
+        find_first(rt, alloc, whole, plants[index], &plants[index..])?;
+        find_left(rt, alloc, whole, plants[index], index)?;
     }
     Ok(())
 }
@@ -441,12 +521,19 @@ fn finds_the_first_of_each_two(rt: HostRuntime) -> Result<(), Fail> {
 // The same on a device that is one byte short: the header is looked at before, and all else is not.
 #[test]
 fn finds_a_short_device_behind_its_header(rt: HostRuntime) -> Result<(), Fail> {
-    let alloc = rt.alloc();
-    let mut whole = planted(&rt, alloc)?;
+    let mut whole = planted(&rt, rt.alloc())?;
     let _last = whole.pop();
-    for (index, plant) in PLANTS.iter().enumerate() {
-        let found = find_changed(&rt, alloc, &whole, plant.0)?;
-        assert_eq!(rt; found, found_short(*plant, index), "{plant:?}");
+    find_all_short(&rt, rt.alloc(), &whole, &PLANTS)
+}
+
+fn find_all_short(
+    rt: &impl Abort,
+    alloc: Global,
+    whole: &[u8],
+    plants: &[Plant],
+) -> Result<(), Fail> {
+    for (index, plant) in plants.iter().enumerate() {
+        finds(rt, alloc, whole, plant.0, found_short(*plant, index))?;
     }
     Ok(())
 }

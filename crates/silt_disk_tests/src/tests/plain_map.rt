@@ -1,7 +1,7 @@
 // A long run of pseudo-random events, answered as a plain map answers them.
 
-use crate::support::formatted_with;
-use silt_device::{Disk, Geometry};
+use super::{key_of, next, opened_with};
+use silt_device::{Disk, Geometry, MemDisk};
 use silt_frame::{Key, Value};
 use silt_recovery::check;
 use silt_store_set::{Core, Refusal};
@@ -12,19 +12,6 @@ use std::test::Fail;
 
 // How many keys the events name.
 const KEYS: u8 = 40;
-
-/// The pseudo-random number after this one.
-pub(crate) fn next(number: u32) -> u32 {
-    number.wrapping_mul(1_664_525).wrapping_add(1_013_904_223)
-}
-
-/// A key whose first bucket is its number, of four, and whose second bucket is its quarter.
-pub(crate) fn key_of(number: u8) -> Key {
-    let mut bytes = [0; 20];
-    bytes[1] = number;
-    bytes[3] = number / 4;
-    Key(bytes)
-}
 
 // Puts a value. A put that finds all logs in use changes nothing.
 fn put<D: Disk>(
@@ -125,25 +112,41 @@ fn has_entries<D: Disk>(
 fn run<D: Disk>(rt: &impl Abort, alloc: Global, core: &mut Core<D>) -> Result<(), Fail> {
     let mut map = BTreeMap::new(alloc);
     let mut number = 1;
-    for count in 1..2001u32 {
-        number = next(number);
-        step(rt, alloc, core, &mut map, number)?;
-        if count % 50 == 0 {
-            has_entries(rt, alloc, core, &map)?;
-        }
+    for _ in 0..40u32 {
+        number = fifty(rt, alloc, core, &mut map, number)?;
     }
     Ok(())
+}
+
+// The fifty events behind this number, and a look at all entries.
+fn fifty<D: Disk>(
+    rt: &impl Abort,
+    alloc: Global,
+    core: &mut Core<D>,
+    map: &mut BTreeMap<Key, [u8; 2]>,
+    mut number: u32,
+) -> Result<u32, Fail> {
+    for _ in 0..50u32 {
+        number = next(number);
+        step(rt, alloc, core, map, number)?;
+    }
+    has_entries(rt, alloc, core, map)?;
+    Ok(number)
+}
+
+// The generation of the manifest of a store that is given up.
+fn generation_of(alloc: Global, core: Core<MemDisk>) -> Result<u64, Fail> {
+    let report = check(alloc, &core.close()).ok().ok_or("is whole")?;
+    Ok(report.generation)
 }
 
 // On the way logs were frozen, converted and merged again and again: each time the manifest took its next generation.
 #[test]
 fn answers_as_a_plain_map(rt: HostRuntime) -> Result<(), Fail> {
-    let alloc = rt.alloc();
     let geometry = Geometry::new(2, 4, 8, 3, 3, 200).ok().ok_or("in limits")?;
-    let disk = formatted_with(alloc, geometry)?;
-    let mut core = Core::open(alloc, disk).ok().ok_or("opens")?;
-    run(&rt, alloc, &mut core)?;
-    let report = check(alloc, &core.close()).ok().ok_or("is whole")?;
-    assert!(rt; 50 < report.generation, "{}", report.generation);
+    let mut core = opened_with(rt.alloc(), geometry)?;
+    run(&rt, rt.alloc(), &mut core)?;
+    let generation = generation_of(rt.alloc(), core)?;
+    assert!(rt; 50 < generation, "{generation}");
     Ok(())
 }

@@ -1,7 +1,6 @@
 // Many lives of pseudo-random events on one disk, each stopped at a pseudo-random call with a pseudo-random fill, beside a plain map.
 
-use crate::plain_map::{key_of, next};
-use crate::support::{FILLS, formatted_with, of_regions};
+use super::{FILLS, formatted_with, key_of, next, of_regions};
 use silt_device::{Disk, Fill, Geometry, MemDisk, Stop, Stoppable};
 use silt_frame::{Key, Value};
 use silt_recovery::check;

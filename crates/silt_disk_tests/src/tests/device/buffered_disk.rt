@@ -1,6 +1,8 @@
 // What no clause says of a disk that buffers: how often it calls the inner disk, and what that one holds meanwhile.
+use super::{Step, do_all, four_at, write_at};
 use silt_device::{BufferedDisk, Call, Disk, FaultDisk, MemDisk, Stoppable};
 use std::alloc::Global;
+use std::process::Abort;
 use std::test::Fail;
 
 const LEN: u64 = 24;
@@ -19,14 +21,6 @@ const WRITES: [(u64, &[u8]); 9] = [
     (21, &[]),
 ];
 
-// Writes bytes that have a place on a disk of LEN bytes, and says whether they were written.
-fn write_at<D: Disk>(disk: &mut D, at: u64, bytes: &[u8]) -> bool {
-    if disk.len() != LEN || at > LEN || bytes.len() as u64 > LEN - at {
-        return false;
-    }
-    disk.write(at, bytes).is_ok()
-}
-
 // The bytes from a place on to the end.
 fn tail_of<D: Disk>(disk: &D, at: u64) -> Option<[u8; 24]> {
     let mut read = [0; 24];
@@ -35,16 +29,6 @@ fn tail_of<D: Disk>(disk: &D, at: u64) -> Option<[u8; 24]> {
     }
     let count = (LEN - at) as usize;
     disk.read(at, &mut read[..count]).ok()?;
-    Some(read)
-}
-
-// Four bytes from a place on.
-fn four_at<D: Disk>(disk: &D, at: u64) -> Option<[u8; 4]> {
-    let mut read = [0; 4];
-    if disk.len() != LEN || at > LEN - 4 {
-        return None;
-    }
-    disk.read(at, &mut read).ok()?;
     Some(read)
 }
 
@@ -60,23 +44,35 @@ fn buffered(alloc: Global, call: Call, number: u64) -> Result<BufferedDisk<Fault
     Ok(BufferedDisk::with_room(alloc, disk, 8)?)
 }
 
+// All these writes to two disks, which read alike behind each; and a sync of the first.
+fn write_to_both<A: Disk, B: Disk>(
+    rt: &impl Abort,
+    disk: &mut A,
+    plain: &mut B,
+    writes: &[(u64, &[u8])],
+) {
+    for (at, bytes) in writes {
+        let is_written = write_at(disk, *at, bytes) && write_at(plain, *at, bytes);
+        assert!(rt; is_written, "at {at}");
+        let difference = first_difference(disk, plain);
+        assert_eq!(rt; difference, None, "after {at}");
+    }
+    assert!(rt; disk.sync().is_ok());
+}
+
+// What two disks show, of which the first is stopped.
+fn show_alike(rt: &impl Abort, disk: BufferedDisk<FaultDisk>, plain: &MemDisk) {
+    let left = disk.into_inner().into_disk().restart();
+    assert_eq!(rt; left.shown(), plain.shown());
+}
+
 // Each read, whether it begins before, in or behind what is buffered, gives what a disk gives that buffers nothing.
 #[test]
 fn it_shows_what_was_written(rt: HostRuntime) -> Result<(), Fail> {
-    let mut disk = buffered(rt.alloc(), Call::Write, 0)?;
     let mut plain = MemDisk::new(rt.alloc(), 24)?;
-    for (at, bytes) in WRITES {
-        assert!(rt;
-            write_at(&mut disk, at, bytes) && write_at(&mut plain, at, bytes),
-            "at {at}"
-        );
-        assert_eq!(rt; first_difference(&disk, &plain), None, "after {at}");
-    }
-    assert!(rt; disk.sync().is_ok());
-    assert_eq!(rt;
-        disk.into_inner().into_disk().restart().shown(),
-        plain.shown()
-    );
+    let mut disk = buffered(rt.alloc(), Call::Write, 0)?;
+    write_to_both(&rt, &mut disk, &mut plain, &WRITES);
+    show_alike(&rt, disk, &plain);
     Ok(())
 }
 
@@ -92,56 +88,82 @@ const FAILURES: [(u64, u32, bool); 7] = [
     (7, 0, true),
 ];
 
+// How many of these writes fail.
+fn count_failed<D: Disk>(disk: &mut D, writes: &[(u64, &[u8])]) -> u32 {
+    let mut failed = 0u32;
+    for (at, bytes) in writes {
+        if !write_at(disk, *at, bytes) {
+            failed = failed.saturating_add(1);
+        }
+    }
+    failed
+}
+
+// How many of the writes fail where this one of the inner disk does, and whether the sync is answered Ok.
+fn answered(alloc: Global, number: u64) -> Result<(u32, bool), Fail> {
+    let mut disk = buffered(alloc, Call::Write, number)?;
+    let failed = count_failed(&mut disk, &WRITES);
+    Ok((failed, disk.sync().is_ok()))
+}
+
 #[test]
 fn adjacent_bytes_are_one_write(rt: HostRuntime) -> Result<(), Fail> {
     for (number, failures, synced) in FAILURES {
-        let mut disk = buffered(rt.alloc(), Call::Write, number)?;
-        let mut failed = 0u32;
-        for (at, bytes) in WRITES {
-            if !write_at(&mut disk, at, bytes) {
-                failed = failed.saturating_add(1);
-            }
-        }
-        assert_eq!(rt; failed, failures, "{number}");
-        assert_eq!(rt; disk.sync().is_ok(), synced, "{number}");
+        let answers = answered(rt.alloc(), number)?;
+        assert_eq!(rt; answers, (failures, synced), "{number}");
     }
     Ok(())
 }
+
+// The first write of the inner disk fails.
+const FIRST_WRITE_FAILS: [Step; 5] = [
+    Step::Write(4, &[0x11, 0x12, 0x13], true),
+    Step::Write(20, &[0x21], false),
+    Step::Read(4, Some([0x11, 0x12, 0x13, 0])),
+    Step::Read(2, Some([0, 0, 0x11, 0x12])),
+    Step::Sync(true),
+];
 
 // Where the buffered bytes cannot be written they are still shown, and the next sync writes them. The write that is told so is
 // pending: a stop may leave anything in its range.
 #[test]
 fn a_failed_write_keeps_what_is_buffered(rt: HostRuntime) -> Result<(), Fail> {
     let mut disk = buffered(rt.alloc(), Call::Write, 1)?;
-    assert!(rt; write_at(&mut disk, 4, &[0x11, 0x12, 0x13]));
-    assert!(rt; !write_at(&mut disk, 20, &[0x21]));
-    assert_eq!(rt; four_at(&disk, 4), Some([0x11, 0x12, 0x13, 0]));
-    assert_eq!(rt; four_at(&disk, 2), Some([0, 0, 0x11, 0x12]));
-    assert!(rt; disk.sync().is_ok());
-    let left = disk.into_inner().into_disk().restart();
-    assert_eq!(rt; four_at(&left, 4), Some([0x11, 0x12, 0x13, 0]));
+    do_all(&rt, &mut disk, &FIRST_WRITE_FAILS);
+    let left = four_at(&disk.into_inner().into_disk().restart(), 4);
+    assert_eq!(rt; left, Some([0x11, 0x12, 0x13, 0]));
     Ok(())
 }
+
+// One write before a sync, and one behind it.
+const ONE_SYNCED: [Step; 3] = [
+    Step::Write(0, &[0x11], true),
+    Step::Sync(true),
+    Step::Write(1, &[0x12], true),
+];
 
 // What was buffered and not synced a stop takes away.
 #[test]
 fn a_stop_forgets_what_is_buffered(rt: HostRuntime) -> Result<(), Fail> {
     let mut disk = BufferedDisk::new(rt.alloc(), MemDisk::new(rt.alloc(), 24)?)?;
-    assert!(rt; write_at(&mut disk, 0, &[0x11]));
-    assert!(rt; disk.sync().is_ok());
-    assert!(rt; write_at(&mut disk, 1, &[0x12]));
-    let disk = disk.restart();
-    assert_eq!(rt; four_at(&disk, 0), Some([0x11, 0, 0, 0]));
+    do_all(&rt, &mut disk, &ONE_SYNCED);
+    let left = four_at(&disk.restart(), 0);
+    assert_eq!(rt; left, Some([0x11, 0, 0, 0]));
     Ok(())
 }
+
+// The first read of the inner disk fails.
+const FIRST_READ_FAILS: [Step; 4] = [
+    Step::Write(4, &[0x11, 0x12, 0x13, 0x14], true),
+    Step::Read(4, Some([0x11, 0x12, 0x13, 0x14])),
+    Step::Read(5, None),
+    Step::Read(5, Some([0x12, 0x13, 0x14, 0])),
+];
 
 // Bytes that are buffered are read with no call of the inner disk, and others with one.
 #[test]
 fn buffered_bytes_are_read_without_a_call(rt: HostRuntime) -> Result<(), Fail> {
     let mut disk = buffered(rt.alloc(), Call::Read, 1)?;
-    assert!(rt; write_at(&mut disk, 4, &[0x11, 0x12, 0x13, 0x14]));
-    assert_eq!(rt; four_at(&disk, 4), Some([0x11, 0x12, 0x13, 0x14]));
-    assert_eq!(rt; four_at(&disk, 5), None);
-    assert_eq!(rt; four_at(&disk, 5), Some([0x12, 0x13, 0x14, 0]));
+    do_all(&rt, &mut disk, &FIRST_READ_FAILS);
     Ok(())
 }

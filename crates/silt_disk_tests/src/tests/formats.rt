@@ -1,0 +1,241 @@
+// The device calls that a formatting and an opening make, by a stop at each, and reads that fail.
+
+use super::images::{EMPTY, checked};
+use super::{Changes, FILLS, SMALL_LEN, blank, changed, small};
+use silt_device::{Call, FaultDisk, Fill, MemDisk, Stop, Stoppable};
+use silt_event::Finding;
+use silt_frame::Key;
+use silt_recovery::{FormatError, FormatFault, OpenError, OpenFault, check, format, open};
+use std::alloc::Global;
+use std::process::Abort;
+use std::test::Fail;
+
+// How many writes and syncs a formatting makes.
+const FORMAT_CALLS: u32 = 15;
+
+// A disk of these bytes whose first life ends at this write or sync.
+fn stopping(alloc: Global, bytes: &[u8], k: u32, fill: Fill) -> Result<MemDisk, Fail> {
+    let mut stops = Vec::new(alloc);
+    stops.push(Stop { k, fill })?;
+    Ok(MemDisk::with_bytes(alloc, bytes)?.arm(stops))
+}
+
+// How a formatting ends.
+#[derive(Clone, Copy, Debug, PartialEq, Eq)]
+enum End {
+    Done,
+    BadGeometry,
+    Stopped,
+    NoMemory,
+}
+
+fn end_of<F: Drop>(error: &FormatError<F>) -> End {
+    match error {
+        FormatError::BadGeometry => End::BadGeometry,
+        FormatError::Device(_) => End::Stopped,
+        FormatError::NoMemory => End::NoMemory,
+    }
+}
+
+// Formats a device of so many of these bytes as a small store, stopped at this write or sync: how it ends, and the disk after the stop.
+fn formatted(
+    alloc: Global,
+    (len, byte): (usize, u8),
+    k: u32,
+    fill: Fill,
+) -> Result<(MemDisk, End), Fail> {
+    let bytes = vec![in alloc; byte; len]?;
+    match format(alloc, stopping(alloc, &bytes, k, fill)?, small()?) {
+        Ok(disk) => Ok((disk.restart(), End::Done)),
+        Err(FormatFault::<MemDisk> { disk, error }) => Ok((disk.restart(), end_of(&error))),
+    }
+}
+
+// A formatting of zeros, stopped so. A stop leaves no store or an empty one, and only the last two calls may leave one.
+fn leaves_no_other_store(rt: &impl Abort, alloc: Global, k: u32, fill: Fill) -> Result<(), Fail> {
+    let (disk, end) = formatted(alloc, (SMALL_LEN, 0), k, fill)?;
+    let left = checked(alloc, &disk)?;
+    let is_done = k > FORMAT_CALLS;
+    assert_eq!(rt; end, if is_done { End::Done } else { End::Stopped }, "{k}");
+    let is_open = k >= FORMAT_CALLS - 1 && (fill == Fill::New || fill == Fill::Mix);
+    let expected = if is_done || is_open {
+        Ok(EMPTY)
+    } else {
+        Err(Finding::NotFormatted)
+    };
+    assert_eq!(rt; left, expected, "{k} {fill:?}");
+    Ok(())
+}
+
+#[test]
+fn a_stopped_formatting_leaves_no_other_store(rt: HostRuntime) -> Result<(), Fail> {
+    for fill in FILLS {
+        for k in 1..FORMAT_CALLS + 2 {
+            leaves_no_other_store(&rt, rt.alloc(), k, fill)?;
+        }
+    }
+    Ok(())
+}
+
+// On a device of another length no call is made: the first would fail.
+#[test]
+fn formats_no_other_length(rt: HostRuntime) -> Result<(), Fail> {
+    let (disk, end) = formatted(rt.alloc(), (45_055, 0), 1, Fill::Ones)?;
+    assert_eq!(rt; end, End::BadGeometry);
+    assert_eq!(rt; disk.shown().len(), 45_055);
+    assert!(rt; disk.shown().iter().all(|byte| *byte == 0));
+    Ok(())
+}
+
+// The gates of both logs that a device shows.
+fn gates_of(rt: &impl Abort, shown: &[u8]) -> [u8; 8] {
+    assert!(rt; shown.len() == SMALL_LEN);
+    let mut gates = [0; 8];
+    gates[..4].copy_from_slice(&shown[12_288..12_292]);
+    gates[4..].copy_from_slice(&shown[20_480..20_484]);
+    gates
+}
+
+// Whether a device of these bytes is opened where this write or sync is stopped, and what it then shows of the gates of both logs.
+fn opened(rt: &impl Abort, alloc: Global, bytes: &[u8], k: u32) -> Result<Option<[u8; 8]>, Fail> {
+    match open(alloc, stopping(alloc, bytes, k, Fill::Old)?) {
+        Ok(opened) => Ok(Some(gates_of(rt, opened.disk.shown()))),
+        Err(OpenFault::<MemDisk> { disk: _, error }) => {
+            assert!(rt; matches!(&error, OpenError::Device(_)));
+            Ok(None)
+        }
+    }
+}
+
+// Log 1 is frozen, and its second gate is open behind a closed one; then the third gate of the active log is open behind closed ones.
+const OPEN_BEHIND: [(Changes, u32); 2] = [
+    (&[(4112, 1), (4116, 1), (20_481, 0xA7)], 1),
+    (&[(4112, 1), (4116, 1), (20_481, 0xA7), (12_290, 0xA7)], 3),
+];
+
+// A device of these bytes is opened with so many writes and syncs.
+fn opens_in(rt: &impl Abort, alloc: Global, bytes: &[u8], calls: u32) -> Result<(), Fail> {
+    for k in 1..calls.saturating_add(2) {
+        let gates = opened(rt, alloc, bytes, k)?;
+        let expected = (k > calls).then_some([0, 0, 0, 0, 0, 0xA7, 0, 0]);
+        assert_eq!(rt; gates, expected, "{k}");
+    }
+    Ok(())
+}
+
+// A sync, and where a gate of the active log past its first closed one is open, a write and a sync. Frozen logs are only read.
+#[test]
+fn seals_the_active_log_alone(rt: HostRuntime) -> Result<(), Fail> {
+    for (changes, calls) in OPEN_BEHIND {
+        let bytes = small_changed(&rt, rt.alloc(), changes)?;
+        opens_in(&rt, rt.alloc(), &bytes, calls)?;
+    }
+    Ok(())
+}
+
+// The bytes of an empty store of the small geometry with some of them changed.
+fn small_changed(rt: &impl Abort, alloc: Global, changes: &[(usize, u8)]) -> Result<Vec<u8>, Fail> {
+    let whole = blank(alloc, small()?)?;
+    Ok(changed(rt, alloc, &whole, changes)?)
+}
+
+// Whether a check of a disk of these bytes tells a fault where this read fails, and whether it is answered.
+fn checked_at(alloc: Global, bytes: &[u8], number: u64) -> Result<(bool, bool), Fail> {
+    let disk = FaultDisk::new(MemDisk::with_bytes(alloc, bytes)?, Call::Read, number);
+    match check(alloc, &disk) {
+        Ok(_) => Ok((false, true)),
+        Err(OpenError::Device(_)) => Ok((true, false)),
+        Err(_) => Ok((false, false)),
+    }
+}
+
+// A device of these bytes is checked with so many reads, of which each may fail.
+fn checks_in(rt: &impl Abort, alloc: Global, bytes: &[u8], reads: u64) -> Result<(), Fail> {
+    for number in 1..reads.saturating_add(2) {
+        let answer = checked_at(alloc, bytes, number)?;
+        assert_eq!(rt; answer, (number <= reads, number > reads), "{number}");
+    }
+    Ok(())
+}
+
+// An empty store is read in four reads: the header, two slots, the gates. A hash store of eight slots is read in one read more, and so are
+// three sorted entries.
+const READS: [(Changes, u64); 3] = [
+    (&[], 4),
+    (&[(4144, 1)], 5),
+    (&[(4216, 3), (36_886, 1), (36_908, 2)], 5),
+];
+
+#[test]
+fn hands_on_each_fault_of_a_read(rt: HostRuntime) -> Result<(), Fail> {
+    for (changes, reads) in READS {
+        let bytes = small_changed(&rt, rt.alloc(), changes)?;
+        checks_in(&rt, rt.alloc(), &bytes, reads)?;
+    }
+    Ok(())
+}
+
+// What a get answers from these bytes, where the read of this number fails: whether there is a value, none after a fault, and the
+// bytes of the value.
+fn got(
+    alloc: Global,
+    bytes: &[u8],
+    number: u64,
+    key: Key,
+) -> Result<(Option<bool>, [u8; 2]), Fail> {
+    let disk = FaultDisk::new(MemDisk::with_bytes(alloc, bytes)?, Call::Read, number);
+    let opened = open(alloc, disk).ok().ok_or("opens")?;
+    if opened.tiers.geometry().value_len() != 2 {
+        return Err("values of two bytes".into());
+    }
+    let mut value = [0; 2];
+    let answer = opened.tiers.get(&opened.disk, &key, &mut value);
+    Ok((answer.ok(), value))
+}
+
+// Three sorted entries, of which the second has a value.
+const WITH_A_VALUE: Changes = &[(4216, 3), (36_886, 1), (36_906, 7), (36_908, 2)];
+
+// An opening reads a store of three sorted entries in five reads. A get of one of them then makes one.
+#[test]
+fn gets_an_entry_in_one_read(rt: HostRuntime) -> Result<(), Fail> {
+    let bytes = small_changed(&rt, rt.alloc(), WITH_A_VALUE)?;
+    reads_once(&rt, rt.alloc(), &bytes)
+}
+
+fn reads_once(rt: &impl Abort, alloc: Global, bytes: &[u8]) -> Result<(), Fail> {
+    let (failed, _) = got(alloc, bytes, 6, super::key(1))?;
+    assert_eq!(rt; failed, None);
+    assert_eq!(rt; got(alloc, bytes, 7, super::key(1))?, (Some(true), [7, 0]));
+    Ok(())
+}
+
+// The gates of the header, of the manifest's slots and of the first log that a device shows.
+fn first_gates(rt: &impl Abort, shown: &[u8]) -> [u8; 4] {
+    assert_eq!(rt; shown.len(), SMALL_LEN);
+    [shown[0], shown[4096], shown[8192], shown[12_288]]
+}
+
+// What they are after a stop at each call of a formatting, on a device of ones whose pending bytes are then all new: a gate is closed
+// with a zero, and opened with 0xA7.
+#[test]
+fn closes_gates_with_zeros(rt: HostRuntime) -> Result<(), Fail> {
+    for k in 1..FORMAT_CALLS + 1 {
+        let (disk, end) = formatted(rt.alloc(), (SMALL_LEN, 0xFF), k, Fill::New)?;
+        let gates = first_gates(&rt, disk.shown());
+        assert_eq!(rt; (end, gates), (End::Stopped, gates_at(k)), "{k}");
+    }
+    Ok(())
+}
+
+fn gates_at(k: u32) -> [u8; 4] {
+    let header = if k < 14 { 0x00 } else { 0xA7 };
+    let first = match k {
+        0..6 => 0xFF,
+        6..10 => 0x00,
+        _ => 0xA7,
+    };
+    let second = if k < 3 { 0xFF } else { 0x00 };
+    let log = if k < 4 { 0xFF } else { 0x00 };
+    [header, first, second, log]
+}
