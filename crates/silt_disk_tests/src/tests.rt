@@ -11,8 +11,9 @@ mod random_lives;
 mod reports;
 
 use silt_device::{Fill, Geometry, MemDisk};
+use silt_event::{Finding, Report};
 use silt_frame::Key;
-use silt_recovery::format;
+use silt_recovery::{OpenError, check, format};
 use silt_store_set::Core;
 use std::alloc::{AllocError, Global};
 use std::process::Abort;
@@ -88,6 +89,41 @@ fn changed(
     let mut bytes = whole.to_vec(alloc)?;
     change(rt, &mut bytes, changes);
     Ok(bytes)
+}
+
+// The numbers of an empty store.
+const EMPTY: Report = Report {
+    generation: 0,
+    active: 0,
+    active_rows: 0,
+    frozen: 0,
+    frozen_rows: 0,
+    hashes: 0,
+    hash_rows: 0,
+    entries: 0,
+    charge: 0,
+};
+
+// The numbers of a store, or what is found.
+type Found = Result<Report, Finding>;
+
+// The finding for which a look was refused.
+fn finding<F: Drop>(error: OpenError<F>) -> Result<Finding, Fail> {
+    match error {
+        OpenError::NotFormatted => Ok(Finding::NotFormatted),
+        OpenError::Damaged(place) => Ok(Finding::Damaged(place)),
+        OpenError::Crowded => Ok(Finding::Crowded),
+        OpenError::Device(_) => Err("a device call failed".into()),
+        OpenError::NoMemory => Err("no memory".into()),
+    }
+}
+
+// The numbers of the store on a disk, or what is found.
+fn checked(alloc: Global, disk: &MemDisk) -> Result<Found, Fail> {
+    match check(alloc, disk) {
+        Ok(report) => Ok(Ok(report)),
+        Err(error) => Ok(Err(finding(error)?)),
+    }
 }
 
 // The pseudo-random number after this one.

@@ -1,7 +1,6 @@
 // The device calls that a formatting and an opening make, by a stop at each, and reads that fail.
 
-use super::images::{EMPTY, checked};
-use super::{Changes, FILLS, SMALL_LEN, blank, changed, small};
+use super::{Changes, EMPTY, FILLS, SMALL_LEN, blank, changed, checked, key, small};
 use silt_device::{Call, FaultDisk, Fill, MemDisk, Stop, Stoppable};
 use silt_event::Finding;
 use silt_frame::Key;
@@ -204,9 +203,9 @@ fn gets_an_entry_in_one_read(rt: HostRuntime) -> Result<(), Fail> {
 }
 
 fn reads_once(rt: &impl Abort, alloc: Global, bytes: &[u8]) -> Result<(), Fail> {
-    let (failed, _) = got(alloc, bytes, 6, super::key(1))?;
+    let (failed, _) = got(alloc, bytes, 6, key(1))?;
     assert_eq!(rt; failed, None);
-    assert_eq!(rt; got(alloc, bytes, 7, super::key(1))?, (Some(true), [7, 0]));
+    assert_eq!(rt; got(alloc, bytes, 7, key(1))?, (Some(true), [7, 0]));
     Ok(())
 }
 

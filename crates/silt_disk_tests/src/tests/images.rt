@@ -1,47 +1,14 @@
 // Crafted images, and what is found in each: by a check and by an opening alike.
 
-use super::{Changes, SMALL_LEN, blank, change, changed, of_regions, small};
+use super::{
+    Changes, EMPTY, Found, SMALL_LEN, blank, change, changed, checked, finding, of_regions, small,
+};
 use silt_device::MemDisk;
 use silt_event::{Finding, Place, Report};
-use silt_recovery::{OpenError, OpenFault, check, open};
+use silt_recovery::{OpenFault, open};
 use std::alloc::Global;
 use std::process::Abort;
 use std::test::Fail;
-
-// The numbers of an empty store.
-pub(super) const EMPTY: Report = Report {
-    generation: 0,
-    active: 0,
-    active_rows: 0,
-    frozen: 0,
-    frozen_rows: 0,
-    hashes: 0,
-    hash_rows: 0,
-    entries: 0,
-    charge: 0,
-};
-
-// The numbers of a store, or what is found.
-pub(super) type Found = Result<Report, Finding>;
-
-// The finding for which a look was refused.
-fn finding<F: Drop>(error: OpenError<F>) -> Result<Finding, Fail> {
-    match error {
-        OpenError::NotFormatted => Ok(Finding::NotFormatted),
-        OpenError::Damaged(place) => Ok(Finding::Damaged(place)),
-        OpenError::Crowded => Ok(Finding::Crowded),
-        OpenError::Device(_) => Err("a device call failed".into()),
-        OpenError::NoMemory => Err("no memory".into()),
-    }
-}
-
-// The numbers of the store on a disk, or what is found.
-pub(super) fn checked(alloc: Global, disk: &MemDisk) -> Result<Found, Fail> {
-    match check(alloc, disk) {
-        Ok(report) => Ok(Ok(report)),
-        Err(error) => Ok(Err(finding(error)?)),
-    }
-}
 
 // Opens a disk of these bytes, and looks at it once more. Where it is refused nothing was written.
 fn opened(rt: &impl Abort, alloc: Global, disk: MemDisk, bytes: &[u8]) -> Result<Found, Fail> {

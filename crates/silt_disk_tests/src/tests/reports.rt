@@ -1,7 +1,6 @@
 // What a check of a device tells after its logs were frozen.
 
-use super::images::EMPTY;
-use super::{key, of_regions, opened_with, small};
+use super::{EMPTY, key, of_regions, opened_with, small};
 use silt_device::Disk;
 use silt_event::Report;
 use silt_frame::Key;
