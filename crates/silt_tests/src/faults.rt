@@ -1,8 +1,8 @@
 // One device call that fails, and the refusals of puts and deletes.
 
 use crate::life_lines::{Line, key};
-use crate::script::{Told, live};
-use crate::support::{SMALL_LEN, entries_of, formatted, formatted_with, of_regions, values_of};
+use crate::script::{Told, lived};
+use crate::support::{changed, entries_of, formatted, formatted_with, of_regions, values_of};
 use silt_device::{Call, Disk, FaultDisk, MemDisk, MemFault};
 use silt_store_set::{Core, Refusal};
 use std::alloc::Global;
@@ -59,6 +59,19 @@ pub(crate) fn is_failed(rt: &impl Abort, alloc: Global, core: &mut Core<FaultDis
 fn left_by(alloc: Global, core: Core<FaultDisk>) -> Result<[u16; 8], Fail> {
     let (_, found) = entries_of(alloc, core.close().into_disk())?;
     Ok(found)
+}
+
+// These are all entries: so many, with the values of the keys 0 to 7 among them.
+fn lists<D: Disk>(
+    rt: &impl Abort,
+    alloc: Global,
+    core: &Core<D>,
+    count: usize,
+    values: [u16; 8],
+) -> Result<(), Fail> {
+    let (found, listed) = listed(alloc, core)?;
+    assert_eq!(rt; (found, listed), (count, values));
+    Ok(())
 }
 
 // How many entries are listed, and the values of the keys 0 to 7 among them.
@@ -166,9 +179,9 @@ fn a_write_that_fails_fails_the_store(rt: HostRuntime) -> Result<(), Fail> {
 
 // A device with the value 5 of key 1, flushed.
 fn with_a_value(rt: &impl Abort, alloc: Global) -> Result<Vec<u8>, Fail> {
-    let (disk, told) = live(alloc, formatted(alloc)?, &[Line::Put(1, 5), Line::Flush])?;
     let expected = [Told::Opened, Told::Accepted(1), Told::Acknowledged(1)];
-    assert_eq!(rt; told.as_slice(), expected.as_slice());
+    let lines = [Line::Put(1, 5), Line::Flush];
+    let disk = lived(rt, alloc, formatted(alloc)?, &lines, &expected)?;
     Ok(disk.shown().to_vec(alloc)?)
 }
 
@@ -182,22 +195,28 @@ fn is_read_of_a_get(
     let inner = MemDisk::with_bytes(alloc, bytes)?;
     match Core::open(alloc, FaultDisk::new(inner, Call::Read, number)) {
         Ok(core) => Ok(is_read_again(rt, &core)),
-        Err(fault) => {
-            assert_eq!(rt; fault.refusal.label().0, 5);
-            Ok(false)
-        }
+        Err(fault) => Ok(is_no_fault(rt, fault.refusal.label().0)),
     }
+}
+
+// An opening is refused for a fault.
+fn is_no_fault(rt: &impl Abort, refusal: u32) -> bool {
+    assert_eq!(rt; refusal, 5);
+    false
 }
 
 // A read that fails is refused, and the same get, asked again, gives its value. A get makes one read, of the whole row. Which of the
 // disk's reads it is is not fixed: those before it refuse the opening.
 #[test]
 fn a_read_that_fails_changes_nothing(rt: HostRuntime) -> Result<(), Fail> {
-    let alloc = rt.alloc();
-    let bytes = with_a_value(&rt, alloc)?;
+    let bytes = with_a_value(&rt, rt.alloc())?;
+    one_read_is_refused(&rt, rt.alloc(), &bytes)
+}
+
+fn one_read_is_refused(rt: &impl Abort, alloc: Global, bytes: &[u8]) -> Result<(), Fail> {
     let mut refused = 0u32;
     for number in 1..16u64 {
-        if is_read_of_a_get(&rt, alloc, &bytes, number)? {
+        if is_read_of_a_get(rt, alloc, bytes, number)? {
             refused = refused.saturating_add(1);
         }
     }
@@ -240,7 +259,7 @@ fn a_full_store_takes_no_put(rt: HostRuntime) -> Result<(), Fail> {
     let alloc = rt.alloc();
     let mut core = of_capacity(alloc, 2)?;
     takes_two_puts(&rt, alloc, &mut core);
-    assert_eq!(rt; listed(alloc, &core)?, (1, [0, 2, 0, 0, 0, 0, 0, 0]));
+    lists(&rt, alloc, &core, 1, [0, 2, 0, 0, 0, 0, 0, 0])?;
     takes_a_delete(&rt, alloc, &mut core);
     let (_, found) = entries_of(alloc, core.close())?;
     assert_eq!(rt; found, [0; 8]);
@@ -282,30 +301,55 @@ fn tells_a_full_store_before_full_logs(rt: HostRuntime) -> Result<(), Fail> {
     let alloc = rt.alloc();
     let mut core = of_capacity(alloc, 8)?;
     takes_eight_puts(&rt, alloc, &mut core, [1; 8]);
-    assert_eq!(rt; put(&rt, alloc, &mut core, 5, 5), Err(7));
-    assert_eq!(rt; answer(core.delete(alloc, &key(1))), Err(8));
+    takes_neither(&rt, alloc, &mut core);
     Ok(())
+}
+
+fn takes_neither(rt: &impl Abort, alloc: Global, core: &mut Core<MemDisk>) {
+    assert_eq!(rt; put(rt, alloc, core, 5, 5), Err(7));
+    assert_eq!(rt; answer(core.delete(alloc, &key(1))), Err(8));
+}
+
+// Slot 1 is open with the last generation.
+const LAST_GENERATION: [(usize, u8); 9] = [
+    (8192, 0xA7),
+    (8193, 0x7F),
+    (8194, 0xFF),
+    (8195, 0xFF),
+    (8196, 0xFF),
+    (8197, 0xFF),
+    (8198, 0xFF),
+    (8199, 0xFF),
+    (8200, 0xFF),
+];
+
+// Four puts are taken, and the fifth, for which the log would be frozen, is not.
+fn takes_four_puts(rt: &impl Abort, alloc: Global, core: &mut Core<MemDisk>) {
+    for n in 1..5u8 {
+        assert_eq!(rt; put(rt, alloc, core, n, n), Ok(n as u64));
+    }
+    assert_eq!(rt; put(rt, alloc, core, 5, 5), Err(10));
+    assert_eq!(rt; answer(core.flush()), Ok(4));
+}
+
+// A small store with these bytes changed.
+fn with_changes(
+    rt: &impl Abort,
+    alloc: Global,
+    changes: &[(usize, u8)],
+) -> Result<Core<MemDisk>, Fail> {
+    let disk = formatted(alloc)?;
+    let bytes = changed(rt, alloc, disk.shown(), changes)?;
+    let disk = MemDisk::with_bytes(alloc, &bytes)?;
+    Ok(Core::open(alloc, disk).ok().ok_or("opens")?)
 }
 
 // A store whose manifest has the last generation freezes no log: slot 1 is open with that generation, and else zeros.
 #[test]
 fn spends_its_generations(rt: HostRuntime) -> Result<(), Fail> {
-    let alloc = rt.alloc();
-    let disk = formatted(alloc)?;
-    let mut bytes = disk.shown().to_vec(alloc)?;
-    assert_eq!(rt; bytes.len(), SMALL_LEN);
-    bytes[8192] = 0xA7;
-    bytes[8193] = 0x7F;
-    bytes[8194..8201].fill(0xFF);
-    let mut core = Core::open(alloc, MemDisk::with_bytes(alloc, &bytes)?)
-        .ok()
-        .ok_or("opens")?;
-    for n in 1..5u8 {
-        assert_eq!(rt; put(&rt, alloc, &mut core, n, n), Ok(n as u64));
-    }
-    assert_eq!(rt; put(&rt, alloc, &mut core, 5, 5), Err(10));
-    assert_eq!(rt; answer(core.flush()), Ok(4));
-    let (_, found) = entries_of(alloc, core.close())?;
+    let mut core = with_changes(&rt, rt.alloc(), &LAST_GENERATION)?;
+    takes_four_puts(&rt, rt.alloc(), &mut core);
+    let (_, found) = entries_of(rt.alloc(), core.close())?;
     assert_eq!(rt; found, [0, 1, 2, 3, 4, 0, 0, 0]);
     Ok(())
 }
@@ -336,11 +380,14 @@ fn count_put_again(rt: &impl Abort, alloc: Global, core: &mut Core<FaultDisk>) -
 // The read of a key with the same buckets fails in a put: nothing is changed, and the same put, asked again, is taken.
 #[test]
 fn a_put_whose_read_fails_is_asked_again(rt: HostRuntime) -> Result<(), Fail> {
-    let alloc = rt.alloc();
-    let mut core = faulty(alloc, Call::Read, 6)?;
-    assert_eq!(rt; count_put_again(&rt, alloc, &mut core), 1);
-    assert_eq!(rt; listed(alloc, &core)?, (4, [0, 1, 2, 3, 4, 0, 0, 0]));
-    Ok(())
+    let mut core = faulty(rt.alloc(), Call::Read, 6)?;
+    let count = count_put_again(&rt, rt.alloc(), &mut core);
+    is_one(&rt, count);
+    lists(&rt, rt.alloc(), &core, 4, [0, 1, 2, 3, 4, 0, 0, 0])
+}
+
+fn is_one(rt: &impl Abort, count: u32) {
+    assert_eq!(rt; count, 1);
 }
 
 // The keys 3, 1 and 2 are put, and 2 is deleted.
@@ -357,6 +404,5 @@ fn lists_all_entries(rt: HostRuntime) -> Result<(), Fail> {
     let alloc = rt.alloc();
     let mut core = of_capacity(alloc, 8)?;
     takes_three_puts(&rt, alloc, &mut core);
-    assert_eq!(rt; listed(alloc, &core)?, (2, [0, 1, 0, 3, 0, 0, 0, 0]));
-    Ok(())
+    lists(&rt, alloc, &core, 2, [0, 1, 0, 3, 0, 0, 0, 0])
 }

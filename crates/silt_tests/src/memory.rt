@@ -114,9 +114,6 @@ fn each_call_lacks_memory(rt: HostRuntime) -> Result<(), Fail> {
     let alloc = rt.alloc();
     let mut core = made(&rt, alloc, of_three_hash_stores()?)?;
     let values = all_done(&rt, alloc, &mut core)?;
-    assert_eq!(rt; core.flush().ok(), Some(4));
-    let found = listed(alloc, &core)?;
-    assert_eq!(rt; found, values);
     is_found_again(&rt, alloc, core.close(), values)
 }
 
@@ -125,7 +122,22 @@ fn all_done(rt: &impl Abort, alloc: Global, core: &mut Core<MemDisk>) -> Result<
     let lines = repeated_twice(alloc, &CONVERTED_MEANWHILE)?;
     let replies = repeated_twice(alloc, &CONVERTED_MEANWHILE_TOLD)?;
     all_asked(rt, alloc, core, &lines, &replies)?;
-    Ok(after(&lines, u64::MAX))
+    let values = after(&lines, u64::MAX);
+    has_flushed(rt, alloc, core, values)?;
+    Ok(values)
+}
+
+// The four commands of that life are acknowledged, and these are the values.
+fn has_flushed(
+    rt: &impl Abort,
+    alloc: Global,
+    core: &mut Core<MemDisk>,
+    values: [u16; 8],
+) -> Result<(), Fail> {
+    assert_eq!(rt; core.flush().ok(), Some(4));
+    let found = listed(alloc, core)?;
+    assert_eq!(rt; found, values);
+    Ok(())
 }
 
 // All lines of a life are told what is due.
@@ -186,13 +198,15 @@ fn plain_events(alloc: Global) -> Result<Vec<Event>, Fail>
     Ok(events_twice(alloc, &lines)?)
 }
 
-// Runs these events, and looks at the answers.
+// Runs these events, and looks at the answers, and at the values behind them.
 fn run_plain(rt: &impl Abort, alloc: Global, core: &mut Core<MemDisk>) -> Result<(), Fail> {
     let events = plain_events(alloc)?;
     let replies = repeated_twice(alloc, &PLAIN_TOLD)?;
     let answers = run_again(rt, alloc, core, &events)?;
     assert_eq!(rt; answers.len(), replies.len());
     assert!(rt; gets_lacking(rt, &answers, &replies) < 2);
+    let found = listed(alloc, core)?;
+    assert_eq!(rt; found, [0, 0, 2, 0, 0, 0, 0, 0]);
     Ok(())
 }
 
@@ -201,10 +215,7 @@ fn run_plain(rt: &impl Abort, alloc: Global, core: &mut Core<MemDisk>) -> Result
 fn a_run_lacks_memory(rt: HostRuntime) -> Result<(), Fail> {
     let alloc = rt.alloc();
     let mut core = made(&rt, alloc, small()?)?;
-    run_plain(&rt, alloc, &mut core)?;
-    let found = listed(alloc, &core)?;
-    assert_eq!(rt; found, [0, 0, 2, 0, 0, 0, 0, 0]);
-    Ok(())
+    run_plain(&rt, alloc, &mut core)
 }
 
 // The replies to these events. A run that was refused memory has done none of them.
@@ -254,26 +265,46 @@ fn told_last<F: Drop>(life: &LifeReply<F>) -> Told {
     }
 }
 
-// Two lives, of which the first puts and flushes and the second gets. They are refused memory before the first one, or one of them is in
-// its place, or the get is. Where it was the first one that nothing was put in, the second finds nothing.
-#[test]
-fn a_life_lacks_memory(rt: HostRuntime) -> Result<(), Fail> {
-    let alloc = rt.alloc();
-    let put = [Line::Put(1, 1), Line::Flush];
-    let get = [Line::Get(1)];
-    let all = all_events_twice(alloc, &[&put, &get])?;
-    let disk = formatted(&rt, alloc, small()?)?;
-    let Ok(replies) = lives(alloc, disk, 2, &all) else {
-        return Ok(());
-    };
+// What is told last of each of these two lives, none where they are refused memory before the first one.
+fn told_of_two(
+    rt: &impl Abort,
+    alloc: Global,
+    disk: MemDisk,
+    all: &[&[Line]],
+) -> Result<Option<(Told, Told)>, Fail> {
+    let all = all_events_twice(alloc, all)?;
+    match lives(alloc, disk, 2, &all) {
+        Ok(replies) => Ok(Some(last_of_two(rt, &replies))),
+        Err(_) => Ok(None),
+    }
+}
+
+fn last_of_two(rt: &impl Abort, replies: &[LifeReply<MemFault>]) -> (Told, Told) {
     assert_eq!(rt; replies.len(), 2);
-    let (first, second) = (told_last(&replies[0]), told_last(&replies[1]));
+    (told_last(&replies[0]), told_last(&replies[1]))
+}
+
+// One of two lives may be refused memory in its place, or the get is. Where it was the first one that nothing was put in, the second finds
+// nothing.
+fn one_lacks(rt: &impl Abort, first: Told, second: Told) {
     if first == Told::NotOpened(6) {
         assert_eq!(rt; second, Told::Absent);
-        return Ok(());
+        return;
     }
     assert_eq!(rt; first, Told::Acknowledged(1));
     let expected = [Told::Value(0, 1), Told::Refused(6), Told::NotOpened(6)];
     assert!(rt; expected.contains(&second), "{second:?}");
+}
+
+// Two lives, of which the first puts and flushes and the second gets. They are refused memory before the first one, or one of them is in
+// its place, or the get is.
+#[test]
+fn a_life_lacks_memory(rt: HostRuntime) -> Result<(), Fail> {
+    let put = [Line::Put(1, 1), Line::Flush];
+    let disk = formatted(&rt, rt.alloc(), small()?)?;
+    let told = told_of_two(&rt, rt.alloc(), disk, &[&put, &[Line::Get(1)]])?;
+    if let Some((first, second)) = told {
+        one_lacks(&rt, first, second);
+    }
     Ok(())
 }
