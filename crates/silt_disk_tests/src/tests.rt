@@ -126,6 +126,12 @@ fn checked(alloc: Global, disk: &MemDisk) -> Result<Found, Fail> {
     }
 }
 
+// The generation of the manifest of the store on this disk.
+fn generation_of(alloc: Global, disk: &MemDisk) -> Result<u64, Fail> {
+    let report = check(alloc, disk).ok().ok_or("is whole")?;
+    Ok(report.generation)
+}
+
 // The pseudo-random number after this one.
 fn next(number: u32) -> u32 {
     number.wrapping_mul(1_664_525).wrapping_add(1_013_904_223)

@@ -1,9 +1,8 @@
 // A long run of pseudo-random events, answered as a plain map answers them.
 
-use super::{key_of, next, opened_with};
-use silt_device::{Disk, Geometry, MemDisk};
+use super::{generation_of, key_of, next, opened_with};
+use silt_device::{Disk, Geometry};
 use silt_frame::{Key, Value};
-use silt_recovery::check;
 use silt_store_set::{Core, Refusal};
 use std::alloc::Global;
 use std::collections::BTreeMap;
@@ -134,19 +133,13 @@ fn fifty<D: Disk>(
     Ok(number)
 }
 
-// The generation of the manifest of a store that is given up.
-fn generation_of(alloc: Global, core: Core<MemDisk>) -> Result<u64, Fail> {
-    let report = check(alloc, &core.close()).ok().ok_or("is whole")?;
-    Ok(report.generation)
-}
-
 // On the way logs were frozen, converted and merged again and again: each time the manifest took its next generation.
 #[test]
 fn answers_as_a_plain_map(rt: HostRuntime) -> Result<(), Fail> {
     let geometry = Geometry::new(2, 4, 8, 3, 3, 200).ok().ok_or("in limits")?;
     let mut core = opened_with(rt.alloc(), geometry)?;
     run(&rt, rt.alloc(), &mut core)?;
-    let generation = generation_of(rt.alloc(), core)?;
+    let generation = generation_of(rt.alloc(), &core.close())?;
     assert!(rt; 50 < generation, "{generation}");
     Ok(())
 }

@@ -1,9 +1,8 @@
 // Many lives of pseudo-random events on one disk, each stopped at a pseudo-random call with a pseudo-random fill, beside a plain map.
 
-use super::{FILLS, formatted_with, key_of, next, of_regions};
+use super::{formatted_with, generation_of, key_of, next, of_regions};
 use silt_device::{Disk, Fill, Geometry, MemDisk, Stop, Stoppable};
 use silt_frame::{Key, Value};
-use silt_recovery::check;
 use silt_store_set::{Core, OpenFault, Refusal};
 use std::alloc::{AllocError, Global};
 use std::collections::BTreeMap;
@@ -25,6 +24,16 @@ type Values = [u16; KEYS];
 // which are what gets answer.
 type Kept = Vec<Values>;
 
+fn fill_of(number: u8) -> Fill {
+    match number % 5 {
+        0 => Fill::Old,
+        1 => Fill::New,
+        2 => Fill::Zero,
+        3 => Fill::Ones,
+        _ => Fill::Mix,
+    }
+}
+
 // A stop for each life: at one of its first calls, at its end, or past it.
 fn random_stops(alloc: Global, seed: u32) -> Result<Vec<Stop>, AllocError> {
     let mut stops = Vec::new(alloc);
@@ -34,7 +43,7 @@ fn random_stops(alloc: Global, seed: u32) -> Result<Vec<Stop>, AllocError> {
         let [call, fill, _, _] = number.to_be_bytes();
         stops.push(Stop {
             k: call as u32,
-            fill: FILLS.get(fill as usize % 5).copied().unwrap_or(Fill::Old),
+            fill: fill_of(fill),
         })?;
     }
     Ok(stops)
@@ -161,6 +170,17 @@ fn step<D: Disk>(
     }
 }
 
+// The values in the list of the entries of a store.
+fn listed<D: Disk>(rt: &impl Abort, alloc: Global, core: &Core<D>) -> Result<Values, Fail> {
+    let entries = core.entries(alloc).ok().ok_or("has entries")?;
+    Ok(values_of(rt, &entries))
+}
+
+// Whether the list of the entries is refused, as all calls of a failed store are.
+fn is_failed<D: Disk>(alloc: Global, core: &Core<D>) -> bool {
+    matches!(core.entries(alloc), Err(Refusal::Failed))
+}
+
 // What the opening found is one of the values that may be kept, and those alone stand from now on.
 fn take_up<D: Disk>(
     rt: &impl Abort,
@@ -168,8 +188,7 @@ fn take_up<D: Disk>(
     core: &Core<D>,
     kept: &mut Kept,
 ) -> Result<(), Fail> {
-    let entries = core.entries(alloc).ok().ok_or("has entries")?;
-    let found = values_of(rt, &entries);
+    let found = listed(rt, alloc, core)?;
     assert!(rt; kept.contains(&found), "{found:?} in {kept:?}");
     kept.clear();
     kept.push(found)?;
@@ -187,13 +206,25 @@ fn events<D: Disk>(
     for _ in 0..EVENTS {
         number = next(number);
         if !step(rt, alloc, core, kept, number)? {
-            assert!(rt; matches!(core.entries(alloc), Err(Refusal::Failed)));
+            assert!(rt; is_failed(alloc, core));
             return Ok(number);
         }
     }
-    let entries = core.entries(alloc).ok().ok_or("has entries")?;
-    assert_eq!(rt; values_of(rt, &entries), now(kept));
+    let found = listed(rt, alloc, core)?;
+    assert_eq!(rt; found, now(kept));
     Ok(number)
+}
+
+// The events of a life whose store is opened.
+fn lived<D: Disk>(
+    rt: &impl Abort,
+    alloc: Global,
+    core: &mut Core<D>,
+    kept: &mut Kept,
+    number: u32,
+) -> Result<u32, Fail> {
+    take_up(rt, alloc, core, kept)?;
+    events(rt, alloc, core, kept, number)
 }
 
 // A life, and the stop that ends it.
@@ -206,8 +237,7 @@ fn life(
 ) -> Result<(MemDisk, u32), Fail> {
     match Core::open(alloc, disk) {
         Ok(mut core) => {
-            take_up(rt, alloc, &core, kept)?;
-            let number = events(rt, alloc, &mut core, kept, number)?;
+            let number = lived(rt, alloc, &mut core, kept, number)?;
             Ok((core.close().restart(), number))
         }
         Err(
@@ -220,10 +250,8 @@ fn life(
     }
 }
 
-// All lives on a new disk of this geometry. On the way logs were frozen, converted and merged: each time the manifest took its next
-// generation.
-fn all_lives(rt: &impl Abort, alloc: Global, geometry: Geometry, seed: u32) -> Result<(), Fail> {
-    let mut disk = formatted_with(alloc, geometry)?.arm(random_stops(alloc, seed)?);
+// All lives on this disk, whose store has no entries.
+fn lives(rt: &impl Abort, alloc: Global, mut disk: MemDisk, seed: u32) -> Result<MemDisk, Fail> {
     let mut kept = Vec::new(alloc);
     kept.push([0; KEYS])?;
     let mut number = seed;
@@ -232,8 +260,17 @@ fn all_lives(rt: &impl Abort, alloc: Global, geometry: Geometry, seed: u32) -> R
         disk = left;
         number = last;
     }
-    let report = check(alloc, &disk).ok().ok_or("is whole")?;
-    assert!(rt; 50 < report.generation, "{}", report.generation);
+    Ok(disk)
+}
+
+// All lives on a new disk of this geometry. On the way logs were frozen, converted and merged: each time the manifest took its next
+// generation.
+fn all_lives(rt: &impl Abort, alloc: Global, geometry: Geometry, seed: u32) -> Result<(), Fail> {
+    let stops = random_stops(alloc, seed)?;
+    let disk = formatted_with(alloc, geometry)?.arm(stops);
+    let disk = lives(rt, alloc, disk, seed)?;
+    let generation = generation_of(alloc, &disk)?;
+    assert!(rt; 50 < generation, "{generation}");
     Ok(())
 }
 

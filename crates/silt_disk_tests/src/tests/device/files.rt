@@ -1,7 +1,7 @@
 // What no clause says of a disk in a file: the bytes that the file holds, and which errors it gives. Each test has a folder or a
 // file of its own, in the folder that it runs in, and takes it away at its end.
-use super::{FIRST, SECOND, four_at};
-use silt_device::{Disk, DiskSource, FileDisk, FileDisks, MemDisk, NamedDisk, write_synced};
+use super::{FIRST, SECOND, Step, first_wrong, four_at};
+use silt_device::{Disk, DiskSource, FileDisk, FileDisks, MemDisk, NamedDisk};
 use std::alloc::{AllocError, Global};
 use std::fs::{self, File};
 use std::io::{self, ErrorKind};
@@ -23,14 +23,14 @@ fn len_of(answer: io::Result<FileDisk>) -> Result<u64, ErrorKind> {
     }
 }
 
-// Writes FIRST at 1 of a disk of nine bytes and syncs it, then SECOND over its end and one byte at the disk's. Whether all that was done.
-fn write_parts<D: Disk>(disk: &mut D) -> bool {
-    disk.len() == 9
-        && write_synced(disk, 1, &FIRST).is_ok()
-        && disk.write(3, &SECOND).is_ok()
-        && disk.write(8, &[0x31]).is_ok()
-        && disk.sync().is_ok()
-}
+// FIRST at 1 of a disk of nine bytes and a sync, then SECOND over its end and one byte at the disk's, and a sync.
+const PARTS: [Step; 5] = [
+    Step::Write(1, &FIRST, true),
+    Step::Sync(true),
+    Step::Write(3, &SECOND, true),
+    Step::Write(8, &[0x31], true),
+    Step::Sync(true),
+];
 
 // The bytes of a disk of nine.
 fn nine_of<D: Disk>(disk: &D) -> Option<[u8; 9]> {
@@ -45,8 +45,12 @@ fn nine_of<D: Disk>(disk: &D) -> Option<[u8; 9]> {
 // A disk of nine bytes that is made and written so: what it then has.
 fn written(rt: &HostRuntime) -> io::Result<Option<[u8; 9]>> {
     let mut disk = FileDisk::create(rt, "kept/disk", 9)?;
-    let is_written = write_parts(&mut disk);
-    Ok(if is_written { nine_of(&disk) } else { None })
+    let wrong = first_wrong(&mut disk, &PARTS);
+    Ok(if wrong.is_none() {
+        nine_of(&disk)
+    } else {
+        None
+    })
 }
 
 // The length of that disk, opened again, and its last four bytes.
