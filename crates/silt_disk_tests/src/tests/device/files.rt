@@ -76,24 +76,34 @@ fn holds(rt: &HostRuntime, path: &str, bytes: &[u8]) -> io::Result<bool> {
     Ok(fs::read(rt, path)?.as_slice() == bytes)
 }
 
+// Lengths that are asked for one after the other, and the bytes that the file then has.
+const LENGTHS: [(u64, &[u8]); 5] = [
+    (4, &FIRST),
+    (6, &[0x11, 0x12, 0x13, 0x14, 0, 0]),
+    (3, &[0x11, 0x12, 0x13]),
+    (5, &[0x11, 0x12, 0x13, 0, 0]),
+    (0, &[]),
+];
+
+// The first of these lengths that a disk is not made with, that its file does not have the bytes of, or that it is not opened with.
+fn other_length(rt: &HostRuntime, path: &str, lengths: &[(u64, &[u8])]) -> io::Result<Option<u64>> {
+    for (len, held) in lengths {
+        let made = len_of(FileDisk::create(rt, path, *len));
+        let is_held = holds(rt, path, held)?;
+        let opened = len_of(FileDisk::open(rt, path));
+        if !(made == Ok(*len) && is_held && opened == Ok(*len)) {
+            return Ok(Some(*len));
+        }
+    }
+    Ok(None)
+}
+
 // A file that is there keeps its bytes up to the length asked for, and grows by zeros.
 #[test]
 fn create_gives_the_length(rt: HostRuntime) -> Result<(), Fail> {
     make_folder(&rt, "sized")?;
     fs::write(&rt, "sized/disk", FIRST.as_slice())?;
-    let table = [
-        (4, FIRST.as_slice()),
-        (6, &[0x11, 0x12, 0x13, 0x14, 0, 0]),
-        (3, &[0x11, 0x12, 0x13]),
-        (5, &[0x11, 0x12, 0x13, 0, 0]),
-        (0, &[]),
-    ];
-    for (len, held) in table {
-        let made = len_of(FileDisk::create(&rt, "sized/disk", len));
-        assert_eq!(rt; made, Ok(len));
-        assert!(rt; holds(&rt, "sized/disk", held)?, "at {len}");
-        assert_eq!(rt; len_of(FileDisk::open(&rt, "sized/disk")), Ok(len));
-    }
+    assert_eq!(rt; other_length(&rt, "sized/disk", &LENGTHS)?, None);
     fs::remove_dir_all(&rt, "sized")?;
     Ok(())
 }
@@ -106,31 +116,44 @@ fn a_bare_name_is_a_path(rt: HostRuntime) -> Result<(), Fail> {
     Ok(())
 }
 
+// Paths at which no disk of such a length is made, and why.
+const NOT_MADE: [(&str, u64, ErrorKind); 4] = [
+    ("wrong/folder/disk", 8, ErrorKind::NotFound),
+    ("", 8, ErrorKind::NotFound),
+    ("wrong", 8, ErrorKind::IsADirectory),
+    ("wrong/disk", 1 << 63, ErrorKind::InvalidInput),
+];
+
+// The first of these at which a disk is made, or another error is told.
+fn made_at<'a>(rt: &HostRuntime, paths: &[(&'a str, u64, ErrorKind)]) -> Option<&'a str> {
+    for (path, len, kind) in paths {
+        if len_of(FileDisk::create(rt, path, *len)) != Err(*kind) {
+            return Some(*path);
+        }
+    }
+    None
+}
+
+// What an opening of a path with no file is told, and whether there is one then; and what an opening of a folder is told.
+fn opened_wrong(
+    rt: &HostRuntime,
+) -> io::Result<(Result<u64, ErrorKind>, bool, Result<u64, ErrorKind>)> {
+    let none = len_of(FileDisk::open(rt, "wrong/disk"));
+    let is_there = fs::exists(rt, "wrong/disk")?;
+    Ok((none, is_there, len_of(FileDisk::open(rt, "wrong"))))
+}
+
 #[test]
 fn a_path_with_no_file_is_an_error(rt: HostRuntime) -> Result<(), Fail> {
     make_folder(&rt, "wrong")?;
-    assert_eq!(rt;
-        len_of(FileDisk::open(&rt, "wrong/disk")),
-        Err(ErrorKind::NotFound)
+    let answers = opened_wrong(&rt)?;
+    let expected = (
+        Err(ErrorKind::NotFound),
+        false,
+        Err(ErrorKind::IsADirectory),
     );
-    assert!(rt; !fs::exists(&rt, "wrong/disk")?);
-    assert_eq!(rt;
-        len_of(FileDisk::open(&rt, "wrong")),
-        Err(ErrorKind::IsADirectory)
-    );
-    let table = [
-        ("wrong/folder/disk", 8, ErrorKind::NotFound),
-        ("", 8, ErrorKind::NotFound),
-        ("wrong", 8, ErrorKind::IsADirectory),
-        ("wrong/disk", 1 << 63, ErrorKind::InvalidInput),
-    ];
-    for (path, len, kind) in table {
-        assert_eq!(rt;
-            len_of(FileDisk::create(&rt, path, len)),
-            Err(kind),
-            "{path}"
-        );
-    }
+    assert_eq!(rt; answers, expected);
+    assert_eq!(rt; made_at(&rt, &NOT_MADE), None);
     fs::remove_dir_all(&rt, "wrong")?;
     Ok(())
 }
@@ -281,31 +304,50 @@ fn named_disk(alloc: Global) -> Result<NamedDisk<MemDisk>, AllocError> {
     Ok(NamedDisk::new(String::from_str(alloc, "disk")?, MemDisk::new(alloc, 4)?))
 }
 
+// What a path is asked for, and what it gives.
+type Asked<'a> = (&'a str, Option<u64>, Option<u64>);
+
+// Of a folder with no file.
+const OF_FILES: [Asked; 4] = [
+    ("source/disk", None, None),
+    ("source/disk", Some(7), Some(7)),
+    ("source/disk", None, Some(7)),
+    ("source/other", None, None),
+];
+
+const OF_A_NAME: [Asked; 5] = [
+    ("disk", None, Some(4)),
+    ("disk", Some(4), Some(4)),
+    ("disk", Some(5), None),
+    ("dis", None, None),
+    ("disks", Some(4), None),
+];
+
+// The first of these paths at which a source of files gives another disk, and the first at which a source of a named disk does.
+fn files_differ<'a>(rt: &HostRuntime, asked: &[Asked<'a>]) -> Option<&'a str> {
+    for (path, made, given) in asked {
+        if len_from(FileDisks::new(rt), path, *made) != *given {
+            return Some(*path);
+        }
+    }
+    None
+}
+
+fn a_name_differs<'a>(alloc: Global, asked: &[Asked<'a>]) -> Result<Option<&'a str>, AllocError> {
+    for (path, made, given) in asked {
+        if len_from(named_disk(alloc)?, path, *made) != *given {
+            return Ok(Some(*path));
+        }
+    }
+    Ok(None)
+}
+
 // A source of files gives the disk of the path, and one of a named disk gives it under its name and at its length alone.
 #[test]
 fn a_source_gives_the_disk_of_its_path(rt: HostRuntime) -> Result<(), Fail> {
     make_folder(&rt, "source")?;
-    assert_eq!(rt; len_from(FileDisks::new(&rt), "source/disk", None), None);
-    assert_eq!(rt;
-        len_from(FileDisks::new(&rt), "source/disk", Some(7)),
-        Some(7)
-    );
-    assert_eq!(rt; len_from(FileDisks::new(&rt), "source/disk", None), Some(7));
-    assert_eq!(rt; len_from(FileDisks::new(&rt), "source/other", None), None);
+    assert_eq!(rt; files_differ(&rt, &OF_FILES), None);
     fs::remove_dir_all(&rt, "source")?;
-    let table = [
-        ("disk", None, Some(4)),
-        ("disk", Some(4), Some(4)),
-        ("disk", Some(5), None),
-        ("dis", None, None),
-        ("disks", Some(4), None),
-    ];
-    for (path, made, len) in table {
-        assert_eq!(rt;
-            len_from(named_disk(rt.alloc())?, path, made),
-            len,
-            "{path}"
-        );
-    }
+    assert_eq!(rt; a_name_differs(rt.alloc(), &OF_A_NAME)?, None);
     Ok(())
 }
