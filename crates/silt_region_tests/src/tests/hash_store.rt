@@ -1,11 +1,11 @@
 // A hash region, where no clause says it: worked regions, that the calls which take memory succeed, and how many reads a look-up and a rebuild make.
-ghost use Rattle.std.specs.Prelude.{◌≡◌, ◌+◌, ◌*◌, ◌≤◌, ◌<◌};
+ghost use Rattle.std.specs.Prelude.{◌≡◌, ◌+◌, ◌*◌, ◌≤◌, ◌<◌, IfOk, IfSome};
 ghost use Rattle.silt_device.specs.Disk.{size};
 ghost use Rattle.silt_device.specs.Layout.{device_size};
 ghost use Rattle.silt_device.specs.Memory.{memory_content};
 
-use crate::tests::{eight_rows, paired, single};
-use silt_device::{Call, Disk, FaultDisk, Geometry, MemDisk};
+use crate::tests::{LEN, blank, eight_rows, largest, paired, shows, single, with_fault};
+use silt_device::{Call, Disk, Geometry, MemDisk};
 use silt_frame::{Key, Kind, Row};
 use silt_hash_store::{Conversion, Found, HashStore, RebuildError, StepError};
 use silt_log_store::LogStore;
@@ -58,8 +58,8 @@ enum Outcome {
     NoMemory,
 }
 
-// What a rebuild of hash region 0 comes to.
-fn rebuild<D: Disk>(alloc: Global, disk: &D, geometry: Geometry) -> Outcome
+// What a rebuild of hash region 0 with this geometry comes to.
+fn rebuild_in<D: Disk>(alloc: Global, disk: &D, geometry: Geometry) -> Outcome
     requires region { 0 < geometry.hashes }
     requires size { device_size geometry ≤ size (D.content disk.now) }
 {
@@ -71,15 +71,38 @@ fn rebuild<D: Disk>(alloc: Global, disk: &D, geometry: Geometry) -> Outcome
     }
 }
 
-// What hash region 0 has of a key.
-fn find<D: Disk>(alloc: Global, disk: &D, geometry: Geometry, key: &Key) -> Option<Option<Found>>
-    requires region { 0 < geometry.hashes }
-    requires size { device_size geometry ≤ size (D.content disk.now) }
+// What a rebuild of that with eight rows a log comes to.
+fn rebuild<D: Disk>(alloc: Global, disk: &D) -> Outcome
+    requires { 45056 ≤ size (D.content disk.now) }
 {
-    let Ok(rebuilt) = HashStore::rebuild(alloc, disk, geometry, 0) else {
+    match eight_rows() {
+        Ok(geometry) => rebuild_in(alloc, disk, geometry),
+        Err(_) => Outcome::Failed,
+    }
+}
+
+// The store that stands there.
+fn rebuilt<D: Disk>(alloc: Global, disk: &D) -> Option<HashStore>
+    requires { 45056 ≤ size (D.content disk.now) }
+    ensures { IfSome result (λ store. store.shape ≡ record { value_len = 2; buckets = 2; log_capacity = 8; logs = 2; hashes = 2; sorted_capacity = 16 }) }
+{
+    let Ok(geometry) = eight_rows() else {
         return None;
     };
-    rebuilt.store.find(disk, key).ok()
+    match HashStore::rebuild(alloc, disk, geometry, 0) {
+        Ok(rebuilt) => Some(rebuilt.store),
+        Err(_) => None,
+    }
+}
+
+// What it has of a key.
+fn find<D: Disk>(alloc: Global, disk: &D, key: &Key) -> Option<Option<Found>>
+    requires { 45056 ≤ size (D.content disk.now) }
+{
+    let Some(store) = rebuilt(alloc, disk) else {
+        return None;
+    };
+    store.find(disk, key).ok()
 }
 
 // A row of this kind that was found in a slot.
@@ -87,133 +110,140 @@ fn found(kind: Kind, place: u32) -> Option<Option<Found>> {
     Some(Some(Found { kind, place }))
 }
 
+// Writes rows into three slots.
+fn fill_three<D: Disk>(disk: &mut D) -> Result<(), D::Fault>
+    requires { 45056 ≤ size (D.content disk.old) }
+    ensures { size (D.content disk.new) ≡ size (D.content disk.old) }
+{
+    fill_slot(disk, 2, 1, &paired(1))?;
+    fill_slot(disk, 5, 2, &paired(2))?;
+    fill_slot(disk, 3, 1, &single(3))?;
+    Ok(())
+}
+
+// What there is of their keys, and of two others.
+fn find_five<D: Disk>(alloc: Global, disk: &D) -> [Option<Option<Found>>; 5]
+    requires { 45056 ≤ size (D.content disk.now) }
+{
+    [
+        find(alloc, disk, &paired(1)),
+        find(alloc, disk, &paired(2)),
+        find(alloc, disk, &single(3)),
+        find(alloc, disk, &paired(3)),
+        find(alloc, disk, &single(1)),
+    ]
+}
+
 #[test]
 fn finds_the_rows_of_a_region(rt: HostRuntime) -> Result<(), Fail> {
     let alloc = rt.alloc();
-    let geometry = eight_rows()?;
-    let mut disk = MemDisk::new(alloc, geometry.size() as usize)?;
-    assert_eq!(rt; rebuild(alloc, &disk, geometry), Outcome::Rebuilt(0, 0));
-    fill_slot(&mut disk, 2, 1, &paired(1))?;
-    fill_slot(&mut disk, 5, 2, &paired(2))?;
-    fill_slot(&mut disk, 3, 1, &single(3))?;
-    assert_eq!(rt; rebuild(alloc, &disk, geometry), Outcome::Rebuilt(3, 2));
+    let mut disk = blank(alloc, LEN)?;
+    let empty = rebuild(alloc, &disk);
+    fill_three(&mut disk)?;
+    let outcome = rebuild(alloc, &disk);
+    let five = find_five(alloc, &disk);
+    drop(disk);
     assert_eq!(rt;
-        find(alloc, &disk, geometry, &paired(1)),
-        found(Kind::Put, 2)
+        (empty, outcome),
+        (Outcome::Rebuilt(0, 0), Outcome::Rebuilt(3, 2))
     );
-    assert_eq!(rt;
-        find(alloc, &disk, geometry, &paired(2)),
-        found(Kind::Delete, 5)
-    );
-    assert_eq!(rt;
-        find(alloc, &disk, geometry, &single(3)),
-        found(Kind::Put, 3)
-    );
-    assert_eq!(rt; find(alloc, &disk, geometry, &paired(3)), Some(None));
-    assert_eq!(rt; find(alloc, &disk, geometry, &single(1)), Some(None));
+    let due = [
+        found(Kind::Put, 2),
+        found(Kind::Delete, 5),
+        found(Kind::Put, 3),
+        Some(None),
+        Some(None),
+    ];
+    assert_eq!(rt; five, due);
     Ok(())
 }
 
 // The row of slot 5 of hash region 0, that of slot 4, and the value in slot 5.
-fn read_slots<D: Disk>(
-    alloc: Global,
-    disk: &D,
-    geometry: Geometry,
-) -> Option<(Option<Row>, Option<Row>, [u8; 2])>
-    requires region { 0 < geometry.hashes }
-    requires value { geometry.value_len ≡ 2 }
-    requires buckets { geometry.buckets ≡ 2 }
-    requires size { device_size geometry ≤ size (D.content disk.now) }
+fn read_slots<D: Disk>(alloc: Global, disk: &D) -> Option<(Option<Row>, Option<Row>, [u8; 2])>
+    requires { 45056 ≤ size (D.content disk.now) }
 {
-    let Ok(rebuilt) = HashStore::rebuild(alloc, disk, geometry, 0) else {
+    let Some(store) = rebuilt(alloc, disk) else {
         return None;
     };
     let mut value = [0; 2];
-    rebuilt.store.read_value(disk, 5, &mut value).ok()?;
-    let full = rebuilt.store.row_at(disk, 5).ok()?;
-    let empty = rebuilt.store.row_at(disk, 4).ok()?;
+    store.read_value(disk, 5, &mut value).ok()?;
+    let full = store.row_at(disk, 5).ok()?;
+    let empty = store.row_at(disk, 4).ok()?;
     Some((full, empty, value))
 }
 
 #[test]
 fn reads_a_slot(rt: HostRuntime) -> Result<(), Fail> {
     let alloc = rt.alloc();
-    let geometry = eight_rows()?;
-    let mut disk = MemDisk::new(alloc, geometry.size() as usize)?;
+    let mut disk = blank(alloc, LEN)?;
     fill_slot(&mut disk, 5, 2, &paired(2))?;
+    let slots = read_slots(alloc, &disk);
+    drop(disk);
     let row = Row {
         kind: Kind::Delete,
         key: paired(2),
         place: 5,
     };
-    assert_eq!(rt;
-        read_slots(alloc, &disk, geometry),
-        Some((Some(row), None, [5, 5]))
-    );
+    assert_eq!(rt; slots, Some((Some(row), None, [5, 5])));
     Ok(())
+}
+
+// What rebuilds come to after an unknown kind in slot 7, a key twice in slot 6 and a row in no bucket of its key in slot 4.
+fn three_wrong_slots<D: Disk>(alloc: Global, disk: &mut D) -> Result<[Outcome; 3], D::Fault>
+    requires { 45056 ≤ size (D.content disk.old) }
+{
+    fill_slot(disk, 1, 1, &paired(1))?;
+    fill_slot(disk, 7, 3, &paired(7))?;
+    let unknown = rebuild(alloc, disk);
+    fill_slot(disk, 6, 1, &paired(1))?;
+    let twice = rebuild(alloc, disk);
+    fill_slot(disk, 4, 1, &single(4))?;
+    Ok([unknown, twice, rebuild(alloc, disk)])
 }
 
 // The first slot in which something is wrong decides: an unknown kind, a row in no bucket of its key, a key twice.
 #[test]
 fn the_first_wrong_slot_decides(rt: HostRuntime) -> Result<(), Fail> {
-    let alloc = rt.alloc();
-    let geometry = eight_rows()?;
-    let mut disk = MemDisk::new(alloc, geometry.size() as usize)?;
-    fill_slot(&mut disk, 1, 1, &paired(1))?;
-    fill_slot(&mut disk, 7, 3, &paired(7))?;
-    assert_eq!(rt; rebuild(alloc, &disk, geometry), Outcome::Damaged(7));
-    fill_slot(&mut disk, 6, 1, &paired(1))?;
-    assert_eq!(rt; rebuild(alloc, &disk, geometry), Outcome::Damaged(6));
-    fill_slot(&mut disk, 4, 1, &single(4))?;
-    assert_eq!(rt; rebuild(alloc, &disk, geometry), Outcome::Damaged(4));
+    let mut disk = blank(rt.alloc(), LEN)?;
+    let outcomes = three_wrong_slots(rt.alloc(), &mut disk)?;
+    drop(disk);
+    let due = [
+        Outcome::Damaged(7),
+        Outcome::Damaged(6),
+        Outcome::Damaged(4),
+    ];
+    assert_eq!(rt; outcomes, due);
     Ok(())
 }
 
-// What a rebuild of hash region 0 comes to, and of the same look-up, where the read of this number fails.
-fn rebuild_with_fault(
-    alloc: Global,
-    disk: MemDisk,
-    geometry: Geometry,
-    number: u64,
-) -> (Outcome, bool)
-    requires region { 0 < geometry.hashes }
-    requires size { device_size geometry ≤ size (memory_content disk) }
-{
-    let disk = FaultDisk::new(disk, Call::Read, number);
-    (
-        rebuild(alloc, &disk, geometry),
-        find(alloc, &disk, geometry, &paired(2)).is_some(),
-    )
+// What a rebuild of two rows that share their buckets comes to, and whether a look-up of the second one is answered, where the read of this number fails.
+fn rebuild_with_fault(alloc: Global, number: u64) -> Result<(Outcome, bool), Fail> {
+    let mut disk = blank(alloc, LEN)?;
+    fill_slot(&mut disk, 0, 1, &paired(1))?;
+    fill_slot(&mut disk, 1, 1, &paired(2))?;
+    let disk = with_fault(disk, Call::Read, number);
+    Ok((
+        rebuild(alloc, &disk),
+        find(alloc, &disk, &paired(2)).is_some(),
+    ))
 }
 
 // A rebuild reads the eight slots together, and of the second row of two that share their buckets the head of the first again:
 // two reads. A look-up of the second makes two.
 #[test]
 fn a_failed_read_is_told(rt: HostRuntime) -> Result<(), Fail> {
-    let alloc = rt.alloc();
-    let geometry = eight_rows()?;
+    let failed = Outcome::Failed;
     let rebuilt = Outcome::Rebuilt(2, 2);
-    for number in 1..3u64 {
-        let mut disk = MemDisk::new(alloc, geometry.size() as usize)?;
-        fill_slot(&mut disk, 0, 1, &paired(1))?;
-        fill_slot(&mut disk, 1, 1, &paired(2))?;
-        assert_eq!(rt;
-            rebuild_with_fault(alloc, disk, geometry, number),
-            (Outcome::Failed, true),
-            "read {number}"
-        );
-    }
     for (number, first, second) in [
+        (1, failed, true),
+        (2, failed, true),
         (3, rebuilt, false),
         (4, rebuilt, false),
         (6, rebuilt, false),
         (7, rebuilt, true),
     ] {
-        let mut disk = MemDisk::new(alloc, geometry.size() as usize)?;
-        fill_slot(&mut disk, 0, 1, &paired(1))?;
-        fill_slot(&mut disk, 1, 1, &paired(2))?;
         assert_eq!(rt;
-            rebuild_with_fault(alloc, disk, geometry, number),
+            rebuild_with_fault(rt.alloc(), number)?,
             (first, second),
             "read {number}"
         );
@@ -296,28 +326,37 @@ fn convert_log<D: Disk>(alloc: Global, disk: &mut D, log: &LogStore) -> Option<C
     })
 }
 
-// Converts log 0 into hash region 0.
-fn convert<D: Disk>(alloc: Global, disk: &mut D, geometry: Geometry) -> Option<Converted>
-    requires log { 0 < geometry.logs }
-    requires region { 0 < geometry.hashes }
-    requires size { device_size geometry ≤ size (D.content disk.old) }
+// The log 0 of eight rows that is on the disk.
+fn rebuilt_log<D: Disk>(alloc: Global, disk: &D) -> Option<LogStore>
+    requires { 45056 ≤ size (D.content disk.now) }
+    ensures { IfSome result (λ log. log.log.shape ≡ record { value_len = 2; buckets = 2; log_capacity = 8; logs = 2; hashes = 2; sorted_capacity = 16 }) }
+{
+    let Ok(geometry) = eight_rows() else {
+        return None;
+    };
+    match LogStore::rebuild(alloc, disk, geometry, 0) {
+        Ok(log) => Some(log),
+        Err(_) => None,
+    }
+}
+
+// Converts it into hash region 0.
+fn convert<D: Disk>(alloc: Global, disk: &mut D) -> Option<Converted>
+    requires { 45056 ≤ size (D.content disk.old) }
     ensures { size (D.content disk.new) ≡ size (D.content disk.old) }
 {
-    let Ok(log) = LogStore::rebuild(alloc, disk, geometry, 0) else {
+    let Some(log) = rebuilt_log(alloc, disk) else {
         return None;
     };
     convert_log(alloc, disk, &log)
 }
 
-// Converts log 0 into hash region 0, where the kind of its last row is changed behind its back.
-fn convert_changed<D: Disk>(alloc: Global, disk: &mut D, geometry: Geometry) -> Option<Converted>
-    requires log { 0 < geometry.logs }
-    requires region { 0 < geometry.hashes }
-    requires size { device_size geometry ≤ size (D.content disk.old) }
-    requires room { 28856 ≤ size (D.content disk.old) }
+// The same where the kind of its last row is changed behind its back.
+fn convert_changed<D: Disk>(alloc: Global, disk: &mut D) -> Option<Converted>
+    requires { 45056 ≤ size (D.content disk.old) }
     ensures { size (D.content disk.new) ≡ size (D.content disk.old) }
 {
-    let Ok(log) = LogStore::rebuild(alloc, disk, geometry, 0) else {
+    let Some(log) = rebuilt_log(alloc, disk) else {
         return None;
     };
     let Ok(()) = disk.write(16_430, &[3]) else {
@@ -338,30 +377,37 @@ fn prepare<D: Disk>(disk: &mut D) -> Result<(), D::Fault>
     Ok(())
 }
 
+// A disk with these.
+fn prepared(alloc: Global) -> Result<MemDisk, Fail>
+    ensures { IfOk result (λ disk. size (memory_content disk) ≡ 45056) }
+{
+    let mut disk = blank(alloc, LEN)?;
+    prepare(&mut disk)?;
+    Ok(disk)
+}
+
 // Each key's last row stands in the slot that it has in the log's table, and the other slots are empty.
 #[test]
 fn converts_a_log(rt: HostRuntime) -> Result<(), Fail> {
     let alloc = rt.alloc();
-    let geometry = eight_rows()?;
-    let mut disk = MemDisk::new(alloc, geometry.size() as usize)?;
-    prepare(&mut disk)?;
-    assert_eq!(rt; rebuild(alloc, &disk, geometry), Outcome::Damaged(0));
-    let expected = Converted {
+    let mut disk = prepared(alloc)?;
+    let before = rebuild(alloc, &disk);
+    let converted = convert(alloc, &mut disk);
+    let after = rebuild(alloc, &disk);
+    let is_shown = shows(&disk, 28_693, &[9, 9]) && shows(&disk, 28_718, &[0; 138]);
+    drop(disk);
+    let due = Converted {
         failed: (0, 0),
         puts: 1,
-        first: Some(Found {
-            kind: Kind::Put,
-            place: 0,
-        }),
-        second: Some(Found {
-            kind: Kind::Delete,
-            place: 1,
-        }),
+        first: found(Kind::Put, 0).flatten(),
+        second: found(Kind::Delete, 1).flatten(),
     };
-    assert_eq!(rt; convert(alloc, &mut disk, geometry), Some(expected));
-    assert_eq!(rt; rebuild(alloc, &disk, geometry), Outcome::Rebuilt(2, 1));
-    assert_eq!(rt; &disk.shown()[28_693..28_695], [9, 9].as_slice());
-    assert_eq!(rt; &disk.shown()[28_718..28_856], [0; 138].as_slice());
+    assert_eq!(rt; converted, Some(due));
+    assert_eq!(rt;
+        (before, after),
+        (Outcome::Damaged(0), Outcome::Rebuilt(2, 1))
+    );
+    assert!(rt; is_shown);
     Ok(())
 }
 
@@ -369,52 +415,40 @@ fn converts_a_log(rt: HostRuntime) -> Result<(), Fail> {
 #[test]
 fn writes_no_row_of_an_unknown_kind(rt: HostRuntime) -> Result<(), Fail> {
     let alloc = rt.alloc();
-    let geometry = eight_rows()?;
-    let mut disk = MemDisk::new(alloc, geometry.size() as usize)?;
-    prepare(&mut disk)?;
-    let expected = Converted {
+    let mut disk = prepared(alloc)?;
+    let converted = convert_changed(alloc, &mut disk);
+    let after = rebuild(alloc, &disk);
+    let is_shown = shows(&disk, 28_672, &[0; 23]);
+    drop(disk);
+    let due = Converted {
         failed: (0, 0),
         puts: 0,
         first: None,
-        second: Some(Found {
-            kind: Kind::Delete,
-            place: 1,
-        }),
+        second: found(Kind::Delete, 1).flatten(),
     };
-    assert_eq!(rt; convert_changed(alloc, &mut disk, geometry), Some(expected));
-    assert_eq!(rt; rebuild(alloc, &disk, geometry), Outcome::Rebuilt(1, 0));
-    assert_eq!(rt; &disk.shown()[28_672..28_695], [0; 23].as_slice());
+    assert_eq!(rt; converted, Some(due));
+    assert_eq!(rt; after, Outcome::Rebuilt(1, 0));
+    assert!(rt; is_shown);
     Ok(())
 }
 
 // Converts log 0 where a call of this kind and this number fails: how many reads and writes of the steps failed, and how many puts
 // were counted.
-fn failed_steps(
-    alloc: Global,
-    disk: MemDisk,
-    geometry: Geometry,
-    call: Call,
-    number: u64,
-) -> Option<((u32, u32), u32)>
-    requires log { 0 < geometry.logs }
-    requires region { 0 < geometry.hashes }
-    requires size { device_size geometry ≤ size (memory_content disk) }
-{
-    let mut disk = FaultDisk::new(disk, call, number);
-    let converted = convert(alloc, &mut disk, geometry)?;
-    if converted.first.is_some() && converted.second.is_some() {
-        Some((converted.failed, converted.puts))
-    } else {
-        None
+fn failed_steps(alloc: Global, call: Call, number: u64) -> Result<Option<((u32, u32), u32)>, Fail> {
+    let mut disk = with_fault(prepared(alloc)?, call, number);
+    let Some(converted) = convert(alloc, &mut disk) else {
+        return Ok(None);
+    };
+    if converted.first.is_none() || converted.second.is_none() {
+        return Ok(None);
     }
+    Ok(Some((converted.failed, converted.puts)))
 }
 
 // A step after one that failed does what the failed one was to do, and counts its put once. The log's rebuild makes four reads, and there are two rows to
 // read and eight slots to write.
 #[test]
 fn goes_on_after_a_failed_step(rt: HostRuntime) -> Result<(), Fail> {
-    let alloc = rt.alloc();
-    let geometry = eight_rows()?;
     for (call, number, failed) in [
         (Call::Read, 5, (1, 0)),
         (Call::Read, 6, (1, 0)),
@@ -422,10 +456,8 @@ fn goes_on_after_a_failed_step(rt: HostRuntime) -> Result<(), Fail> {
         (Call::Write, 8, (0, 1)),
         (Call::Write, 9, (0, 0)),
     ] {
-        let mut disk = MemDisk::new(alloc, geometry.size() as usize)?;
-        prepare(&mut disk)?;
         assert_eq!(rt;
-            failed_steps(alloc, disk, geometry, call, number),
+            failed_steps(rt.alloc(), call, number)?,
             Some((failed, 1)),
             "call {number}"
         );
@@ -433,15 +465,22 @@ fn goes_on_after_a_failed_step(rt: HostRuntime) -> Result<(), Fail> {
     Ok(())
 }
 
+// What a rebuild comes to on a blank disk with this geometry.
+fn rebuild_blank(alloc: Global, geometry: Geometry) -> Result<Outcome, Fail>
+    requires { 0 < geometry.hashes }
+{
+    let disk = blank(alloc, geometry.size() as usize)?;
+    Ok(rebuild_in(alloc, &disk, geometry))
+}
+
 // Where memory is ample a conversion of a log of any geometry begins, that of the most buckets too.
 #[test]
 fn the_largest_conversion_begins(rt: HostRuntime) -> Result<(), Fail> {
     let alloc = rt.alloc();
-    let geometry = Geometry::new(1, 32_768, 131_072, 2, 1, 1)?;
+    let geometry = largest()?;
+    assert_eq!(rt; rebuild_blank(alloc, geometry)?, Outcome::Rebuilt(0, 0));
     let log = LogStore::new(alloc, geometry, 0)?;
     let conversion = Conversion::start(alloc, &log, 0)?;
     assert_eq!(rt; (conversion.region(), conversion.is_done()), (0, false));
-    let disk = MemDisk::new(alloc, geometry.size() as usize)?;
-    assert_eq!(rt; rebuild(alloc, &disk, geometry), Outcome::Rebuilt(0, 0));
     Ok(())
 }

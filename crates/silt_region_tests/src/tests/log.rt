@@ -5,7 +5,7 @@ ghost use Rattle.silt_device.specs.Disk.{size};
 ghost use Rattle.silt_device.specs.Layout.{device_size};
 ghost use Rattle.silt_device.specs.Memory.{memory_content};
 
-use crate::tests::four_rows;
+use crate::tests::{LEN, blank, four_rows, shows};
 use silt_device::{Disk, Fill, Geometry, MemDisk, Stop};
 use silt_frame::{Key, Kind, Row};
 use silt_log::{Log, ScanError};
@@ -46,25 +46,27 @@ fn write_one<D: Disk>(log: &mut Log, disk: &mut D, done: &mut u32) -> Result<(),
     Ok(())
 }
 
+// Writes a row on a blank disk whose K-th write or sync fails: how many calls were answered Ok, whether all were, and whether the disk
+// shows the open gate and the row.
+fn written(alloc: Global, k: u32) -> Result<(u32, bool, bool), Fail> {
+    let mut disk = blank(alloc, LEN)?.arm(one_stop(alloc, k)?);
+    let mut log = Log::new(alloc, four_rows()?, 0)?;
+    let mut done = 0;
+    let ended = write_one(&mut log, &mut disk, &mut done).is_ok();
+    let gates = shows(&disk, 12_288, &[0xA7, 0, 0, 0]);
+    let body = shows(&disk, 16_384, &BODY) && shows(&disk, 16_407, &[0]);
+    Ok((done, ended, gates && body))
+}
+
 #[test]
 fn a_row_lies_on_the_device(rt: HostRuntime) -> Result<(), Fail> {
-    let alloc = rt.alloc();
-    let geometry = four_rows()?;
-    let mut disk = MemDisk::new(alloc, geometry.size() as usize)?;
-    let mut log = Log::new(alloc, geometry, 0)?;
-    let mut done = 0;
-    write_one(&mut log, &mut disk, &mut done)?;
-    assert_eq!(rt; done, 3);
-    assert!(rt; disk.shown().get(12_288..12_292) == Some([0xA7, 0, 0, 0].as_slice()));
-    assert!(rt; disk.shown().get(16_384..16_407) == Some(BODY.as_slice()));
-    assert!(rt; disk.shown().get(16_407) == Some(&0));
+    assert_eq!(rt; written(rt.alloc(), 0)?, (3, true, true));
     Ok(())
 }
 
 // The K-th write or sync fails: the first two are of `prepare`, the next two of `append`, and three of `open_gates`.
 #[test]
 fn calls_are_counted(rt: HostRuntime) -> Result<(), Fail> {
-    let alloc = rt.alloc();
     for (k, want) in [
         (1, 0),
         (2, 0),
@@ -75,47 +77,71 @@ fn calls_are_counted(rt: HostRuntime) -> Result<(), Fail> {
         (7, 2),
         (8, 3),
     ] {
-        let geometry = four_rows()?;
-        let disk = MemDisk::new(alloc, geometry.size() as usize)?;
-        let mut disk = disk.arm(one_stop(alloc, k)?);
-        let mut log = Log::new(alloc, geometry, 0)?;
-        let mut done = 0;
-        let ended = write_one(&mut log, &mut disk, &mut done).is_ok();
+        let (done, ended, _shown) = written(rt.alloc(), k)?;
         assert_eq!(rt; (done, ended), (want, want == 3), "at {k}");
     }
     Ok(())
 }
 
-// A device of this length with these first gates in log 0, this body behind them, and zeros.
-fn crafted(alloc: Global, len: usize, gates: &[u8; 3], body: &[u8; 23]) -> Result<MemDisk, Fail>
-    requires { 16407 ≤ len }
-    ensures { IfOk result (λ disk. size (memory_content disk) ≡ len) }
+// Writes these first gates of log 0, and this body behind them.
+fn craft<D: Disk>(disk: &mut D, gates: &[u8; 3], body: &[u8; 23]) -> Result<(), D::Fault>
+    requires { 45056 ≤ size (D.content disk.old) }
+    ensures { size (D.content disk.new) ≡ size (D.content disk.old) }
 {
-    let mut disk = MemDisk::new(alloc, len)?;
     disk.write(12_288, gates)?;
     disk.write(16_384, body)?;
     disk.sync()?;
+    Ok(())
+}
+
+// A disk with these, and zeros.
+fn crafted(alloc: Global, gates: &[u8; 3], body: &[u8; 23]) -> Result<MemDisk, Fail>
+    ensures { IfOk result (λ disk. size (memory_content disk) ≡ 45056) }
+{
+    let mut disk = blank(alloc, LEN)?;
+    craft(&mut disk, gates, body)?;
     Ok(disk)
+}
+
+// Scans a log: its rows, how many it has and how many are settled, and whether it is loose. None where that is refused.
+fn scanned<D: Disk>(alloc: Global, log: &mut Log, disk: &D) -> Option<(Vec<Row>, (u32, u32, bool))>
+    requires { device_size log.old.shape ≤ size (D.content disk.now) }
+    ensures { log.new.shape ≡ log.old.shape }
+{
+    let Ok(rows) = log.scan(alloc, disk) else {
+        return None;
+    };
+    Some((rows, (log.len(), log.settled(), log.is_loose())))
+}
+
+// The key and the value of the first row.
+fn first_row<D: Disk>(log: &Log, disk: &D) -> Option<(Key, [u8; 2])>
+    requires value { log.now.shape.value_len ≡ 2 }
+    requires room { 1 ≤ log.now.shape.log_capacity }
+    requires size { device_size log.now.shape ≤ size (D.content disk.now) }
+{
+    let mut value = [0; 2];
+    log.read_value(disk, 0, &mut value).ok()?;
+    let key = log.read_key(disk, 0).ok()?;
+    Some((key, value))
 }
 
 #[test]
 fn a_scan_ends_at_the_first_closed_gate(rt: HostRuntime) -> Result<(), Fail> {
     let alloc = rt.alloc();
-    let geometry = four_rows()?;
-    let disk = crafted(alloc, geometry.size() as usize, &[0xA7, 0x55, 0xA7], &BODY)?;
-    let mut log = Log::new(alloc, geometry, 0)?;
-    let rows = log.scan(alloc, &disk)?;
+    let disk = crafted(alloc, &[0xA7, 0x55, 0xA7], &BODY)?;
+    let mut log = Log::new(alloc, four_rows()?, 0)?;
+    let scanned = scanned(alloc, &mut log, &disk);
+    let first = first_row(&log, &disk);
+    drop(disk);
+    let (rows, counts) = scanned.ok_or("a scan")?;
     let row = Row {
         kind: Kind::Put,
         key: Key(ABC),
         place: 0,
     };
     assert_eq!(rt; rows.as_slice(), [row].as_slice());
-    assert_eq!(rt; (log.len(), log.settled(), log.is_loose()), (1, 1, true));
-    assert_eq!(rt; log.read_key(&disk, 0)?, Key(ABC));
-    let mut value = [0; 2];
-    log.read_value(&disk, 0, &mut value)?;
-    assert_eq!(rt; value, [1, 2]);
+    assert_eq!(rt; (counts, first), ((1, 1, true), Some((Key(ABC), [1, 2]))));
     Ok(())
 }
 
@@ -132,44 +158,56 @@ fn the_longest_log_is_made(rt: HostRuntime) -> Result<(), Fail> {
 #[test]
 fn an_unknown_kind_is_damage(rt: HostRuntime) -> Result<(), Fail> {
     let alloc = rt.alloc();
-    let geometry = four_rows()?;
     let mut body = BODY;
     body[0] = 3;
-    let disk = crafted(alloc, geometry.size() as usize, &[0xA7, 0, 0], &body)?;
-    let mut log = Log::new(alloc, geometry, 0)?;
-    let scanned = log.scan(alloc, &disk);
-    assert!(rt; matches!(scanned, Err(ScanError::Damaged(0))));
+    let disk = crafted(alloc, &[0xA7, 0, 0], &body)?;
+    let mut log = Log::new(alloc, four_rows()?, 0)?;
+    let is_damage = matches!(log.scan(alloc, &disk), Err(ScanError::Damaged(0)));
+    assert!(rt; is_damage);
     Ok(())
 }
 
-// Scans after a sync and seals, on a disk whose K-th write or sync fails: the sync is the first. The gates that are then
-// shown, and whether the seal was answered Ok.
-fn sealed(alloc: Global, gates: &[u8; 3], k: u32) -> Result<([u8; 4], bool), Fail> {
-    let geometry = four_rows()?;
-    let disk = crafted(alloc, geometry.size() as usize, gates, &BODY)?;
-    let mut disk = disk.arm(one_stop(alloc, k)?);
-    let mut log = Log::new(alloc, geometry, 0)?;
-    disk.sync()?;
-    log.scan(alloc, &disk)?;
-    let ended = log.seal(&mut disk).is_ok();
-    let mut shown = [0; 4];
-    if let Some(part) = disk.shown().get(12_288..12_292) {
-        shown.copy_from_slice(part);
-    }
-    Ok((shown, ended))
+// Scans after a sync and seals: whether the seal was answered Ok. None where an earlier call was not.
+fn seal<D: Disk>(alloc: Global, log: &mut Log, disk: &mut D) -> Option<bool>
+    requires { device_size log.old.shape ≤ size (D.content disk.old) }
+{
+    let Ok(()) = disk.sync() else {
+        return None;
+    };
+    let Ok(_rows) = log.scan(alloc, disk) else {
+        return None;
+    };
+    Some(log.seal(disk).is_ok())
+}
+
+// The same on a disk with these gates, whose K-th write or sync fails: the sync is the first. And whether these gates are then shown.
+fn sealed(
+    alloc: Global,
+    gates: &[u8; 3],
+    k: u32,
+    left: &[u8; 4],
+) -> Result<(Option<bool>, bool), Fail> {
+    let mut disk = crafted(alloc, gates, &BODY)?.arm(one_stop(alloc, k)?);
+    let mut log = Log::new(alloc, four_rows()?, 0)?;
+    let ended = seal(alloc, &mut log, &mut disk);
+    Ok((ended, shows(&disk, 12_288, left)))
 }
 
 // A seal makes one write and one sync, or no call.
 #[test]
 fn a_seal_leaves_the_first_closed_gate(rt: HostRuntime) -> Result<(), Fail> {
     let alloc = rt.alloc();
-    let loose = [0xA7, 0x55, 0xA7];
-    assert_eq!(rt; sealed(alloc, &loose, 2)?, ([0xA7, 0x55, 0, 0], false));
-    assert_eq!(rt; sealed(alloc, &loose, 3)?, ([0xA7, 0x55, 0, 0], false));
-    assert_eq!(rt; sealed(alloc, &loose, 4)?, ([0xA7, 0x55, 0, 0], true));
-    assert_eq!(rt;
-        sealed(alloc, &[0xA7, 0x55, 0x33], 2)?,
-        ([0xA7, 0x55, 0x33, 0], true)
-    );
+    for (last, left, k, ended) in [
+        (0xA7, 0, 2, false),
+        (0xA7, 0, 3, false),
+        (0xA7, 0, 4, true),
+        (0x33, 0x33, 2, true),
+    ] {
+        assert_eq!(rt;
+            sealed(alloc, &[0xA7, 0x55, last], k, &[0xA7, 0x55, left, 0])?,
+            (Some(ended), true),
+            "gate {last} at {k}"
+        );
+    }
     Ok(())
 }

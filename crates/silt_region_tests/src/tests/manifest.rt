@@ -1,9 +1,10 @@
 // The manifest, where no clause says it: the layout's bytes, the damaged slots, each stop of a write, and the first call of a write.
-ghost use Rattle.std.specs.Prelude.{◌≡◌, ◌+◌, ◌≤◌, ◌↔◌, IsTrue, OnOk};
+ghost use Rattle.std.specs.Prelude.{◌≡◌, ◌+◌, ◌≤◌, ◌<◌, ◌↔◌, IsTrue, OnOk};
 ghost use Rattle.silt_device.specs.Disk.{Rests, size};
 ghost use Rattle.silt_manifest.specs.Standing.{IsNext, Rules};
 ghost use Rattle.silt_device.specs.Layout.{slot_at};
 
+use crate::tests::shows;
 use silt_device::{Call, Disk, FaultDisk, Fill, Geometry, MemDisk, Stop, Stoppable, write_synced};
 use silt_manifest::{Body, Damage, Ids, Manifest, ReadFault, read_current, write_first};
 use std::alloc::{AllocError, Global};
@@ -159,9 +160,20 @@ fn body_of(generation: u64) -> Body {
     body
 }
 
+// What the slots of a device with these first bytes hold.
+fn ruling_of(
+    alloc: Global,
+    geometry: Geometry,
+    first: &[u8; 121],
+    second: &[u8; 121],
+) -> Result<Option<Result<Body, Damage>>, Fail> {
+    let disk = device(alloc, first, second, NEVER)?.restart();
+    Ok(ruling(&disk, geometry))
+}
+
 #[test]
 fn finds_the_damaged_slot(rt: HostRuntime) -> Result<(), Fail> {
-    let alloc = rt.alloc();
+    let geometry = small(&rt);
     let good = slot_of(0xA7, 0);
     let closed = slot_of(0, 0);
     let mut active_2 = slot_of(0xA7, 0);
@@ -175,16 +187,16 @@ fn finds_the_damaged_slot(rt: HostRuntime) -> Result<(), Fail> {
         (good, slot_of(0xFF, 0), Ok(Body::first())),
     ];
     for (first, second, found) in cases {
-        let disk = device(alloc, &first, &second, NEVER)?.restart();
-        assert_eq!(rt; ruling(&disk, small(&rt)), Some(found));
+        assert_eq!(rt;
+            ruling_of(rt.alloc(), geometry, &first, &second)?,
+            Some(found)
+        );
     }
     Ok(())
 }
 
-// Each rule of what is well formed, one at a time.
-#[test]
-fn refuses_each_fault_of_a_body(rt: HostRuntime) -> Result<(), Fail> {
-    let alloc = rt.alloc();
+// A slot with a well-formed body of which each rule can be broken by one byte.
+fn good_slot() -> [u8; 121] {
     let mut good = slot_of(0xA7, 0);
     good[12] = 1;
     good[16] = 1;
@@ -192,7 +204,30 @@ fn refuses_each_fault_of_a_body(rt: HostRuntime) -> Result<(), Fail> {
     good[52] = 1;
     good[116] = 1;
     good[120] = 8;
-    let places: [(usize, u8); 11] = [
+    good
+}
+
+// What it comes to where this byte stands at this place.
+fn ruling_changed(
+    alloc: Global,
+    geometry: Geometry,
+    place: usize,
+    byte: u8,
+) -> Result<Option<Result<Body, Damage>>, Fail>
+    requires { place < 121 }
+{
+    let mut slot = good_slot();
+    slot[place] = byte;
+    ruling_of(alloc, geometry, &slot, &slot_of(0, 0))
+}
+
+// Each rule of what is well formed, one at a time.
+#[test]
+fn refuses_each_fault_of_a_body(rt: HostRuntime) -> Result<(), Fail> {
+    let geometry = small(&rt);
+    let good = ruling_changed(rt.alloc(), geometry, 0, 0xA7)?;
+    assert!(rt; matches!(good, Some(Ok(_))));
+    let cases: [(usize, u8); 11] = [
         (1, 0x80),
         (12, 2),
         (12, 0),
@@ -205,15 +240,10 @@ fn refuses_each_fault_of_a_body(rt: HostRuntime) -> Result<(), Fail> {
         (116, 2),
         (120, 9),
     ];
-    let disk = device(alloc, &good, &slot_of(0, 0), NEVER)?.restart();
-    assert!(rt; matches!(ruling(&disk, small(&rt)), Some(Ok(_))));
-    for (place, byte) in places {
-        let mut bad = good;
+    for (place, byte) in cases {
         assert!(rt; place < 121);
-        bad[place] = byte;
-        let disk = device(alloc, &bad, &slot_of(0, 0), NEVER)?.restart();
         assert_eq!(rt;
-            ruling(&disk, small(&rt)),
+            ruling_changed(rt.alloc(), geometry, place, byte)?,
             Some(Err(Damage::Slot(0))),
             "{byte} at {place}"
         );
@@ -223,82 +253,127 @@ fn refuses_each_fault_of_a_body(rt: HostRuntime) -> Result<(), Fail> {
 
 #[test]
 fn the_greater_generation_rules(rt: HostRuntime) -> Result<(), Fail> {
-    let alloc = rt.alloc();
-    let disk = device(alloc, &slot_of(0xA7, 2), &slot_of(0xA7, 1), NEVER)?.restart();
-    let mut second = Body::first();
-    second.generation = 2;
-    assert_eq!(rt; ruling(&disk, small(&rt)), Some(Ok(second)));
-    let disk = device(alloc, &slot_of(0xA7, 2), &slot_of(0xA7, 3), NEVER)?.restart();
-    let mut third = Body::first();
-    third.generation = 3;
-    assert_eq!(rt; ruling(&disk, small(&rt)), Some(Ok(third)));
+    let geometry = small(&rt);
+    for (second, greater) in [(1, 2), (3, 3)] {
+        let mut body = Body::first();
+        body.generation = greater;
+        assert_eq!(rt;
+            ruling_of(
+                rt.alloc(),
+                geometry,
+                &slot_of(0xA7, 2),
+                &slot_of(0xA7, second)
+            )?,
+            Some(Ok(body)),
+            "{second}"
+        );
+    }
     Ok(())
 }
 
+// The slot of the last generation but one, of the first body else.
+fn last_but_one() -> [u8; 121] {
+    let mut slot = slot_of(0xA7, 0xFE);
+    slot[1] = 0x7F;
+    for place in 2..8usize {
+        slot[place] = 0xFF;
+    }
+    slot
+}
+
 // A body with every count at its greatest, and the last generation.
+fn greatest() -> Body {
+    let mut body = Body::first();
+    body.generation = (1 << 63) - 1;
+    body.active = 7;
+    body.frozen = first_ids(7);
+    body.hashed = first_ids(16);
+    body.sorted = 1;
+    body.sorted_count = 8;
+    body
+}
+
+// Its slot.
+fn greatest_slot() -> [u8; 121] {
+    let mut slot = last_but_one();
+    slot[8] = 0xFF;
+    slot[12] = 7;
+    slot[16] = 7;
+    for k in 0..7usize {
+        slot[20 + 4 * k] = 6 - k as u8;
+    }
+    slot[48] = 16;
+    for k in 0..16usize {
+        slot[52 + 4 * k] = 15 - k as u8;
+    }
+    slot[116] = 1;
+    slot[120] = 8;
+    slot
+}
+
+// Whether the greatest body was written, whether its bytes are shown, and what rules after a stop.
+fn write_greatest(
+    alloc: Global,
+    geometry: Geometry,
+) -> Result<(bool, bool, Option<Result<Body, Damage>>), Fail> {
+    let mut disk = device(alloc, &last_but_one(), &slot_of(0, 0), NEVER)?.restart();
+    let done = write_next(&mut disk, geometry, greatest());
+    let is_shown = shows(&disk, 8192, &greatest_slot());
+    Ok((done, is_shown, ruling(&disk.restart(), geometry)))
+}
+
 #[test]
 fn writes_the_layouts_bytes(rt: HostRuntime) -> Result<(), Fail> {
-    let alloc = rt.alloc();
-    let mut before = slot_of(0xA7, 0xFE);
-    before[1] = 0x7F;
-    for place in 2..8usize {
-        before[place] = 0xFF;
-    }
-    let mut next = Body::first();
-    next.generation = (1 << 63) - 1;
-    next.active = 7;
-    next.frozen = first_ids(7);
-    next.hashed = first_ids(16);
-    next.sorted = 1;
-    next.sorted_count = 8;
-    let mut expected = before;
-    expected[8] = 0xFF;
-    expected[12] = 7;
-    expected[16] = 7;
-    for k in 0..7usize {
-        expected[20 + 4 * k] = 6 - k as u8;
-    }
-    expected[48] = 16;
-    for k in 0..16usize {
-        expected[52 + 4 * k] = 15 - k as u8;
-    }
-    expected[116] = 1;
-    expected[120] = 8;
-    let mut disk = device(alloc, &before, &slot_of(0, 0), NEVER)?.restart();
-    assert!(rt; write_next(&mut disk, large(&rt), next));
-    assert_eq!(rt; disk.shown().len(), LEN);
-    assert_eq!(rt; &disk.shown()[8192..8313], expected.as_slice());
-    let disk = disk.restart();
-    assert_eq!(rt; ruling(&disk, large(&rt)), Some(Ok(next)));
+    let written = write_greatest(rt.alloc(), large(&rt))?;
+    assert_eq!(rt; written, (true, true, Some(Ok(greatest()))));
     Ok(())
+}
+
+// The two slots where this generation rules and the other slot has this gate, the first slot in front.
+fn slots_of(old: u8, spare: u8) -> ([u8; 121], [u8; 121]) {
+    let ruling_slot = slot_of(0xA7, old);
+    let spare_slot = slot_of(spare, old.wrapping_sub(1));
+    if old % 2 == 0 {
+        (ruling_slot, spare_slot)
+    } else {
+        (spare_slot, ruling_slot)
+    }
+}
+
+// Whether the next body was written on a device with these slots before this stop, and what rules after it.
+fn stopped_write(
+    alloc: Global,
+    geometry: Geometry,
+    slots: &([u8; 121], [u8; 121]),
+    next: Body,
+    stop: Stop,
+) -> Result<(bool, Option<Result<Body, Damage>>), Fail> {
+    let mut disk = device(alloc, &slots.0, &slots.1, stop)?.restart();
+    let done = write_next(&mut disk, geometry, next);
+    Ok((done, ruling(&disk.restart(), geometry)))
+}
+
+// Whether a stop at the call that writes a gate leaves the gate written.
+fn keeps_the_gate(fill: Fill) -> bool {
+    fill == Fill::New || fill == Fill::Mix
 }
 
 // From each state of the slots, a stop at each of the six calls, with every fill. The fifth writes the gate, at an even offset.
 #[test]
 fn each_stop_leaves_the_old_or_the_new_body(rt: HostRuntime) -> Result<(), Fail> {
     let alloc = rt.alloc();
+    let geometry = small(&rt);
     for (old, spare) in [(0u8, 0u8), (1, 0), (2, 0xA7), (3, 0xA7)] {
+        let slots = slots_of(old, spare);
+        let next = body_of(u64::from(old) + 1);
+        let before = ruling_of(alloc, geometry, &slots.0, &slots.1)?;
         for k in 0..8u32 {
             for fill in FILLS {
-                let ruling_slot = slot_of(0xA7, old);
-                let spare_slot = slot_of(spare, old.wrapping_sub(1));
-                let (first, second) = if old % 2 == 0 {
-                    (ruling_slot, spare_slot)
-                } else {
-                    (spare_slot, ruling_slot)
-                };
-                let mut disk = device(alloc, &first, &second, Stop { k, fill })?.restart();
-                let before = ruling(&disk, small(&rt));
-                let next = body_of(u64::from(old) + 1);
-                let done = write_next(&mut disk, small(&rt), next);
-                assert_eq!(rt; done, k == 0 || k > 6, "{k} {fill:?}");
-                let disk = disk.restart();
-                let after = ruling(&disk, small(&rt));
-                let gate_is_written = fill == Fill::New || fill == Fill::Mix;
-                let is_new = done || (k >= 5 && gate_is_written);
+                let done = k == 0 || k > 6;
+                let is_new = done || (k >= 5 && keeps_the_gate(fill));
                 assert_eq!(rt;
-                    after,
-                    if is_new { Some(Ok(next)) } else { before },
+                    stopped_write(alloc, geometry, &slots, next, Stop { k, fill })?,
+                    (done, if is_new { Some(Ok(next)) } else { before }),
                     "{k} {fill:?}"
                 );
             }
@@ -307,31 +382,38 @@ fn each_stop_leaves_the_old_or_the_new_body(rt: HostRuntime) -> Result<(), Fail>
     Ok(())
 }
 
+// Whether two bodies were written before this stop, and what rules after it.
+fn stopped_writes(
+    alloc: Global,
+    geometry: Geometry,
+    stop: Stop,
+) -> Result<(bool, Option<Result<Body, Damage>>), Fail> {
+    let mut disk = device(alloc, &slot_of(0xA7, 0), &slot_of(0, 0), stop)?.restart();
+    let done = write_two(&mut disk, geometry, body_of(1), body_of(2));
+    Ok((done, ruling(&disk.restart(), geometry)))
+}
+
+// Which body a stop at this call leaves.
+fn left_of_two(k: u32, fill: Fill) -> Body {
+    let is_kept = keeps_the_gate(fill);
+    if k == 0 || k > 12 || (k >= 11 && is_kept) {
+        return body_of(2);
+    }
+    if k > 6 || (k >= 5 && is_kept) {
+        return body_of(1);
+    }
+    Body::first()
+}
+
 // Two writes in one life, the first over a closed slot and the second over an open one, with a stop at each of the twelve calls.
 #[test]
 fn each_stop_leaves_one_of_three_bodies(rt: HostRuntime) -> Result<(), Fail> {
-    let alloc = rt.alloc();
+    let geometry = small(&rt);
     for k in 0..14u32 {
         for fill in FILLS {
-            let mut disk = device(
-                alloc,
-                &slot_of(0xA7, 0),
-                &slot_of(0, 0),
-                Stop { k, fill },
-            )?.restart();
-            let done = write_two(&mut disk, small(&rt), body_of(1), body_of(2));
-            assert_eq!(rt; done, k == 0 || k > 12, "{k} {fill:?}");
-            let gate_is_written = fill == Fill::New || fill == Fill::Mix;
-            let first_is_left = k > 6 || (k >= 5 && gate_is_written);
-            let second_is_left = done || (k >= 11 && gate_is_written);
-            let found = match (first_is_left, second_is_left) {
-                (_, true) => body_of(2),
-                (true, false) => body_of(1),
-                (false, false) => Body::first(),
-            };
             assert_eq!(rt;
-                ruling(&disk.restart(), small(&rt)),
-                Some(Ok(found)),
+                stopped_writes(rt.alloc(), geometry, Stop { k, fill })?,
+                (k == 0 || k > 12, Some(Ok(left_of_two(k, fill)))),
                 "{k} {fill:?}"
             );
         }
@@ -342,59 +424,92 @@ fn each_stop_leaves_one_of_three_bodies(rt: HostRuntime) -> Result<(), Fail> {
 // Writes in several lives: each in the slot of its generation.
 #[test]
 fn writes_in_turn(rt: HostRuntime) -> Result<(), Fail> {
-    let alloc = rt.alloc();
-    let mut disk = device(alloc, &slot_of(0xA7, 0), &slot_of(0, 0), NEVER)?;
+    let geometry = small(&rt);
+    let mut disk = device(rt.alloc(), &slot_of(0xA7, 0), &slot_of(0, 0), NEVER)?;
     for generation in 1..6u64 {
         disk = disk.restart();
-        assert!(rt; write_next(&mut disk, small(&rt), body_of(generation)));
-        assert_eq!(rt; ruling(&disk, small(&rt)), Some(Ok(body_of(generation))));
+        let done = write_next(&mut disk, geometry, body_of(generation));
+        let found = ruling(&disk, geometry);
+        assert_eq!(rt; (done, found), (true, Some(Ok(body_of(generation)))));
     }
     Ok(())
+}
+
+// The place of the first 0xFF that a disk shows.
+fn first_ones(disk: &MemDisk) -> Option<usize> {
+    disk.shown().iter().position(|byte| *byte == 0xFF)
+}
+
+// Whether the third body was written where the first call is stopped, and the place that the stop changed.
+fn changed_place(
+    alloc: Global,
+    geometry: Geometry,
+    spare: u8,
+) -> Result<(bool, Option<usize>), Fail> {
+    let stop = Stop {
+        k: 1,
+        fill: Fill::Ones,
+    };
+    let mut disk = device(alloc, &slot_of(0xA7, 2), &slot_of(spare, 1), stop)?.restart();
+    let done = write_next(&mut disk, geometry, body_of(3));
+    Ok((done, first_ones(&disk.restart())))
 }
 
 // The first call goes to the gate where that is open, and else to the last place of the slot.
 #[test]
 fn the_first_call_spares_a_closed_gate(rt: HostRuntime) -> Result<(), Fail> {
-    let alloc = rt.alloc();
+    let geometry = small(&rt);
     for (spare, place) in [(0xA7u8, 8192usize), (0, 12_287)] {
-        let stop = Stop {
-            k: 1,
-            fill: Fill::Ones,
-        };
-        let mut disk = device(alloc, &slot_of(0xA7, 2), &slot_of(spare, 1), stop)?.restart();
-        assert!(rt; !write_next(&mut disk, small(&rt), body_of(3)));
-        let disk = disk.restart();
-        assert_eq!(rt; disk.shown().len(), LEN);
-        let changed = disk.shown().iter().position(|byte| *byte == 0xFF);
-        assert_eq!(rt; changed, Some(place));
+        assert_eq!(rt;
+            changed_place(rt.alloc(), geometry, spare)?,
+            (false, Some(place))
+        );
     }
     Ok(())
+}
+
+// A device with these slots, on which the first body was written up to this stop, and whether it was.
+fn first_written(
+    alloc: Global,
+    first: &[u8; 121],
+    second: &[u8; 121],
+    stop: Stop,
+) -> Result<(MemDisk, bool), Fail> {
+    let mut disk = device(alloc, first, second, stop)?.restart();
+    if disk.len() < LEN as u64 {
+        return Err(Fail::new("a short disk"));
+    }
+    let done = write_slots(&mut disk).is_ok();
+    Ok((disk, done))
+}
+
+// Whether the first body was written over two old ones before this stop, what rules after it, and whether the body's bytes are shown then.
+fn stopped_first(
+    alloc: Global,
+    geometry: Geometry,
+    stop: Stop,
+) -> Result<(bool, Option<Result<Body, Damage>>, bool), Fail> {
+    let mut slot = [0; 121];
+    slot[0] = 0xA7;
+    let (disk, done) = first_written(alloc, &slot_of(0xA7, 4), &slot_of(0xA7, 5), stop)?;
+    let disk = disk.restart();
+    Ok((done, ruling(&disk, geometry), shows(&disk, 4096, &slot)))
 }
 
 // Over two old bodies, a stop at each of the eight calls, with every fill. The seventh writes the gate, at an even offset.
 #[test]
 fn the_first_body_rules_once_it_is_written(rt: HostRuntime) -> Result<(), Fail> {
-    let alloc = rt.alloc();
-    let mut written = [0; 121];
-    written[0] = 0xA7;
+    let geometry = small(&rt);
     for k in 0..10u32 {
         for fill in FILLS {
-            let mut disk = device(
-                alloc,
-                &slot_of(0xA7, 4),
-                &slot_of(0xA7, 5),
-                Stop { k, fill },
-            )?
-            .restart();
-            assert_eq!(rt; disk.len(), LEN as u64);
-            let done = write_slots(&mut disk).is_ok();
+            let (done, found, is_shown) = stopped_first(rt.alloc(), geometry, Stop { k, fill })?;
             assert_eq!(rt; done, k == 0 || k > 8, "{k} {fill:?}");
-            let disk = disk.restart();
-            let found = ruling(&disk, small(&rt));
-            if done || (k >= 7 && (fill == Fill::New || fill == Fill::Mix)) {
-                assert_eq!(rt; found, Some(Ok(Body::first())), "{k} {fill:?}");
-                assert_eq!(rt; disk.shown().len(), LEN);
-                assert_eq!(rt; &disk.shown()[4096..4217], written.as_slice());
+            if done || (k >= 7 && keeps_the_gate(fill)) {
+                assert_eq!(rt;
+                    (found, is_shown),
+                    (Some(Ok(Body::first())), true),
+                    "{k} {fill:?}"
+                );
             } else if k >= 5 {
                 assert_eq!(rt; found, Some(Err(Damage::NoSlot)), "{k} {fill:?}");
             }
@@ -406,27 +521,28 @@ fn the_first_body_rules_once_it_is_written(rt: HostRuntime) -> Result<(), Fail> 
 // The first write's zero goes to the gate of slot 0 though that is closed.
 #[test]
 fn the_first_body_begins_at_its_gate(rt: HostRuntime) -> Result<(), Fail> {
-    let alloc = rt.alloc();
+    let closed = slot_of(0, 0);
     let stop = Stop {
         k: 3,
         fill: Fill::Ones,
     };
-    let mut disk = device(alloc, &slot_of(0, 0), &slot_of(0, 0), stop)?.restart();
-    assert_eq!(rt; disk.len(), LEN as u64);
-    assert!(rt; write_slots(&mut disk).is_err());
-    let disk = disk.restart();
-    assert_eq!(rt;
-        disk.shown().iter().position(|byte| *byte == 0xFF),
-        Some(4096)
-    );
+    let (disk, done) = first_written(rt.alloc(), &closed, &closed, stop)?;
+    let changed = first_ones(&disk.restart());
+    assert_eq!(rt; (done, changed), (false, Some(4096)));
     Ok(())
+}
+
+// Whether the first body was written before a stop at this call, and whether slot 0 has this gate then.
+fn has_gate(alloc: Global, k: u32, gate: u8) -> Result<(bool, bool), Fail> {
+    let stop = Stop { k, fill: Fill::Old };
+    let (disk, done) = first_written(alloc, &slot_of(0xA7, 4), &slot_of(0xA7, 5), stop)?;
+    Ok((done, shows(&disk, 4096, &[gate])))
 }
 
 // The gate of slot 0, which is open at first, behind each of the six calls that write the first body: a zero from the first one
 // on, and open from the fifth one on.
 #[test]
 fn the_first_gate_is_closed_by_a_zero(rt: HostRuntime) -> Result<(), Fail> {
-    let alloc = rt.alloc();
     for (k, gate) in [
         (2, 0xA7),
         (3, 0),
@@ -436,29 +552,46 @@ fn the_first_gate_is_closed_by_a_zero(rt: HostRuntime) -> Result<(), Fail> {
         (7, 0xA7),
         (8, 0xA7),
     ] {
-        let stop = Stop { k, fill: Fill::Old };
-        let mut disk = device(alloc, &slot_of(0xA7, 4), &slot_of(0xA7, 5), stop)?.restart();
-        assert_eq!(rt; disk.len(), LEN as u64);
-        assert!(rt; write_slots(&mut disk).is_err());
-        assert_eq!(rt; disk.shown().get(4096), Some(&gate), "call {k}");
+        assert_eq!(rt; has_gate(rt.alloc(), k, gate)?, (false, true), "call {k}");
     }
     Ok(())
+}
+
+// Whether the manifest is read where the read of this number fails.
+fn reads_with_fault(alloc: Global, geometry: Geometry, number: u64) -> Result<bool, Fail> {
+    let disk = device(alloc, &slot_of(0xA7, 0), &slot_of(0, 0), NEVER)?.restart();
+    let disk = FaultDisk::new(disk, Call::Read, number);
+    Ok(ruling(&disk, geometry).is_some())
+}
+
+// Whether the next body is written where a call of this kind and this number fails.
+fn writes_with_fault(
+    alloc: Global,
+    geometry: Geometry,
+    call: Call,
+    number: u64,
+) -> Result<bool, Fail> {
+    let disk = device(alloc, &slot_of(0xA7, 0), &slot_of(0, 0), NEVER)?.restart();
+    let mut disk = FaultDisk::new(disk, call, number);
+    Ok(write_next(&mut disk, geometry, body_of(1)))
 }
 
 // The fault of each read, and of each of the six calls, is handed on.
 #[test]
 fn hands_on_each_fault(rt: HostRuntime) -> Result<(), Fail> {
-    let alloc = rt.alloc();
+    let geometry = small(&rt);
     for number in 1..4u64 {
-        let disk = device(alloc, &slot_of(0xA7, 0), &slot_of(0, 0), NEVER)?.restart();
-        let disk = FaultDisk::new(disk, Call::Read, number);
-        assert_eq!(rt; ruling(&disk, small(&rt)).is_none(), number < 3);
+        assert_eq!(rt;
+            reads_with_fault(rt.alloc(), geometry, number)?,
+            number == 3
+        );
     }
     for call in [Call::Write, Call::Sync] {
         for number in 1..5u64 {
-            let disk = device(alloc, &slot_of(0xA7, 0), &slot_of(0, 0), NEVER)?.restart();
-            let mut disk = FaultDisk::new(disk, call, number);
-            assert_eq!(rt; write_next(&mut disk, small(&rt), body_of(1)), number > 3);
+            assert_eq!(rt;
+                writes_with_fault(rt.alloc(), geometry, call, number)?,
+                number > 3
+            );
         }
     }
     Ok(())

@@ -7,8 +7,8 @@ ghost use Rattle.silt_device.specs.Memory.{memory_content};
 ghost use Rattle.silt_merge.specs.Merging.{IsSameMerge};
 ghost use Rattle.silt_merge.specs.State.{oldest_stores};
 
-use crate::tests::single;
-use silt_device::{BadGeometry, Call, Disk, FaultDisk, Geometry, MemDisk};
+use crate::tests::{LEN, blank, shows, single, with_fault};
+use silt_device::{BadGeometry, Call, Disk, Geometry, MemDisk};
 use silt_frame::Key;
 use silt_hash_store::HashStore;
 use silt_merge::{Merge, StepError};
@@ -94,6 +94,26 @@ fn fill_sorted<D: Disk>(disk: &mut D) -> Result<(), D::Fault>
     fill_entry(disk, 2, 50, 10)?;
     fill_entry(disk, 3, 60, 11)?;
     Ok(())
+}
+
+// All of these.
+fn fill_all<D: Disk>(disk: &mut D) -> Result<(), D::Fault>
+    requires { 45056 ≤ size (D.content disk.old) }
+    ensures { size (D.content disk.new) ≡ size (D.content disk.old) }
+{
+    fill_newest(disk)?;
+    fill_older(disk)?;
+    fill_sorted(disk)?;
+    Ok(())
+}
+
+// A disk with all of these.
+fn filled(alloc: Global) -> Result<MemDisk, Fail>
+    ensures { IfOk result (λ disk. size (memory_content disk) ≡ 45056) }
+{
+    let mut disk = blank(alloc, LEN)?;
+    fill_all(&mut disk)?;
+    Ok(disk)
 }
 
 // What the steps of a merge came to: how many were taken, and how many reads and writes failed.
@@ -203,13 +223,25 @@ fn merge_all<D: Disk>(alloc: Global, disk: &mut D, geometry: Geometry) -> Option
     Some((outcome, store.len()))
 }
 
-// The first and the last byte of the key, and the last byte of the value of an entry of sorted region 1.
-fn entry<D: Disk>(disk: &D, geometry: Geometry, place: u32) -> Option<(u8, u8, u8)>
-    requires value_len { geometry.value_len ≡ 2 }
-    requires capacity { 8 ≤ geometry.sorted_capacity }
-    requires place { place < 8 }
-    requires size { device_size geometry ≤ size (D.content disk.now) }
+// A merge of all that is filled in, with room for eight entries.
+fn merge_small<D: Disk>(alloc: Global, disk: &mut D) -> Option<(Outcome, u32)>
+    requires { 45056 ≤ size (D.content disk.old) }
+    ensures { size (D.content disk.new) ≡ size (D.content disk.old) }
 {
+    match small(8) {
+        Ok(geometry) => merge_all(alloc, disk, geometry),
+        Err(_) => None,
+    }
+}
+
+// The first and the last byte of the key, and the last byte of the value of an entry of sorted region 1.
+fn entry<D: Disk>(disk: &D, place: u32) -> Option<(u8, u8, u8)>
+    requires place { place < 8 }
+    requires size { 45056 ≤ size (D.content disk.now) }
+{
+    let Ok(geometry) = small(8) else {
+        return None;
+    };
     let mut entry = [0; 22];
     SortedEntries::new(geometry, 1, 8)
         .entry(disk, place, &mut entry)
@@ -217,27 +249,49 @@ fn entry<D: Disk>(disk: &D, geometry: Geometry, place: u32) -> Option<(u8, u8, u
     Some((entry[0], entry[19], entry[21]))
 }
 
-// A put decides over older rows and entries, and a key whose newest row is a delete is left out. There are 16 slots and 7 keys.
+// The first six of them.
+fn six_entries<D: Disk>(disk: &D) -> [Option<(u8, u8, u8)>; 6]
+    requires { 45056 ≤ size (D.content disk.now) }
+{
+    [
+        entry(disk, 0),
+        entry(disk, 1),
+        entry(disk, 2),
+        entry(disk, 3),
+        entry(disk, 4),
+        entry(disk, 5),
+    ]
+}
+
+// The entries that a merge makes: a put decides over older rows and entries, and a key whose newest row is a delete is left out.
+const MERGED: [Option<(u8, u8, u8)>; 6] = [
+    Some((10, 0, 3)),
+    Some((15, 0, 8)),
+    Some((30, 0, 1)),
+    Some((40, 0, 6)),
+    Some((60, 0, 11)),
+    Some((0, 0, 0)),
+];
+
+// What the steps came to where none failed.
+fn smooth(steps: u32) -> Outcome {
+    Outcome {
+        steps,
+        reads: 0,
+        writes: 0,
+    }
+}
+
+// There are 16 slots and 7 keys.
 #[test]
 fn merges_two_hash_stores_and_a_sorted_store(rt: HostRuntime) -> Result<(), Fail> {
     let alloc = rt.alloc();
-    let geometry = small(8)?;
-    let mut disk = MemDisk::new(alloc, geometry.size() as usize)?;
-    fill_newest(&mut disk)?;
-    fill_older(&mut disk)?;
-    fill_sorted(&mut disk)?;
-    let outcome = Outcome {
-        steps: 23,
-        reads: 0,
-        writes: 0,
-    };
-    assert_eq!(rt; merge_all(alloc, &mut disk, geometry), Some((outcome, 5)));
-    assert_eq!(rt; entry(&disk, geometry, 0), Some((10, 0, 3)));
-    assert_eq!(rt; entry(&disk, geometry, 1), Some((15, 0, 8)));
-    assert_eq!(rt; entry(&disk, geometry, 2), Some((30, 0, 1)));
-    assert_eq!(rt; entry(&disk, geometry, 3), Some((40, 0, 6)));
-    assert_eq!(rt; entry(&disk, geometry, 4), Some((60, 0, 11)));
-    assert_eq!(rt; entry(&disk, geometry, 5), Some((0, 0, 0)));
+    let mut disk = filled(alloc)?;
+    let merged = merge_small(alloc, &mut disk);
+    let entries = six_entries(&disk);
+    drop(disk);
+    assert_eq!(rt; merged, Some((smooth(23), 5)));
+    assert_eq!(rt; entries, MERGED);
     Ok(())
 }
 
@@ -246,18 +300,12 @@ fn merges_two_hash_stores_and_a_sorted_store(rt: HostRuntime) -> Result<(), Fail
 fn leaves_out_what_finds_no_place(rt: HostRuntime) -> Result<(), Fail> {
     let alloc = rt.alloc();
     let geometry = small(4)?;
-    let mut disk = MemDisk::new(alloc, geometry.size() as usize)?;
-    fill_newest(&mut disk)?;
-    fill_older(&mut disk)?;
-    fill_sorted(&mut disk)?;
-    let outcome = Outcome {
-        steps: 23,
-        reads: 0,
-        writes: 0,
-    };
-    assert_eq!(rt; merge_all(alloc, &mut disk, geometry), Some((outcome, 4)));
-    assert_eq!(rt; &disk.shown()[41_026..41_028], [40, 0].as_slice());
-    assert_eq!(rt; &disk.shown()[41_048..41_050], [0, 0].as_slice());
+    let mut disk = filled(alloc)?;
+    let merged = merge_all(alloc, &mut disk, geometry);
+    let is_shown = shows(&disk, 41_026, &[40, 0]) && shows(&disk, 41_048, &[0, 0]);
+    drop(disk);
+    assert_eq!(rt; merged, Some((smooth(23), 4)));
+    assert!(rt; is_shown);
     Ok(())
 }
 
@@ -265,23 +313,13 @@ fn leaves_out_what_finds_no_place(rt: HostRuntime) -> Result<(), Fail> {
 #[test]
 fn passes_over_what_does_not_rise(rt: HostRuntime) -> Result<(), Fail> {
     let alloc = rt.alloc();
-    let geometry = small(8)?;
-    let mut disk = MemDisk::new(alloc, geometry.size() as usize)?;
-    fill_newest(&mut disk)?;
-    fill_older(&mut disk)?;
-    fill_sorted(&mut disk)?;
+    let mut disk = filled(alloc)?;
     fill_entry(&mut disk, 2, 12, 10)?;
-    let outcome = Outcome {
-        steps: 24,
-        reads: 0,
-        writes: 0,
-    };
-    assert_eq!(rt; merge_all(alloc, &mut disk, geometry), Some((outcome, 5)));
-    assert_eq!(rt; entry(&disk, geometry, 0), Some((10, 0, 3)));
-    assert_eq!(rt; entry(&disk, geometry, 1), Some((15, 0, 8)));
-    assert_eq!(rt; entry(&disk, geometry, 2), Some((30, 0, 1)));
-    assert_eq!(rt; entry(&disk, geometry, 3), Some((40, 0, 6)));
-    assert_eq!(rt; entry(&disk, geometry, 4), Some((60, 0, 11)));
+    let merged = merge_small(alloc, &mut disk);
+    let entries = six_entries(&disk);
+    drop(disk);
+    assert_eq!(rt; merged, Some((smooth(24), 5)));
+    assert_eq!(rt; entries, MERGED);
     Ok(())
 }
 
@@ -295,20 +333,14 @@ fn a_key_takes_twenty_bytes(rt: HostRuntime) -> Result<(), Fail> {
 // Merges where a call of this kind and this number fails: what the steps came to, and the last entry.
 fn merge_with_fault(
     alloc: Global,
-    disk: MemDisk,
-    geometry: Geometry,
     call: Call,
     number: u64,
-) -> Option<(Outcome, (u8, u8, u8))>
-    requires hashes { geometry.hashes ≡ 2 }
-    requires value_len { geometry.value_len ≡ 2 }
-    requires capacity { 8 ≤ geometry.sorted_capacity }
-    requires size { device_size geometry ≤ size (memory_content disk) }
-{
-    let mut disk = FaultDisk::new(disk, call, number);
-    let (outcome, _count) = merge_all(alloc, &mut disk, geometry)?;
-    let last = entry(&disk, geometry, 4)?;
-    Some((outcome, last))
+) -> Result<Option<(Outcome, Option<(u8, u8, u8)>)>, Fail> {
+    let mut disk = with_fault(filled(alloc)?, call, number);
+    let Some((outcome, _count)) = merge_small(alloc, &mut disk) else {
+        return Ok(None);
+    };
+    Ok(Some((outcome, entry(&disk, 4))))
 }
 
 // A step after one that failed does what the failed one was to do. The rebuilds make 11 reads; the steps read the 8 slots of each store and the 4
@@ -316,8 +348,6 @@ fn merge_with_fault(
 // of the last entry afterwards. The step that reads the entries reads the first of the values too: where that fails, read 16 is of the entries again.
 #[test]
 fn goes_on_after_a_failed_step(rt: HostRuntime) -> Result<(), Fail> {
-    let alloc = rt.alloc();
-    let geometry = small(8)?;
     for (call, number, reads, writes) in [
         (Call::Read, 12, 1, 0),
         (Call::Read, 13, 1, 0),
@@ -329,18 +359,14 @@ fn goes_on_after_a_failed_step(rt: HostRuntime) -> Result<(), Fail> {
         (Call::Write, 5, 0, 1),
         (Call::Write, 6, 0, 0),
     ] {
-        let mut disk = MemDisk::new(alloc, geometry.size() as usize)?;
-        fill_newest(&mut disk)?;
-        fill_older(&mut disk)?;
-        fill_sorted(&mut disk)?;
         let outcome = Outcome {
             steps: 23,
             reads,
             writes,
         };
         assert_eq!(rt;
-            merge_with_fault(alloc, disk, geometry, call, number),
-            Some((outcome, (60, 0, 11))),
+            merge_with_fault(rt.alloc(), call, number)?,
+            Some((outcome, Some((60, 0, 11)))),
             "call {number}"
         );
     }

@@ -1,9 +1,10 @@
 // A sorted region, where no clause says it: worked entries, and how many reads a call makes.
-ghost use Rattle.std.specs.Prelude.{◌≡◌, ◌≤◌, ◌<◌};
+ghost use Rattle.std.specs.Prelude.{◌≡◌, ◌≤◌, ◌<◌, IfOk};
 ghost use Rattle.silt_device.specs.Disk.{size};
 ghost use Rattle.silt_device.specs.Layout.{device_size};
+ghost use Rattle.silt_device.specs.Memory.{memory_content};
 
-use crate::tests::four_rows;
+use crate::tests::{LEN, blank, four_rows};
 use silt_device::{Disk, Geometry, MemDisk};
 use silt_frame::Key;
 use silt_sorted_store::{RebuildError, SortedEntries, SortedStore};
@@ -55,8 +56,14 @@ enum Outcome {
     NoMemory,
 }
 
-// What a rebuild of so many entries of a region comes to.
-fn rebuild<D: Disk>(alloc: Global, disk: &D, geometry: Geometry, region: u32, count: u32) -> Outcome
+// What a rebuild of so many entries of a region with this geometry comes to.
+fn rebuild_in<D: Disk>(
+    alloc: Global,
+    disk: &D,
+    geometry: Geometry,
+    region: u32,
+    count: u32,
+) -> Outcome
     requires region { region < 2 }
     requires count { count ≤ geometry.sorted_capacity }
     requires size { device_size geometry ≤ size (D.content disk.now) }
@@ -69,8 +76,20 @@ fn rebuild<D: Disk>(alloc: Global, disk: &D, geometry: Geometry, region: u32, co
     }
 }
 
+// The same with four rows a log and eight sorted entries.
+fn rebuild<D: Disk>(alloc: Global, disk: &D, region: u32, count: u32) -> Outcome
+    requires region { region < 2 }
+    requires count { count ≤ 8 }
+    requires size { 45056 ≤ size (D.content disk.now) }
+{
+    match four_rows() {
+        Ok(geometry) => rebuild_in(alloc, disk, geometry, region, count),
+        Err(_) => Outcome::Failed,
+    }
+}
+
 // Where the first entries of region 1 have a key, by an index that was rebuilt. None where a read fails, or there is no memory.
-fn find<D: Disk>(
+fn find_in<D: Disk>(
     alloc: Global,
     disk: &D,
     geometry: Geometry,
@@ -86,46 +105,68 @@ fn find<D: Disk>(
     store.find(disk, key).ok()
 }
 
+// The same with four rows a log and eight sorted entries.
+fn find<D: Disk>(alloc: Global, disk: &D, count: u32, key: &Key) -> Option<Option<u32>>
+    requires count { count ≤ 8 }
+    requires size { 45056 ≤ size (D.content disk.now) }
+{
+    match four_rows() {
+        Ok(geometry) => find_in(alloc, disk, geometry, count, key),
+        Err(_) => None,
+    }
+}
+
+// A disk with so many entries in sorted region 1.
+fn filled(alloc: Global, count: u8) -> Result<MemDisk, Fail>
+    requires { count ≤ 8 }
+    ensures { IfOk result (λ disk. size (memory_content disk) ≡ 45056) }
+{
+    let mut disk = blank(alloc, LEN)?;
+    fill(&mut disk, count)?;
+    Ok(disk)
+}
+
+// The first of eight places whose key is not found there, or of whose neighbours, one before it and one behind it, one is found.
+fn first_wrong<D: Disk>(alloc: Global, disk: &D) -> Option<u8>
+    requires { 45056 ≤ size (D.content disk.now) }
+{
+    for place in 0..8u8 {
+        let at = Some(Some(u32::from(place)));
+        if find(alloc, disk, 8, &key(10 + 10 * place, 0)) != at
+            || find(alloc, disk, 8, &key(5 + 10 * place, 0)) != Some(None)
+            || find(alloc, disk, 8, &key(10 + 10 * place, 1)) != Some(None)
+        {
+            return Some(place);
+        }
+    }
+    None
+}
+
 #[test]
 fn finds_each_key_and_no_other(rt: HostRuntime) -> Result<(), Fail> {
-    let geometry = four_rows()?;
-    let mut disk = MemDisk::new(rt.alloc(), geometry.size() as usize)?;
-    fill(&mut disk, 8)?;
-    assert_eq!(rt;
-        rebuild(rt.alloc(), &disk, geometry, 1, 8),
-        Outcome::Rebuilt(8)
-    );
-    for place in 0..8 {
-        assert_eq!(rt;
-            find(rt.alloc(), &disk, geometry, 8, &key(10 + 10 * place, 0)),
-            Some(Some(u32::from(place)))
-        );
-        assert_eq!(rt;
-            find(rt.alloc(), &disk, geometry, 8, &key(5 + 10 * place, 0)),
-            Some(None)
-        );
-        assert_eq!(rt;
-            find(rt.alloc(), &disk, geometry, 8, &key(10 + 10 * place, 1)),
-            Some(None)
-        );
-    }
-    assert_eq!(rt;
-        find(rt.alloc(), &disk, geometry, 8, &key(85, 0)),
-        Some(None)
-    );
-    assert_eq!(rt;
-        find(rt.alloc(), &disk, geometry, 7, &key(80, 0)),
-        Some(None)
-    );
+    let alloc = rt.alloc();
+    let disk = filled(alloc, 8)?;
+    let outcome = rebuild(alloc, &disk, 1, 8);
+    let wrong = first_wrong(alloc, &disk);
+    let behind = find(alloc, &disk, 8, &key(85, 0));
+    let beyond = find(alloc, &disk, 7, &key(80, 0));
+    drop(disk);
+    assert_eq!(rt; (outcome, wrong), (Outcome::Rebuilt(8), None));
+    assert_eq!(rt; (behind, beyond), (Some(None), Some(None)));
     Ok(())
+}
+
+// Where the first entries of a disk with two have a key.
+fn found_among(alloc: Global, count: u32, first: u8) -> Result<Option<Option<u32>>, Fail>
+    requires { count ≤ 8 }
+{
+    let disk = filled(alloc, 2)?;
+    Ok(find(alloc, &disk, count, &key(first, 0)))
 }
 
 // The index of no entries, of one and of two names their keys and no other.
 #[test]
 fn finds_among_few(rt: HostRuntime) -> Result<(), Fail> {
-    let geometry = four_rows()?;
-    let mut disk = MemDisk::new(rt.alloc(), geometry.size() as usize)?;
-    fill(&mut disk, 2)?;
     for (count, first, want) in [
         (0, 10, None),
         (1, 10, Some(0)),
@@ -135,7 +176,7 @@ fn finds_among_few(rt: HostRuntime) -> Result<(), Fail> {
         (2, 15, None),
     ] {
         assert_eq!(rt;
-            find(rt.alloc(), &disk, geometry, count, &key(first, 0)),
+            found_among(rt.alloc(), count, first)?,
             Some(want),
             "key {first} among {count}"
         );
@@ -143,71 +184,78 @@ fn finds_among_few(rt: HostRuntime) -> Result<(), Fail> {
     Ok(())
 }
 
+// Three keys of which the bytes after the first decide: what a rebuild comes to, and where one of them and one that is not there are found.
+fn rising<D: Disk>(
+    alloc: Global,
+    disk: &mut D,
+) -> Result<(Outcome, Option<Option<u32>>, Option<Option<u32>>), D::Fault>
+    requires { 45056 ≤ size (D.content disk.old) }
+{
+    write_entry(disk, 0, &key(0, 255), [0, 0])?;
+    write_entry(disk, 1, &key(1, 0), [0, 1])?;
+    write_entry(disk, 2, &key(1, 1), [0, 2])?;
+    Ok((
+        rebuild(alloc, disk, 1, 3),
+        find(alloc, disk, 3, &key(1, 0)),
+        find(alloc, disk, 3, &key(0, 254)),
+    ))
+}
+
 // The bytes after the first decide where the first are alike.
 #[test]
 fn keys_rise_by_their_bytes(rt: HostRuntime) -> Result<(), Fail> {
-    let geometry = four_rows()?;
-    let mut disk = MemDisk::new(rt.alloc(), geometry.size() as usize)?;
-    write_entry(&mut disk, 0, &key(0, 255), [0, 0])?;
-    write_entry(&mut disk, 1, &key(1, 0), [0, 1])?;
-    write_entry(&mut disk, 2, &key(1, 1), [0, 2])?;
-    assert_eq!(rt;
-        rebuild(rt.alloc(), &disk, geometry, 1, 3),
-        Outcome::Rebuilt(3)
-    );
-    assert_eq!(rt;
-        find(rt.alloc(), &disk, geometry, 3, &key(1, 0)),
-        Some(Some(1))
-    );
-    assert_eq!(rt;
-        find(rt.alloc(), &disk, geometry, 3, &key(0, 254)),
-        Some(None)
-    );
+    let mut disk = blank(rt.alloc(), LEN)?;
+    let found = rising(rt.alloc(), &mut disk)?;
+    drop(disk);
+    assert_eq!(rt; found, (Outcome::Rebuilt(3), Some(Some(1)), Some(None)));
     Ok(())
+}
+
+// What rebuilds come to of six entries and of four where the fifth is below the fourth, and of six where the third has the key of the second too.
+fn falling<D: Disk>(alloc: Global, disk: &mut D) -> Result<[Outcome; 3], D::Fault>
+    requires { 45056 ≤ size (D.content disk.old) }
+{
+    fill(disk, 6)?;
+    write_entry(disk, 4, &key(15, 0), [0, 0])?;
+    let fifth = rebuild(alloc, disk, 1, 6);
+    let four = rebuild(alloc, disk, 1, 4);
+    write_entry(disk, 2, &key(20, 0), [0, 0])?;
+    Ok([fifth, four, rebuild(alloc, disk, 1, 6)])
 }
 
 // An entry with the key before it is no better than one with a lower key; the first such entry decides.
 #[test]
 fn the_first_entry_that_does_not_rise_decides(rt: HostRuntime) -> Result<(), Fail> {
-    let geometry = four_rows()?;
-    let mut disk = MemDisk::new(rt.alloc(), geometry.size() as usize)?;
-    fill(&mut disk, 6)?;
-    write_entry(&mut disk, 4, &key(15, 0), [0, 0])?;
-    assert_eq!(rt;
-        rebuild(rt.alloc(), &disk, geometry, 1, 6),
-        Outcome::Damaged(4)
-    );
-    assert_eq!(rt;
-        rebuild(rt.alloc(), &disk, geometry, 1, 4),
-        Outcome::Rebuilt(4)
-    );
-    write_entry(&mut disk, 2, &key(20, 0), [0, 0])?;
-    assert_eq!(rt;
-        rebuild(rt.alloc(), &disk, geometry, 1, 6),
-        Outcome::Damaged(2)
-    );
+    let mut disk = blank(rt.alloc(), LEN)?;
+    let outcomes = falling(rt.alloc(), &mut disk)?;
+    drop(disk);
+    let due = [
+        Outcome::Damaged(4),
+        Outcome::Rebuilt(4),
+        Outcome::Damaged(2),
+    ];
+    assert_eq!(rt; outcomes, due);
     Ok(())
+}
+
+// What a rebuild of so many entries of region 0 comes to where region 1 alone has some, and whether they are none.
+fn rebuild_other(alloc: Global, count: u32) -> Result<(Outcome, bool), Fail>
+    requires { count ≤ 8 }
+{
+    let disk = filled(alloc, 8)?;
+    let is_empty = SortedEntries::new(four_rows()?, 0, count).is_empty();
+    Ok((rebuild(alloc, &disk, 0, count), is_empty))
 }
 
 // A region of zeros has equal keys: two of its entries are refused, one or none is not.
 #[test]
 fn a_blank_region_has_at_most_one_entry(rt: HostRuntime) -> Result<(), Fail> {
-    let geometry = four_rows()?;
-    let mut disk = MemDisk::new(rt.alloc(), geometry.size() as usize)?;
-    fill(&mut disk, 8)?;
-    assert_eq!(rt;
-        rebuild(rt.alloc(), &disk, geometry, 0, 2),
-        Outcome::Damaged(1)
-    );
-    assert_eq!(rt;
-        rebuild(rt.alloc(), &disk, geometry, 0, 1),
-        Outcome::Rebuilt(1)
-    );
-    assert_eq!(rt;
-        rebuild(rt.alloc(), &disk, geometry, 0, 0),
-        Outcome::Rebuilt(0)
-    );
-    assert!(rt; SortedEntries::new(geometry, 0, 0).is_empty());
-    assert!(rt; !SortedEntries::new(geometry, 0, 1).is_empty());
+    for (count, want) in [
+        (2, Outcome::Damaged(1)),
+        (1, Outcome::Rebuilt(1)),
+        (0, Outcome::Rebuilt(0)),
+    ] {
+        assert_eq!(rt; rebuild_other(rt.alloc(), count)?, (want, count == 0));
+    }
     Ok(())
 }

@@ -4,7 +4,8 @@ ghost use Rattle.silt_device.specs.Disk.{size};
 ghost use Rattle.silt_device.specs.Layout.{device_size};
 
 use crate::tests::merge::merge_stores;
-use silt_device::{BadGeometry, Call, Disk, FaultDisk, Geometry, MemDisk};
+use crate::tests::{blank, with_fault};
+use silt_device::{BadGeometry, Call, Disk, Geometry, MemDisk};
 use silt_frame::Key;
 use silt_sorted_store::SortedStore;
 use std::alloc::Global;
@@ -135,9 +136,8 @@ fn first_wrong<D: Disk>(store: &SortedStore, disk: &D) -> Option<u16> {
     None
 }
 
-// The number of the first key that the store has and does not find, where the read of this number fails.
-fn first_missed(store: &SortedStore, disk: MemDisk, read: u64) -> Option<u16> {
-    let disk = FaultDisk::new(disk, Call::Read, read);
+// The number of the first key that the store has and does not find.
+fn first_missed<D: Disk>(store: &SortedStore, disk: &D) -> Option<u16> {
     if store.geometry().size() > disk.len() {
         return Some(KEYS);
     }
@@ -145,7 +145,7 @@ fn first_missed(store: &SortedStore, disk: MemDisk, read: u64) -> Option<u16> {
         if merged_value(number).is_none() {
             continue;
         }
-        match store.find(&disk, &numbered(number, 0)) {
+        match store.find(disk, &numbered(number, 0)) {
             Ok(Some(_)) => {}
             _ => return Some(number),
         }
@@ -164,35 +164,39 @@ fn count_merged() -> u64 {
     count
 }
 
+// A disk with all rows and entries, merged, and the merged store.
+fn merged(alloc: Global) -> Result<(MemDisk, SortedStore), Fail> {
+    let geometry = wide()?;
+    let mut disk = blank(alloc, geometry.size() as usize)?;
+    fill_all(&mut disk)?;
+    match merge_many(alloc, &mut disk, geometry) {
+        Some(store) => Ok((disk, store)),
+        None => Err(Fail::new("no merge")),
+    }
+}
+
 #[test]
 fn finds_each_key_of_a_merge(rt: HostRuntime) -> Result<(), Fail> {
-    let alloc = rt.alloc();
-    let geometry = wide()?;
-    let mut disk = MemDisk::new(alloc, geometry.size() as usize)?;
-    fill_all(&mut disk)?;
-    let Some(store) = merge_many(alloc, &mut disk, geometry) else {
-        return Err(Fail::new("no merge"));
-    };
-    assert_eq!(rt; u64::from(store.len()), count_merged());
-    assert_eq!(rt; first_wrong(&store, &disk), None);
+    let (disk, store) = merged(rt.alloc())?;
+    let wrong = first_wrong(&store, &disk);
+    drop(disk);
+    assert_eq!(rt; (u64::from(store.len()), wrong), (count_merged(), None));
     Ok(())
+}
+
+// The first key that is missed after a merge, where the read of this number fails.
+fn missed_with_fault(alloc: Global, number: u64) -> Result<Option<u16>, Fail> {
+    let (disk, store) = merged(alloc)?;
+    let disk = with_fault(disk, Call::Read, number);
+    Ok(first_missed(&store, &disk))
 }
 
 // As many reads as there are keys find them all, and the last one finds the last key, 298.
 #[test]
 fn each_look_up_after_a_merge_makes_one_read(rt: HostRuntime) -> Result<(), Fail> {
-    let alloc = rt.alloc();
-    let geometry = wide()?;
     for (further, want) in [(0, Some(298)), (1, None)] {
-        let mut disk = MemDisk::new(alloc, geometry.size() as usize)?;
-        fill_all(&mut disk)?;
-        let Some(store) = merge_many(alloc, &mut disk, geometry) else {
-            return Err(Fail::new("no merge"));
-        };
-        assert_eq!(rt;
-            first_missed(&store, disk, count_merged().saturating_add(further)),
-            want
-        );
+        let number = count_merged().saturating_add(further);
+        assert_eq!(rt; missed_with_fault(rt.alloc(), number)?, want);
     }
     Ok(())
 }

@@ -2,11 +2,10 @@
 ghost use Rattle.std.specs.Prelude.{◌≡◌, ◌≤◌, ◌<◌, IfOk};
 ghost use Rattle.silt_device.specs.Disk.{size};
 ghost use Rattle.silt_device.specs.Layout.{device_size};
-ghost use Rattle.silt_device.specs.Memory.{memory_content};
 
 use crate::tests::merge::{Outcome, merge_stores};
-use crate::tests::single;
-use silt_device::{BadGeometry, Call, Disk, FaultDisk, Geometry, MemDisk};
+use crate::tests::{blank, single, with_fault};
+use silt_device::{BadGeometry, Call, Disk, Geometry};
 use std::alloc::Global;
 use std::test::Fail;
 
@@ -57,26 +56,23 @@ fn merge_long<D: Disk>(
 // The same where a call of this kind and this number fails.
 fn merges_with_fault(
     alloc: Global,
-    disk: MemDisk,
-    geometry: Geometry,
     count: u8,
     call: Call,
     number: u64,
-) -> Option<(Outcome, Option<u32>)>
-    requires hashes { geometry.hashes ≡ 2 }
-    requires count { count ≤ geometry.sorted_capacity }
-    requires size { device_size geometry ≤ size (memory_content disk) }
+) -> Result<Option<(Outcome, Option<u32>)>, Fail>
+    requires { count ≤ 20 }
 {
-    let mut disk = FaultDisk::new(disk, call, number);
-    merge_long(alloc, &mut disk, geometry, count, 33 + u32::from(count))
+    let geometry = long()?;
+    let mut disk = blank(alloc, geometry.size() as usize)?;
+    fill_long(&mut disk, geometry)?;
+    let mut disk = with_fault(disk, call, number);
+    Ok(merge_long(alloc, &mut disk, geometry, count, 33 + u32::from(count)))
 }
 
 // One read of at most 65,536 bytes is of 15 slots or of 15 entries, so the 16 slots of each of the two regions are two reads, in their rebuilds and in the
 // steps, and twenty entries are two; then the last key is found by one. A read that failed is made again.
 #[test]
 fn reads_slots_and_entries_in_pieces(rt: HostRuntime) -> Result<(), Fail> {
-    let alloc = rt.alloc();
-    let geometry = long()?;
     for (call, number, count, reads, writes) in [
         (Call::Read, 5, 20, 1, 0),
         (Call::Read, 8, 20, 1, 0),
@@ -87,15 +83,13 @@ fn reads_slots_and_entries_in_pieces(rt: HostRuntime) -> Result<(), Fail> {
         (Call::Write, 15, 20, 0, 1),
         (Call::Write, 16, 20, 0, 1),
     ] {
-        let mut disk = MemDisk::new(alloc, geometry.size() as usize)?;
-        fill_long(&mut disk, geometry)?;
         let outcome = Outcome {
             steps: 32 + u32::from(count),
             reads,
             writes,
         };
         assert_eq!(rt;
-            merges_with_fault(alloc, disk, geometry, count, call, number),
+            merges_with_fault(rt.alloc(), count, call, number)?,
             Some((outcome, Some(u32::from(count) - 1))),
             "call {number} of {count} entries"
         );

@@ -1,52 +1,33 @@
 // How many reads a rebuild and a look-up make: the failed read of each number, and whether it is told.
 ghost use Rattle.std.specs.Prelude.{◌≡◌, ◌<◌, ◌≤◌, IfOk};
 ghost use Rattle.silt_device.specs.Disk.{size};
-ghost use Rattle.silt_device.specs.Layout.{device_size};
 ghost use Rattle.silt_device.specs.Memory.{memory_content};
 
-use crate::tests::four_rows;
-use crate::tests::sorted_store::{Outcome, fill, find, key, rebuild};
-use silt_device::{BadGeometry, Call, Disk, FaultDisk, Geometry, MemDisk};
+use crate::tests::sorted_store::{Outcome, filled, find, find_in, key, rebuild, rebuild_in};
+use crate::tests::{blank, with_fault};
+use silt_device::{BadGeometry, Call, Disk, Geometry, MemDisk};
 use silt_frame::Key;
 use std::alloc::Global;
 use std::test::Fail;
 
-// Where eight entries have a key on this disk, where the read of this number fails. None where it is a read of the rebuild or of the
-// look-up.
-fn finds_with_fault(
-    alloc: Global,
-    disk: MemDisk,
-    geometry: Geometry,
-    number: u64,
-    key: &Key,
-) -> Option<Option<u32>>
-    requires count { 8 ≤ geometry.sorted_capacity }
-    requires size { device_size geometry ≤ size (memory_content disk) }
-{
-    let disk = FaultDisk::new(disk, Call::Read, number);
-    find(alloc, &disk, geometry, 8, key)
+// Where eight entries have a key, where the read of this number fails. None where it is a read of the rebuild or of the look-up.
+fn finds_with_fault(alloc: Global, number: u64, key: &Key) -> Result<Option<Option<u32>>, Fail> {
+    let disk = with_fault(filled(alloc, 8)?, Call::Read, number);
+    Ok(find(alloc, &disk, 8, key))
 }
 
-// What a rebuild of so many entries comes to on this disk, where the read of this number fails.
-fn rebuilds_with_fault(
-    alloc: Global,
-    disk: MemDisk,
-    geometry: Geometry,
-    count: u32,
-    number: u64,
-) -> Outcome
-    requires count { count ≤ geometry.sorted_capacity }
-    requires size { device_size geometry ≤ size (memory_content disk) }
+// What a rebuild of so many of eight entries comes to, where the read of this number fails.
+fn rebuilds_with_fault(alloc: Global, count: u32, number: u64) -> Result<Outcome, Fail>
+    requires { count ≤ 8 }
 {
-    let disk = FaultDisk::new(disk, Call::Read, number);
-    rebuild(alloc, &disk, geometry, 1, count)
+    let disk = with_fault(filled(alloc, 8)?, Call::Read, number);
+    Ok(rebuild(alloc, &disk, 1, count))
 }
 
 // Behind the one read of the rebuild a present key is looked for by one read, and so is an absent one with the first byte of a
 // present one. With a first byte that no key has it is looked for by none.
 #[test]
 fn a_failed_read_of_a_look_up_is_told(rt: HostRuntime) -> Result<(), Fail> {
-    let geometry = four_rows()?;
     for (number, first, second, want) in [
         (1, 50, 0, None),
         (2, 50, 0, None),
@@ -55,10 +36,8 @@ fn a_failed_read_of_a_look_up_is_told(rt: HostRuntime) -> Result<(), Fail> {
         (3, 50, 1, Some(None)),
         (2, 55, 0, Some(None)),
     ] {
-        let mut disk = MemDisk::new(rt.alloc(), geometry.size() as usize)?;
-        fill(&mut disk, 8)?;
         assert_eq!(rt;
-            finds_with_fault(rt.alloc(), disk, geometry, number, &key(first, second)),
+            finds_with_fault(rt.alloc(), number, &key(first, second))?,
             want,
             "read {number}, key {first} {second}"
         );
@@ -69,16 +48,13 @@ fn a_failed_read_of_a_look_up_is_told(rt: HostRuntime) -> Result<(), Fail> {
 // A rebuild of three short entries makes one read, and one of none makes none.
 #[test]
 fn a_failed_read_of_a_rebuild_is_told(rt: HostRuntime) -> Result<(), Fail> {
-    let geometry = four_rows()?;
     for (number, count, want) in [
         (1, 3, Outcome::Failed),
         (2, 3, Outcome::Rebuilt(3)),
         (1, 0, Outcome::Rebuilt(0)),
     ] {
-        let mut disk = MemDisk::new(rt.alloc(), geometry.size() as usize)?;
-        fill(&mut disk, 8)?;
         assert_eq!(rt;
-            rebuilds_with_fault(rt.alloc(), disk, geometry, count, number),
+            rebuilds_with_fault(rt.alloc(), count, number)?,
             want,
             "read {number} of {count} entries"
         );
@@ -121,10 +97,47 @@ fn fill_long<D: Disk>(disk: &mut D) -> Result<(), D::Fault>
     Ok(())
 }
 
+// What a rebuild of so many long entries comes to.
+fn rebuild_long<D: Disk>(alloc: Global, disk: &D, count: u32) -> Outcome
+    requires count { count ≤ 20 }
+    requires size { 270336 ≤ size (D.content disk.now) }
+{
+    match long() {
+        Ok(geometry) => rebuild_in(alloc, disk, geometry, 1, count),
+        Err(_) => Outcome::Failed,
+    }
+}
+
+// Where twenty long entries have a key.
+fn find_long<D: Disk>(alloc: Global, disk: &D, key: &Key) -> Option<Option<u32>>
+    requires { 270336 ≤ size (D.content disk.now) }
+{
+    match long() {
+        Ok(geometry) => find_in(alloc, disk, geometry, 20, key),
+        Err(_) => None,
+    }
+}
+
+// A disk with the twenty.
+fn filled_long(alloc: Global) -> Result<MemDisk, Fail>
+    ensures { IfOk result (λ disk. size (memory_content disk) ≡ 270336) }
+{
+    let mut disk = blank(alloc, 270_336)?;
+    fill_long(&mut disk)?;
+    Ok(disk)
+}
+
+// What a rebuild of so many of them comes to, where the read of this number fails.
+fn rebuilds_long_with_fault(alloc: Global, count: u32, number: u64) -> Result<Outcome, Fail>
+    requires { count ≤ 20 }
+{
+    let disk = with_fault(filled_long(alloc)?, Call::Read, number);
+    Ok(rebuild_long(alloc, &disk, count))
+}
+
 // Fifteen entries of 4,116 bytes are one read of at most 65,536 bytes, so twenty are two reads.
 #[test]
 fn a_rebuild_reads_in_chunks(rt: HostRuntime) -> Result<(), Fail> {
-    let geometry = long()?;
     for (number, count, want) in [
         (1, 20, Outcome::Failed),
         (2, 20, Outcome::Failed),
@@ -132,10 +145,8 @@ fn a_rebuild_reads_in_chunks(rt: HostRuntime) -> Result<(), Fail> {
         (2, 16, Outcome::Failed),
         (2, 15, Outcome::Rebuilt(15)),
     ] {
-        let mut disk = MemDisk::new(rt.alloc(), geometry.size() as usize)?;
-        fill_long(&mut disk)?;
         assert_eq!(rt;
-            rebuilds_with_fault(rt.alloc(), disk, geometry, count, number),
+            rebuilds_long_with_fault(rt.alloc(), count, number)?,
             want,
             "read {number} of {count} entries"
         );
@@ -143,10 +154,21 @@ fn a_rebuild_reads_in_chunks(rt: HostRuntime) -> Result<(), Fail> {
     Ok(())
 }
 
+// What rebuilds come to of all entries, and of those before this place, where the one at the place has the key that ends with this byte.
+fn rebuilds_changed(alloc: Global, place: u32, byte: u8) -> Result<(Outcome, Outcome), Fail>
+    requires { place < 20 }
+{
+    let mut disk = filled_long(alloc)?;
+    write_long_key(&mut disk, place, &last(byte))?;
+    Ok((
+        rebuild_long(alloc, &disk, 20),
+        rebuild_long(alloc, &disk, place),
+    ))
+}
+
 // Equal and falling keys are refused at the first place, at the ends of a read too: entry 14 ends the first one.
 #[test]
 fn a_rebuild_refuses_at_the_borders_of_chunks(rt: HostRuntime) -> Result<(), Fail> {
-    let geometry = long()?;
     for (place, byte) in [
         (1, 1),
         (14, 14),
@@ -156,38 +178,36 @@ fn a_rebuild_refuses_at_the_borders_of_chunks(rt: HostRuntime) -> Result<(), Fai
         (16, 16),
         (19, 0),
     ] {
-        let mut disk = MemDisk::new(rt.alloc(), geometry.size() as usize)?;
-        fill_long(&mut disk)?;
-        write_long_key(&mut disk, place, &last(byte))?;
         assert_eq!(rt;
-            rebuild(rt.alloc(), &disk, geometry, 1, 20),
-            Outcome::Damaged(place),
+            rebuilds_changed(rt.alloc(), place, byte)?,
+            (Outcome::Damaged(place), Outcome::Rebuilt(place)),
             "entry {place} with {byte}"
-        );
-        assert_eq!(rt;
-            rebuild(rt.alloc(), &disk, geometry, 1, place),
-            Outcome::Rebuilt(place)
         );
     }
     Ok(())
 }
 
+// The first of the twenty places whose key is not found there.
+fn first_missed<D: Disk>(alloc: Global, disk: &D) -> Option<u8>
+    requires { 270336 ≤ size (D.content disk.now) }
+{
+    for place in 0..20u8 {
+        if find_long(alloc, disk, &last(place + 1)) != Some(Some(u32::from(place))) {
+            return Some(place);
+        }
+    }
+    None
+}
+
 // Keys that agree in all but their last bits are told apart, behind each read of a rebuild.
 #[test]
 fn finds_keys_that_differ_in_the_last_bits(rt: HostRuntime) -> Result<(), Fail> {
-    let geometry = long()?;
-    let mut disk = MemDisk::new(rt.alloc(), geometry.size() as usize)?;
-    fill_long(&mut disk)?;
-    for place in 0..20u8 {
-        assert_eq!(rt;
-            find(rt.alloc(), &disk, geometry, 20, &last(place + 1)),
-            Some(Some(u32::from(place)))
-        );
-    }
-    assert_eq!(rt; find(rt.alloc(), &disk, geometry, 20, &last(0)), Some(None));
-    assert_eq!(rt;
-        find(rt.alloc(), &disk, geometry, 20, &last(21)),
-        Some(None)
-    );
+    let alloc = rt.alloc();
+    let disk = filled_long(alloc)?;
+    let missed = first_missed(alloc, &disk);
+    let before = find_long(alloc, &disk, &last(0));
+    let behind = find_long(alloc, &disk, &last(21));
+    drop(disk);
+    assert_eq!(rt; (missed, before, behind), (None, Some(None), Some(None)));
     Ok(())
 }

@@ -4,7 +4,8 @@ ghost use Rattle.silt_device.specs.Disk.{size};
 ghost use Rattle.silt_device.specs.Layout.{device_size};
 ghost use Rattle.silt_device.specs.Memory.{memory_content};
 
-use silt_device::{BadGeometry, Call, Disk, FaultDisk, Geometry, MemDisk};
+use crate::tests::{blank, with_fault};
+use silt_device::{BadGeometry, Call, Disk, Geometry, MemDisk};
 use silt_frame::Key;
 use silt_sorted_store::SortedStore;
 use std::alloc::{AllocError, Global};
@@ -74,26 +75,27 @@ fn first_missed<D: Disk>(alloc: Global, disk: &D, geometry: Geometry, keys: &[Ke
     None
 }
 
-// As `first_missed`, on this disk, where the read of this number fails.
-fn missed_with_fault(
-    alloc: Global,
-    disk: MemDisk,
-    geometry: Geometry,
-    keys: &[Key],
-    number: u64,
-) -> Option<usize>
-    requires count { length keys.now ≤ geometry.sorted_capacity }
-    requires size { device_size geometry ≤ size (memory_content disk) }
+// A disk with these keys.
+fn written(alloc: Global, keys: &[Key]) -> Result<MemDisk, Fail>
+    requires { length keys.now ≤ 2000 }
+    ensures { IfOk result (λ disk. size (memory_content disk) ≡ 122880) }
 {
-    let disk = FaultDisk::new(disk, Call::Read, number);
-    first_missed(alloc, &disk, geometry, keys)
+    let mut disk = blank(alloc, 122_880)?;
+    write_keys(&mut disk, keys)?;
+    Ok(disk)
+}
+
+// The first of 256 keys whose look-up does not answer its place, where the read of this number fails.
+fn missed_with_fault(alloc: Global, number: u64) -> Result<Option<usize>, Fail> {
+    let geometry = wide()?;
+    let keys = one_a_group(alloc)?;
+    let disk = with_fault(written(alloc, &keys)?, Call::Read, number);
+    Ok(first_missed(alloc, &disk, geometry, &keys))
 }
 
 // With one key in each group the rebuild makes one read, and then each look-up one.
 #[test]
 fn each_look_up_makes_one_read(rt: HostRuntime) -> Result<(), Fail> {
-    let geometry = wide()?;
-    let keys = one_a_group(rt.alloc())?;
     for (number, want) in [
         (2, Some(0)),
         (3, Some(1)),
@@ -101,10 +103,8 @@ fn each_look_up_makes_one_read(rt: HostRuntime) -> Result<(), Fail> {
         (257, Some(255)),
         (258, None),
     ] {
-        let mut disk = MemDisk::new(rt.alloc(), geometry.size() as usize)?;
-        write_keys(&mut disk, &keys)?;
         assert_eq!(rt;
-            missed_with_fault(rt.alloc(), disk, geometry, &keys, number),
+            missed_with_fault(rt.alloc(), number)?,
             want,
             "read {number}"
         );
@@ -153,14 +153,12 @@ fn count_agreeing<D: Disk>(alloc: Global, disk: &D, geometry: Geometry, keys: &[
 // 2,000 keys, and 10,000 that differ from one of them in one bit.
 #[test]
 fn finds_what_a_plain_search_finds(rt: HostRuntime) -> Result<(), Fail> {
+    let alloc = rt.alloc();
     let geometry = wide()?;
-    let keys = spread(rt.alloc())?;
-    let mut disk = MemDisk::new(rt.alloc(), geometry.size() as usize)?;
-    write_keys(&mut disk, &keys)?;
-    assert!(rt; keys.is_sorted());
-    assert_eq!(rt;
-        count_agreeing(rt.alloc(), &disk, geometry, &keys),
-        Some(12_000)
-    );
+    let keys = spread(alloc)?;
+    let disk = written(alloc, &keys)?;
+    let agreeing = count_agreeing(alloc, &disk, geometry, &keys);
+    drop(disk);
+    assert_eq!(rt; (keys.is_sorted(), agreeing), (true, Some(12_000)));
     Ok(())
 }

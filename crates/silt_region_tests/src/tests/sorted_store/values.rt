@@ -2,55 +2,51 @@
 ghost use Rattle.std.specs.Prelude.{◌≡◌, ◌+◌, ◌≤◌, ◌<◌, IfOk, length};
 ghost use Rattle.silt_device.specs.Disk.{size};
 ghost use Rattle.silt_device.specs.Layout.{device_size};
-ghost use Rattle.silt_device.specs.Memory.{memory_content};
 
-use crate::tests::four_rows;
-use crate::tests::sorted_store::{fill, key};
-use silt_device::{BadGeometry, Call, Disk, FaultDisk, Geometry, MemDisk};
+use crate::tests::sorted_store::{filled, key};
+use crate::tests::{blank, four_rows, with_fault};
+use silt_device::{BadGeometry, Call, Disk, Geometry};
 use silt_frame::Key;
 use silt_sorted_store::{SortedEntries, SortedStore};
 use std::alloc::Global;
 use std::test::Fail;
 
 // The value and the whole bytes of the entry at a place of region 1.
-fn read_both<D: Disk>(
-    disk: &D,
-    geometry: Geometry,
-    place: u32,
-) -> Result<([u8; 2], [u8; 22]), D::Fault>
-    requires value_len { geometry.value_len ≡ 2 }
+fn read_both<D: Disk>(disk: &D, place: u32) -> Option<([u8; 2], [u8; 22])>
     requires place { place < 8 }
-    requires count { 8 ≤ geometry.sorted_capacity }
-    requires size { device_size geometry ≤ size (D.content disk.now) }
+    requires size { 45056 ≤ size (D.content disk.now) }
 {
+    let Ok(geometry) = four_rows() else {
+        return None;
+    };
     let store = SortedEntries::new(geometry, 1, 8);
     let mut value = [0; 2];
-    store.read_value(disk, place, &mut value)?;
+    store.read_value(disk, place, &mut value).ok()?;
     let mut entry = [0; 22];
-    let _key = store.entry(disk, place, &mut entry)?;
-    Ok((value, entry))
+    let _key = store.entry(disk, place, &mut entry).ok()?;
+    Some((value, entry))
 }
+
+// The bytes of the fourth entry.
+const ENTRY: [u8; 22] =
+    *b"\x28\x00\x00\x00\x00\x00\x00\x00\x00\x00\x00\x00\x00\x00\x00\x00\x00\x00\x00\x00\x07\x03";
 
 #[test]
 fn reads_values_and_entries(rt: HostRuntime) -> Result<(), Fail> {
-    let geometry = four_rows()?;
-    let mut disk = MemDisk::new(rt.alloc(), geometry.size() as usize)?;
-    fill(&mut disk, 8)?;
-    let (value, entry) = read_both(&disk, geometry, 3)?;
-    assert_eq!(rt; value, [7, 3]);
-    assert_eq!(rt;
-        entry,
-        *b"\x28\x00\x00\x00\x00\x00\x00\x00\x00\x00\x00\x00\x00\x00\x00\x00\x00\x00\x00\x00\x07\x03"
-    );
+    let disk = filled(rt.alloc(), 8)?;
+    let both = read_both(&disk, 3);
+    drop(disk);
+    assert_eq!(rt; both, Some(([7, 3], ENTRY)));
     Ok(())
 }
 
 // What a get of a key among eight entries fills these two bytes with, where one has it. None where a read fails.
-fn get<D: Disk>(alloc: Global, disk: &D, geometry: Geometry, key: &Key) -> Option<(bool, [u8; 2])>
-    requires value_len { geometry.value_len ≡ 2 }
-    requires count { 8 ≤ geometry.sorted_capacity }
-    requires size { device_size geometry ≤ size (D.content disk.now) }
+fn get<D: Disk>(alloc: Global, disk: &D, key: &Key) -> Option<(bool, [u8; 2])>
+    requires { 45056 ≤ size (D.content disk.now) }
 {
+    let Ok(geometry) = four_rows() else {
+        return None;
+    };
     let Ok(store) = SortedStore::rebuild(alloc, disk, geometry, 1, 8) else {
         return None;
     };
@@ -59,27 +55,29 @@ fn get<D: Disk>(alloc: Global, disk: &D, geometry: Geometry, key: &Key) -> Optio
     Some((found, value))
 }
 
+// The first of eight places whose value is not got by its key, or where a get of one of its neighbours finds something.
+fn first_wrong<D: Disk>(alloc: Global, disk: &D) -> Option<u8>
+    requires { 45056 ≤ size (D.content disk.now) }
+{
+    for place in 0..8u8 {
+        let first = 10 + 10 * place;
+        if get(alloc, disk, &key(first, 0)) != Some((true, [7, place]))
+            || get(alloc, disk, &key(first, 1)) != Some((false, [9, 9]))
+            || get(alloc, disk, &key(first + 1, 0)) != Some((false, [9, 9]))
+        {
+            return Some(place);
+        }
+    }
+    None
+}
+
 // A get of an absent key leaves what is to be filled, whether the index names a place or none.
 #[test]
 fn gets_the_value_of_each_key(rt: HostRuntime) -> Result<(), Fail> {
-    let geometry = four_rows()?;
-    let mut disk = MemDisk::new(rt.alloc(), geometry.size() as usize)?;
-    fill(&mut disk, 8)?;
-    for place in 0..8 {
-        let first = 10 + 10 * place;
-        assert_eq!(rt;
-            get(rt.alloc(), &disk, geometry, &key(first, 0)),
-            Some((true, [7, place]))
-        );
-        assert_eq!(rt;
-            get(rt.alloc(), &disk, geometry, &key(first, 1)),
-            Some((false, [9, 9]))
-        );
-        assert_eq!(rt;
-            get(rt.alloc(), &disk, geometry, &key(first + 1, 0)),
-            Some((false, [9, 9]))
-        );
-    }
+    let disk = filled(rt.alloc(), 8)?;
+    let wrong = first_wrong(rt.alloc(), &disk);
+    drop(disk);
+    assert_eq!(rt; wrong, None);
     Ok(())
 }
 
@@ -87,16 +85,11 @@ fn gets_the_value_of_each_key(rt: HostRuntime) -> Result<(), Fail> {
 #[test]
 fn encodes_the_index_of_keys(rt: HostRuntime) -> Result<(), Fail> {
     let geometry = four_rows()?;
-    let mut disk = MemDisk::new(rt.alloc(), geometry.size() as usize)?;
-    fill(&mut disk, 1)?;
     let entries = SortedEntries::new(geometry, 1, 1);
     let store = SortedStore::encode(rt.alloc(), entries, &[key(10, 0)])?;
-    assert_eq!(rt;
-        (store.region(), store.len(), store.is_empty()),
-        (1, 1, false)
-    );
-    assert_eq!(rt; store.geometry(), geometry);
-    assert_eq!(rt; store.entries().len(), 1);
+    let told = (store.region(), store.len(), store.is_empty());
+    assert_eq!(rt; told, (1, 1, false));
+    assert_eq!(rt; (store.geometry(), store.entries().len()), (geometry, 1));
     Ok(())
 }
 
@@ -139,31 +132,15 @@ fn gets_single<D: Disk>(
     Some(found && *out == *value)
 }
 
-// As `gets_single`, on this disk, where the read of this number fails.
-fn gets_with_fault(
-    alloc: Global,
-    disk: MemDisk,
-    geometry: Geometry,
-    number: u64,
-    value: &[u8],
-    out: &mut [u8],
-) -> Option<bool>
-    requires count { 1 ≤ geometry.sorted_capacity }
-    requires out { length out.old ≡ geometry.value_len }
-    requires size { device_size geometry ≤ size (memory_content disk) }
-{
-    let disk = FaultDisk::new(disk, Call::Read, number);
-    gets_single(alloc, &disk, geometry, value, out)
-}
-
-// As `gets_with_fault`, on a disk of its own.
+// As `gets_single`, on a disk of its own, where the read of this number fails.
 fn gets_long(alloc: Global, value_len: u32, number: u64) -> Result<Option<bool>, Fail> {
     let geometry = single(value_len)?;
     let value = vec![in alloc; 6u8; value_len as usize]?;
     let mut out = vec![in alloc; 0u8; value_len as usize]?;
-    let mut disk = MemDisk::new(alloc, geometry.size() as usize)?;
+    let mut disk = blank(alloc, geometry.size() as usize)?;
     write_single(&mut disk, geometry, &value)?;
-    Ok(gets_with_fault(alloc, disk, geometry, number, &value, &mut out))
+    let disk = with_fault(disk, Call::Read, number);
+    Ok(gets_single(alloc, &disk, geometry, &value, &mut out))
 }
 
 // Behind the one read of the rebuild an entry of 512 bytes is one read, and one of 513 bytes is two.

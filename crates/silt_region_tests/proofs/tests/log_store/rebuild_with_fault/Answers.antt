@@ -1,7 +1,0 @@
-use Rattle.std.proofs.Common.{◌≤◌, subst, sym}
-use Rattle.silt_device.specs.Disk.{Content, size}
-use Rattle.silt_device.specs.Layout.{device_size}
-use Rattle.silt_region_tests.proofs.tests.log_store.rebuild_with_fault.Goals as goal
-
-pub rebuild_log-requires-clause-size : goal.rebuild_log-requires-clause-size
-rebuild_log-requires-clause-size c κs = subst (λ (content : Content). device_size c.args.geometry ≤ size content) (sym c.new-disk.ensures.content) c.requires.size

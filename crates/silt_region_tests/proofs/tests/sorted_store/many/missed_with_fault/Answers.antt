@@ -1,7 +1,0 @@
-use Rattle.std.proofs.Common.{◌≤◌, subst, sym}
-use Rattle.silt_device.specs.Disk.{Content, size}
-use Rattle.silt_device.specs.Layout.{device_size}
-use Rattle.silt_region_tests.proofs.tests.sorted_store.many.missed_with_fault.Goals as goal
-
-pub first_missed-requires-clause-size : goal.first_missed-requires-clause-size
-first_missed-requires-clause-size c = λ lifetimes. subst (λ (content : Content). device_size c.args.geometry ≤ size content) (sym c.new-disk.ensures.content) c.requires.size
