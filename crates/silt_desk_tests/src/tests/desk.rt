@@ -11,12 +11,12 @@ mod memory;
 mod sessions;
 mod steps;
 
-use silt_desk::{Desk, Kept, Naming, Seat, Shared, Trace};
+use silt_desk::{Desk, Kept, Naming, Seat, Shared, Trace, settle};
 use silt_device::Disk;
 use silt_event::Refusal;
 use silt_frame::Key;
 use silt_store_set::Core;
-use std::alloc::Global;
+use std::alloc::{AllocError, Global};
 use std::sync::Wait;
 use std::sync::ledger::Blank;
 use std::test::Fail;
@@ -92,6 +92,20 @@ fn two_seats<D: Disk, N: Naming>(
     let second = seats.pop().ok_or("a seat")?;
     let first = seats.pop().ok_or("a seat")?;
     Ok((desk, first, second))
+}
+
+// How many calls and accepted commands a desk tells with both seats.
+fn settle_two<D: Disk, N: Naming, R: Wait>(
+    rt: &R,
+    alloc: Global,
+    shared: &Shared<D, Kept, N>,
+    first: Seat<N>,
+    second: Seat<N>,
+) -> Result<Option<(u64, u64)>, AllocError> {
+    let mut seats = Vec::new(alloc);
+    seats.push(first)?;
+    seats.push(second)?;
+    Ok(settle(rt, shared, seats).ok())
 }
 
 // Two calls on one value, by two threads, until both are done.

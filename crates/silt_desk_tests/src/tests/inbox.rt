@@ -142,6 +142,28 @@ fn run_both<P: Post + Send + Sync, R: Threads + Wait + Sync>(
     )
 }
 
+/// Without the feeder the inbox is not tallied, with it five jobs were put and taken.
+fn tallies<P: Post, R: Wait + Abort>(
+    rt: &R,
+    inbox: &Inbox<Job, P>,
+    feeders: Vec<Feeder<P>>,
+    feeder: Feeder<P>,
+    taker: Taker<P>,
+) -> Result<(), Fail> {
+    let missing = inbox
+        .tally(rt, feeders, taker)
+        .err()
+        .ok_or("a feeder is lacking")?;
+    let mut feeders = missing.feeders;
+    feeders.push(feeder)?;
+    let tally = inbox
+        .tally(rt, feeders, missing.taker)
+        .ok()
+        .ok_or("all are here")?;
+    assert_eq!(rt; tally, (5, 5, 0));
+    Ok(())
+}
+
 fn five_jobs<P: Post + Send + Sync, R: Threads + Wait + Abort + Sync>(
     rt: &R,
     alloc: Global,
@@ -156,18 +178,7 @@ fn five_jobs<P: Post + Send + Sync, R: Threads + Wait + Abort + Sync>(
     let feeder = feeders.pop().ok_or("a feeder")?;
     let (taker, (feeder, answered)) = run_both(rt, alloc, &inbox, taker, feeder);
     assert_eq!(rt; answered, 5);
-    let missing = inbox
-        .tally(rt, feeders, taker)
-        .err()
-        .ok_or("a feeder is lacking")?;
-    let mut feeders = missing.feeders;
-    feeders.push(feeder)?;
-    let tally = inbox
-        .tally(rt, feeders, missing.taker)
-        .ok()
-        .ok_or("all are here")?;
-    assert_eq!(rt; tally, (5, 5, 0));
-    Ok(())
+    tallies(rt, &inbox, feeders, feeder, taker)
 }
 
 #[test]
@@ -194,6 +205,23 @@ fn put_again<P: Post, R: Wait + Abort>(
 }
 
 /// A closed inbox hands a job back, and gives those that wait.
+fn closes<P: Post, R: Wait + Abort>(
+    rt: &R,
+    inbox: &Inbox<u64, P>,
+    feeder: &mut Feeder<P>,
+    taker: &mut Taker<P>,
+) -> Result<(), Fail> {
+    put_again(rt, inbox, feeder, 7)?;
+    inbox.close(rt);
+    let refused = inbox.put(rt, feeder, 8).err().ok_or("is closed")?;
+    assert_eq!(rt; (refused.reason, refused.job), (NotPutReason::Closed, 8));
+    let jobs = inbox.take_all(rt, taker).ok_or("a job")?;
+    assert_eq!(rt; jobs.as_slice(), [7].as_slice());
+    assert!(rt; inbox.take_all(rt, taker).is_none());
+    Ok(())
+}
+
+/// And is tallied then.
 fn closed_inbox<P: Post, R: Wait + Abort>(
     rt: &R,
     alloc: Global,
@@ -206,13 +234,7 @@ fn closed_inbox<P: Post, R: Wait + Abort>(
 {
     let (inbox, mut feeders, mut taker) = Inbox::<u64, P>::new(alloc, 1, put, taken)?;
     let mut feeder = feeders.pop().ok_or("a feeder")?;
-    put_again(rt, &inbox, &mut feeder, 7)?;
-    inbox.close(rt);
-    let refused = inbox.put(rt, &mut feeder, 8).err().ok_or("is closed")?;
-    assert_eq!(rt; (refused.reason, refused.job), (NotPutReason::Closed, 8));
-    let jobs = inbox.take_all(rt, &mut taker).ok_or("a job")?;
-    assert_eq!(rt; jobs.as_slice(), [7].as_slice());
-    assert!(rt; inbox.take_all(rt, &mut taker).is_none());
+    closes(rt, &inbox, &mut feeder, &mut taker)?;
     feeders.push(feeder)?;
     let tally = inbox.tally(rt, feeders, taker).ok().ok_or("all are here")?;
     assert_eq!(rt; tally, (1, 1, 0));

@@ -8,7 +8,7 @@ mod looks;
 mod network;
 mod record;
 
-use crate::tests::opened;
+use crate::tests::{Open, opened};
 use silt_desk::Gate;
 use silt_device::Disk;
 use silt_server::{Listens, serve_on};
@@ -102,6 +102,34 @@ fn serve_beside<
         status: status?,
         written,
         got,
+    })
+}
+
+/// What clients got, the server's status, and what it wrote.
+type Served<X> = (X, u8, Vec<u8>);
+
+// The same where the store is not looked at afterwards.
+fn served<
+    D: Disk,
+    G: Gate + Sync,
+    X: Drop,
+    C: FnOnce(SocketAddr) -> io::Result<X>,
+    R: Net<Listener = TcpListener, Stream = TcpStream> + Clock + Threads + Wait + Sync,
+>(rt: &R, alloc: Global, disk: D, sessions: u32, gate: &G, clients: C) -> Result<Served<X>, Fail>
+    requires { C.IsAlwaysCallable clients }
+{
+    let ended = serve_beside(rt, alloc, disk, None, sessions, gate, clients)?;
+    let got = ended.got?;
+    Ok((got, ended.status, ended.written))
+}
+
+// What one connection is answered to these lines.
+fn asked<
+    D: Disk,
+    R: Net<Listener = TcpListener, Stream = TcpStream> + Clock + Threads + Wait + Sync,
+>(rt: &R, alloc: Global, disk: D, lines: &[u8]) -> Result<Served<Vec<u8>>, Fail> {
+    served(rt, alloc, disk, 1, &Open, |addr: SocketAddr| {
+        ask(rt, alloc, addr, lines)
     })
 }
 

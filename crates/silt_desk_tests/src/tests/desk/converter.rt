@@ -38,9 +38,8 @@ impl<R: Clock> Gate for Hold<'_, R> {
 }
 
 /// What another thread was answered while the worker was held.
-#[derive(Drop)]
-struct Seen<N: Naming> {
-    seat: Seat<N>,
+#[derive(Clone, Copy, Debug, PartialEq, Eq)]
+struct Seen {
     held: bool,
     put: Option<u64>,
     got: Option<bool>,
@@ -56,7 +55,7 @@ fn call_beside<D: Disk, N: Naming, R: Wait + Clock>(
     mut seat: Seat<N>,
     gate: &Hold<'_, R>,
     wakes: Sender<Wake>,
-) -> Seen<N> {
+) -> Seen {
     let held = reaches(rt, &gate.passes, 2);
     let mut out = [0; 2];
     let put = put(&mut *shared.write(rt), alloc, &mut seat, &key(6), &[0, 6]);
@@ -66,7 +65,6 @@ fn call_beside<D: Disk, N: Naming, R: Wait + Clock>(
     gate.opened.store(1, Ordering::SeqCst);
     let _ = wakes.send(rt, Wake::Stop);
     Seen {
-        seat,
         held,
         put: put.and_then(|answer| answer.ok()),
         got: got.and_then(|answer| answer.ok()),
@@ -86,13 +84,34 @@ fn run_both<D: Disk, N: Naming + Send + Sync, R: Threads + Wait + Clock + Sync>(
     wakes: Receiver<Wake>,
     other: Sender<Wake>,
     wake: Sender<Wake>,
-) -> (Seat<N>, Seen<N>) {
+) -> (Seat<N>, Seen) {
     join_over(
         rt,
         shared,
         move |desk: &Shared<D, Kept, N>| converter(rt, alloc, desk, theirs, gate, wakes, other),
         move |desk: &Shared<D, Kept, N>| call_beside(rt, alloc, desk, mine, gate, wake),
     )
+}
+
+/// What another thread is answered while the worker is held, and whether the worker was freed in time and woke the other one.
+fn beside_held<D: Disk, N: Naming + Send + Sync, R: Threads + Wait + Clock + Sync>(
+    rt: &R,
+    alloc: Global,
+    shared: &Shared<D, Kept, N>,
+    mine: Seat<N>,
+    theirs: Seat<N>,
+) -> Result<(Seen, bool, bool), Fail> {
+    let gate = Hold {
+        rt,
+        passes: AtomicU64::new(0),
+        opened: AtomicU64::new(0),
+        missed: AtomicU64::new(0),
+    };
+    let (wake, wakes) = crossbeam_channel::unbounded(alloc)?;
+    let (other, others) = crossbeam_channel::unbounded(alloc)?;
+    let (_theirs, seen) = run_both(rt, alloc, shared, theirs, mine, &gate, wakes, other, wake);
+    let in_time = gate.missed.load(Ordering::SeqCst) == 0;
+    Ok((seen, in_time, matches!(others.try_recv(rt), Ok(Wake::Go))))
 }
 
 /// The worker is held before its second step until another thread's calls are answered.
@@ -110,22 +129,15 @@ fn held_between_steps<D: Disk, N: Naming + Send + Sync, R: Threads + Wait + Cloc
     let (desk, mut mine, theirs) = two_seats::<D, N>(alloc, core, 100, calls, accepted)?;
     let shared: Shared<D, Kept, N> = RwLock::new(desk);
     put_five(rt, alloc, &shared, &mut mine);
-    let gate = Hold {
-        rt,
-        passes: AtomicU64::new(0),
-        opened: AtomicU64::new(0),
-        missed: AtomicU64::new(0),
+    let seen = beside_held(rt, alloc, &shared, mine, theirs)?;
+    let due = Seen {
+        held: true,
+        put: Some(6),
+        got: Some(true),
+        flushed: Some(6),
+        step: Some(Progress::Moved),
     };
-    let (wake, wakes) = crossbeam_channel::unbounded(alloc)?;
-    let (other, others) = crossbeam_channel::unbounded(alloc)?;
-    let (_theirs, seen) = run_both(rt, alloc, &shared, theirs, mine, &gate, wakes, other, wake);
-    assert!(rt; seen.held);
-    assert_eq!(rt; gate.missed.load(Ordering::SeqCst), 0);
-    assert_eq!(rt; seen.put, Some(6));
-    assert_eq!(rt; seen.got, Some(true));
-    assert_eq!(rt; seen.flushed, Some(6));
-    assert_eq!(rt; seen.step, Some(Progress::Moved));
-    assert!(rt; matches!(others.try_recv(rt), Ok(Wake::Go)));
+    assert_eq!(rt; seen, (due, true, true));
     Ok(())
 }
 

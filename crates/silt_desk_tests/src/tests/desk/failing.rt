@@ -1,9 +1,9 @@
 // A worker whose step fails waits, as one that has nothing to do.
 ghost use Rattle.std.specs.Prelude.{◌≡◌};
 
-use crate::tests::desk::{get, key, put_five, two_seats};
+use crate::tests::desk::{get, key, put_five, settle_two, two_seats};
 use crate::tests::{Open, opened, small};
-use silt_desk::{Kept, Naming, Shared, Wake, converter, settle};
+use silt_desk::{Kept, Naming, Seat, Shared, Wake, converter};
 use silt_device::{Call, Disk, FaultDisk};
 use silt_event::Refusal;
 use silt_store_set::Core;
@@ -14,7 +14,26 @@ use std::sync::ledger::Blank;
 use std::sync::{RwLock, Wait};
 use std::test::Fail;
 
-// The write of the first step of a conversion fails. The worker then waits, and is stopped by its first message.
+// The worker waits, and is stopped by its first message; a get is refused.
+fn waits<D: Disk, N: Naming, R: Wait + Abort>(
+    rt: &R,
+    alloc: Global,
+    shared: &Shared<D, Kept, N>,
+    mine: &mut Seat<N>,
+    theirs: Seat<N>,
+) -> Result<Seat<N>, Fail> {
+    let (wake, wakes) = crossbeam_channel::unbounded(alloc)?;
+    let (other, others) = crossbeam_channel::unbounded(alloc)?;
+    let _ = wake.send(rt, Wake::Stop);
+    let theirs = converter(rt, alloc, shared, theirs, &Open, wakes, other);
+    assert!(rt; others.try_recv(rt).is_err());
+    let mut out = [0; 2];
+    let got = get(&mut *shared.write(rt), alloc, mine, &key(1), &mut out);
+    assert!(rt; matches!(got, Some(Err(Refusal::Failed))));
+    Ok(theirs)
+}
+
+// The write of the first step of a conversion fails.
 fn failed_step<D: Disk, N: Naming, R: Wait + Abort>(
     rt: &R,
     alloc: Global,
@@ -29,19 +48,8 @@ fn failed_step<D: Disk, N: Naming, R: Wait + Abort>(
     let (desk, mut mine, theirs) = two_seats::<D, N>(alloc, core, 100, calls, accepted)?;
     let shared: Shared<D, Kept, N> = RwLock::new(desk);
     put_five(rt, alloc, &shared, &mut mine);
-    let (wake, wakes) = crossbeam_channel::unbounded(alloc)?;
-    let (other, others) = crossbeam_channel::unbounded(alloc)?;
-    let _ = wake.send(rt, Wake::Stop);
-    let theirs = converter(rt, alloc, &shared, theirs, &Open, wakes, other);
-    assert!(rt; others.try_recv(rt).is_err());
-    let mut out = [0; 2];
-    let got = get(&mut *shared.write(rt), alloc, &mut mine, &key(1), &mut out);
-    assert!(rt; matches!(got, Some(Err(Refusal::Failed))));
-    let mut seats = Vec::new(alloc);
-    seats.push(mine)?;
-    seats.push(theirs)?;
-    let settled = settle(rt, &shared, seats).ok().ok_or("both are here")?;
-    assert_eq!(rt; settled, (7, 5));
+    let theirs = waits(rt, alloc, &shared, &mut mine, theirs)?;
+    assert_eq!(rt; settle_two(rt, alloc, &shared, mine, theirs)?, Some((7, 5)));
     Ok(())
 }
 

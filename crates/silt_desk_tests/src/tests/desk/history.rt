@@ -15,6 +15,27 @@ use std::sync::{RwLock, Wait};
 use std::test::Fail;
 
 // Three calls are recorded, and a fourth is refused.
+fn answers_three<D: Disk, N: Naming, R: Wait + Abort>(
+    rt: &R,
+    alloc: Global,
+    shared: &Shared<D, Kept, N>,
+    first: &mut Seat<N>,
+    second: &mut Seat<N>,
+) -> Result<(), Fail> {
+    let put = put(&mut *shared.write(rt), alloc, first, &key(1), &[1, 2]);
+    assert_eq!(rt; put.ok_or("two bytes")?.ok(), Some(1));
+    assert_eq!(rt; shared.write(rt).flush(alloc, second).ok(), Some(1));
+    let mut out = [0; 2];
+    let got = get(&mut *shared.write(rt), alloc, first, &key(1), &mut out);
+    assert_eq!(rt; got.ok_or("two bytes")?.ok(), Some(true));
+    assert_eq!(rt; out, [1, 2]);
+    let deleted = shared.write(rt).delete(alloc, second, &key(1));
+    assert!(rt; matches!(deleted, Err(Refusal::HistoryFull)));
+    assert_eq!(rt; look(&*shared.read(rt), &key(1), &mut out), Some((1, true)));
+    Ok(())
+}
+
+// At a desk for three calls.
 fn three_calls<D: Disk, N: Naming, R: Wait + Abort>(
     rt: &R,
     alloc: Global,
@@ -28,16 +49,7 @@ fn three_calls<D: Disk, N: Naming, R: Wait + Abort>(
 {
     let (desk, mut first, mut second) = two_seats::<D, N>(alloc, core, 3, calls, accepted)?;
     let shared: Shared<D, Kept, N> = RwLock::new(desk);
-    let put = put(&mut *shared.write(rt), alloc, &mut first, &key(1), &[1, 2]);
-    assert_eq!(rt; put.ok_or("two bytes")?.ok(), Some(1));
-    assert_eq!(rt; shared.write(rt).flush(alloc, &mut second).ok(), Some(1));
-    let mut out = [0; 2];
-    let got = get(&mut *shared.write(rt), alloc, &mut first, &key(1), &mut out);
-    assert_eq!(rt; got.ok_or("two bytes")?.ok(), Some(true));
-    assert_eq!(rt; out, [1, 2]);
-    let deleted = shared.write(rt).delete(alloc, &mut second, &key(1));
-    assert!(rt; matches!(deleted, Err(Refusal::HistoryFull)));
-    assert_eq!(rt; look(&*shared.read(rt), &key(1), &mut out), Some((1, true)));
+    answers_three(rt, alloc, &shared, &mut first, &mut second)?;
     settles(rt, alloc, &shared, first, second)
 }
 

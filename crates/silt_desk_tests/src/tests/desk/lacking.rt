@@ -74,6 +74,22 @@ fn six_calls<D: Disk, T: Trace, N: Naming>(
 }
 
 // All six calls are refused, and a look finds nothing done.
+fn refuses_six<D: Disk, N: Naming, R: Abort>(
+    rt: &R,
+    alloc: Global,
+    desk: &mut Desk<D, Lacking<Count>, N>,
+    mut seats: Vec<Seat<N>>,
+) -> Result<(), Fail> {
+    let mut seat = seats.pop().ok_or("a seat")?;
+    assert_eq!(rt; six_calls(desk, alloc, &mut seat), [true; 6]);
+    let mut out = [0; 2];
+    assert_eq!(rt; look(desk, &key(1), &mut out), Some((0, false)));
+    seats.push(seat)?;
+    assert_eq!(rt; desk.settle(seats).ok(), Some((0, 0)));
+    Ok(())
+}
+
+// At a desk whose trace finds no memory.
 fn refuses_all<D: Disk, N: Naming, R: Abort>(
     rt: &R,
     alloc: Global,
@@ -89,16 +105,10 @@ fn refuses_all<D: Disk, N: Naming, R: Abort>(
         trace: Count::new(),
     };
     let made = Desk::<D, Lacking<Count>, N>::new(alloc, core, trace, 1, calls, accepted);
-    let Ok((mut desk, mut seats)) = made else {
+    let Ok((mut desk, seats)) = made else {
         return Err("a desk".into());
     };
-    let mut seat = seats.pop().ok_or("a seat")?;
-    assert_eq!(rt; six_calls(&mut desk, alloc, &mut seat), [true; 6]);
-    let mut out = [0; 2];
-    assert_eq!(rt; look(&desk, &key(1), &mut out), Some((0, false)));
-    seats.push(seat)?;
-    assert_eq!(rt; desk.settle(seats).ok(), Some((0, 0)));
-    Ok(())
+    refuses_six(rt, alloc, &mut desk, seats)
 }
 
 #[test]
@@ -108,18 +118,23 @@ fn each_call_lacks_memory(rt: HostRuntime) -> Result<(), Fail> {
     refuses_all::<_, Brand, _>(&rt, alloc, core, Blank::new(1), Blank::new(1))
 }
 
-// A trace with more places than any memory has is refused, and the store stands as it was: one with three places is made of it.
+// What a store comes to that has no memory for a trace: each is refused, the store stands as it was, and one with three places is made of it.
+fn lacks_places<D: Disk, R: Abort>(rt: &R, alloc: Global, core: &mut Core<D>) -> Result<(), Fail> {
+    assert_eq!(rt; core.delete(alloc, &key(1)).ok(), Some(1));
+    for most in [u64::MAX, 1 << 62, 1 << 58] {
+        let trace = Kept::new(alloc, core, most);
+        assert!(rt; matches!(trace, Err(Refusal::NoMemory)), "{most}");
+        assert_eq!(rt; core.count(), 1, "{most}");
+    }
+    let trace = Kept::new(alloc, core, 3).ok().ok_or("a trace")?;
+    assert_eq!(rt; (trace.count(), trace.calls().len()), (1, 0));
+    Ok(())
+}
+
+// A trace with more places than any memory has is refused.
 #[test]
 fn a_trace_lacks_memory(rt: HostRuntime) -> Result<(), Fail> {
     let alloc = rt.alloc();
     let mut core = opened(alloc, small(alloc)?)?;
-    assert_eq!(rt; core.delete(alloc, &key(1)).ok(), Some(1));
-    for most in [u64::MAX, 1 << 62, 1 << 58] {
-        let trace = Kept::new(alloc, &core, most);
-        assert!(rt; matches!(trace, Err(Refusal::NoMemory)), "{most}");
-        assert_eq!(rt; core.count(), 1, "{most}");
-    }
-    let trace = Kept::new(alloc, &core, 3).ok().ok_or("a trace")?;
-    assert_eq!(rt; (trace.count(), trace.calls().len()), (1, 0));
-    Ok(())
+    lacks_places(&rt, alloc, &mut core)
 }

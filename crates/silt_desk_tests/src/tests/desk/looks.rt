@@ -3,7 +3,7 @@ ghost use Rattle.std.specs.Prelude.{◌≡◌};
 
 use crate::tests::desk::{join_over, key, look, put, two_seats};
 use crate::tests::{opened, small};
-use silt_desk::{Kept, Naming, Shared};
+use silt_desk::{Kept, Naming, Seat, Shared};
 use silt_device::Disk;
 use silt_store_set::Core;
 use std::alloc::Global;
@@ -113,7 +113,24 @@ fn both_look<D: Disk, N: Naming + Send + Sync, R: Threads + Wait + Sync>(
     )
 }
 
-/// Whether a read waited in vain for a second one, where two threads look.
+/// A key is put, and two threads find it. Whether a read waited in vain for a second one.
+fn find_both<D: Disk, N: Naming + Send + Sync, R: Threads + Wait + Abort + Sync>(
+    rt: &R,
+    alloc: Global,
+    shared: &Shared<D, Kept, N>,
+    seat: &mut Seat<N>,
+    reads: &Reads,
+    alone: bool,
+) -> Result<bool, Fail> {
+    let put = put(&mut *shared.write(rt), alloc, seat, &key(1), &[1, 2]);
+    assert_eq!(rt; put.ok_or("two bytes")?.ok(), Some(1));
+    reads.armed.store(1, Ordering::SeqCst);
+    let looked = both_look(rt, shared, alone);
+    assert_eq!(rt; looked, (Some((1, true)), Some((1, true))));
+    Ok(reads.missed.load(Ordering::SeqCst) == 1)
+}
+
+/// The same at a desk of this store.
 fn misses<D: Disk, N: Naming + Send + Sync, R: Threads + Wait + Abort + Sync>(
     rt: &R,
     alloc: Global,
@@ -122,50 +139,40 @@ fn misses<D: Disk, N: Naming + Send + Sync, R: Threads + Wait + Abort + Sync>(
     alone: bool,
     calls: Blank,
     accepted: Blank,
-) -> Result<(), Fail>
+) -> Result<bool, Fail>
     requires calls { (calls.name ≡ N.calls_name) × (calls.parts ≡ N.seats) }
     requires accepted { (accepted.name ≡ N.accepted_name) × (accepted.parts ≡ N.seats) }
     requires seats { N.seats ≡ 2 }
 {
     let (desk, mut first, _second) = two_seats::<D, N>(alloc, core, 3, calls, accepted)?;
     let shared: Shared<D, Kept, N> = RwLock::new(desk);
-    let put = put(&mut *shared.write(rt), alloc, &mut first, &key(1), &[1, 2]);
-    assert_eq!(rt; put.ok_or("two bytes")?.ok(), Some(1));
-    reads.armed.store(1, Ordering::SeqCst);
-    let looked = both_look(rt, &shared, alone);
-    assert_eq!(rt; looked, (Some((1, true)), Some((1, true))));
-    assert_eq!(rt; reads.missed.load(Ordering::SeqCst) == 1, alone);
-    Ok(())
+    find_both(rt, alloc, &shared, &mut first, reads, alone)
+}
+
+/// The same of an empty store on a disk whose reads wait for so many turns.
+fn misses_after<R: Threads + Wait + Abort + Sync>(
+    rt: &R,
+    alloc: Global,
+    turns: u64,
+    alone: bool,
+) -> Result<bool, Fail> {
+    let reads = Reads::new(turns);
+    let disk = Meeting {
+        disk: small(alloc)?,
+        reads: &reads,
+    };
+    let core = opened(alloc, disk)?;
+    misses::<_, Brand, _>(rt, alloc, core, &reads, alone, Blank::new(2), Blank::new(2))
 }
 
 #[test]
 fn two_looks(rt: HostRuntime) -> Result<(), Fail> {
-    let alloc = rt.alloc();
-    let reads = Reads::new(20_000_000);
-    let disk = Meeting {
-        disk: small(alloc)?,
-        reads: &reads,
-    };
-    let core = opened(alloc, disk)?;
-    misses::<_, Brand, _>(
-        &rt,
-        alloc,
-        core,
-        &reads,
-        false,
-        Blank::new(2),
-        Blank::new(2),
-    )
+    assert!(rt; !misses_after(&rt, rt.alloc(), 20_000_000, false)?);
+    Ok(())
 }
 
 #[test]
 fn two_looks_behind_one_lock(rt: HostRuntime) -> Result<(), Fail> {
-    let alloc = rt.alloc();
-    let reads = Reads::new(100_000);
-    let disk = Meeting {
-        disk: small(alloc)?,
-        reads: &reads,
-    };
-    let core = opened(alloc, disk)?;
-    misses::<_, Brand, _>(&rt, alloc, core, &reads, true, Blank::new(2), Blank::new(2))
+    assert!(rt; misses_after(&rt, rt.alloc(), 100_000, true)?);
+    Ok(())
 }

@@ -195,6 +195,54 @@ fn seated<D: Disk, N: Naming>(
     }
 }
 
+/// Two seats of those that there are.
+fn pop_two<N: Naming>(seats: &mut Vec<Seat<N>>) -> Option<(Seat<N>, Seat<N>)> {
+    let first = seats.pop()?;
+    let second = seats.pop()?;
+    Some((first, second))
+}
+
+/// Two seats come back.
+fn push_two<N: Naming>(
+    seats: &mut Vec<Seat<N>>,
+    two: (Seat<N>, Seat<N>),
+) -> Result<(), AllocError> {
+    seats.push(two.0)?;
+    seats.push(two.1)?;
+    Ok(())
+}
+
+/// Four of them.
+fn pop_four<N: Naming>(seats: &mut Vec<Seat<N>>) -> Option<(Seat<N>, Seat<N>, Seat<N>, Seat<N>)> {
+    let (a, b) = pop_two(seats)?;
+    let (c, d) = pop_two(seats)?;
+    Some((a, b, c, d))
+}
+
+/// The sessions and the workers at once, at seats that are handed out.
+fn run_seated<D: Disk, N: Naming + Send + Sync, R: Threads + Wait + Sync>(
+    rt: &R,
+    alloc: Global,
+    shared: &Shared<D, Kept, N>,
+    workers: (Seat<N>, Seat<N>),
+    four: (Seat<N>, Seat<N>, Seat<N>, Seat<N>),
+    turns: u32,
+) -> Result<((Seat<N>, Seat<N>), ((Seat<N>, Seat<N>), (Seat<N>, Seat<N>))), Fail> {
+    let (wakes, from) = crossbeam_channel::unbounded(alloc)?;
+    let (others, other_from) = crossbeam_channel::unbounded(alloc)?;
+    let first = Place {
+        seat: workers.0,
+        wakes: from,
+        other: others.clone()?,
+    };
+    let second = Place {
+        seat: workers.1,
+        wakes: other_from,
+        other: wakes.clone()?,
+    };
+    Ok(run_both(rt, alloc, shared, first, second, four, turns, wakes, others))
+}
+
 /// The sessions and the workers at once. All seats come back.
 fn run_all<D: Disk, N: Naming + Send + Sync, R: Threads + Wait + Sync>(
     rt: &R,
@@ -203,34 +251,12 @@ fn run_all<D: Disk, N: Naming + Send + Sync, R: Threads + Wait + Sync>(
     mut seats: Vec<Seat<N>>,
     turns: u32,
 ) -> Result<Vec<Seat<N>>, Fail> {
-    let (wakes, from) = crossbeam_channel::unbounded(alloc)?;
-    let (others, other_from) = crossbeam_channel::unbounded(alloc)?;
-    let first = Place {
-        seat: seats.pop().ok_or("a seat")?,
-        wakes: from,
-        other: others.clone()?,
-    };
-    let second = Place {
-        seat: seats.pop().ok_or("a seat")?,
-        wakes: other_from,
-        other: wakes.clone()?,
-    };
-    let four = (
-        seats.pop().ok_or("a seat")?,
-        seats.pop().ok_or("a seat")?,
-        seats.pop().ok_or("a seat")?,
-        seats.pop().ok_or("a seat")?,
-    );
-    let (workers, sessions) = run_both(
-        rt, alloc, shared, first, second, four, turns, wakes, others,
-    );
-    seats.push(workers.0)?;
-    seats.push(workers.1)?;
-    let ((a, b), (c, d)) = sessions;
-    seats.push(a)?;
-    seats.push(b)?;
-    seats.push(c)?;
-    seats.push(d)?;
+    let workers = pop_two(&mut seats).ok_or("two seats")?;
+    let four = pop_four(&mut seats).ok_or("four seats")?;
+    let (workers, sessions) = run_seated(rt, alloc, shared, workers, four, turns)?;
+    push_two(&mut seats, workers)?;
+    push_two(&mut seats, sessions.0)?;
+    push_two(&mut seats, sessions.1)?;
     Ok(seats)
 }
 

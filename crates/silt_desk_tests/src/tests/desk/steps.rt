@@ -1,9 +1,9 @@
 // Workers do each step that the store wants, and record no other call.
 ghost use Rattle.std.specs.Prelude.{◌≡◌};
 
-use crate::tests::desk::{put_five, two_seats};
+use crate::tests::desk::{put_five, settle_two, two_seats};
 use crate::tests::{Open, opened, small};
-use silt_desk::{Kept, Naming, Seat, Shared, Wake, converter, merger, settle};
+use silt_desk::{Kept, Naming, Seat, Shared, Wake, converter, merger};
 use silt_device::Disk;
 use silt_store_set::Core;
 use std::alloc::Global;
@@ -13,32 +13,49 @@ use std::sync::ledger::Blank;
 use std::sync::{RwLock, Wait};
 use std::test::Fail;
 
-// The converter until there is nothing to convert, and whether it woke the other worker.
-fn converts_all<D: Disk, N: Naming, R: Wait>(
+/// One of the two workers.
+#[derive(Clone, Copy, Debug, PartialEq, Eq)]
+enum Worker {
+    Converter,
+    Merger,
+}
+
+// A worker until there is nothing for it to do, and whether it woke the other one.
+fn works<D: Disk, N: Naming, R: Wait>(
     rt: &R,
     alloc: Global,
     shared: &Shared<D, Kept, N>,
     seat: Seat<N>,
+    worker: Worker,
 ) -> Result<(Seat<N>, bool), Fail> {
     let (wake, wakes) = crossbeam_channel::unbounded(alloc)?;
     let (other, others) = crossbeam_channel::unbounded(alloc)?;
     let _ = wake.send(rt, Wake::Stop);
-    let seat = converter(rt, alloc, shared, seat, &Open, wakes, other);
+    let seat = match worker {
+        Worker::Converter => converter(rt, alloc, shared, seat, &Open, wakes, other),
+        Worker::Merger => merger(rt, alloc, shared, seat, &Open, wakes, other),
+    };
     Ok((seat, matches!(others.try_recv(rt), Ok(Wake::Go))))
 }
 
-// The merger until there is nothing to merge, and whether it woke the other worker.
-fn merges_all<D: Disk, N: Naming, R: Wait>(
+// Each worker twice, the converter first: where there is something to do it wakes the other.
+fn work_in_turn<D: Disk, N: Naming, R: Wait + Abort>(
     rt: &R,
     alloc: Global,
     shared: &Shared<D, Kept, N>,
-    seat: Seat<N>,
-) -> Result<(Seat<N>, bool), Fail> {
-    let (wake, wakes) = crossbeam_channel::unbounded(alloc)?;
-    let (other, others) = crossbeam_channel::unbounded(alloc)?;
-    let _ = wake.send(rt, Wake::Stop);
-    let seat = merger(rt, alloc, shared, seat, &Open, wakes, other);
-    Ok((seat, matches!(others.try_recv(rt), Ok(Wake::Go))))
+    mut seat: Seat<N>,
+) -> Result<Seat<N>, Fail> {
+    for (worker, due) in [
+        (Worker::Converter, true),
+        (Worker::Converter, false),
+        (Worker::Merger, true),
+        (Worker::Merger, false),
+    ] {
+        let (back, told) = works(rt, alloc, shared, seat, worker)?;
+        seat = back;
+        assert_eq!(rt; told, due, "{worker:?}");
+    }
+    Ok(seat)
 }
 
 // Five puts freeze a log of four rows. Its conversion has eight slots and an end, and the merge eight slots, four keys and an end.
@@ -55,22 +72,12 @@ fn does_what_is_wanted<D: Disk, N: Naming, R: Wait + Abort>(
 {
     let (desk, mut mine, seat) = two_seats::<D, N>(alloc, core, 100, calls, accepted)?;
     let shared: Shared<D, Kept, N> = RwLock::new(desk);
-    let (seat, told) = merges_all(rt, alloc, &shared, seat)?;
+    let (seat, told) = works(rt, alloc, &shared, seat, Worker::Merger)?;
     assert!(rt; !told);
     put_five(rt, alloc, &shared, &mut mine);
-    let (seat, told) = converts_all(rt, alloc, &shared, seat)?;
-    assert!(rt; told);
-    let (seat, told) = converts_all(rt, alloc, &shared, seat)?;
-    assert!(rt; !told);
-    let (seat, told) = merges_all(rt, alloc, &shared, seat)?;
-    assert!(rt; told);
-    let (seat, told) = merges_all(rt, alloc, &shared, seat)?;
-    assert!(rt; !told);
-    let mut seats = Vec::new(alloc);
-    seats.push(mine)?;
-    seats.push(seat)?;
-    let settled = settle(rt, &shared, seats).ok().ok_or("both are here")?;
-    assert_eq!(rt; settled, (5 + 9 + 13, 5));
+    let seat = work_in_turn(rt, alloc, &shared, seat)?;
+    let settled = settle_two(rt, alloc, &shared, mine, seat)?;
+    assert_eq!(rt; settled, Some((5 + 9 + 13, 5)));
     Ok(())
 }
 

@@ -1,6 +1,6 @@
 // Clients that send what is no line, do not end what they begin, or reset their connection: the next one is served.
 
-use crate::tests::server::{ask, ask_line, connected, serve_beside};
+use crate::tests::server::{ask_line, asked, connected, served};
 use crate::tests::{Open, small};
 use std::alloc::Global;
 use std::io::{self, Write};
@@ -17,33 +17,21 @@ fn line_of(alloc: Global, byte: u8, len: usize) -> io::Result<Vec<u8>> {
     Ok(line)
 }
 
-// What each of these lines is answered, one after the other.
-fn ask_broken<R: Net<Stream = TcpStream>>(
-    rt: &R,
-    alloc: Global,
-    addr: SocketAddr,
-) -> io::Result<Vec<u8>> {
+// Lines that are too long, bad, or of a bad key, and one that is well formed.
+fn broken_lines(alloc: Global) -> io::Result<Vec<u8>> {
     let mut lines = line_of(alloc, b'x', 8_301)?;
     lines.extend_from_slice(line_of(alloc, b'x', 8_300)?.as_slice())?;
     lines.extend_from_slice(line_of(alloc, 0xFF, 3)?.as_slice())?;
     lines.extend_from_slice(line_of(alloc, 0, 1)?.as_slice())?;
     lines.extend_from_slice(b"get =\x00\nget =\x7F\nget =\xC3\xA4\n\nflush\n")?;
-    ask(rt, alloc, addr, lines.as_slice())
+    Ok(lines)
 }
 
 #[test]
 fn answers_broken_lines(rt: HostRuntime) -> Result<(), Fail> {
     let alloc = rt.alloc();
-    let ended = serve_beside(
-        &rt,
-        alloc,
-        small(alloc)?,
-        None,
-        1,
-        &Open,
-        |addr: SocketAddr| { ask_broken(&rt, alloc, addr) },
-    )?;
-    let got = ended.got?;
+    let lines = broken_lines(alloc)?;
+    let (got, _status, _written) = asked(&rt, alloc, small(alloc)?, lines.as_slice())?;
     let due =
         b"refused 23 LineTooLong\nrefused 20 BadLine\nrefused 20 BadLine\nrefused 20 BadLine\nrefused 21 BadKey\nrefused 21 BadKey\nrefused 21 BadKey\nacknowledged 0\n";
     assert_eq!(rt; got.as_slice(), due.as_slice());
@@ -71,21 +59,19 @@ fn three_clients<R: Net<Stream = TcpStream>>(
 #[test]
 fn serves_the_next_client(rt: HostRuntime) -> Result<(), Fail> {
     let alloc = rt.alloc();
-    let ended = serve_beside(
+    let (got, status, _written) = served(
         &rt,
         alloc,
         small(alloc)?,
-        None,
         3,
         &Open,
         |addr: SocketAddr| { three_clients(&rt, alloc, addr) },
     )?;
-    let got = ended.got?;
     assert_eq!(rt;
         got.as_slice(),
         b"accepted 1\nvalue 0001\nabsent\n".as_slice()
     );
-    assert_eq!(rt; ended.status, 0);
+    assert_eq!(rt; status, 0);
     Ok(())
 }
 
@@ -110,16 +96,14 @@ fn never_reads<R: Net<Stream = TcpStream>>(
 #[test]
 fn serves_beside_one_who_never_reads(rt: HostRuntime) -> Result<(), Fail> {
     let alloc = rt.alloc();
-    let ended = serve_beside(
+    let (got, _status, _written) = served(
         &rt,
         alloc,
         small(alloc)?,
-        None,
         2,
         &Open,
         |addr: SocketAddr| { never_reads(&rt, alloc, addr) },
     )?;
-    let got = ended.got?;
     assert_eq!(rt;
         got.as_slice(),
         b"accepted 1\nvalue 0001\nacknowledged 1\n".as_slice()
@@ -146,18 +130,16 @@ fn resets<R: Net<Stream = TcpStream>>(
 #[test]
 fn serves_after_a_reset(rt: HostRuntime) -> Result<(), Fail> {
     let alloc = rt.alloc();
-    let ended = serve_beside(
+    let ((came, got), status, _written) = served(
         &rt,
         alloc,
         small(alloc)?,
-        None,
         2,
         &Open,
         |addr: SocketAddr| { resets(&rt, alloc, addr) },
     )?;
-    let (came, got) = ended.got?;
     assert_eq!(rt; came, 1);
     assert_eq!(rt; got.as_slice(), b"value 0001\n".as_slice());
-    assert_eq!(rt; ended.status, 0);
+    assert_eq!(rt; status, 0);
     Ok(())
 }

@@ -1,6 +1,6 @@
 // As many sessions as there may be, and one more; and as many that say nothing.
 
-use crate::tests::server::{ask_line, connected, serve_beside};
+use crate::tests::server::{ask_line, connected, served};
 use crate::tests::{Open, small};
 use std::alloc::Global;
 use std::net::{Net, SocketAddr, TcpStream};
@@ -55,19 +55,17 @@ fn one_more<R: Net<Stream = TcpStream> + Clock>(
 #[test]
 fn closes_the_sixty_fifth(rt: HostRuntime) -> Result<(), Fail> {
     let alloc = rt.alloc();
-    let ended = serve_beside(
+    let ((closed, answered), status, _written) = served(
         &rt,
         alloc,
         small(alloc)?,
-        None,
         65,
         &Open,
         |addr: SocketAddr| { one_more(&rt, alloc, addr) },
     )?;
-    let (closed, served) = ended.got?;
     assert!(rt; closed);
-    assert!(rt; served);
-    assert_eq!(rt; ended.status, 0);
+    assert!(rt; answered);
+    assert_eq!(rt; status, 0);
     Ok(())
 }
 
@@ -87,17 +85,16 @@ fn say_nothing<R: Net<Stream = TcpStream>>(
 #[test]
 fn ends_sessions_that_say_nothing(rt: HostRuntime) -> Result<(), Fail> {
     let alloc = rt.alloc();
-    let ended = serve_beside(
+    let (got, status, written) = served(
         &rt,
         alloc,
         small(alloc)?,
-        None,
         64,
         &Open,
         |addr: SocketAddr| { say_nothing(&rt, alloc, addr) },
     )?;
-    assert_eq!(rt; ended.got?, 64);
-    assert_eq!(rt; ended.status, 0);
-    assert!(rt; ended.written.as_slice().ends_with(b"\ncalls 0\n"));
+    assert_eq!(rt; got, 64);
+    assert_eq!(rt; status, 0);
+    assert!(rt; written.as_slice().ends_with(b"\ncalls 0\n"));
     Ok(())
 }

@@ -1,6 +1,6 @@
 // Clients are answered between two steps of the converter.
 
-use crate::tests::server::{ask_line, connected, serve_beside};
+use crate::tests::server::{ask_line, connected, served};
 use crate::tests::{reaches, small};
 use silt_desk::{Gate, Spot};
 use silt_device::Disk;
@@ -133,10 +133,14 @@ fn held_server(rt: HostRuntime) -> Result<(), Fail> {
         rt: &rt,
         marks: &marks,
     };
-    let ended = serve_beside(&rt, alloc, disk, None, 1, &gate, |addr: SocketAddr| {
-        ask_while_held(&rt, alloc, addr, &marks)
-    })?;
-    let (held, got) = ended.got?;
+    let ((held, got), _status, _written) = served(
+        &rt,
+        alloc,
+        disk,
+        1,
+        &gate,
+        |addr: SocketAddr| { ask_while_held(&rt, alloc, addr, &marks) },
+    )?;
     let due =
         b"accepted 1\naccepted 2\naccepted 3\naccepted 4\naccepted 5\naccepted 6\nvalue 0006\nacknowledged 6\n";
     assert_eq!(rt; got.as_slice(), due.as_slice());

@@ -1,33 +1,28 @@
 // A client that asks line by line, and what it is answered.
 
-use crate::tests::server::{ask, serve_beside};
+use crate::tests::server::{Served, ask, asked, serve_beside};
 use crate::tests::{Open, small};
-use silt_device::{Fill, MemDisk, Stop};
+use silt_device::{Disk, Fill, MemDisk, Stop};
+use silt_event::Report;
 use silt_recovery::check;
 use std::alloc::Global;
-use std::net::SocketAddr;
+use std::net::{Net, SocketAddr, TcpListener, TcpStream};
+use std::sync::Wait;
 use std::test::Fail;
+use std::thread::Threads;
+use std::time::Clock;
 
 #[test]
 fn reads_a_write_back(rt: HostRuntime) -> Result<(), Fail> {
     let alloc = rt.alloc();
     let lines = b"put =abc 0102\nget =abc\nmerge\nflush";
-    let ended = serve_beside(
-        &rt,
-        alloc,
-        small(alloc)?,
-        None,
-        1,
-        &Open,
-        |addr: SocketAddr| { ask(&rt, alloc, addr, lines) },
-    )?;
-    let got = ended.got?;
+    let (got, status, written) = asked(&rt, alloc, small(alloc)?, lines)?;
     assert_eq!(rt;
         got.as_slice(),
         b"accepted 1\nvalue 0102\nrefused 20 BadLine\n".as_slice()
     );
-    assert_eq!(rt; ended.status, 0);
-    assert!(rt; ended.written.as_slice().starts_with(b"opened\nlistening "));
+    assert_eq!(rt; status, 0);
+    assert!(rt; written.as_slice().starts_with(b"opened\nlistening "));
     Ok(())
 }
 
@@ -46,16 +41,7 @@ fn tells_what_is_not_settled(rt: HostRuntime) -> Result<(), Fail> {
     let alloc = rt.alloc();
     let lines =
         b"put 0100000000000000000000000000000000000000 0102\nflush\nget 0100000000000000000000000000000000000000\n";
-    let ended = serve_beside(
-        &rt,
-        alloc,
-        failing(alloc)?,
-        None,
-        1,
-        &Open,
-        |addr: SocketAddr| { ask(&rt, alloc, addr, lines) },
-    )?;
-    let got = ended.got?;
+    let (got, _status, _written) = asked(&rt, alloc, failing(alloc)?, lines)?;
     assert_eq!(rt;
         got.as_slice(),
         b"unsettled 1\nrefused 9 Failed\nrefused 9 Failed\n".as_slice()
@@ -69,39 +55,40 @@ const FIVE_PUTS: &[u8] = b"put 0100000000000000000000000000000000000000 0001\n\
     put 0400000000000000000000000000000000000000 0004\n\
     put 0500000000000000000000000000000000000000 0005\n";
 
+// What the server of these and its client gave, and the report of the store.
+fn five_put<
+    D: Disk,
+    R: Net<Listener = TcpListener, Stream = TcpStream> + Clock + Threads + Wait + Sync,
+>(rt: &R, alloc: Global, disk: D) -> Result<(Served<Vec<u8>>, Report), Fail> {
+    let ended = serve_beside(rt, alloc, disk, Some(100), 1, &Open, |addr: SocketAddr| {
+        ask(rt, alloc, addr, FIVE_PUTS)
+    })?;
+    let report = check(alloc, &ended.disk).ok().ok_or("a report")?;
+    let got = ended.got?;
+    Ok(((got, ended.status, ended.written), report))
+}
+
 // Five puts, of which the fifth freezes a log of four rows: it is converted in nine steps, and merged in thirteen. With the five puts
 // and their flushes these are thirty-two calls.
 #[test]
 fn finishes_what_is_wanted(rt: HostRuntime) -> Result<(), Fail> {
     let alloc = rt.alloc();
-    let ended = serve_beside(
-        &rt,
-        alloc,
-        small(alloc)?,
-        Some(100),
-        1,
-        &Open,
-        |addr: SocketAddr| { ask(&rt, alloc, addr, FIVE_PUTS) },
-    )?;
-    let got = ended.got?;
+    let ((got, status, written), report) = five_put(&rt, alloc, small(alloc)?)?;
     let due = b"accepted 1\naccepted 2\naccepted 3\naccepted 4\naccepted 5\n";
     assert_eq!(rt; got.as_slice(), due.as_slice());
-    assert_eq!(rt; ended.status, 0);
-    assert!(rt; ended.written.as_slice().ends_with(b"\ncalls 32\n"));
-    let report = check(alloc, &ended.disk).ok().ok_or("a report")?;
-    assert_eq!(rt;
-        (report.generation, report.active, report.active_rows),
-        (3, 1, 1)
-    );
-    assert_eq!(rt;
-        (
-            report.frozen,
-            report.frozen_rows,
-            report.hashes,
-            report.hash_rows
-        ),
-        (0, 0, 0, 0)
-    );
-    assert_eq!(rt; (report.entries, report.charge), (4, 5));
+    assert_eq!(rt; status, 0);
+    assert!(rt; written.as_slice().ends_with(b"\ncalls 32\n"));
+    let left = Report {
+        generation: 3,
+        active: 1,
+        active_rows: 1,
+        frozen: 0,
+        frozen_rows: 0,
+        hashes: 0,
+        hash_rows: 0,
+        entries: 4,
+        charge: 5,
+    };
+    assert_eq!(rt; report, left);
     Ok(())
 }

@@ -1,6 +1,6 @@
 // Gets of two sessions are looked up side by side.
 
-use crate::tests::server::{ask_line, connected, read_line, serve_beside};
+use crate::tests::server::{ask_line, connected, read_line, served};
 use crate::tests::{reaches, small};
 use silt_desk::{Gate, Spot};
 use silt_device::Disk;
@@ -113,10 +113,9 @@ fn two_looks(rt: HostRuntime) -> Result<(), Fail> {
         rt: &rt,
         reads: &reads,
     };
-    let ended = serve_beside(&rt, alloc, disk, None, 2, &gate, |addr: SocketAddr| {
+    let (got, _status, _written) = served(&rt, alloc, disk, 2, &gate, |addr: SocketAddr| {
         ask_both(&rt, alloc, addr, &reads)
     })?;
-    let got = ended.got?;
     assert_eq!(rt;
         got.as_slice(),
         b"accepted 1\nvalue 0102\nvalue 0102\n".as_slice()

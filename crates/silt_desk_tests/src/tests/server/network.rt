@@ -1,15 +1,15 @@
 // A network that fails: before the port is known, when a connection is waited for, and where there is none.
 
 use crate::tests::{Open, opened, small};
-use silt_device::{Disk, MemDisk};
+use silt_device::Disk;
 use silt_recovery::check;
 use silt_server::{Listens, refuse_network, serve_on};
-use silt_store_set::Core;
 use std::alloc::Global;
 use std::io::{self, ErrorKind};
 use std::net::TcpStream;
-use std::process::Abort;
+use std::sync::Wait;
 use std::test::Fail;
+use std::thread::Threads;
 
 /// A listener at this port, where there is one, to which nobody can connect.
 #[derive(Drop)]
@@ -29,70 +29,61 @@ impl Listens for Deaf {
     }
 }
 
-// The empty store on a small disk.
-fn open_small(alloc: Global) -> Result<Core<MemDisk>, Fail> {
-    opened(alloc, small(alloc)?)
+// Whether an empty store is on the disk.
+fn is_empty<D: Disk>(alloc: Global, disk: &D) -> Option<bool> {
+    let report = check(alloc, disk).ok()?;
+    Some((report.generation, report.active_rows, report.charge) == (0, 0, 0))
 }
 
-// An empty store is on the disk.
-fn is_empty<D: Disk, R: Abort>(rt: &R, alloc: Global, disk: &D) -> Result<(), Fail> {
-    let report = check(alloc, disk).ok().ok_or("a report")?;
-    assert_eq!(rt;
-        (report.generation, report.active_rows, report.charge),
-        (0, 0, 0)
-    );
-    Ok(())
+// Serves the store on this disk at a port to which nobody can connect: the status, what was written, and whether the store is empty.
+fn serve_deaf<D: Disk, R: Threads + Wait + Sync>(
+    rt: &R,
+    alloc: Global,
+    disk: D,
+    port: Option<u16>,
+    audit: Option<u64>,
+) -> Result<(u8, Vec<u8>, Option<bool>), Fail> {
+    let core = opened(alloc, disk)?;
+    let mut written = Vec::new(alloc);
+    let deaf = Deaf { port };
+    let (disk, status) = serve_on(rt, alloc, &deaf, core, audit, 1, &Open, &mut written);
+    Ok((status?, written, is_empty(alloc, &disk)))
 }
 
 #[test]
 fn tells_that_its_port_is_not_known(rt: HostRuntime) -> Result<(), Fail> {
     let alloc = rt.alloc();
-    let mut written = Vec::new(alloc);
-    let deaf = Deaf { port: None };
-    let (disk, status) = serve_on(
-        &rt,
-        alloc,
-        &deaf,
-        open_small(alloc)?,
-        None,
-        1,
-        &Open,
-        &mut written,
-    );
-    assert_eq!(rt; status?, 1);
+    let (status, written, is_empty) = serve_deaf(&rt, alloc, small(alloc)?, None, None)?;
+    assert_eq!(rt; (status, is_empty), (1, Some(true)));
     assert_eq!(rt; written.as_slice(), b"opened\nnetwork fault\n".as_slice());
-    is_empty(&rt, alloc, &disk)
+    Ok(())
 }
 
 #[test]
 fn tells_that_nobody_can_connect(rt: HostRuntime) -> Result<(), Fail> {
     let alloc = rt.alloc();
-    let mut written = Vec::new(alloc);
-    let deaf = Deaf { port: Some(7_000) };
-    let (disk, status) = serve_on(
-        &rt,
-        alloc,
-        &deaf,
-        open_small(alloc)?,
-        Some(10),
-        1,
-        &Open,
-        &mut written,
-    );
-    assert_eq!(rt; status?, 1);
+    let (status, written, is_empty) = serve_deaf(&rt, alloc, small(alloc)?, Some(7_000), Some(10))?;
+    assert_eq!(rt; (status, is_empty), (1, Some(true)));
     assert_eq!(rt;
         written.as_slice(),
         b"opened\nlistening 7000\nnetwork fault\n".as_slice()
     );
-    is_empty(&rt, alloc, &disk)
+    Ok(())
+}
+
+// The same where there is no network.
+fn refuse<D: Disk>(alloc: Global, disk: D) -> Result<(u8, Vec<u8>, Option<bool>), Fail> {
+    let core = opened(alloc, disk)?;
+    let mut written = Vec::new(alloc);
+    let (disk, status) = refuse_network(core, &mut written);
+    Ok((status?, written, is_empty(alloc, &disk)))
 }
 
 #[test]
 fn refuses_without_a_network(rt: HostRuntime) -> Result<(), Fail> {
     let alloc = rt.alloc();
-    let mut written = Vec::new(alloc);
-    let (disk, status) = refuse_network(open_small(alloc)?, &mut written);
-    assert_eq!(rt; status?, 1);
+    let (status, written, is_empty) = refuse(alloc, small(alloc)?)?;
+    assert_eq!(rt; (status, is_empty), (1, Some(true)));
     assert_eq!(rt; written.as_slice(), b"opened\nnetwork fault\n".as_slice());
-    is_empty(&rt, alloc, &disk)
+    Ok(())
 }

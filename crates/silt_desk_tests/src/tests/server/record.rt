@@ -8,9 +8,11 @@ use crate::tests::{Open, formatted, opened};
 use silt_device::{Disk, Geometry};
 use std::alloc::Global;
 use std::io::{self, Write};
-use std::net::{Net, SocketAddr, TcpStream};
-use std::process::Abort;
+use std::net::{Net, SocketAddr, TcpListener, TcpStream};
+use std::sync::Wait;
 use std::test::Fail;
+use std::thread::Threads;
+use std::time::Clock;
 
 const SESSIONS: u32 = 64;
 
@@ -122,32 +124,42 @@ fn ask_all<R: Net<Stream = TcpStream>>(
     Ok(Found { wrong, keys })
 }
 
-// The store that the server left has as many keys as its clients had given values.
-fn has_keys<D: Disk, R: Abort>(rt: &R, alloc: Global, disk: D, keys: u32) -> Result<(), Fail> {
-    let core = opened(alloc, disk)?;
-    let entries = core.entries(alloc).ok().ok_or("has entries")?;
-    assert_eq!(rt; entries.len() as u64, u64::from(keys));
-    Ok(())
+// What all sessions found on a server of this disk, its status, and how many entries the store then has.
+fn ask_beside<
+    D: Disk,
+    R: Net<Listener = TcpListener, Stream = TcpStream> + Clock + Threads + Wait + Sync,
+>(rt: &R, alloc: Global, disk: D) -> Result<(Found, u8, u64), Fail> {
+    let ended = serve_beside(
+        rt,
+        alloc,
+        disk,
+        Some(400_000),
+        SESSIONS,
+        &Open,
+        |addr: SocketAddr| { ask_all(rt, alloc, addr) },
+    )?;
+    let found = ended.got?;
+    let entries = count_entries(alloc, ended.disk)?;
+    Ok((found, ended.status, entries))
 }
 
+// How many entries the store on this disk has.
+fn count_entries<D: Disk>(alloc: Global, disk: D) -> Result<u64, Fail> {
+    let core = opened(alloc, disk)?;
+    let entries = core.entries(alloc).ok().ok_or("has entries")?;
+    Ok(entries.len() as u64)
+}
+
+// The store that the server left has as many keys as its clients had given values.
 #[test]
 fn many_sessions(rt: HostRuntime) -> Result<(), Fail> {
     let alloc = rt.alloc();
     let geometry = Geometry::new(2, 16, 64, 8, 16, 4000)
         .ok()
         .ok_or("in limits")?;
-    let ended = serve_beside(
-        &rt,
-        alloc,
-        formatted(alloc, geometry)?,
-        Some(400_000),
-        SESSIONS,
-        &Open,
-        |addr: SocketAddr| { ask_all(&rt, alloc, addr) },
-    )?;
-    let found = ended.got?;
-    assert_eq!(rt; ended.status, 0);
-    assert_eq!(rt; found.wrong, 0);
+    let (found, status, entries) = ask_beside(&rt, alloc, formatted(alloc, geometry)?)?;
+    assert_eq!(rt; (status, found.wrong), (0, 0));
     assert!(rt; found.keys > 0);
-    has_keys(&rt, alloc, ended.disk, found.keys)
+    assert_eq!(rt; entries, u64::from(found.keys));
+    Ok(())
 }
