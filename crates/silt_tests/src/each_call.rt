@@ -16,7 +16,7 @@ use std::process::Abort;
 use std::test::Fail;
 
 // A life on a new disk of this geometry, and what its lines are told where no call fails.
-#[derive(Clone, Copy)]
+#[derive(Drop)]
 struct Life<'a> {
     geometry: Geometry,
     lines: &'a [Line],
@@ -31,7 +31,7 @@ enum Fails {
     Changes(u64, u64),
 }
 
-fn each_fails(rt: &impl Abort, alloc: Global, life: Life, fails: Fails) -> Result<(), Fail> {
+fn each_fails(rt: &impl Abort, alloc: Global, life: &Life, fails: Fails) -> Result<(), Fail> {
     match fails {
         Fails::Reads(least) => each_read_fails(rt, alloc, life, least),
         Fails::Changes(writes, syncs) => each_change_fails(rt, alloc, life, writes, syncs),
@@ -55,7 +55,7 @@ fn conversion_fails(rt: &impl Abort, alloc: Global, fails: Fails) -> Result<(), 
         lines: &lines,
         told: &told,
     };
-    each_fails(rt, alloc, life, fails)
+    each_fails(rt, alloc, &life, fails)
 }
 
 // A merge beside two conversions.
@@ -68,7 +68,7 @@ fn merge_fails(rt: &impl Abort, alloc: Global, fails: Fails) -> Result<(), Fail>
         lines: &lines,
         told: &told,
     };
-    each_fails(rt, alloc, life, fails)
+    each_fails(rt, alloc, &life, fails)
 }
 
 // A store on the life's disk, and whether the first opening told a fault: then the disk is opened again, by the calls that follow.
@@ -115,7 +115,7 @@ fn ask_all(
     rt: &impl Abort,
     alloc: Global,
     core: &mut Core<FaultDisk>,
-    life: Life,
+    life: &Life,
 ) -> Result<u32, Fail> {
     let mut faults = 0u32;
     for (line, expected) in life.lines.iter().zip(life.told.iter()) {
@@ -131,7 +131,7 @@ fn ask_and_list(
     rt: &impl Abort,
     alloc: Global,
     core: &mut Core<FaultDisk>,
-    life: Life,
+    life: &Life,
 ) -> Result<u32, Fail> {
     let faults = ask_all(rt, alloc, core, life)?;
     let (values, is_told) = listed_again(alloc, core)?;
@@ -141,7 +141,7 @@ fn ask_and_list(
 
 // This read of the life fails: the call that made it tells the fault, and asked again has its own answer, as all others have. Says how many
 // faults were told.
-fn faults_of_read(rt: &impl Abort, alloc: Global, life: Life, number: u64) -> Result<u32, Fail> {
+fn faults_of_read(rt: &impl Abort, alloc: Global, life: &Life, number: u64) -> Result<u32, Fail> {
     let disk = FaultDisk::new(formatted_with(alloc, life.geometry)?, Call::Read, number);
     let (mut core, is_told) = opened_again(alloc, disk)?;
     let faults = ask_and_list(rt, alloc, &mut core, life)?;
@@ -149,7 +149,7 @@ fn faults_of_read(rt: &impl Abort, alloc: Global, life: Life, number: u64) -> Re
 }
 
 // Each read of the life fails in turn, of which there are at least so many.
-fn each_read_fails(rt: &impl Abort, alloc: Global, life: Life, least: u64) -> Result<(), Fail> {
+fn each_read_fails(rt: &impl Abort, alloc: Global, life: &Life, least: u64) -> Result<(), Fail> {
     for number in 1..1000u64 {
         let faults = faults_of_read(rt, alloc, life, number)?;
         assert!(rt; faults < 2, "read {number}");
@@ -182,7 +182,7 @@ struct Failing {
 }
 
 // All replies before the one that tells the fault are the life's own, and all behind it tell a failed store. Says whether there is one.
-fn tells_once(rt: &impl Abort, life: Life, told: &[Told], failing: Failing) -> bool {
+fn tells_once(rt: &impl Abort, life: &Life, told: &[Told], failing: Failing) -> bool {
     let mut has_failed = false;
     assert_eq!(rt; told.len(), life.told.len());
     for (told, expected) in told.iter().zip(life.told.iter()) {
@@ -201,7 +201,7 @@ fn tells_once(rt: &impl Abort, life: Life, told: &[Told], failing: Failing) -> b
 fn lived(
     rt: &impl Abort,
     alloc: Global,
-    life: Life,
+    life: &Life,
     disk: MemDisk,
     failing: Failing,
 ) -> Result<(MemDisk, Vec<Told>, bool), Fail> {
@@ -223,7 +223,7 @@ fn is_fault(rt: &impl Abort, refusal: u32, failing: Failing) {
 fn answered(
     rt: &impl Abort,
     alloc: Global,
-    life: Life,
+    life: &Life,
     mut core: Core<FaultDisk>,
     failing: Failing,
 ) -> Result<(MemDisk, Vec<Told>, bool), Fail> {
@@ -234,7 +234,7 @@ fn answered(
 fn answers(
     rt: &impl Abort,
     alloc: Global,
-    life: Life,
+    life: &Life,
     core: &mut Core<FaultDisk>,
     failing: Failing,
 ) -> Result<(Vec<Told>, bool), AllocError> {
@@ -254,7 +254,7 @@ fn stopped(disk: MemDisk, stop: Option<Fill>) -> MemDisk {
     }
 }
 
-fn keeps(rt: &impl Abort, life: Life, told: &[Told], found: [u16; 8], failing: Failing) {
+fn keeps(rt: &impl Abort, life: &Life, told: &[Told], found: [u16; 8], failing: Failing) {
     assert!(rt; is_kept(life.lines, told, found), "{found:?} {failing:?}");
 }
 
@@ -263,7 +263,7 @@ fn keeps(rt: &impl Abort, life: Life, told: &[Told], found: [u16; 8], failing: F
 fn change_fails(
     rt: &impl Abort,
     alloc: Global,
-    life: Life,
+    life: &Life,
     failing: Failing,
 ) -> Result<bool, Fail> {
     let fill = failing.stop.unwrap_or(Fill::Old);
@@ -280,7 +280,7 @@ fn change_fails(
 fn each_of_a_kind_fails(
     rt: &impl Abort,
     alloc: Global,
-    life: Life,
+    life: &Life,
     (call, calls): (Call, u64),
     stop: Option<Fill>,
 ) -> Result<(), Fail> {
@@ -296,7 +296,7 @@ fn each_of_a_kind_fails(
 fn each_change_fails(
     rt: &impl Abort,
     alloc: Global,
-    life: Life,
+    life: &Life,
     writes: u64,
     syncs: u64,
 ) -> Result<(), Fail> {
