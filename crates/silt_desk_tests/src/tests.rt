@@ -1,4 +1,4 @@
-// What no contract says of desk, inbox and server. What they share stands here: empty stores on disks in memory, entries beside a plain map, a gate that
+// What no contract says of desk, inbox and server. What they share stands here: the store on a disk, entries beside a plain map, a gate that
 // is always open, and a wait with an end.
 
 mod desk;
@@ -6,9 +6,8 @@ mod inbox;
 mod server;
 
 use silt_desk::{Gate, Spot};
-use silt_device::{Disk, Geometry, MemDisk};
+use silt_device::Disk;
 use silt_frame::{Key, Value};
-use silt_recovery::format;
 use silt_store_set::Core;
 use std::alloc::Global;
 use std::collections::BTreeMap;
@@ -16,18 +15,6 @@ use std::sync::atomic::{AtomicU64, Ordering};
 use std::test::Fail;
 use std::thread;
 use std::time::{Clock, Duration};
-
-// An empty store with this geometry on a disk in memory.
-fn formatted(alloc: Global, geometry: Geometry) -> Result<MemDisk, Fail> {
-    let disk = MemDisk::new(alloc, geometry.size() as usize)?;
-    Ok(format(alloc, disk, geometry).ok().ok_or("formats")?)
-}
-
-// An empty store with values of two bytes, two buckets and four rows a log.
-fn small(alloc: Global) -> Result<MemDisk, Fail> {
-    let geometry = Geometry::new(2, 2, 4, 2, 2, 8).ok().ok_or("in limits")?;
-    formatted(alloc, geometry)
-}
 
 // The store on this disk.
 fn opened<D: Disk>(alloc: Global, disk: D) -> Result<Core<D>, Fail> {

@@ -1,5 +1,5 @@
-// What no clause says, of disks and of what stands on them. What several of these tests share stands here: geometries, formatted disks, and
-// bytes with some of them changed.
+// What no clause says, of disks and of what stands on them. What several of these tests share stands here: what is found on a disk, and numbers
+// that are made one of the other.
 
 mod damage;
 mod device;
@@ -10,86 +10,24 @@ mod plain_map;
 mod random_lives;
 mod reports;
 
-use silt_device::{Fill, Geometry, MemDisk};
+use silt_device::MemDisk;
 use silt_event::{Finding, Report};
+use silt_fixtures::{SMALL_LEN, blank, small};
 use silt_frame::Key;
-use silt_recovery::{OpenError, check, format};
-use silt_store_set::Core;
-use std::alloc::{AllocError, Global};
+use silt_recovery::{OpenError, check};
+use std::alloc::Global;
 use std::process::Abort;
 use std::test::Fail;
 
-// All that a stop may leave in the pending places of a disk in memory.
-const FILLS: [Fill; 5] = [Fill::Old, Fill::New, Fill::Zero, Fill::Ones, Fill::Mix];
-
-// The length of a device of the small geometry.
-const SMALL_LEN: usize = 45_056;
-
-// A geometry of values of two bytes and two buckets.
-fn of_regions(
-    log_capacity: u32,
-    logs: u32,
-    hashes: u32,
-    sorted_capacity: u32,
-) -> Result<Geometry, Fail> {
-    Ok(
-        Geometry::new(2, 2, log_capacity, logs, hashes, sorted_capacity)
-            .ok()
-            .ok_or("in limits")?,
-    )
-}
-
-// The geometry of the small rows: values of two bytes, two buckets, four rows a log.
-fn small() -> Result<Geometry, Fail> {
-    of_regions(4, 2, 2, 8)
-}
-
-// A formatted disk of this geometry.
-fn formatted_with(alloc: Global, geometry: Geometry) -> Result<MemDisk, Fail> {
-    let disk = MemDisk::new(alloc, geometry.size() as usize)?;
-    Ok(format(alloc, disk, geometry).ok().ok_or("formats")?)
-}
-
-// An opened store of this geometry.
-fn opened_with(alloc: Global, geometry: Geometry) -> Result<Core<MemDisk>, Fail> {
-    let disk = formatted_with(alloc, geometry)?;
-    Ok(Core::open(alloc, disk).ok().ok_or("opens")?)
-}
-
-// The bytes of an empty store of this geometry.
-fn blank(alloc: Global, geometry: Geometry) -> Result<Vec<u8>, Fail> {
-    let disk = formatted_with(alloc, geometry)?;
-    Ok(disk.shown().to_vec(alloc)?)
-}
-
-// A key that begins with this byte and goes on with zeros.
-fn key(first: u8) -> Key {
-    let mut bytes = [0; 20];
-    bytes[0] = first;
-    Key(bytes)
+// The bytes of an empty store of the small geometry, SMALL_LEN of them.
+fn small_blank(rt: &impl Abort, alloc: Global) -> Result<Vec<u8>, Fail> {
+    let whole = blank(alloc, small()?)?;
+    assert_eq!(rt; whole.len(), SMALL_LEN);
+    Ok(whole)
 }
 
 // Changes of the bytes of a device: a place, and the byte that is then there.
 type Changes<'a> = &'a [(usize, u8)];
-
-fn change(rt: &impl Abort, bytes: &mut [u8], changes: &[(usize, u8)]) {
-    for (place, byte) in changes {
-        assert!(rt; *place < bytes.len());
-        bytes[*place] = *byte;
-    }
-}
-
-// These bytes with some of them changed.
-fn changed(
-    rt: &impl Abort,
-    alloc: Global,
-    whole: &[u8],
-    changes: &[(usize, u8)],
-) -> Result<Vec<u8>, AllocError> {
-    let mut bytes = whole.to_vec(alloc)?;
-    change(rt, &mut bytes, changes);
-    Ok(bytes)
-}
 
 // The numbers of an empty store.
 const EMPTY: Report = Report {

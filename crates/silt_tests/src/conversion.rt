@@ -2,8 +2,9 @@
 
 use crate::lines::CONVERTED;
 use crate::script::{Told, live, repeated};
-use crate::support::{changed, formatted, stands_at};
+use crate::support::stands_at;
 use silt_device::MemDisk;
+use silt_fixtures::{changed, formatted};
 use silt_store_set::{Core, OpenFault, Place, Progress, Refusal};
 use std::alloc::Global;
 use std::process::Abort;

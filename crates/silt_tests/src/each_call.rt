@@ -8,8 +8,9 @@ use crate::lines::{
     of_three_hash_stores,
 };
 use crate::script::{Told, ask, repeated, replies_of};
-use crate::support::{FILLS, entries_of, formatted_with, small, stopping, values_of};
+use crate::support::{entries_of, values_of};
 use silt_device::{Call, FaultDisk, Fill, Geometry, MemDisk, Stoppable};
+use silt_fixtures::{FILLS, formatted_with, small, stopping};
 use silt_store_set::{Core, OpenFault, Refusal};
 use std::alloc::{AllocError, Global};
 use std::process::Abort;

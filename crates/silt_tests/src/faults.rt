@@ -1,9 +1,10 @@
 // One device call that fails, and the refusals of puts and deletes.
 
-use crate::life_lines::{Line, key};
+use crate::life_lines::Line;
 use crate::script::{Told, lived};
-use crate::support::{changed, entries_of, formatted, formatted_with, of_regions, values_of};
+use crate::support::{entries_of, values_of};
 use silt_device::{Call, Disk, FaultDisk, MemDisk, MemFault};
+use silt_fixtures::{SMALL_LEN, changed, formatted, formatted_with, key, of_regions};
 use silt_store_set::{Core, Refusal};
 use std::alloc::Global;
 use std::process::Abort;
@@ -332,6 +333,17 @@ fn takes_four_puts(rt: &impl Abort, alloc: Global, core: &mut Core<MemDisk>) {
     assert_eq!(rt; answer(core.flush()), Ok(4));
 }
 
+// These bytes of a small store, SMALL_LEN of them, with some of them changed.
+fn small_changed(
+    rt: &impl Abort,
+    alloc: Global,
+    whole: &[u8],
+    changes: &[(usize, u8)],
+) -> Result<Vec<u8>, Fail> {
+    assert_eq!(rt; whole.len(), SMALL_LEN);
+    Ok(changed(rt, alloc, whole, changes)?)
+}
+
 // A small store with these bytes changed.
 fn with_changes(
     rt: &impl Abort,
@@ -339,7 +351,7 @@ fn with_changes(
     changes: &[(usize, u8)],
 ) -> Result<Core<MemDisk>, Fail> {
     let disk = formatted(alloc)?;
-    let bytes = changed(rt, alloc, disk.shown(), changes)?;
+    let bytes = small_changed(rt, alloc, disk.shown(), changes)?;
     let disk = MemDisk::with_bytes(alloc, &bytes)?;
     Ok(Core::open(alloc, disk).ok().ok_or("opens")?)
 }

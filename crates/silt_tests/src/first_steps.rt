@@ -3,8 +3,9 @@
 use crate::life_lines::Line;
 use crate::lines::IDLE;
 use crate::script::{Told, told_of_life};
-use crate::support::{formatted, opened, small, stands_at};
+use crate::support::stands_at;
 use silt_device::MemDisk;
+use silt_fixtures::{formatted, opened, small};
 use silt_frame::Key;
 use silt_store_set::Core;
 use std::alloc::Global;

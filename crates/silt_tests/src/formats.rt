@@ -3,8 +3,9 @@
 use crate::kept::goes_on;
 use crate::lines::{MERGED_TWICE, of_two_hash_stores};
 use crate::script::{live, repeated};
-use crate::support::{FILLS, SMALL_LEN, entries_of, formatted_with, listed, small, stopping};
+use crate::support::{entries_of, listed};
 use silt_device::{Fill, Geometry, MemDisk, Stop, Stoppable};
+use silt_fixtures::{FILLS, SMALL_LEN, formatted_with, small, stopping};
 use silt_recovery::{FormatError, FormatFault, format};
 use silt_store_set::Core;
 use std::alloc::Global;

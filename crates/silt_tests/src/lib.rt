@@ -35,4 +35,4 @@ mod stops;
 #[cfg(test)]
 mod support;
 
-pub use life_lines::{Line, event, events, key};
+pub use life_lines::{Line, event, events};

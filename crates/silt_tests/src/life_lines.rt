@@ -3,7 +3,8 @@ ghost use Rattle.std.specs.Prelude.{All, IfOk};
 ghost use Rattle.silt_event.specs.Events.{HasValueOf};
 
 use silt_event::Event;
-use silt_frame::{Key, Value};
+use silt_fixtures::key;
+use silt_frame::Value;
 use std::alloc::{AllocError, Global};
 
 /// One event of a life. A key is given by its first byte, and a value by the number that its two bytes are.
@@ -15,13 +16,6 @@ pub enum Line {
     Flush,
     Convert,
     Merge,
-}
-
-/// A key that begins with this byte and goes on with zeros.
-pub fn key(first: u8) -> Key {
-    let mut bytes = [0; 20];
-    bytes[0] = first;
-    Key(bytes)
 }
 
 /// The event that a line stands for.

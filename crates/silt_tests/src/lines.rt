@@ -2,8 +2,8 @@
 
 use crate::life_lines::Line;
 use crate::script::Told;
-use crate::support::of_regions;
 use silt_device::Geometry;
+use silt_fixtures::of_regions;
 use silt_store_set::Progress;
 use std::test::Fail;
 

@@ -7,9 +7,9 @@ use crate::lines::{
     MOVED, of_three_hash_stores, of_two_hash_stores,
 };
 use crate::script::{Told, live, repeated, told_of_life};
-use crate::support::{formatted_with, of_regions};
 use silt_device::Geometry;
 use silt_event::Report;
+use silt_fixtures::{formatted_with, of_regions};
 use silt_recovery::check;
 use silt_store_set::Progress;
 use std::alloc::{AllocError, Global};

@@ -2,8 +2,9 @@
 
 use crate::life_lines::Line;
 use crate::script::{Told, live, repeated, replies_of};
-use crate::support::{formatted, values_of};
+use crate::support::values_of;
 use silt_device::{Call, FaultDisk, MemDisk};
+use silt_fixtures::formatted;
 use silt_store_set::{Core, Progress};
 use std::alloc::Global;
 use std::process::Abort;

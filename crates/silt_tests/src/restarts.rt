@@ -3,8 +3,9 @@
 use crate::life_lines::Line;
 use crate::lines::THREE_PUTS;
 use crate::script::{Told, lived, told_lives};
-use crate::support::{FILLS, SMALL_LEN, formatted, of_values, stands_at, stopping};
+use crate::support::stands_at;
 use silt_device::{Fill, MemDisk, Stoppable};
+use silt_fixtures::{FILLS, SMALL_LEN, formatted, of_values, stopping};
 use std::alloc::Global;
 use std::process::Abort;
 use std::test::Fail;

@@ -3,8 +3,8 @@ ghost use Rattle.std.specs.Prelude.{All, IfOk};
 ghost use Rattle.silt_event.specs.Events.{HasValueOf};
 
 use crate::life_lines::{Line, event, events};
-use crate::support::formatted_with;
 use silt_device::{Disk, FaultDisk, Geometry, MemDisk, MemFault};
+use silt_fixtures::formatted_with;
 use silt_store_set::{Core, Event, LifeReply, OpenFault, Progress, Reply, lives};
 use std::alloc::{AllocError, Global};
 use std::process::Abort;

@@ -7,8 +7,9 @@ use crate::lines::{
     of_two_hash_stores,
 };
 use crate::script::{Told, live, repeated};
-use crate::support::{FILLS, entries_of, formatted_with, small, stopping};
+use crate::support::entries_of;
 use silt_device::{Geometry, MemDisk, Stop, Stoppable};
+use silt_fixtures::{FILLS, formatted_with, small, stopping};
 use std::alloc::Global;
 use std::process::Abort;
 use std::test::Fail;

@@ -14,6 +14,7 @@ mod steps;
 use silt_desk::{Desk, Kept, Naming, Seat, Shared, Trace, settle};
 use silt_device::Disk;
 use silt_event::Refusal;
+use silt_fixtures::key;
 use silt_frame::Key;
 use silt_store_set::Core;
 use std::alloc::{AllocError, Global};
@@ -22,13 +23,6 @@ use std::sync::ledger::Blank;
 use std::test::Fail;
 use std::thread;
 use std::thread::Threads;
-
-// A key that begins with this byte and goes on with zeros.
-fn key(first: u8) -> Key {
-    let mut bytes = [0; 20];
-    bytes[0] = first;
-    Key(bytes)
-}
 
 // A put, where the store has values of this length.
 fn put<D: Disk, T: Trace, N: Naming>(

@@ -1,7 +1,8 @@
 // Images that an opening refuses, and the first finding in each.
 
-use super::{Changes, blank, change, changed, key, of_regions, opened_with, small};
+use super::{Changes, small_blank};
 use silt_device::{Disk, MemDisk, MemFault};
+use silt_fixtures::{SMALL_LEN, blank, change, changed, key, of_regions, opened_with, small};
 use silt_store_set::{Core, OpenFault, Place, Refusal};
 use std::alloc::Global;
 use std::process::Abort;
@@ -197,6 +198,7 @@ const CUT: [(usize, Finding); 6] = [
 ];
 
 fn find_each_cut(rt: &impl Abort, alloc: Global, bytes: &[u8]) -> Result<(), Fail> {
+    assert_eq!(rt; bytes.len(), 45_057);
     for (len, expected) in CUT {
         assert!(rt; len <= bytes.len());
         finds(rt, alloc, &bytes[..len], &[], expected)?;
@@ -248,6 +250,7 @@ fn find_in_turn(
     bytes: &mut [u8],
     plants: &[Plant],
 ) -> Result<(), Fail> {
+    assert_eq!(rt; bytes.len(), SMALL_LEN);
     for (changes, expected) in plants {
         change(rt, bytes, changes);
         finds(rt, alloc, bytes, &[], *expected)?;
@@ -269,7 +272,7 @@ const CRAFTED: [Plant; 3] = [
 // At two more the last byte is gone, and all bytes are zeros.
 #[test]
 fn finds_crafted_damage(rt: HostRuntime) -> Result<(), Fail> {
-    let mut whole = blank(rt.alloc(), small()?)?;
+    let mut whole = small_blank(&rt, rt.alloc())?;
     find_each(&rt, rt.alloc(), &whole, &CRAFTED)?;
     let _last = whole.pop();
     finds(
@@ -349,7 +352,7 @@ const EIGHT_ENTRIES: Changes = &[
 
 #[test]
 fn finds_entries_out_of_order(rt: HostRuntime) -> Result<(), Fail> {
-    let whole = blank(rt.alloc(), small()?)?;
+    let whole = small_blank(&rt, rt.alloc())?;
     find_each(&rt, rt.alloc(), &whole, &ENTRIES)
 }
 

@@ -58,8 +58,9 @@ fn first_wrong<D: Disk>(disk: &mut D, steps: &[Step]) -> Option<Step> {
     None
 }
 
-// Makes these calls, which have their answers.
-fn do_all<D: Disk>(rt: &impl Abort, disk: &mut D, steps: &[Step]) {
+// Makes these calls on a disk of this length, and each has its answer.
+fn do_all<D: Disk>(rt: &impl Abort, disk: &mut D, len: u64, steps: &[Step]) {
+    assert_eq!(rt; disk.len(), len);
     let wrong = first_wrong(disk, steps);
     assert!(rt; wrong.is_none(), "{wrong:?}");
 }
@@ -188,7 +189,7 @@ const LIVES: [Shown; 3] = [
 
 // A life, and the stop behind it.
 fn lived(rt: &impl Abort, mut disk: MemDisk, (steps, shown, left): Shown) -> MemDisk {
-    do_all(rt, &mut disk, steps);
+    do_all(rt, &mut disk, 4, steps);
     shows_four(rt, &disk, shown);
     let disk = disk.restart();
     shows_four(rt, &disk, left);
@@ -215,7 +216,8 @@ fn each_restart_begins_the_next_life(rt: HostRuntime) -> Result<(), Fail> {
 }
 
 // Two reads, two writes and two syncs of a disk of eight bytes. Which of them failed.
-fn six_calls<D: Disk>(disk: &mut D) -> [bool; 6] {
+fn six_calls<D: Disk>(rt: &impl Abort, disk: &mut D) -> [bool; 6] {
+    assert_eq!(rt; disk.len(), 8);
     let first = [
         four_at(disk, 0).is_none(),
         !write_at(disk, 1, &FIRST),
@@ -232,9 +234,14 @@ fn six_calls<D: Disk>(disk: &mut D) -> [bool; 6] {
 }
 
 // Which of the six calls failed on a disk on which this one does.
-fn failed_calls(alloc: Global, call: Call, number: u64) -> Result<[bool; 6], AllocError> {
+fn failed_calls(
+    rt: &impl Abort,
+    alloc: Global,
+    call: Call,
+    number: u64,
+) -> Result<[bool; 6], AllocError> {
     let mut disk = FaultDisk::new(MemDisk::new(alloc, 8)?, call, number);
-    Ok(six_calls(&mut disk))
+    Ok(six_calls(rt, &mut disk))
 }
 
 // The named call fails, and no other.
@@ -242,7 +249,7 @@ fn failed_calls(alloc: Global, call: Call, number: u64) -> Result<[bool; 6], All
 fn one_call_fails(rt: HostRuntime) -> Result<(), Fail> {
     for (place, call) in [Call::Read, Call::Write, Call::Sync].iter().enumerate() {
         for number in 0..4u64 {
-            let failed = failed_calls(rt.alloc(), *call, number)?;
+            let failed = failed_calls(&rt, rt.alloc(), *call, number)?;
             for index in 0..6usize {
                 let is_named = number == 1 && index == place || number == 2 && index == place + 3;
                 assert_eq!(rt; failed[index], is_named, "{call:?} {number}");
@@ -266,7 +273,7 @@ const SECOND_WRITE_FAILS: [Step; 5] = [
 fn a_failed_write_shows_nothing_new(rt: HostRuntime) -> Result<(), Fail> {
     let inner = armed(rt.alloc(), &[1, 2, 3, 4], &[(0, Fill::Ones)])?;
     let mut disk = FaultDisk::new(inner, Call::Write, 2);
-    do_all(&rt, &mut disk, &SECOND_WRITE_FAILS);
+    do_all(&rt, &mut disk, 4, &SECOND_WRITE_FAILS);
     let disk = disk.into_disk();
     shows_four(&rt, &disk, [5, 2, 3, 8]);
     shows_four(&rt, &disk.restart(), [5, 0xFF, 0xFF, 0xFF]);

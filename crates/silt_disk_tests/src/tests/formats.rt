@@ -1,8 +1,9 @@
 // The device calls that a formatting and an opening make, by a stop at each, and reads that fail.
 
-use super::{Changes, EMPTY, FILLS, SMALL_LEN, blank, changed, checked, key, small};
+use super::{Changes, EMPTY, checked, small_blank};
 use silt_device::{Call, FaultDisk, Fill, MemDisk, Stop, Stoppable};
 use silt_event::Finding;
+use silt_fixtures::{FILLS, SMALL_LEN, changed, key, small};
 use silt_frame::Key;
 use silt_recovery::{FormatError, FormatFault, OpenError, OpenFault, check, format, open};
 use std::alloc::Global;
@@ -134,7 +135,7 @@ fn seals_the_active_log_alone(rt: HostRuntime) -> Result<(), Fail> {
 
 // The bytes of an empty store of the small geometry with some of them changed.
 fn small_changed(rt: &impl Abort, alloc: Global, changes: &[(usize, u8)]) -> Result<Vec<u8>, Fail> {
-    let whole = blank(alloc, small()?)?;
+    let whole = small_blank(rt, alloc)?;
     Ok(changed(rt, alloc, &whole, changes)?)
 }
 

@@ -1,10 +1,9 @@
 // Crafted images, and what is found in each: by a check and by an opening alike.
 
-use super::{
-    Changes, EMPTY, Found, SMALL_LEN, blank, change, changed, checked, finding, of_regions, small,
-};
+use super::{Changes, EMPTY, Found, checked, finding, small_blank};
 use silt_device::MemDisk;
 use silt_event::{Finding, Place, Report};
+use silt_fixtures::{SMALL_LEN, blank, change, changed, of_regions, small};
 use silt_recovery::{OpenFault, open};
 use std::alloc::Global;
 use std::process::Abort;
@@ -66,7 +65,7 @@ fn look_at_each(rt: &impl Abort, alloc: Global, whole: &[u8], cases: &[Case]) ->
 
 // These cases of an empty store of the small geometry.
 fn look_at_small(rt: &impl Abort, alloc: Global, cases: &[Case]) -> Result<(), Fail> {
-    let whole = blank(alloc, small()?)?;
+    let whole = small_blank(rt, alloc)?;
     look_at_each(rt, alloc, &whole, cases)
 }
 

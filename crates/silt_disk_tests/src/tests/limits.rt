@@ -1,7 +1,7 @@
 // Stores at the limits of their numbers, where there is ample memory.
 
-use super::{key, opened_with};
 use silt_device::{Disk, Geometry};
+use silt_fixtures::{key, opened_with};
 use silt_frame::Value;
 use silt_store_set::{Core, Event, Reply};
 use std::alloc::Global;

@@ -1,7 +1,8 @@
 // A long run of pseudo-random events, answered as a plain map answers them.
 
-use super::{generation_of, key_of, next, opened_with};
+use super::{generation_of, key_of, next};
 use silt_device::{Disk, Geometry};
+use silt_fixtures::opened_with;
 use silt_frame::{Key, Value};
 use silt_store_set::{Core, Refusal};
 use std::alloc::Global;

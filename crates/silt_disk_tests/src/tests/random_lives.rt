@@ -1,7 +1,8 @@
 // Many lives of pseudo-random events on one disk, each stopped at a pseudo-random call with a pseudo-random fill, beside a plain map.
 
-use super::{formatted_with, generation_of, key_of, next, of_regions};
+use super::{generation_of, key_of, next};
 use silt_device::{Disk, Fill, Geometry, MemDisk, Stop, Stoppable};
+use silt_fixtures::{formatted_with, of_regions};
 use silt_frame::{Key, Value};
 use silt_store_set::{Core, OpenFault, Refusal};
 use std::alloc::{AllocError, Global};

@@ -1,8 +1,9 @@
 // What a check of a device tells after its logs were frozen.
 
-use super::{EMPTY, key, of_regions, opened_with, small};
+use super::EMPTY;
 use silt_device::Disk;
 use silt_event::Report;
+use silt_fixtures::{key, of_regions, opened_with, small};
 use silt_frame::Key;
 use silt_recovery::check;
 use silt_store_set::Core;

@@ -58,9 +58,9 @@ fn slot_of(gate: u8, generation: u8) -> [u8; 121] {
     slot
 }
 
-// What the slots of a disk hold: the body that rules, or the damage.
+// What the slots of a disk of this length hold: the body that rules, or the damage.
 fn ruling<D: Disk>(disk: &D, geometry: Geometry) -> Option<Result<Body, Damage>> {
-    if disk.len() < LEN as u64 {
+    if disk.len() != LEN as u64 {
         return None;
     }
     match read_current(disk, geometry) {
@@ -318,7 +318,7 @@ fn write_greatest(
 ) -> Result<(bool, bool, Option<Result<Body, Damage>>), Fail> {
     let mut disk = device(alloc, &last_but_one(), &slot_of(0, 0), NEVER)?.restart();
     let done = write_next(&mut disk, geometry, greatest());
-    let is_shown = shows(&disk, 8192, &greatest_slot());
+    let is_shown = disk.shown().len() == LEN && shows(&disk, 8192, &greatest_slot());
     Ok((done, is_shown, ruling(&disk.restart(), geometry)))
 }
 
@@ -435,17 +435,18 @@ fn writes_in_turn(rt: HostRuntime) -> Result<(), Fail> {
     Ok(())
 }
 
-// The place of the first 0xFF that a disk shows.
-fn first_ones(disk: &MemDisk) -> Option<usize> {
-    disk.shown().iter().position(|byte| *byte == 0xFF)
+// How many bytes a disk shows, and the place of the first 0xFF among them.
+fn first_ones(disk: &MemDisk) -> (usize, Option<usize>) {
+    let shown = disk.shown();
+    (shown.len(), shown.iter().position(|byte| *byte == 0xFF))
 }
 
-// Whether the third body was written where the first call is stopped, and the place that the stop changed.
+// Whether the third body was written where the first call is stopped, how many bytes there are then, and the place that the stop changed.
 fn changed_place(
     alloc: Global,
     geometry: Geometry,
     spare: u8,
-) -> Result<(bool, Option<usize>), Fail> {
+) -> Result<(bool, (usize, Option<usize>)), Fail> {
     let stop = Stop {
         k: 1,
         fill: Fill::Ones,
@@ -462,7 +463,7 @@ fn the_first_call_spares_a_closed_gate(rt: HostRuntime) -> Result<(), Fail> {
     for (spare, place) in [(0xA7u8, 8192usize), (0, 12_287)] {
         assert_eq!(rt;
             changed_place(rt.alloc(), geometry, spare)?,
-            (false, Some(place))
+            (false, (LEN, Some(place)))
         );
     }
     Ok(())
@@ -476,8 +477,8 @@ fn first_written(
     stop: Stop,
 ) -> Result<(MemDisk, bool), Fail> {
     let mut disk = device(alloc, first, second, stop)?.restart();
-    if disk.len() < LEN as u64 {
-        return Err(Fail::new("a short disk"));
+    if disk.len() != LEN as u64 {
+        return Err(Fail::new("a disk of another length"));
     }
     let done = write_slots(&mut disk).is_ok();
     Ok((disk, done))
@@ -528,7 +529,7 @@ fn the_first_body_begins_at_its_gate(rt: HostRuntime) -> Result<(), Fail> {
     };
     let (disk, done) = first_written(rt.alloc(), &closed, &closed, stop)?;
     let changed = first_ones(&disk.restart());
-    assert_eq!(rt; (done, changed), (false, Some(4096)));
+    assert_eq!(rt; (done, changed), (false, (LEN, Some(4096))));
     Ok(())
 }
 

@@ -1,11 +1,12 @@
 // A worker whose step fails waits, as one that has nothing to do.
 ghost use Rattle.std.specs.Prelude.{◌≡◌};
 
-use crate::tests::desk::{get, key, put_five, settle_two, two_seats};
-use crate::tests::{Open, opened, small};
+use crate::tests::desk::{get, put_five, settle_two, two_seats};
+use crate::tests::{Open, opened};
 use silt_desk::{Kept, Naming, Seat, Shared, Wake, converter};
 use silt_device::{Call, Disk, FaultDisk};
 use silt_event::Refusal;
+use silt_fixtures::{formatted, key};
 use silt_store_set::Core;
 use std::alloc::Global;
 use std::marker::Brand;
@@ -57,7 +58,7 @@ fn failed_step<D: Disk, N: Naming, R: Wait + Abort>(
 fn a_failed_step_waits(rt: HostRuntime) -> Result<(), Fail> {
     let alloc = rt.alloc();
     // five puts make fifteen writes, the last one of them with its freeze seven
-    let disk = FaultDisk::new(small(alloc)?, Call::Write, 16);
+    let disk = FaultDisk::new(formatted(alloc)?, Call::Write, 16);
     let core = opened(alloc, disk)?;
     failed_step::<_, Brand, _>(&rt, alloc, core, Blank::new(2), Blank::new(2))
 }

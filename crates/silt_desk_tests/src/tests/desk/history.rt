@@ -1,11 +1,12 @@
 // The row of two seats and three calls.
 ghost use Rattle.std.specs.Prelude.{◌≡◌};
 
-use crate::tests::desk::{get, key, look, put, two_seats};
-use crate::tests::{opened, small};
+use crate::tests::desk::{get, look, put, two_seats};
+use crate::tests::opened;
 use silt_desk::{Desk, Kept, Naming, Seat, Shared, settle};
 use silt_device::Disk;
 use silt_event::Refusal;
+use silt_fixtures::{formatted, key};
 use silt_store_set::Core;
 use std::alloc::Global;
 use std::marker::Brand;
@@ -74,6 +75,6 @@ fn settles<D: Disk, N: Naming, R: Wait + Abort>(
 #[test]
 fn refuses_the_fourth_call(rt: HostRuntime) -> Result<(), Fail> {
     let alloc = rt.alloc();
-    let core = opened(alloc, small(alloc)?)?;
+    let core = opened(alloc, formatted(alloc)?)?;
     three_calls::<_, Brand, _>(&rt, alloc, core, Blank::new(2), Blank::new(2))
 }

@@ -1,11 +1,12 @@
 // Each call at a desk, where no memory is found for its record.
 ghost use Rattle.std.specs.Prelude.{◌≡◌};
 
-use crate::tests::desk::{get, key, look, put};
-use crate::tests::{opened, small};
+use crate::tests::desk::{get, look, put};
+use crate::tests::opened;
 use silt_desk::{Count, Desk, Kept, Naming, NotPrepared, Note, Seat, Trace};
 use silt_device::Disk;
 use silt_event::Refusal;
+use silt_fixtures::{formatted, key};
 use silt_store_set::Core;
 use std::alloc::Global;
 use std::marker::Brand;
@@ -114,7 +115,7 @@ fn refuses_all<D: Disk, N: Naming, R: Abort>(
 #[test]
 fn each_call_lacks_memory(rt: HostRuntime) -> Result<(), Fail> {
     let alloc = rt.alloc();
-    let core = opened(alloc, small(alloc)?)?;
+    let core = opened(alloc, formatted(alloc)?)?;
     refuses_all::<_, Brand, _>(&rt, alloc, core, Blank::new(1), Blank::new(1))
 }
 
@@ -135,6 +136,6 @@ fn lacks_places<D: Disk, R: Abort>(rt: &R, alloc: Global, core: &mut Core<D>) ->
 #[test]
 fn a_trace_lacks_memory(rt: HostRuntime) -> Result<(), Fail> {
     let alloc = rt.alloc();
-    let mut core = opened(alloc, small(alloc)?)?;
+    let mut core = opened(alloc, formatted(alloc)?)?;
     lacks_places(&rt, alloc, &mut core)
 }

@@ -1,10 +1,11 @@
 // Two looks are made side by side: with a lock that lets one in at a time they are not, and that is seen.
 ghost use Rattle.std.specs.Prelude.{◌≡◌};
 
-use crate::tests::desk::{join_over, key, look, put, two_seats};
-use crate::tests::{opened, small};
+use crate::tests::desk::{join_over, look, put, two_seats};
+use crate::tests::opened;
 use silt_desk::{Kept, Naming, Seat, Shared};
 use silt_device::Disk;
+use silt_fixtures::{formatted, key};
 use silt_store_set::Core;
 use std::alloc::Global;
 use std::marker::Brand;
@@ -158,7 +159,7 @@ fn misses_after<R: Threads + Wait + Abort + Sync>(
 ) -> Result<bool, Fail> {
     let reads = Reads::new(turns);
     let disk = Meeting {
-        disk: small(alloc)?,
+        disk: formatted(alloc)?,
         reads: &reads,
     };
     let core = opened(alloc, disk)?;

@@ -2,11 +2,12 @@
 ghost use Rattle.std.specs.Prelude.{◌≡◌};
 
 use crate::tests::desk::{get, join_over, put};
-use crate::tests::{Open, are_those, formatted, opened, two_bytes};
+use crate::tests::{Open, are_those, opened, two_bytes};
 use crossbeam_channel::{Receiver, Sender};
 use silt_desk::{Desk, Kept, Naming, RecordedCall, Seat, Shared, Wake, converter, merger, settle};
 use silt_device::{Disk, Geometry};
 use silt_event::{Event, Reply};
+use silt_fixtures::formatted_with;
 use silt_frame::{Key, Value};
 use silt_store_set::Core;
 use std::alloc::{AllocError, Global};
@@ -326,6 +327,6 @@ fn four_threads(rt: HostRuntime) -> Result<(), Fail> {
     let geometry = Geometry::new(2, 16, 64, 8, 16, 4000)
         .ok()
         .ok_or("in limits")?;
-    let core = opened(alloc, formatted(alloc, geometry)?)?;
+    let core = opened(alloc, formatted_with(alloc, geometry)?)?;
     many_calls::<_, Brand, _>(&rt, alloc, core, 10_000, Blank::new(6), Blank::new(6))
 }

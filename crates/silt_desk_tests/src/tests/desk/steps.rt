@@ -2,9 +2,10 @@
 ghost use Rattle.std.specs.Prelude.{◌≡◌};
 
 use crate::tests::desk::{put_five, settle_two, two_seats};
-use crate::tests::{Open, opened, small};
+use crate::tests::{Open, opened};
 use silt_desk::{Kept, Naming, Seat, Shared, Wake, converter, merger};
 use silt_device::Disk;
+use silt_fixtures::formatted;
 use silt_store_set::Core;
 use std::alloc::Global;
 use std::marker::Brand;
@@ -84,6 +85,6 @@ fn does_what_is_wanted<D: Disk, N: Naming, R: Wait + Abort>(
 #[test]
 fn workers_do_what_is_wanted(rt: HostRuntime) -> Result<(), Fail> {
     let alloc = rt.alloc();
-    let core = opened(alloc, small(alloc)?)?;
+    let core = opened(alloc, formatted(alloc)?)?;
     does_what_is_wanted::<_, Brand, _>(&rt, alloc, core, Blank::new(2), Blank::new(2))
 }

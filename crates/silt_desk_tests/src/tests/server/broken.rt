@@ -1,7 +1,8 @@
 // Clients that send what is no line, do not end what they begin, or reset their connection: the next one is served.
 
+use crate::tests::Open;
 use crate::tests::server::{ask_line, asked, connected, served};
-use crate::tests::{Open, small};
+use silt_fixtures::formatted;
 use std::alloc::Global;
 use std::io::{self, Write};
 use std::net::{Net, SocketAddr, TcpStream};
@@ -31,7 +32,7 @@ fn broken_lines(alloc: Global) -> io::Result<Vec<u8>> {
 fn answers_broken_lines(rt: HostRuntime) -> Result<(), Fail> {
     let alloc = rt.alloc();
     let lines = broken_lines(alloc)?;
-    let (got, _status, _written) = asked(&rt, alloc, small(alloc)?, lines.as_slice())?;
+    let (got, _status, _written) = asked(&rt, alloc, formatted(alloc)?, lines.as_slice())?;
     let due =
         b"refused 23 LineTooLong\nrefused 20 BadLine\nrefused 20 BadLine\nrefused 20 BadLine\nrefused 21 BadKey\nrefused 21 BadKey\nrefused 21 BadKey\nacknowledged 0\n";
     assert_eq!(rt; got.as_slice(), due.as_slice());
@@ -62,7 +63,7 @@ fn serves_the_next_client(rt: HostRuntime) -> Result<(), Fail> {
     let (got, status, _written) = served(
         &rt,
         alloc,
-        small(alloc)?,
+        formatted(alloc)?,
         3,
         &Open,
         |addr: SocketAddr| { three_clients(&rt, alloc, addr) },
@@ -99,7 +100,7 @@ fn serves_beside_one_who_never_reads(rt: HostRuntime) -> Result<(), Fail> {
     let (got, _status, _written) = served(
         &rt,
         alloc,
-        small(alloc)?,
+        formatted(alloc)?,
         2,
         &Open,
         |addr: SocketAddr| { never_reads(&rt, alloc, addr) },
@@ -133,7 +134,7 @@ fn serves_after_a_reset(rt: HostRuntime) -> Result<(), Fail> {
     let ((came, got), status, _written) = served(
         &rt,
         alloc,
-        small(alloc)?,
+        formatted(alloc)?,
         2,
         &Open,
         |addr: SocketAddr| { resets(&rt, alloc, addr) },

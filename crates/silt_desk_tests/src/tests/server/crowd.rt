@@ -1,7 +1,8 @@
 // As many sessions as there may be, and one more; and as many that say nothing.
 
+use crate::tests::Open;
 use crate::tests::server::{ask_line, connected, served};
-use crate::tests::{Open, small};
+use silt_fixtures::formatted;
 use std::alloc::Global;
 use std::net::{Net, SocketAddr, TcpStream};
 use std::test::Fail;
@@ -58,7 +59,7 @@ fn closes_the_sixty_fifth(rt: HostRuntime) -> Result<(), Fail> {
     let ((closed, answered), status, _written) = served(
         &rt,
         alloc,
-        small(alloc)?,
+        formatted(alloc)?,
         65,
         &Open,
         |addr: SocketAddr| { one_more(&rt, alloc, addr) },
@@ -88,7 +89,7 @@ fn ends_sessions_that_say_nothing(rt: HostRuntime) -> Result<(), Fail> {
     let (got, status, written) = served(
         &rt,
         alloc,
-        small(alloc)?,
+        formatted(alloc)?,
         64,
         &Open,
         |addr: SocketAddr| { say_nothing(&rt, alloc, addr) },

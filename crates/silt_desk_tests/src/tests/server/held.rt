@@ -1,9 +1,10 @@
 // Clients are answered between two steps of the converter.
 
+use crate::tests::reaches;
 use crate::tests::server::{ask_line, connected, served};
-use crate::tests::{reaches, small};
 use silt_desk::{Gate, Spot};
 use silt_device::Disk;
+use silt_fixtures::formatted;
 use std::alloc::Global;
 use std::io;
 use std::net::{Net, SocketAddr, TcpStream};
@@ -126,7 +127,7 @@ fn held_server(rt: HostRuntime) -> Result<(), Fail> {
     let alloc = rt.alloc();
     let marks = Marks::new();
     let disk = Marked {
-        disk: small(alloc)?,
+        disk: formatted(alloc)?,
         marks: &marks,
     };
     let gate = Hold {

@@ -1,9 +1,10 @@
 // A client that asks line by line, and what it is answered.
 
+use crate::tests::Open;
 use crate::tests::server::{Served, ask, asked, serve_beside};
-use crate::tests::{Open, small};
 use silt_device::{Disk, Fill, MemDisk, Stop};
 use silt_event::Report;
+use silt_fixtures::formatted;
 use silt_recovery::check;
 use std::alloc::Global;
 use std::net::{Net, SocketAddr, TcpListener, TcpStream};
@@ -16,7 +17,7 @@ use std::time::Clock;
 fn reads_a_write_back(rt: HostRuntime) -> Result<(), Fail> {
     let alloc = rt.alloc();
     let lines = b"put =abc 0102\nget =abc\nmerge\nflush";
-    let (got, status, written) = asked(&rt, alloc, small(alloc)?, lines)?;
+    let (got, status, written) = asked(&rt, alloc, formatted(alloc)?, lines)?;
     assert_eq!(rt;
         got.as_slice(),
         b"accepted 1\nvalue 0102\nrefused 20 BadLine\n".as_slice()
@@ -33,7 +34,7 @@ fn failing(alloc: Global) -> Result<MemDisk, Fail> {
         k: 4,
         fill: Fill::Old,
     })?;
-    Ok(small(alloc)?.arm(stops))
+    Ok(formatted(alloc)?.arm(stops))
 }
 
 #[test]
@@ -73,7 +74,7 @@ fn five_put<
 #[test]
 fn finishes_what_is_wanted(rt: HostRuntime) -> Result<(), Fail> {
     let alloc = rt.alloc();
-    let ((got, status, written), report) = five_put(&rt, alloc, small(alloc)?)?;
+    let ((got, status, written), report) = five_put(&rt, alloc, formatted(alloc)?)?;
     let due = b"accepted 1\naccepted 2\naccepted 3\naccepted 4\naccepted 5\n";
     assert_eq!(rt; got.as_slice(), due.as_slice());
     assert_eq!(rt; status, 0);

@@ -1,9 +1,10 @@
 // Gets of two sessions are looked up side by side.
 
+use crate::tests::reaches;
 use crate::tests::server::{ask_line, connected, read_line, served};
-use crate::tests::{reaches, small};
 use silt_desk::{Gate, Spot};
 use silt_device::Disk;
+use silt_fixtures::formatted;
 use std::alloc::Global;
 use std::io::{self, Write};
 use std::net::{Net, SocketAddr, TcpStream};
@@ -105,7 +106,7 @@ fn two_looks(rt: HostRuntime) -> Result<(), Fail> {
         missed: AtomicU64::new(0),
     };
     let disk = Meeting {
-        disk: small(alloc)?,
+        disk: formatted(alloc)?,
         rt: &rt,
         reads: &reads,
     };

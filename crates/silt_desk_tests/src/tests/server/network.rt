@@ -1,7 +1,8 @@
 // A network that fails: before the port is known, when a connection is waited for, and where there is none.
 
-use crate::tests::{Open, opened, small};
+use crate::tests::{Open, opened};
 use silt_device::Disk;
+use silt_fixtures::formatted;
 use silt_recovery::check;
 use silt_server::{Listens, refuse_network, serve_on};
 use std::alloc::Global;
@@ -53,7 +54,7 @@ fn serve_deaf<D: Disk, R: Threads + Wait + Sync>(
 #[test]
 fn tells_that_its_port_is_not_known(rt: HostRuntime) -> Result<(), Fail> {
     let alloc = rt.alloc();
-    let (status, written, is_empty) = serve_deaf(&rt, alloc, small(alloc)?, None, None)?;
+    let (status, written, is_empty) = serve_deaf(&rt, alloc, formatted(alloc)?, None, None)?;
     assert_eq!(rt; (status, is_empty), (1, Some(true)));
     assert_eq!(rt; written.as_slice(), b"opened\nnetwork fault\n".as_slice());
     Ok(())
@@ -62,7 +63,13 @@ fn tells_that_its_port_is_not_known(rt: HostRuntime) -> Result<(), Fail> {
 #[test]
 fn tells_that_nobody_can_connect(rt: HostRuntime) -> Result<(), Fail> {
     let alloc = rt.alloc();
-    let (status, written, is_empty) = serve_deaf(&rt, alloc, small(alloc)?, Some(7_000), Some(10))?;
+    let (status, written, is_empty) = serve_deaf(
+        &rt,
+        alloc,
+        formatted(alloc)?,
+        Some(7_000),
+        Some(10),
+    )?;
     assert_eq!(rt; (status, is_empty), (1, Some(true)));
     assert_eq!(rt;
         written.as_slice(),
@@ -82,7 +89,7 @@ fn refuse<D: Disk>(alloc: Global, disk: D) -> Result<(u8, Vec<u8>, Option<bool>)
 #[test]
 fn refuses_without_a_network(rt: HostRuntime) -> Result<(), Fail> {
     let alloc = rt.alloc();
-    let (status, written, is_empty) = refuse(alloc, small(alloc)?)?;
+    let (status, written, is_empty) = refuse(alloc, formatted(alloc)?)?;
     assert_eq!(rt; (status, is_empty), (1, Some(true)));
     assert_eq!(rt; written.as_slice(), b"opened\nnetwork fault\n".as_slice());
     Ok(())

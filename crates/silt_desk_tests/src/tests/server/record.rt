@@ -4,8 +4,9 @@
 mod kept;
 
 use crate::tests::server::{connected, read_line, serve_beside};
-use crate::tests::{Open, formatted, opened};
+use crate::tests::{Open, opened};
 use silt_device::{Disk, Geometry};
+use silt_fixtures::formatted_with;
 use std::alloc::Global;
 use std::io::{self, Write};
 use std::net::{Net, SocketAddr, TcpListener, TcpStream};
@@ -157,7 +158,7 @@ fn many_sessions(rt: HostRuntime) -> Result<(), Fail> {
     let geometry = Geometry::new(2, 16, 64, 8, 16, 4000)
         .ok()
         .ok_or("in limits")?;
-    let (found, status, entries) = ask_beside(&rt, alloc, formatted(alloc, geometry)?)?;
+    let (found, status, entries) = ask_beside(&rt, alloc, formatted_with(alloc, geometry)?)?;
     assert_eq!(rt; (status, found.wrong), (0, 0));
     assert!(rt; found.keys > 0);
     assert_eq!(rt; entries, u64::from(found.keys));

@@ -21,6 +21,19 @@ const WRITES: [(u64, &[u8]); 9] = [
     (21, &[]),
 ];
 
+// Whether these bytes were written to a disk of LEN bytes.
+fn write_within<D: Disk>(disk: &mut D, at: u64, bytes: &[u8]) -> bool {
+    disk.len() == LEN && write_at(disk, at, bytes)
+}
+
+// The four bytes from a place on, where the disk has LEN bytes and gives them.
+fn four_within<D: Disk>(disk: &D, at: u64) -> Option<[u8; 4]> {
+    if disk.len() != LEN {
+        return None;
+    }
+    four_at(disk, at)
+}
+
 // The bytes from a place on to the end.
 fn tail_of<D: Disk>(disk: &D, at: u64) -> Option<[u8; 24]> {
     let mut read = [0; 24];
@@ -52,7 +65,7 @@ fn write_to_both<A: Disk, B: Disk>(
     writes: &[(u64, &[u8])],
 ) {
     for (at, bytes) in writes {
-        let is_written = write_at(disk, *at, bytes) && write_at(plain, *at, bytes);
+        let is_written = write_within(disk, *at, bytes) && write_within(plain, *at, bytes);
         assert!(rt; is_written, "at {at}");
         let difference = first_difference(disk, plain);
         assert_eq!(rt; difference, None, "after {at}");
@@ -92,7 +105,7 @@ const FAILURES: [(u64, u32, bool); 7] = [
 fn count_failed<D: Disk>(disk: &mut D, writes: &[(u64, &[u8])]) -> u32 {
     let mut failed = 0u32;
     for (at, bytes) in writes {
-        if !write_at(disk, *at, bytes) {
+        if !write_within(disk, *at, bytes) {
             failed = failed.saturating_add(1);
         }
     }
@@ -129,8 +142,8 @@ const FIRST_WRITE_FAILS: [Step; 5] = [
 #[test]
 fn a_failed_write_keeps_what_is_buffered(rt: HostRuntime) -> Result<(), Fail> {
     let mut disk = buffered(rt.alloc(), Call::Write, 1)?;
-    do_all(&rt, &mut disk, &FIRST_WRITE_FAILS);
-    let left = four_at(&disk.into_inner().into_disk().restart(), 4);
+    do_all(&rt, &mut disk, LEN, &FIRST_WRITE_FAILS);
+    let left = four_within(&disk.into_inner().into_disk().restart(), 4);
     assert_eq!(rt; left, Some([0x11, 0x12, 0x13, 0]));
     Ok(())
 }
@@ -146,8 +159,8 @@ const ONE_SYNCED: [Step; 3] = [
 #[test]
 fn a_stop_forgets_what_is_buffered(rt: HostRuntime) -> Result<(), Fail> {
     let mut disk = BufferedDisk::new(rt.alloc(), MemDisk::new(rt.alloc(), 24)?)?;
-    do_all(&rt, &mut disk, &ONE_SYNCED);
-    let left = four_at(&disk.restart(), 0);
+    do_all(&rt, &mut disk, LEN, &ONE_SYNCED);
+    let left = four_within(&disk.restart(), 0);
     assert_eq!(rt; left, Some([0x11, 0, 0, 0]));
     Ok(())
 }
@@ -164,6 +177,6 @@ const FIRST_READ_FAILS: [Step; 4] = [
 #[test]
 fn buffered_bytes_are_read_without_a_call(rt: HostRuntime) -> Result<(), Fail> {
     let mut disk = buffered(rt.alloc(), Call::Read, 1)?;
-    do_all(&rt, &mut disk, &FIRST_READ_FAILS);
+    do_all(&rt, &mut disk, LEN, &FIRST_READ_FAILS);
     Ok(())
 }

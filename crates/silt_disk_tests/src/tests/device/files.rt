@@ -1,7 +1,7 @@
 // What no clause says of a disk in a file: the bytes that the file holds, and which errors it gives. Each test has a folder or a
 // file of its own, in the folder that it runs in, and takes it away at its end.
 use super::{FIRST, SECOND, Step, first_wrong, four_at};
-use silt_device::{Disk, DiskSource, FileDisk, FileDisks, MemDisk, NamedDisk};
+use silt_device::{Disk, DiskSource, FileDisk, FileDisks, MemDisk, NamedDisk, write_synced};
 use std::alloc::{AllocError, Global};
 use std::fs::{self, File};
 use std::io::{self, ErrorKind};
@@ -23,14 +23,20 @@ fn len_of(answer: io::Result<FileDisk>) -> Result<u64, ErrorKind> {
     }
 }
 
-// FIRST at 1 of a disk of nine bytes and a sync, then SECOND over its end and one byte at the disk's, and a sync.
-const PARTS: [Step; 5] = [
-    Step::Write(1, &FIRST, true),
-    Step::Sync(true),
+// Behind FIRST at 1 of a disk of nine bytes: SECOND over its end and one byte at the disk's, and a sync.
+const PARTS: [Step; 3] = [
     Step::Write(3, &SECOND, true),
     Step::Write(8, &[0x31], true),
     Step::Sync(true),
 ];
+
+// Writes FIRST with its sync by one call, and then the parts behind it. Whether all that was done.
+fn write_parts<D: Disk>(disk: &mut D) -> bool {
+    if disk.len() != 9 {
+        return false;
+    }
+    write_synced(disk, 1, &FIRST).is_ok() && first_wrong(disk, &PARTS).is_none()
+}
 
 // The bytes of a disk of nine.
 fn nine_of<D: Disk>(disk: &D) -> Option<[u8; 9]> {
@@ -45,8 +51,7 @@ fn nine_of<D: Disk>(disk: &D) -> Option<[u8; 9]> {
 // A disk of nine bytes that is made and written so: what it then has.
 fn written(rt: &HostRuntime) -> io::Result<Option<[u8; 9]>> {
     let mut disk = FileDisk::create(rt, "kept/disk", 9)?;
-    let wrong = first_wrong(&mut disk, &PARTS);
-    Ok(if wrong.is_none() {
+    Ok(if write_parts(&mut disk) {
         nine_of(&disk)
     } else {
         None

@@ -58,13 +58,13 @@ fn spread(alloc: Global) -> Result<Vec<Key>, AllocError>
     Ok(keys)
 }
 
-// The first of all keys whose look-up does not answer its place.
+// The first of all keys whose look-up does not answer its place, or their number where no store is made.
 fn first_missed<D: Disk>(alloc: Global, disk: &D, geometry: Geometry, keys: &[Key]) -> Option<usize>
     requires count { length keys.now ≤ geometry.sorted_capacity }
     requires size { device_size geometry ≤ size (D.content disk.now) }
 {
     let Ok(store) = SortedStore::rebuild(alloc, disk, geometry, 1, keys.len() as u32) else {
-        return None;
+        return Some(keys.len());
     };
     for (place, key) in keys.iter().enumerate() {
         match store.find(disk, key) {

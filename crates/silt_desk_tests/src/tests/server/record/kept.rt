@@ -5,10 +5,11 @@ ghost use Rattle.silt_desk.specs.Traces.{IsHistory};
 
 use crate::tests::server::Patient;
 use crate::tests::server::record::{Found, ask_all};
-use crate::tests::{Open, are_those, formatted, two_bytes};
+use crate::tests::{Open, are_those, two_bytes};
 use silt_desk::{Desk, Kept, Naming, RecordedCall};
 use silt_device::{Disk, Geometry, MemDisk};
 use silt_event::{Event, Reply};
+use silt_fixtures::formatted_with;
 use silt_frame::Key;
 use silt_inbox::Post;
 use silt_server::{Hall, Listens, serve_desk};
@@ -187,7 +188,7 @@ fn records_what_a_plain_map_does(rt: HostRuntime) -> Result<(), Fail> {
     let geometry = Geometry::new(2, 16, 64, 8, 16, 4000)
         .ok()
         .ok_or("in limits")?;
-    let (served, found) = serve_all(&rt, alloc, formatted(alloc, geometry)?)?;
+    let (served, found) = serve_all(&rt, alloc, formatted_with(alloc, geometry)?)?;
     let (told, status) = served.ok_or("served")?;
     assert_eq!(rt; status, 0);
     assert_eq!(rt; (found.wrong, told.wrong), (0, 0));

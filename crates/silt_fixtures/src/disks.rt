@@ -1,0 +1,98 @@
+// Disks in memory: their geometries, empty stores on them, stops, and bytes with some of them changed.
+
+use silt_device::{Fill, Geometry, MemDisk, Stop};
+use silt_recovery::format;
+use silt_store_set::Core;
+use std::alloc::{AllocError, Global};
+use std::process::Abort;
+use std::test::Fail;
+
+/// All that a stop may leave in the pending places of a disk in memory.
+pub const FILLS: [Fill; 5] = [Fill::Old, Fill::New, Fill::Zero, Fill::Ones, Fill::Mix];
+
+/// The length of a device of the small geometry.
+pub const SMALL_LEN: usize = 45_056;
+
+/// A geometry of values of two bytes and two buckets.
+pub fn of_regions(
+    log_capacity: u32,
+    logs: u32,
+    hashes: u32,
+    sorted_capacity: u32,
+) -> Result<Geometry, Fail> {
+    Ok(
+        Geometry::new(2, 2, log_capacity, logs, hashes, sorted_capacity)
+            .ok()
+            .ok_or("in limits")?,
+    )
+}
+
+/// The geometry of the small rows: values of two bytes, two buckets, four rows a log.
+pub fn small() -> Result<Geometry, Fail> {
+    of_regions(4, 2, 2, 8)
+}
+
+/// A disk of this geometry with an empty store.
+pub fn formatted_with(alloc: Global, geometry: Geometry) -> Result<MemDisk, Fail> {
+    let disk = MemDisk::new(alloc, geometry.size() as usize)?;
+    Ok(format(alloc, disk, geometry).ok().ok_or("formats")?)
+}
+
+/// A disk of the small geometry with an empty store.
+pub fn formatted(alloc: Global) -> Result<MemDisk, Fail> {
+    formatted_with(alloc, small()?)
+}
+
+/// A formatted disk of the small rows, but with values of this length.
+pub fn of_values(alloc: Global, value_len: u32) -> Result<MemDisk, Fail> {
+    let geometry = Geometry::new(value_len, 2, 4, 2, 2, 8)
+        .ok()
+        .ok_or("in limits")?;
+    formatted_with(alloc, geometry)
+}
+
+/// An empty store of this geometry.
+pub fn opened_with(alloc: Global, geometry: Geometry) -> Result<Core<MemDisk>, Fail> {
+    let disk = formatted_with(alloc, geometry)?;
+    Ok(Core::open(alloc, disk).ok().ok_or("opens")?)
+}
+
+/// An empty store of the small geometry.
+pub fn opened(alloc: Global) -> Result<Core<MemDisk>, Fail> {
+    opened_with(alloc, small()?)
+}
+
+/// The bytes of an empty store of this geometry.
+pub fn blank(alloc: Global, geometry: Geometry) -> Result<Vec<u8>, Fail> {
+    let disk = formatted_with(alloc, geometry)?;
+    Ok(disk.shown().to_vec(alloc)?)
+}
+
+/// Stops at these calls with these fills.
+pub fn stopping(alloc: Global, at: &[(u32, Fill)]) -> Result<Vec<Stop>, AllocError> {
+    let mut stops = Vec::new(alloc);
+    for (k, fill) in at {
+        stops.push(Stop { k: *k, fill: *fill })?;
+    }
+    Ok(stops)
+}
+
+/// Puts these bytes at their places. A place outside ends the test.
+pub fn change(rt: &impl Abort, bytes: &mut [u8], changes: &[(usize, u8)]) {
+    for (place, byte) in changes {
+        assert!(rt; *place < bytes.len());
+        bytes[*place] = *byte;
+    }
+}
+
+/// These bytes with some of them changed.
+pub fn changed(
+    rt: &impl Abort,
+    alloc: Global,
+    whole: &[u8],
+    changes: &[(usize, u8)],
+) -> Result<Vec<u8>, AllocError> {
+    let mut bytes = whole.to_vec(alloc)?;
+    change(rt, &mut bytes, changes);
+    Ok(bytes)
+}
