@@ -4,7 +4,6 @@ use silt_device::{Fill, Geometry, MemDisk, Stop};
 use silt_recovery::format;
 use silt_store_set::Core;
 use std::alloc::{AllocError, Global};
-use std::process::Abort;
 use std::test::Fail;
 
 /// All that a stop may leave in the pending places of a disk in memory.
@@ -77,22 +76,17 @@ pub fn stopping(alloc: Global, at: &[(u32, Fill)]) -> Result<Vec<Stop>, AllocErr
     Ok(stops)
 }
 
-/// Puts these bytes at their places. A place outside ends the test.
-pub fn change(rt: &impl Abort, bytes: &mut [u8], changes: &[(usize, u8)]) {
+/// Puts these bytes at their places. A place outside is an error.
+pub fn change(bytes: &mut [u8], changes: &[(usize, u8)]) -> Result<(), Fail> {
     for (place, byte) in changes {
-        assert!(rt; *place < bytes.len());
-        bytes[*place] = *byte;
+        *bytes.get_mut(*place).ok_or("a place inside")? = *byte;
     }
+    Ok(())
 }
 
 /// These bytes with some of them changed.
-pub fn changed(
-    rt: &impl Abort,
-    alloc: Global,
-    whole: &[u8],
-    changes: &[(usize, u8)],
-) -> Result<Vec<u8>, AllocError> {
+pub fn changed(alloc: Global, whole: &[u8], changes: &[(usize, u8)]) -> Result<Vec<u8>, Fail> {
     let mut bytes = whole.to_vec(alloc)?;
-    change(rt, &mut bytes, changes);
+    change(&mut bytes, changes)?;
     Ok(bytes)
 }

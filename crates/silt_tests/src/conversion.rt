@@ -28,13 +28,8 @@ fn converted(rt: &impl Abort, alloc: Global) -> Result<MemDisk, Fail> {
 }
 
 // The refusal of an opening of these bytes with some of them changed, none where they open.
-fn refusal_of(
-    rt: &impl Abort,
-    alloc: Global,
-    whole: &[u8],
-    changes: &[(usize, u8)],
-) -> Result<Option<Place>, Fail> {
-    let bytes = changed(rt, alloc, whole, changes)?;
+fn refusal_of(alloc: Global, whole: &[u8], changes: &[(usize, u8)]) -> Result<Option<Place>, Fail> {
+    let bytes = changed(alloc, whole, changes)?;
     match Core::open(alloc, MemDisk::with_bytes(alloc, &bytes)?) {
         Ok(_) => Ok(None),
         Err(
@@ -86,7 +81,7 @@ const CASES: [Case; 3] = [
 fn find_each(rt: &impl Abort, alloc: Global, whole: &[u8], cases: &[Case]) -> Result<(), Fail> {
     assert_eq!(rt; whole.len(), 45_056);
     for (changes, expected) in cases {
-        let found = refusal_of(rt, alloc, whole, changes)?;
+        let found = refusal_of(alloc, whole, changes)?;
         assert_eq!(rt; found, *expected);
     }
     Ok(())

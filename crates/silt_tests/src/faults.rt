@@ -341,7 +341,7 @@ fn small_changed(
     changes: &[(usize, u8)],
 ) -> Result<Vec<u8>, Fail> {
     assert_eq!(rt; whole.len(), SMALL_LEN);
-    Ok(changed(rt, alloc, whole, changes)?)
+    changed(alloc, whole, changes)
 }
 
 // A small store with these bytes changed.

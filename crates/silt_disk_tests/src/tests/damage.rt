@@ -142,8 +142,8 @@ fn find_both(
     first: &[(usize, u8)],
     second: &[(usize, u8)],
 ) -> Result<Finding, Fail> {
-    let mut bytes = changed(rt, alloc, whole, first)?;
-    change(rt, &mut bytes, second);
+    let mut bytes = changed(alloc, whole, first)?;
+    change(&mut bytes, second)?;
     find_damage(rt, alloc, &bytes)
 }
 
@@ -252,7 +252,7 @@ fn find_in_turn(
 ) -> Result<(), Fail> {
     assert_eq!(rt; bytes.len(), SMALL_LEN);
     for (changes, expected) in plants {
-        change(rt, bytes, changes);
+        change(bytes, changes)?;
         finds(rt, alloc, bytes, &[], *expected)?;
     }
     Ok(())
@@ -451,9 +451,9 @@ const PLANTS: [Plant; 22] = [
 const NO_SLOT: Plant = (&[(4096, 0x00)], Finding::Damaged(Place::NoSlot));
 
 // The bytes of that device.
-fn planted(rt: &impl Abort, alloc: Global) -> Result<Vec<u8>, Fail> {
+fn planted(alloc: Global) -> Result<Vec<u8>, Fail> {
     let empty = blank(alloc, of_regions(8, 2, 2, 16)?)?;
-    Ok(changed(rt, alloc, &empty, WHOLE)?)
+    changed(alloc, &empty, WHOLE)
 }
 
 // What is found of this plant, the one at this place of the list, where no slot is open.
@@ -503,7 +503,7 @@ fn find_left(
 // Each finding alone, and of each two the one that is looked for first. With no slot open, what the slots name is not looked at, nor is slot 0.
 #[test]
 fn finds_the_first_of_each_two(rt: HostRuntime) -> Result<(), Fail> {
-    let whole = planted(&rt, rt.alloc())?;
+    let whole = planted(rt.alloc())?;
     finds(&rt, rt.alloc(), &whole, &[], Finding::Keys(6))?;
     find_all_first(&rt, rt.alloc(), &whole, &PLANTS)
 }
@@ -524,7 +524,7 @@ fn find_all_first(
 // The same on a device that is one byte short: the header is looked at before, and all else is not.
 #[test]
 fn finds_a_short_device_behind_its_header(rt: HostRuntime) -> Result<(), Fail> {
-    let mut whole = planted(&rt, rt.alloc())?;
+    let mut whole = planted(rt.alloc())?;
     let _last = whole.pop();
     find_all_short(&rt, rt.alloc(), &whole, &PLANTS)
 }

@@ -136,7 +136,7 @@ fn seals_the_active_log_alone(rt: HostRuntime) -> Result<(), Fail> {
 // The bytes of an empty store of the small geometry with some of them changed.
 fn small_changed(rt: &impl Abort, alloc: Global, changes: &[(usize, u8)]) -> Result<Vec<u8>, Fail> {
     let whole = small_blank(rt, alloc)?;
-    Ok(changed(rt, alloc, &whole, changes)?)
+    changed(alloc, &whole, changes)
 }
 
 // Whether a check of a disk of these bytes tells a fault where this read fails, and whether it is answered.

@@ -50,7 +50,7 @@ fn looked_behind(
 ) -> Result<Found, Fail> {
     let mut bytes = whole.to_vec(alloc)?;
     for changes in all {
-        change(rt, &mut bytes, changes);
+        change(&mut bytes, changes)?;
     }
     looked_at(rt, alloc, &bytes)
 }
@@ -139,7 +139,7 @@ fn looked_changed(
     whole: &[u8],
     changes: &[(usize, u8)],
 ) -> Result<Found, Fail> {
-    let bytes = changed(rt, alloc, whole, changes)?;
+    let bytes = changed(alloc, whole, changes)?;
     looked_at(rt, alloc, &bytes)
 }
 
@@ -227,10 +227,10 @@ fn find_in_turn(
 ) -> Result<(), Fail> {
     let mut bytes = blank(alloc, small()?)?;
     for changes in all {
-        change(rt, &mut bytes, changes);
+        change(&mut bytes, changes)?;
     }
     for (place, byte, finding) in cases {
-        change(rt, &mut bytes, &[(*place, *byte)]);
+        change(&mut bytes, &[(*place, *byte)])?;
         finds(rt, alloc, &bytes, *finding)?;
     }
     Ok(())
