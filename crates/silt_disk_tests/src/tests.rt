@@ -3,6 +3,7 @@
 
 mod damage;
 mod device;
+mod findings;
 mod formats;
 mod images;
 mod limits;

@@ -1,7 +1,5 @@
-// One device call that fails, and the refusals of puts and deletes.
+// A row whose write fails, and the refusals of puts and deletes.
 
-use crate::life_lines::Line;
-use crate::script::{Told, lived};
 use crate::support::{entries_of, values_of};
 use silt_device::{Call, Disk, FaultDisk, MemDisk, MemFault};
 use silt_fixtures::{SMALL_LEN, changed, formatted, formatted_with, key, of_regions};
@@ -81,76 +79,6 @@ fn listed<D: Disk>(alloc: Global, core: &Core<D>) -> Result<(usize, [u16; 8]), F
     Ok((entries.len(), values_of(&entries)))
 }
 
-// A put is taken, and the flush behind it fails.
-fn flush_fails(rt: &impl Abort, alloc: Global, core: &mut Core<FaultDisk>) {
-    assert_eq!(rt; core.geometry().value_len(), 2);
-    assert_eq!(rt; answer(core.put(alloc, &key(1), &[0, 5])), Ok(1));
-    assert_eq!(rt; answer(core.flush()), Err(5));
-    is_failed(rt, alloc, core);
-}
-
-// The flush's first sync is the disk's second, its second the third. The gates are written between them.
-#[test]
-fn a_flush_that_fails_fails_the_store(rt: HostRuntime) -> Result<(), Fail> {
-    let alloc = rt.alloc();
-    for (number, left) in [(2, 0), (3, 5)] {
-        let mut core = faulty(alloc, Call::Sync, number)?;
-        flush_fails(&rt, alloc, &mut core);
-        let found = left_by(alloc, core)?;
-        assert_eq!(rt; found, [0, left, 0, 0, 0, 0, 0, 0], "sync {number}");
-    }
-    Ok(())
-}
-
-// What a put and a flush are answered behind two flushes for which nothing waits.
-fn after_two_flushes(
-    rt: &impl Abort,
-    alloc: Global,
-    core: &mut Core<FaultDisk>,
-) -> (Result<u64, u32>, Result<u64, u32>) {
-    assert_eq!(rt; core.geometry().value_len(), 2);
-    assert_eq!(rt; answer(core.flush()), Ok(0));
-    assert_eq!(rt; answer(core.flush()), Ok(0));
-    let put = answer(core.put(alloc, &key(1), &[0, 1]));
-    (put, answer(core.flush()))
-}
-
-// A flush without waiting rows makes no device call: the disk's next write and sync fail, and not in it.
-#[test]
-fn flushes_nothing_without_a_call(rt: HostRuntime) -> Result<(), Fail> {
-    let alloc = rt.alloc();
-    let cases = [
-        (Call::Write, 1, (Err(5), Err(9))),
-        (Call::Sync, 2, (Ok(1), Err(5))),
-    ];
-    for (call, number, expected) in cases {
-        let mut core = faulty(alloc, call, number)?;
-        let answers = after_two_flushes(&rt, alloc, &mut core);
-        assert_eq!(rt; answers, expected, "{call:?}");
-    }
-    Ok(())
-}
-
-// A put is taken, and three flushes are answered.
-fn flushes_thrice(rt: &impl Abort, alloc: Global, core: &mut Core<FaultDisk>) {
-    assert_eq!(rt; core.geometry().value_len(), 2);
-    assert_eq!(rt; answer(core.put(alloc, &key(1), &[0, 1])), Ok(1));
-    for _ in 0..3u32 {
-        assert_eq!(rt; answer(core.flush()), Ok(1));
-    }
-}
-
-// A second flush of the same rows makes no call either: the writes of a put and its gate are three, the syncs three.
-#[test]
-fn flushes_rows_once(rt: HostRuntime) -> Result<(), Fail> {
-    let alloc = rt.alloc();
-    for (call, number) in [(Call::Write, 4), (Call::Sync, 4)] {
-        let mut core = faulty(alloc, call, number)?;
-        flushes_thrice(&rt, alloc, &mut core);
-    }
-    Ok(())
-}
-
 // A put is flushed, and the next put or delete fails.
 fn row_fails(rt: &impl Abort, alloc: Global, core: &mut Core<FaultDisk>, deletes: bool) {
     assert_eq!(rt; core.geometry().value_len(), 2);
@@ -176,67 +104,6 @@ fn a_write_that_fails_fails_the_store(rt: HostRuntime) -> Result<(), Fail> {
         assert_eq!(rt; found, [0, 5, 0, 0, 0, 0, 0, 0], "write {number}");
     }
     Ok(())
-}
-
-// A device with the value 5 of key 1, flushed.
-fn with_a_value(rt: &impl Abort, alloc: Global) -> Result<Vec<u8>, Fail> {
-    let expected = [Told::Opened, Told::Accepted(1), Told::Acknowledged(1)];
-    let lines = [Line::Put(1, 5), Line::Flush];
-    let disk = lived(rt, alloc, formatted(alloc)?, &lines, &expected)?;
-    Ok(disk.shown().to_vec(alloc)?)
-}
-
-// Whether this read of a device of these bytes is one of a get. One of the opening refuses it.
-fn is_read_of_a_get(
-    rt: &impl Abort,
-    alloc: Global,
-    bytes: &[u8],
-    number: u64,
-) -> Result<bool, Fail> {
-    let inner = MemDisk::with_bytes(alloc, bytes)?;
-    match Core::open(alloc, FaultDisk::new(inner, Call::Read, number)) {
-        Ok(core) => Ok(is_read_again(rt, &core)),
-        Err(fault) => Ok(is_no_fault(rt, fault.refusal.label().0)),
-    }
-}
-
-// An opening is refused for a fault.
-fn is_no_fault(rt: &impl Abort, refusal: u32) -> bool {
-    assert_eq!(rt; refusal, 5);
-    false
-}
-
-// A read that fails is refused, and the same get, asked again, gives its value. A get makes one read, of the whole row. Which of the
-// disk's reads it is is not fixed: those before it refuse the opening.
-#[test]
-fn a_read_that_fails_changes_nothing(rt: HostRuntime) -> Result<(), Fail> {
-    let bytes = with_a_value(&rt, rt.alloc())?;
-    one_read_is_refused(&rt, rt.alloc(), &bytes)
-}
-
-fn one_read_is_refused(rt: &impl Abort, alloc: Global, bytes: &[u8]) -> Result<(), Fail> {
-    let mut refused = 0u32;
-    for number in 1..16u64 {
-        if is_read_of_a_get(rt, alloc, bytes, number)? {
-            refused = refused.saturating_add(1);
-        }
-    }
-    assert_eq!(rt; refused, 1);
-    Ok(())
-}
-
-// Gets the value of key 1, again where its read failed; and whether it did.
-fn is_read_again(rt: &impl Abort, core: &Core<FaultDisk>) -> bool {
-    assert_eq!(rt; core.geometry().value_len(), 2);
-    let mut out = [0; 2];
-    let first = answer(core.get(&key(1), &mut out));
-    if first == Err(5) {
-        assert_eq!(rt; answer(core.get(&key(1), &mut out)), Ok(true));
-    } else {
-        assert_eq!(rt; first, Ok(true));
-    }
-    assert_eq!(rt; out, [0, 5]);
-    first == Err(5)
 }
 
 // Two puts are taken, and no third, of whatever key.
@@ -364,42 +231,6 @@ fn spends_its_generations(rt: HostRuntime) -> Result<(), Fail> {
     let (_, found) = entries_of(rt.alloc(), core.close())?;
     assert_eq!(rt; found, [0, 1, 2, 3, 4, 0, 0, 0]);
     Ok(())
-}
-
-// Puts a value, once more where a read of it failed; and whether one did.
-fn is_put_again(rt: &impl Abort, alloc: Global, core: &mut Core<FaultDisk>, n: u8) -> bool {
-    assert_eq!(rt; core.geometry().value_len(), 2);
-    let first = answer(core.put(alloc, &key(n), &[0, n]));
-    if first != Err(5) {
-        return false;
-    }
-    assert_eq!(rt; core.geometry().value_len(), 2);
-    assert_eq!(rt; answer(core.put(alloc, &key(n), &[0, n])), Ok(n as u64));
-    true
-}
-
-// How many of four puts were asked once more.
-fn count_put_again(rt: &impl Abort, alloc: Global, core: &mut Core<FaultDisk>) -> u32 {
-    let mut refused = 0u32;
-    for n in 1..5u8 {
-        if is_put_again(rt, alloc, core, n) {
-            refused = refused.saturating_add(1);
-        }
-    }
-    refused
-}
-
-// The read of a key with the same buckets fails in a put: nothing is changed, and the same put, asked again, is taken.
-#[test]
-fn a_put_whose_read_fails_is_asked_again(rt: HostRuntime) -> Result<(), Fail> {
-    let mut core = faulty(rt.alloc(), Call::Read, 6)?;
-    let count = count_put_again(&rt, rt.alloc(), &mut core);
-    is_one(&rt, count);
-    lists(&rt, rt.alloc(), &core, 4, [0, 1, 2, 3, 4, 0, 0, 0])
-}
-
-fn is_one(rt: &impl Abort, count: u32) {
-    assert_eq!(rt; count, 1);
 }
 
 // The keys 3, 1 and 2 are put, and 2 is deleted.

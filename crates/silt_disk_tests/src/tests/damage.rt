@@ -1,90 +1,19 @@
-// Images that an opening refuses, and the first finding in each.
+// Damaged devices: what is found in each, and of several damages the first.
 
-use super::{Changes, small_blank};
-use silt_device::{Disk, MemDisk, MemFault};
-use silt_fixtures::{SMALL_LEN, blank, change, changed, key, of_regions, opened_with, small};
-use silt_store_set::{Core, OpenFault, Place, Refusal};
+use super::findings::{
+    CHARGE, HEADER, LENGTH, NO_SLOT, SLOT_0, SLOT_1, find_each_byte, find_each_cut, find_in_turn,
+    look_at_each, looked_behind,
+};
+use super::{Changes, EMPTY, Found};
+use silt_device::Disk;
+use silt_event::Finding::{self, Crowded, Damaged, NotFormatted};
+use silt_event::Place::{Hash, Log, Sorted};
+use silt_event::Report;
+use silt_fixtures::{blank, changed, key, of_regions, opened_with, small};
+use silt_store_set::Core;
 use std::alloc::Global;
 use std::process::Abort;
 use std::test::Fail;
-
-// What an opening finds.
-#[derive(Clone, Copy, Debug, PartialEq, Eq)]
-enum Finding {
-    // Nothing: the store opens, and has as many keys.
-    Keys(usize),
-    NotFormatted,
-    Damaged(Place),
-    // Any other refusal, by its number.
-    Other(u32),
-}
-
-// One byte of a device is changed.
-const BYTES: [(usize, u8, Finding); 45] = [
-    // the header's gate, the magic bytes and the version
-    (0, 0x00, Finding::NotFormatted),
-    (0, 0xFF, Finding::NotFormatted),
-    (1, b's', Finding::NotFormatted),
-    (8, b'I', Finding::NotFormatted),
-    (9, 1, Finding::NotFormatted),
-    (12, 9, Finding::NotFormatted),
-    // the six numbers: each past its limits, or within them with another size
-    (16, 0, Finding::Damaged(Place::Header)),
-    (15, 0x11, Finding::Damaged(Place::Header)),
-    (20, 3, Finding::Damaged(Place::Header)),
-    (24, 0, Finding::Damaged(Place::Header)),
-    (24, 9, Finding::Damaged(Place::Header)),
-    (28, 1, Finding::Damaged(Place::Header)),
-    (28, 9, Finding::Damaged(Place::Header)),
-    (32, 0, Finding::Damaged(Place::Header)),
-    (32, 17, Finding::Damaged(Place::Header)),
-    (36, 0, Finding::Damaged(Place::Header)),
-    (33, 2, Finding::Damaged(Place::Header)),
-    (28, 3, Finding::Damaged(Place::Length)),
-    (32, 1, Finding::Damaged(Place::Length)),
-    // manifest slot 0: its gate, generation, active log, count of frozen logs, count of hash stores, sorted region and count
-    (4096, 0x00, Finding::Damaged(Place::NoSlot)),
-    (4097, 0x80, Finding::Damaged(Place::Slot(0))),
-    (4097, 1, Finding::Keys(2)),
-    (4104, 1, Finding::Damaged(Place::Slot(0))),
-    (4104, 2, Finding::Keys(2)),
-    (4108, 1, Finding::Keys(0)),
-    (4108, 2, Finding::Damaged(Place::Slot(0))),
-    (4112, 1, Finding::Damaged(Place::Slot(0))),
-    (4144, 1, Finding::Keys(2)),
-    (4144, 3, Finding::Damaged(Place::Slot(0))),
-    (4212, 1, Finding::Keys(2)),
-    (4212, 2, Finding::Damaged(Place::Slot(0))),
-    (4216, 1, Finding::Keys(3)),
-    (4216, 2, Finding::Damaged(Place::Sorted(1))),
-    (4216, 9, Finding::Damaged(Place::Slot(0))),
-    (4217, 1, Finding::Keys(2)),
-    // slot 1: of generation 0, which is not its own
-    (8192, 0xA7, Finding::Damaged(Place::Slot(1))),
-    (8192, 0xFF, Finding::Keys(2)),
-    // the rows: their gates at 12,288, and their kinds at 16,384 and each 23 bytes on
-    (
-        16_384,
-        3,
-        Finding::Damaged(Place::Log { region: 0, row: 0 }),
-    ),
-    (
-        16_407,
-        0,
-        Finding::Damaged(Place::Log { region: 0, row: 1 }),
-    ),
-    (
-        16_407,
-        255,
-        Finding::Damaged(Place::Log { region: 0, row: 1 }),
-    ),
-    (16_430, 3, Finding::Keys(2)),
-    (12_288, 0xFF, Finding::Keys(0)),
-    (12_289, 0x00, Finding::Keys(1)),
-    // more puts than sorted entries
-    (36, 1, Finding::Damaged(Place::Charge)),
-    (36, 2, Finding::Keys(2)),
-];
 
 // Two puts, and a flush.
 fn put_two<D: Disk>(rt: &impl Abort, alloc: Global, core: &mut Core<D>) {
@@ -106,258 +35,148 @@ fn image(rt: &impl Abort, alloc: Global) -> Result<Vec<u8>, Fail> {
     Ok(disk.shown().to_vec(alloc)?)
 }
 
-// What the refusal of an opening tells.
-fn told_of(refusal: &Refusal<MemFault>) -> Finding {
-    match refusal {
-        Refusal::NotFormatted => Finding::NotFormatted,
-        Refusal::Damaged(place) => Finding::Damaged(*place),
-        other => Finding::Other(other.label().0),
-    }
-}
+// The numbers of that store.
+const TWO_ROWS: Report = Report {
+    active_rows: 2,
+    charge: 2,
+    ..EMPTY
+};
 
-// How many keys a store has.
-fn count_keys(alloc: Global, core: &Core<MemDisk>) -> Result<Finding, Fail> {
-    match core.entries(alloc) {
-        Ok(entries) => Ok(Finding::Keys(entries.len())),
-        Err(_) => Err("entries".into()),
-    }
-}
+// One byte of it is changed.
+const BYTES: [(usize, u8, Found); 46] = [
+    // the header's gate, the magic bytes and the version
+    (0, 0x00, Err(NotFormatted)),
+    (0, 0xFF, Err(NotFormatted)),
+    (1, b's', Err(NotFormatted)),
+    (8, b'I', Err(NotFormatted)),
+    (9, 1, Err(NotFormatted)),
+    (12, 9, Err(NotFormatted)),
+    // the six numbers: each past its limits, or within them with another size
+    (16, 0, Err(HEADER)),
+    (15, 0x11, Err(HEADER)),
+    (20, 3, Err(HEADER)),
+    (24, 0, Err(HEADER)),
+    (24, 9, Err(HEADER)),
+    (28, 1, Err(HEADER)),
+    (28, 9, Err(HEADER)),
+    (32, 0, Err(HEADER)),
+    (32, 17, Err(HEADER)),
+    (36, 0, Err(HEADER)),
+    (33, 2, Err(HEADER)),
+    (28, 3, Err(LENGTH)),
+    (32, 1, Err(LENGTH)),
+    // manifest slot 0: its gate, generation, active log, count of frozen logs, count of hash stores, sorted region and count
+    (4096, 0x00, Err(NO_SLOT)),
+    (4097, 0x80, Err(SLOT_0)),
+    (
+        4097,
+        1,
+        Ok(Report {
+            generation: 1 << 56,
+            ..TWO_ROWS
+        }),
+    ),
+    (4104, 1, Err(SLOT_0)),
+    (
+        4104,
+        2,
+        Ok(Report {
+            generation: 2,
+            ..TWO_ROWS
+        }),
+    ),
+    (4108, 1, Ok(Report { active: 1, ..EMPTY })),
+    (4108, 2, Err(SLOT_0)),
+    (4112, 1, Err(SLOT_0)),
+    (
+        4144,
+        1,
+        Ok(Report {
+            hashes: 1,
+            ..TWO_ROWS
+        }),
+    ),
+    // hash region 0 is named twice
+    (4144, 2, Err(SLOT_0)),
+    (4144, 3, Err(SLOT_0)),
+    (4212, 1, Ok(TWO_ROWS)),
+    (4212, 2, Err(SLOT_0)),
+    (
+        4216,
+        1,
+        Ok(Report {
+            entries: 1,
+            charge: 3,
+            ..TWO_ROWS
+        }),
+    ),
+    // two sorted entries, whose keys are zeros both, and more than there is room for
+    (4216, 2, Err(Damaged(Sorted(1)))),
+    (4216, 9, Err(SLOT_0)),
+    (4217, 1, Ok(TWO_ROWS)),
+    // slot 1: of generation 0, which is not its own
+    (8192, 0xA7, Err(SLOT_1)),
+    (8192, 0xFF, Ok(TWO_ROWS)),
+    // the rows: their gates at 12,288, and their kinds at 16,384 and each 23 bytes on
+    (16_384, 3, Err(Damaged(Log { region: 0, row: 0 }))),
+    (16_407, 0, Err(Damaged(Log { region: 0, row: 1 }))),
+    (16_407, 255, Err(Damaged(Log { region: 0, row: 1 }))),
+    (16_430, 3, Ok(TWO_ROWS)),
+    (12_288, 0xFF, Ok(EMPTY)),
+    (
+        12_289,
+        0x00,
+        Ok(Report {
+            active_rows: 1,
+            charge: 1,
+            ..EMPTY
+        }),
+    ),
+    // more puts than sorted entries
+    (36, 1, Err(CHARGE)),
+    (36, 2, Ok(TWO_ROWS)),
+];
 
-// What an opening finds on a device of these bytes. Where it is refused nothing was written.
-fn find_damage(rt: &impl Abort, alloc: Global, bytes: &[u8]) -> Result<Finding, Fail> {
-    match Core::open(alloc, MemDisk::with_bytes(alloc, bytes)?) {
-        Ok(core) => count_keys(alloc, &core),
-        Err(OpenFault { disk, refusal }) => {
-            assert_eq!(rt; disk.shown(), bytes);
-            Ok(told_of(&refusal))
-        }
-    }
-}
+// The first bytes of that device and a byte more, as many as this, with another number of buckets in two.
+const CUTS: [(usize, Changes, Finding); 8] = [
+    (0, &[], NotFormatted),
+    (36, &[], NotFormatted),
+    (37, &[], LENGTH),
+    (12_288, &[], LENGTH),
+    (45_055, &[], LENGTH),
+    (45_057, &[], LENGTH),
+    (45_055, &[(20, 3)], HEADER),
+    (45_057, &[(20, 3)], HEADER),
+];
 
-// What an opening finds on a device of these bytes with some of them changed, first these and then those.
-fn find_both(
-    rt: &impl Abort,
-    alloc: Global,
-    whole: &[u8],
-    first: &[(usize, u8)],
-    second: &[(usize, u8)],
-) -> Result<Finding, Fail> {
-    let mut bytes = changed(alloc, whole, first)?;
-    change(&mut bytes, second)?;
-    find_damage(rt, alloc, &bytes)
-}
-
-// This is found on a device of these bytes with some of them changed.
-fn finds(
-    rt: &impl Abort,
-    alloc: Global,
-    whole: &[u8],
-    changes: &[(usize, u8)],
-    expected: Finding,
-) -> Result<(), Fail> {
-    let found = find_both(rt, alloc, whole, changes, &[])?;
-    assert_eq!(rt; found, expected, "{changes:?}");
-    Ok(())
-}
-
-// Each of these plants is found on a device of these bytes.
-fn find_each(rt: &impl Abort, alloc: Global, whole: &[u8], plants: &[Plant]) -> Result<(), Fail> {
-    for (changes, expected) in plants {
-        finds(rt, alloc, whole, changes, *expected)?;
-    }
-    Ok(())
-}
-
-fn find_each_byte(
-    rt: &impl Abort,
-    alloc: Global,
-    whole: &[u8],
-    bytes: &[(usize, u8, Finding)],
-) -> Result<(), Fail> {
-    for (place, byte, expected) in bytes {
-        finds(rt, alloc, whole, &[(*place, *byte)], *expected)?;
-    }
-    Ok(())
-}
+// Bytes of it that are changed one after the other.
+const IN_TURN: [(usize, u8, Finding); 7] = [
+    (36, 1, CHARGE),
+    (16_407, 3, Damaged(Log { region: 0, row: 1 })),
+    (16_384, 3, Damaged(Log { region: 0, row: 0 })),
+    (4096, 0, NO_SLOT),
+    (28, 3, LENGTH),
+    (20, 3, HEADER),
+    (12, 9, NotFormatted),
+];
 
 #[test]
 fn finds_each_damaged_byte(rt: HostRuntime) -> Result<(), Fail> {
     let whole = image(&rt, rt.alloc())?;
-    finds(&rt, rt.alloc(), &whole, &[], Finding::Keys(2))?;
+    look_at_each(&rt, rt.alloc(), &whole, &[(&[], Ok(TWO_ROWS))])?;
     find_each_byte(&rt, rt.alloc(), &whole, &BYTES)
 }
 
-// The first bytes of a device and a byte more, as many as this.
-const CUT: [(usize, Finding); 6] = [
-    (0, Finding::NotFormatted),
-    (36, Finding::NotFormatted),
-    (37, Finding::Damaged(Place::Length)),
-    (12_288, Finding::Damaged(Place::Length)),
-    (45_055, Finding::Damaged(Place::Length)),
-    (45_057, Finding::Damaged(Place::Length)),
-];
-
-fn find_each_cut(rt: &impl Abort, alloc: Global, bytes: &[u8]) -> Result<(), Fail> {
-    assert_eq!(rt; bytes.len(), 45_057);
-    for (len, expected) in CUT {
-        assert!(rt; len <= bytes.len());
-        finds(rt, alloc, &bytes[..len], &[], expected)?;
-    }
-    finds(
-        rt,
-        alloc,
-        bytes,
-        &[(20, 3)],
-        Finding::Damaged(Place::Header),
-    )
-}
-
-// A device of another length than its header says, and one that is shorter than a header. Bad numbers decide before the length.
+// A device of another length than its header says, and one that is shorter than a header. Bad numbers decide before the length; of several
+// damages the first decides.
 #[test]
-fn finds_another_length(rt: HostRuntime) -> Result<(), Fail> {
+fn finds_another_length_and_the_first_damage(rt: HostRuntime) -> Result<(), Fail> {
     let mut bytes = image(&rt, rt.alloc())?;
     bytes.push(0)?;
-    find_each_cut(&rt, rt.alloc(), &bytes)
-}
-
-// Changes that are made one after the other.
-const IN_TURN: [Plant; 7] = [
-    (&[(36, 1)], Finding::Damaged(Place::Charge)),
-    (
-        &[(16_407, 3)],
-        Finding::Damaged(Place::Log { region: 0, row: 1 }),
-    ),
-    (
-        &[(16_384, 3)],
-        Finding::Damaged(Place::Log { region: 0, row: 0 }),
-    ),
-    (&[(4096, 0)], Finding::Damaged(Place::NoSlot)),
-    (&[(28, 3)], Finding::Damaged(Place::Length)),
-    (&[(20, 3)], Finding::Damaged(Place::Header)),
-    (&[(12, 9)], Finding::NotFormatted),
-];
-
-// Of several findings the first decides.
-#[test]
-fn finds_the_first_damage(rt: HostRuntime) -> Result<(), Fail> {
-    let mut bytes = image(&rt, rt.alloc())?;
+    find_each_cut(&rt, rt.alloc(), &bytes, &CUTS)?;
+    let _last = bytes.pop();
     find_in_turn(&rt, rt.alloc(), &mut bytes, &IN_TURN)
 }
-
-fn find_in_turn(
-    rt: &impl Abort,
-    alloc: Global,
-    bytes: &mut [u8],
-    plants: &[Plant],
-) -> Result<(), Fail> {
-    assert_eq!(rt; bytes.len(), SMALL_LEN);
-    for (changes, expected) in plants {
-        change(bytes, changes)?;
-        finds(rt, alloc, bytes, &[], *expected)?;
-    }
-    Ok(())
-}
-
-// One finding at each of three places of a store without rows: slot 1 is open with generation 0, two sorted entries have one key, and the
-// gate of a log's first row is open with kind 3.
-const CRAFTED: [Plant; 3] = [
-    (&[(8192, 0xA7)], Finding::Damaged(Place::Slot(1))),
-    (&[(4216, 2)], Finding::Damaged(Place::Sorted(1))),
-    (
-        &[(12_288, 0xA7), (16_384, 3)],
-        Finding::Damaged(Place::Log { region: 0, row: 0 }),
-    ),
-];
-
-// At two more the last byte is gone, and all bytes are zeros.
-#[test]
-fn finds_crafted_damage(rt: HostRuntime) -> Result<(), Fail> {
-    let mut whole = small_blank(&rt, rt.alloc())?;
-    find_each(&rt, rt.alloc(), &whole, &CRAFTED)?;
-    let _last = whole.pop();
-    finds(
-        &rt,
-        rt.alloc(),
-        &whole,
-        &[],
-        Finding::Damaged(Place::Length),
-    )?;
-    whole.fill(0);
-    whole.push(0)?;
-    finds(&rt, rt.alloc(), &whole, &[], Finding::NotFormatted)
-}
-
-// Entries of 22 bytes from 36,864 on, each with the first byte of its key: an entry is damaged where it is not above the one before it,
-// and the first of these decides. They count with the rows: eight of them, and a put in the active log, are more than the store may hold.
-const ENTRIES: [Plant; 8] = [
-    (&[], Finding::Keys(0)),
-    (&[(4216, 1), (36_864, 9)], Finding::Keys(1)),
-    (EIGHT_ENTRIES, Finding::Keys(8)),
-    (
-        &[(4216, 2), (36_864, 5), (36_886, 5)],
-        Finding::Damaged(Place::Sorted(1)),
-    ),
-    (
-        &[(4216, 3), (36_864, 5), (36_886, 6), (36_908, 6)],
-        Finding::Damaged(Place::Sorted(2)),
-    ),
-    (
-        &[(4216, 3), (36_864, 5), (36_886, 4), (36_908, 3)],
-        Finding::Damaged(Place::Sorted(1)),
-    ),
-    (
-        &[
-            (4216, 8),
-            (36_864, 1),
-            (36_886, 2),
-            (36_908, 3),
-            (36_930, 4),
-            (36_952, 5),
-            (36_974, 6),
-            (36_996, 8),
-            (37_018, 7),
-        ],
-        Finding::Damaged(Place::Sorted(7)),
-    ),
-    (
-        &[
-            (4216, 8),
-            (36_864, 1),
-            (36_886, 2),
-            (36_908, 3),
-            (36_930, 4),
-            (36_952, 5),
-            (36_974, 6),
-            (36_996, 7),
-            (37_018, 8),
-            (12_288, 0xA7),
-            (16_384, 1),
-        ],
-        Finding::Damaged(Place::Charge),
-    ),
-];
-
-// The keys of eight entries rise from 1 to 8.
-const EIGHT_ENTRIES: Changes = &[
-    (4216, 8),
-    (36_864, 1),
-    (36_886, 2),
-    (36_908, 3),
-    (36_930, 4),
-    (36_952, 5),
-    (36_974, 6),
-    (36_996, 7),
-    (37_018, 8),
-];
-
-#[test]
-fn finds_entries_out_of_order(rt: HostRuntime) -> Result<(), Fail> {
-    let whole = small_blank(&rt, rt.alloc())?;
-    find_each(&rt, rt.alloc(), &whole, &ENTRIES)
-}
-
-// Changes of a device, and what is found after them.
-type Plant<'a> = (Changes<'a>, Finding);
 
 // A device of two buckets and logs of eight rows, all of whose parts have something. The active log has the keys 1 to 4, which fill a bucket,
 // and behind a closed gate key 5, of the same bucket; log 1 is frozen and has key 0. Hash store 0 has the keys 0 and 1, and a mark in slot 4;
@@ -401,54 +220,51 @@ const WHOLE: Changes = &[
     (36_907, 9),
 ];
 
+// The numbers of that store.
+const OF_WHOLE: Report = Report {
+    active_rows: 4,
+    frozen: 1,
+    frozen_rows: 1,
+    hashes: 2,
+    hash_rows: 3,
+    entries: 3,
+    charge: 10,
+    ..EMPTY
+};
+
+// Changes of that device, and what is found behind them.
+type Plant<'a> = (Changes<'a>, Finding);
+
 // One finding each, in the order in which an opening looks for them.
 const PLANTS: [Plant; 22] = [
-    (&[(0, 0x00)], Finding::NotFormatted),
-    (&[(5, b'f')], Finding::NotFormatted),
-    (&[(12, 9)], Finding::NotFormatted),
-    (&[(16, 0)], Finding::Damaged(Place::Header)),
-    (&[(20, 3)], Finding::Damaged(Place::Header)),
-    (&[(28, 9)], Finding::Damaged(Place::Header)),
-    (&[(32, 1)], Finding::Damaged(Place::Length)),
+    (&[(0, 0x00)], NotFormatted),
+    (&[(5, b'f')], NotFormatted),
+    (&[(12, 9)], NotFormatted),
+    (&[(16, 0)], HEADER),
+    (&[(20, 3)], HEADER),
+    (&[(28, 9)], HEADER),
+    (&[(32, 1)], LENGTH),
     // the active log is frozen too; log 1 is frozen twice; a third hash store; a hash store twice
-    (&[(4108, 1)], Finding::Damaged(Place::Slot(0))),
-    (&[(4112, 2), (4120, 1)], Finding::Damaged(Place::Slot(0))),
-    (&[(4144, 3)], Finding::Damaged(Place::Slot(0))),
-    (&[(4152, 0)], Finding::Damaged(Place::Slot(0))),
-    (&[(8192, 0xA7)], Finding::Damaged(Place::Slot(1))),
-    (
-        &[(16_407, 3)],
-        Finding::Damaged(Place::Log { region: 0, row: 1 }),
-    ),
-    (&[(12_292, 0xA7)], Finding::Other(4)),
-    (
-        &[(24_576, 0)],
-        Finding::Damaged(Place::Log { region: 1, row: 0 }),
-    ),
+    (&[(4108, 1)], SLOT_0),
+    (&[(4112, 2), (4120, 1)], SLOT_0),
+    (&[(4144, 3)], SLOT_0),
+    (&[(4152, 0)], SLOT_0),
+    (&[(8192, 0xA7)], SLOT_1),
+    (&[(16_407, 3)], Damaged(Log { region: 0, row: 1 })),
+    (&[(12_292, 0xA7)], Crowded),
+    (&[(24_576, 0)], Damaged(Log { region: 1, row: 0 })),
     // the key of slot 0 again; a row outside its key's buckets; an unknown kind
-    (
-        &[(28_741, 2)],
-        Finding::Damaged(Place::Hash { region: 0, slot: 3 }),
-    ),
-    (
-        &[(28_787, 1)],
-        Finding::Damaged(Place::Hash { region: 0, slot: 5 }),
-    ),
-    (
-        &[(28_833, 3)],
-        Finding::Damaged(Place::Hash { region: 0, slot: 7 }),
-    ),
-    (
-        &[(32_768, 0xA7)],
-        Finding::Damaged(Place::Hash { region: 1, slot: 0 }),
-    ),
-    (&[(36_886, 1)], Finding::Damaged(Place::Sorted(1))),
-    (&[(36_908, 1)], Finding::Damaged(Place::Sorted(2))),
-    (&[(36, 9)], Finding::Damaged(Place::Charge)),
+    (&[(28_741, 2)], Damaged(Hash { region: 0, slot: 3 })),
+    (&[(28_787, 1)], Damaged(Hash { region: 0, slot: 5 })),
+    (&[(28_833, 3)], Damaged(Hash { region: 0, slot: 7 })),
+    (&[(32_768, 0xA7)], Damaged(Hash { region: 1, slot: 0 })),
+    (&[(36_886, 1)], Damaged(Sorted(1))),
+    (&[(36_908, 1)], Damaged(Sorted(2))),
+    (&[(36, 9)], CHARGE),
 ];
 
 // No slot is open. This is found behind what is looked for in slot 1, and before all that the slots name.
-const NO_SLOT: Plant = (&[(4096, 0x00)], Finding::Damaged(Place::NoSlot));
+const CLOSED: Changes = &[(4096, 0x00)];
 
 // The bytes of that device.
 fn planted(alloc: Global) -> Result<Vec<u8>, Fail> {
@@ -458,10 +274,10 @@ fn planted(alloc: Global) -> Result<Vec<u8>, Fail> {
 
 // What is found of this plant, the one at this place of the list, where no slot is open.
 fn left_of(plant: Plant, index: usize) -> Finding {
-    if index < 7 || plant.1 == Finding::Damaged(Place::Slot(1)) {
+    if index < 7 || plant.1 == SLOT_1 {
         return plant.1;
     }
-    NO_SLOT.1
+    NO_SLOT
 }
 
 // What is found of this plant, the one at this place of the list, on a device that is one byte short.
@@ -469,7 +285,20 @@ fn found_short(plant: Plant, index: usize) -> Finding {
     if index < 6 {
         return plant.1;
     }
-    Finding::Damaged(Place::Length)
+    LENGTH
+}
+
+// This is found behind the changes of a plant and these.
+fn finds(
+    rt: &impl Abort,
+    alloc: Global,
+    whole: &[u8],
+    both: [Changes; 2],
+    expected: Finding,
+) -> Result<(), Fail> {
+    let found = looked_behind(rt, alloc, whole, &both)?;
+    assert_eq!(rt; found, Err(expected), "{both:?}");
+    Ok(())
 }
 
 // This is found where each of these plants stands behind those changes.
@@ -481,22 +310,8 @@ fn find_first(
     behind: &[Plant],
 ) -> Result<(), Fail> {
     for second in behind {
-        let found = find_both(rt, alloc, whole, first, second.0)?;
-        assert_eq!(rt; found, expected, "{first:?} {second:?}");
+        finds(rt, alloc, whole, [first, second.0], expected)?;
     }
-    Ok(())
-}
-
-// What is found where no slot is open behind this plant, the one at this place of the list.
-fn find_left(
-    rt: &impl Abort,
-    alloc: Global,
-    whole: &[u8],
-    plant: Plant,
-    index: usize,
-) -> Result<(), Fail> {
-    let found = find_both(rt, alloc, whole, plant.0, NO_SLOT.0)?;
-    assert_eq!(rt; found, left_of(plant, index), "{plant:?}");
     Ok(())
 }
 
@@ -504,7 +319,7 @@ fn find_left(
 #[test]
 fn finds_the_first_of_each_two(rt: HostRuntime) -> Result<(), Fail> {
     let whole = planted(rt.alloc())?;
-    finds(&rt, rt.alloc(), &whole, &[], Finding::Keys(6))?;
+    look_at_each(&rt, rt.alloc(), &whole, &[(&[], Ok(OF_WHOLE))])?;
     find_all_first(&rt, rt.alloc(), &whole, &PLANTS)
 }
 
@@ -515,8 +330,9 @@ fn find_all_first(
     plants: &[Plant],
 ) -> Result<(), Fail> {
     for index in 0..plants.len() {
-        find_first(rt, alloc, whole, plants[index], &plants[index..])?;
-        find_left(rt, alloc, whole, plants[index], index)?;
+        let plant = plants[index];
+        find_first(rt, alloc, whole, plant, &plants[index..])?;
+        finds(rt, alloc, whole, [plant.0, CLOSED], left_of(plant, index))?;
     }
     Ok(())
 }
@@ -536,7 +352,8 @@ fn find_all_short(
     plants: &[Plant],
 ) -> Result<(), Fail> {
     for (index, plant) in plants.iter().enumerate() {
-        finds(rt, alloc, whole, plant.0, found_short(*plant, index))?;
+        let expected = found_short(*plant, index);
+        finds(rt, alloc, whole, [plant.0, &[]], expected)?;
     }
     Ok(())
 }

@@ -1,0 +1,155 @@
+// What is found on a device of given bytes: by a check and by an opening alike.
+
+use super::{Changes, Found, checked, small_blank};
+use silt_device::{MemDisk, MemFault};
+use silt_event::Finding::{self, Crowded, Damaged, NotFormatted};
+use silt_event::Place;
+use silt_fixtures::{change, changed};
+use silt_store_set::{Core, OpenFault, Refusal};
+use std::alloc::Global;
+use std::process::Abort;
+use std::test::Fail;
+
+/// Lists of changes that are made one after the other, and what is found behind them.
+pub(super) type Case<'a> = (&'a [Changes<'a>], Found);
+
+pub(super) const HEADER: Finding = Damaged(Place::Header);
+
+pub(super) const LENGTH: Finding = Damaged(Place::Length);
+
+pub(super) const NO_SLOT: Finding = Damaged(Place::NoSlot);
+
+pub(super) const CHARGE: Finding = Damaged(Place::Charge);
+
+/// The slots of the manifest.
+pub(super) const SLOT_0: Finding = Damaged(Place::Slot(0));
+
+pub(super) const SLOT_1: Finding = Damaged(Place::Slot(1));
+
+// The finding for which a store was not opened.
+fn finding_of(refusal: Refusal<MemFault>) -> Result<Finding, Fail> {
+    match refusal {
+        Refusal::NotFormatted => Ok(NotFormatted),
+        Refusal::Damaged(place) => Ok(Damaged(place)),
+        Refusal::Crowded => Ok(Crowded),
+        _ => Err("another refusal".into()),
+    }
+}
+
+// Opens a store on a disk of these bytes, and looks at the disk once more. Where it is refused nothing was written.
+fn opened(rt: &impl Abort, alloc: Global, disk: MemDisk, bytes: &[u8]) -> Result<Found, Fail> {
+    match Core::open(alloc, disk) {
+        Ok(core) => checked(alloc, &core.close()),
+        Err(OpenFault::<MemDisk> { disk, refusal }) => {
+            assert_eq!(rt; disk.shown(), bytes);
+            Ok(Err(finding_of(refusal)?))
+        }
+    }
+}
+
+/// What is found on a device of these bytes, before and after an opening, and by it.
+pub(super) fn looked_at(rt: &impl Abort, alloc: Global, bytes: &[u8]) -> Result<Found, Fail> {
+    let disk = MemDisk::with_bytes(alloc, bytes)?;
+    let told = checked(alloc, &disk)?;
+    is_opened_so(rt, alloc, disk, bytes, told)
+}
+
+fn is_opened_so(
+    rt: &impl Abort,
+    alloc: Global,
+    disk: MemDisk,
+    bytes: &[u8],
+    told: Found,
+) -> Result<Found, Fail> {
+    let found = opened(rt, alloc, disk, bytes)?;
+    assert_eq!(rt; found, told);
+    Ok(told)
+}
+
+/// What is found on a device of these bytes behind these changes.
+pub(super) fn looked_behind(
+    rt: &impl Abort,
+    alloc: Global,
+    whole: &[u8],
+    all: &[Changes],
+) -> Result<Found, Fail> {
+    let mut bytes = whole.to_vec(alloc)?;
+    for changes in all {
+        change(&mut bytes, changes)?;
+    }
+    looked_at(rt, alloc, &bytes)
+}
+
+/// Each of these cases of a device of these bytes.
+pub(super) fn look_at_each(
+    rt: &impl Abort,
+    alloc: Global,
+    whole: &[u8],
+    cases: &[Case],
+) -> Result<(), Fail> {
+    for (all, expected) in cases {
+        let found = looked_behind(rt, alloc, whole, all)?;
+        assert_eq!(rt; found, *expected, "{all:?}");
+    }
+    Ok(())
+}
+
+/// Each of these cases of an empty store of the small geometry.
+pub(super) fn look_at_small(rt: &impl Abort, alloc: Global, cases: &[Case]) -> Result<(), Fail> {
+    let whole = small_blank(rt, alloc)?;
+    look_at_each(rt, alloc, &whole, cases)
+}
+
+fn looked_changed(
+    rt: &impl Abort,
+    alloc: Global,
+    whole: &[u8],
+    changes: &[(usize, u8)],
+) -> Result<Found, Fail> {
+    let bytes = changed(alloc, whole, changes)?;
+    looked_at(rt, alloc, &bytes)
+}
+
+/// One byte of a device of these bytes is changed: its place, the byte that is then there, and what is found.
+pub(super) fn find_each_byte(
+    rt: &impl Abort,
+    alloc: Global,
+    whole: &[u8],
+    bytes: &[(usize, u8, Found)],
+) -> Result<(), Fail> {
+    for (place, byte, expected) in bytes {
+        let found = looked_changed(rt, alloc, whole, &[(*place, *byte)])?;
+        assert_eq!(rt; found, *expected, "{byte} at {place}");
+    }
+    Ok(())
+}
+
+/// Bytes of a device are changed one after the other. What is found first decides.
+pub(super) fn find_in_turn(
+    rt: &impl Abort,
+    alloc: Global,
+    bytes: &mut [u8],
+    cases: &[(usize, u8, Finding)],
+) -> Result<(), Fail> {
+    for (place, byte, finding) in cases {
+        change(bytes, &[(*place, *byte)])?;
+        let found = looked_at(rt, alloc, bytes)?;
+        assert_eq!(rt; found, Err(*finding), "{byte} at {place}");
+    }
+    Ok(())
+}
+
+/// The first bytes of a device, as many as this, with these changes, and what is found there.
+pub(super) fn find_each_cut(
+    rt: &impl Abort,
+    alloc: Global,
+    bytes: &[u8],
+    cuts: &[(usize, Changes, Finding)],
+) -> Result<(), Fail> {
+    for (len, changes, finding) in cuts {
+        assert!(rt; *len <= bytes.len());
+        let found = looked_changed(rt, alloc, &bytes[..*len], changes)?;
+        assert_eq!(rt; found, Err(*finding), "{len}");
+    }
+    Ok(())
+}
