@@ -1,11 +1,9 @@
 // What no clause says, of disks and of what stands on them. What several of these tests share stands here: what is found on a disk, and numbers
 // that are made one of the other.
 
-mod damage;
 mod device;
 mod findings;
 mod formats;
-mod images;
 mod limits;
 mod plain_map;
 mod random_lives;

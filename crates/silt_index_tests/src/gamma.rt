@@ -1,9 +1,31 @@
 //! The standard's examples of codes, and readings that no code fits.
 use silt_gamma::{BitReader, BitWriter};
+use std::process::Abort;
 use std::test::Fail;
 
 /// The codes of 1, 2, 3, 4, 5 and 8 one after another: `1 010 011 00100 00101 0001000`.
 const CODES: [u8; 3] = [0b1010_0110, 0b0100_0010, 0b1000_1000];
+
+/// The same codes, and behind them that of the greatest number: 31 zeros and 32 ones.
+const CODES_AND_GREATEST: [u8; 11] = [
+    0b1010_0110,
+    0b0100_0010,
+    0b1000_1000,
+    0,
+    0,
+    0,
+    1,
+    0xff,
+    0xff,
+    0xff,
+    0b1111_1110,
+];
+
+/// So many bits were written, and these are their bytes.
+fn has_written(rt: &impl Abort, bits: &BitWriter, len: usize, bytes: &[u8]) {
+    assert_eq!(rt; bits.len(), len);
+    assert_eq!(rt; bits.as_bytes(), bytes);
+}
 
 #[test]
 fn writes_codes(rt: HostRuntime) -> Result<(), Fail> {
@@ -11,49 +33,43 @@ fn writes_codes(rt: HostRuntime) -> Result<(), Fail> {
     for n in [1, 2, 3, 4, 5, 8] {
         bits.write_gamma(n)?;
     }
-    assert_eq!(rt; bits.len(), 24);
-    assert_eq!(rt; bits.as_bytes(), CODES.as_slice());
+    has_written(&rt, &bits, 24, &CODES);
     bits.write_gamma(u32::MAX)?;
-    assert_eq!(rt; bits.len(), 87);
-    let all = [
-        0b1010_0110,
-        0b0100_0010,
-        0b1000_1000,
-        0,
-        0,
-        0,
-        1,
-        0xff,
-        0xff,
-        0xff,
-        0b1111_1110,
-    ];
-    assert_eq!(rt; bits.as_bytes(), all.as_slice());
+    has_written(&rt, &bits, 87, &CODES_AND_GREATEST);
     Ok(())
 }
 
 #[test]
-fn reads_codes(rt: HostRuntime) -> Result<(), Fail> {
+fn reads_codes(rt: HostRuntime) {
     let mut reader = BitReader::new(&CODES, 0, 24);
     for n in [1, 2, 3, 4, 5, 8] {
         assert_eq!(rt; reader.read_gamma(), Some(n));
     }
-    assert_eq!(rt; reader.len(), 0);
-    assert_eq!(rt; reader.read_gamma(), None);
-    let mut four = BitReader::new(&[0b0010_0000], 0, 8);
-    assert_eq!(rt; four.read_gamma(), Some(4));
-    assert_eq!(rt; four.len(), 3);
-    let mut cut = BitReader::new(&[0b0010_0000], 0, 3);
-    assert_eq!(rt; cut.read_gamma(), None);
-    assert_eq!(rt; cut.len(), 3);
+    assert_eq!(rt; (reader.read_gamma(), reader.len()), (None, 0));
+}
+
+/// This is read from the bits of these bytes, so many from this one on, and so many are then left.
+fn reads(
+    rt: &impl Abort,
+    bytes: &[u8],
+    (start, len): (usize, usize),
+    read: Option<u32>,
+    left: usize,
+) {
+    assert!(rt; start <= 8 && len <= 72 && bytes.len() <= 16);
+    assert!(rt; start + len <= bytes.len() * 8);
+    let mut reader = BitReader::new(bytes, start, len);
+    assert_eq!(rt; (reader.read_gamma(), reader.len()), (read, left));
+}
+
+/// A code with bits behind it, one that is cut off, zeros that no code begins with, and the greatest number.
+#[test]
+fn reads_no_more_than_a_code(rt: HostRuntime) {
     let zeros = [0, 0, 0, 0, 0xff, 0xff, 0xff, 0xff, 0xff];
-    let mut long = BitReader::new(&zeros, 0, 72);
-    assert_eq!(rt; long.read_gamma(), None);
-    assert_eq!(rt; long.len(), 72);
-    let mut greatest = BitReader::new(&zeros, 1, 63);
-    assert_eq!(rt; greatest.read_gamma(), Some(u32::MAX));
-    assert_eq!(rt; greatest.len(), 0);
-    Ok(())
+    reads(&rt, &[0b0010_0000], (0, 8), Some(4), 3);
+    reads(&rt, &[0b0010_0000], (0, 3), None, 3);
+    reads(&rt, &zeros, (0, 72), None, 72);
+    reads(&rt, &zeros, (1, 63), Some(u32::MAX), 0);
 }
 
 #[test]

@@ -168,7 +168,8 @@ fn locates_in_one_buffer(rt: HostRuntime) -> Result<(), Fail> {
         assert!(rt; is_codable(keys, 8));
         write_code(&mut bits, keys, 8)?;
     }
-    for (keys, start) in groups.iter().zip(starts) {
+    for group in 0..3usize {
+        let (keys, start) = (&groups[group], starts[group]);
         let rest = bits.len().saturating_sub(start);
         assert!(rt; start + rest == bits.len());
         for (at, key) in keys.iter().enumerate() {
@@ -311,11 +312,11 @@ fn refuses_keys_that_do_not_rise(rt: HostRuntime) -> Result<(), Fail> {
     let keys = [key(3, 1), key(3, 2), key(5, 0)];
     let refused = [key(3, 1), key(2, 9), key(5, 0)];
     let mut builder = MarkedTrieBuilder::new(alloc, 3);
-    for (key, other) in keys.iter().zip(&refused) {
+    for at in 0..3usize {
         assert!(rt; builder.len() < 10);
-        assert!(rt; builder.push(*key)?);
+        assert!(rt; builder.push(keys[at])?);
         assert!(rt; builder.len() < 10);
-        assert!(rt; !builder.push(*other)?);
+        assert!(rt; !builder.push(refused[at])?);
     }
     let built = builder.finish()?;
     assert_eq!(rt; built.len(), 3);

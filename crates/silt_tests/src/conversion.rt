@@ -30,15 +30,18 @@ fn converted(rt: &impl Abort, alloc: Global) -> Result<MemDisk, Fail> {
 // The refusal of an opening of these bytes with some of them changed, none where they open.
 fn refusal_of(alloc: Global, whole: &[u8], changes: &[(usize, u8)]) -> Result<Option<Place>, Fail> {
     let bytes = changed(alloc, whole, changes)?;
-    match Core::open(alloc, MemDisk::with_bytes(alloc, &bytes)?) {
-        Ok(_) => Ok(None),
-        Err(
-            OpenFault {
-                refusal: Refusal::Damaged(place),
-                ..
-            },
-        ) => Ok(Some(place)),
-        Err(_) => Err("another refusal".into()),
+    let disk = MemDisk::with_bytes(alloc, &bytes)?;
+    damage_in(Core::open(alloc, disk))
+}
+
+// What an opening found damaged, none where it found nothing.
+fn damage_in(opening: Result<Core<MemDisk>, OpenFault<MemDisk>>) -> Result<Option<Place>, Fail> {
+    let Err(fault) = opening else {
+        return Ok(None);
+    };
+    match &fault.refusal {
+        Refusal::Damaged(place) => Ok(Some(*place)),
+        _ => Err("another refusal".into()),
     }
 }
 

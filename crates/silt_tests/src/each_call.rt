@@ -72,16 +72,19 @@ fn merge_fails(rt: &impl Abort, alloc: Global, fails: Fails) -> Result<(), Fail>
     each_fails(rt, alloc, &life, fails)
 }
 
-// A store on the life's disk, and whether the first opening told a fault: then the disk is opened again, by the calls that follow.
-fn opened_again(alloc: Global, disk: FaultDisk) -> Result<(Core<FaultDisk>, bool), Fail> {
+// A store on the life's disk. Where the first opening tells a fault, which is counted, the disk is opened again, by the calls that follow.
+fn opened_again(alloc: Global, disk: FaultDisk, faults: &mut u32) -> Result<Core<FaultDisk>, Fail> {
     match Core::open(alloc, disk) {
-        Ok(core) => Ok((core, false)),
+        Ok(core) => Ok(core),
         Err(
             OpenFault::<FaultDisk> {
                 disk,
                 refusal: Refusal::Device(_),
             },
-        ) => Ok((Core::open(alloc, disk).ok().ok_or("opens")?, true)),
+        ) => {
+            *faults = faults.saturating_add(1);
+            Ok(Core::open(alloc, disk).ok().ok_or("opens")?)
+        }
         Err(_) => Err("another refusal".into()),
     }
 }
@@ -144,9 +147,10 @@ fn ask_and_list(
 // faults were told.
 fn faults_of_read(rt: &impl Abort, alloc: Global, life: &Life, number: u64) -> Result<u32, Fail> {
     let disk = FaultDisk::new(formatted_with(alloc, life.geometry)?, Call::Read, number);
-    let (mut core, is_told) = opened_again(alloc, disk)?;
-    let faults = ask_and_list(rt, alloc, &mut core, life)?;
-    Ok(faults.saturating_add(is_told as u32))
+    let mut faults = 0;
+    let mut core = opened_again(alloc, disk, &mut faults)?;
+    let more = ask_and_list(rt, alloc, &mut core, life)?;
+    Ok(more.saturating_add(faults))
 }
 
 // Each read of the life fails in turn, of which there are at least so many.
@@ -175,7 +179,7 @@ fn each_read_of_a_merge_fails(rt: HostRuntime) -> Result<(), Fail> {
 }
 
 // Which of a kind of call fails, and what a stop behind the life leaves, if there is one.
-#[derive(Clone, Copy, Debug)]
+#[derive(Clone, Copy)]
 struct Failing {
     call: Call,
     number: u64,
@@ -183,16 +187,16 @@ struct Failing {
 }
 
 // All replies before the one that tells the fault are the life's own, and all behind it tell a failed store. Says whether there is one.
-fn tells_once(rt: &impl Abort, life: &Life, told: &[Told], failing: Failing) -> bool {
+fn tells_once(rt: &impl Abort, life: &Life, told: &[Told], number: u64) -> bool {
     let mut has_failed = false;
     assert_eq!(rt; told.len(), life.told.len());
     for (told, expected) in told.iter().zip(life.told.iter()) {
         if has_failed {
-            assert_eq!(rt; *told, Told::Refused(9), "{failing:?}");
+            assert_eq!(rt; *told, Told::Refused(9), "call {number}");
         } else if *told == Told::Refused(5) {
             has_failed = true;
         } else {
-            assert_eq!(rt; told, expected, "{failing:?}");
+            assert_eq!(rt; told, expected, "call {number}");
         }
     }
     has_failed
@@ -208,16 +212,16 @@ fn lived(
 ) -> Result<(MemDisk, Vec<Told>, bool), Fail> {
     let disk = FaultDisk::new(disk, failing.call, failing.number);
     match Core::open(alloc, disk) {
-        Ok(core) => answered(rt, alloc, life, core, failing),
+        Ok(core) => answered(rt, alloc, life, core, failing.number),
         Err(OpenFault::<FaultDisk> { disk, refusal }) => {
-            is_fault(rt, refusal.label().0, failing);
+            is_fault(rt, refusal.label().0, failing.number);
             Ok((disk.into_disk(), Vec::new(alloc), true))
         }
     }
 }
 
-fn is_fault(rt: &impl Abort, refusal: u32, failing: Failing) {
-    assert_eq!(rt; refusal, 5, "{failing:?}");
+fn is_fault(rt: &impl Abort, refusal: u32, number: u64) {
+    assert_eq!(rt; refusal, 5, "call {number}");
 }
 
 // The life of an opened store, of which this write or sync fails: the disk, what is told, and whether the call was made.
@@ -226,9 +230,9 @@ fn answered(
     alloc: Global,
     life: &Life,
     mut core: Core<FaultDisk>,
-    failing: Failing,
+    number: u64,
 ) -> Result<(MemDisk, Vec<Told>, bool), Fail> {
-    let (told, is_made) = answers(rt, alloc, life, &mut core, failing)?;
+    let (told, is_made) = answers(rt, alloc, life, &mut core, number)?;
     Ok((core.close().into_disk(), told, is_made))
 }
 
@@ -237,14 +241,19 @@ fn answers(
     alloc: Global,
     life: &Life,
     core: &mut Core<FaultDisk>,
-    failing: Failing,
+    number: u64,
 ) -> Result<(Vec<Told>, bool), AllocError> {
     let told = replies_of(alloc, core, life.lines)?;
-    let is_made = tells_once(rt, life, &told, failing);
+    let is_made = tells_once(rt, life, &told, number);
+    has_failed(rt, alloc, core, is_made);
+    Ok((told, is_made))
+}
+
+// Where the call was made, the store is failed.
+fn has_failed(rt: &impl Abort, alloc: Global, core: &mut Core<FaultDisk>, is_made: bool) {
     if is_made {
         is_failed(rt, alloc, core);
     }
-    Ok((told, is_made))
 }
 
 // The disk after this stop, if there is one.
@@ -255,8 +264,8 @@ fn stopped(disk: MemDisk, stop: Option<Fill>) -> MemDisk {
     }
 }
 
-fn keeps(rt: &impl Abort, life: &Life, told: &[Told], found: [u16; 8], failing: Failing) {
-    assert!(rt; is_kept(life.lines, told, found), "{found:?} {failing:?}");
+fn keeps(rt: &impl Abort, life: &Life, told: &[Told], found: [u16; 8], number: u64) {
+    assert!(rt; is_kept(life.lines, told, found), "{found:?} call {number}");
 }
 
 // This write or sync of the life fails. Then every call is refused, and an opening, with or without a stop before it, finds what is
@@ -272,7 +281,7 @@ fn change_fails(
     let disk = formatted_with(alloc, life.geometry)?.arm(stops);
     let (disk, told, is_made) = lived(rt, alloc, life, disk, failing)?;
     let (disk, found) = entries_of(alloc, stopped(disk, failing.stop))?;
-    keeps(rt, life, &told, found, failing);
+    keeps(rt, life, &told, found, failing.number);
     goes_on(rt, alloc, disk, life.geometry, found)?;
     Ok(is_made)
 }
@@ -288,7 +297,7 @@ fn each_of_a_kind_fails(
     for number in 1..calls.saturating_add(2) {
         let failing = Failing { call, number, stop };
         let is_made = change_fails(rt, alloc, life, failing)?;
-        assert_eq!(rt; is_made, number <= calls, "{failing:?}");
+        assert_eq!(rt; is_made, number <= calls, "call {number}");
     }
     Ok(())
 }
@@ -313,20 +322,26 @@ fn each_change_fails(
 // Of the forty calls of the conversion five puts make ten writes; the flush before the freeze makes one and two syncs, the clearing of the
 // next log one of each, the manifest three of each; the last flush makes one write and two syncs; eight slots are a write each, and the
 // last step makes a sync and a manifest. The opening makes a sync.
-#[test]
-fn each_change_of_a_conversion_fails(rt: HostRuntime) -> Result<(), Fail> {
-    let writes = 10 + 1 + 1 + 3 + 1 + 8 + 3;
-    let syncs = 1 + 2 + 1 + 3 + 2 + 1 + 3;
-    assert_eq!(rt; writes + syncs, 40);
-    conversion_fails(&rt, rt.alloc(), Fails::Changes(writes, syncs))
-}
+const OF_A_CONVERSION: (u64, u64) = (10 + 1 + 1 + 3 + 1 + 8 + 3, 1 + 2 + 1 + 3 + 2 + 1 + 3);
 
 // Of the 95 calls of the merge the opening makes a sync, four puts make eight writes, each of three freezes makes five writes and six
 // syncs, each of three conversions eleven writes and four syncs; one key is an entry, and the last step makes three writes and four syncs.
+const OF_A_MERGE: (u64, u64) = (8 + 3 * 5 + 3 * 11 + 1 + 3, 1 + 3 * 6 + 3 * 4 + 4);
+
+// So many calls are these writes and syncs.
+fn are_calls(rt: &impl Abort, (writes, syncs): (u64, u64), calls: u64) -> Fails {
+    assert_eq!(rt; writes.saturating_add(syncs), calls);
+    Fails::Changes(writes, syncs)
+}
+
+#[test]
+fn each_change_of_a_conversion_fails(rt: HostRuntime) -> Result<(), Fail> {
+    let fails = are_calls(&rt, OF_A_CONVERSION, 40);
+    conversion_fails(&rt, rt.alloc(), fails)
+}
+
 #[test]
 fn each_change_of_a_merge_fails(rt: HostRuntime) -> Result<(), Fail> {
-    let writes = 8 + 3 * 5 + 3 * 11 + 1 + 3;
-    let syncs = 1 + 3 * 6 + 3 * 4 + 4;
-    assert_eq!(rt; writes + syncs, 95);
-    merge_fails(&rt, rt.alloc(), Fails::Changes(writes, syncs))
+    let fails = are_calls(&rt, OF_A_MERGE, 95);
+    merge_fails(&rt, rt.alloc(), fails)
 }

@@ -2,7 +2,7 @@
 
 use crate::support::{entries_of, values_of};
 use silt_device::{Call, Disk, FaultDisk, MemDisk, MemFault};
-use silt_fixtures::{SMALL_LEN, changed, formatted, formatted_with, key, of_regions};
+use silt_fixtures::{blank, changed, formatted, formatted_with, key, of_regions, small};
 use silt_store_set::{Core, Refusal};
 use std::alloc::Global;
 use std::process::Abort;
@@ -41,17 +41,28 @@ fn put(
     answer(core.put(alloc, &key(first), &[0, last]))
 }
 
+// The number of the refusal, 0 where there is none.
+fn refused<T: Drop>(answered: Result<T, Refusal<MemFault>>) -> u32 {
+    match answered {
+        Ok(_) => 0,
+        Err(refusal) => refusal.label().0,
+    }
+}
+
 /// Every call of a failed store is refused, and the list of its entries too.
 pub(crate) fn is_failed(rt: &impl Abort, alloc: Global, core: &mut Core<FaultDisk>) {
     assert_eq!(rt; core.geometry().value_len(), 2);
     let mut out = [7; 2];
-    assert_eq!(rt; answer(core.get(&key(1), &mut out)), Err(9));
-    assert_eq!(rt; answer(core.put(alloc, &key(1), &[0, 2])), Err(9));
-    assert_eq!(rt; answer(core.delete(alloc, &key(1))), Err(9));
-    assert_eq!(rt; answer(core.flush()), Err(9));
-    assert_eq!(rt; answer(core.convert(alloc)), Err(9));
-    assert_eq!(rt; answer(core.merge(alloc)), Err(9));
-    assert!(rt; matches!(core.entries(alloc), Err(Refusal::Failed)));
+    let told = [
+        refused(core.get(&key(1), &mut out)),
+        refused(core.put(alloc, &key(1), &[0, 2])),
+        refused(core.delete(alloc, &key(1))),
+        refused(core.flush()),
+        refused(core.convert(alloc)),
+        refused(core.merge(alloc)),
+        refused(core.entries(alloc)),
+    ];
+    assert_eq!(rt; told, [9; 7]);
 }
 
 // The values of the keys 0 to 7 on a disk whose store is given up.
@@ -126,11 +137,20 @@ fn takes_a_delete(rt: &impl Abort, alloc: Global, core: &mut Core<MemDisk>) {
 fn a_full_store_takes_no_put(rt: HostRuntime) -> Result<(), Fail> {
     let alloc = rt.alloc();
     let mut core = of_capacity(alloc, 2)?;
-    takes_two_puts(&rt, alloc, &mut core);
-    lists(&rt, alloc, &core, 1, [0, 2, 0, 0, 0, 0, 0, 0])?;
-    takes_a_delete(&rt, alloc, &mut core);
+    takes_two_and_a_delete(&rt, alloc, &mut core)?;
     let (_, found) = entries_of(alloc, core.close())?;
     assert_eq!(rt; found, [0; 8]);
+    Ok(())
+}
+
+fn takes_two_and_a_delete(
+    rt: &impl Abort,
+    alloc: Global,
+    core: &mut Core<MemDisk>,
+) -> Result<(), Fail> {
+    takes_two_puts(rt, alloc, core);
+    lists(rt, alloc, core, 1, [0, 2, 0, 0, 0, 0, 0, 0])?;
+    takes_a_delete(rt, alloc, core);
     Ok(())
 }
 
@@ -200,33 +220,23 @@ fn takes_four_puts(rt: &impl Abort, alloc: Global, core: &mut Core<MemDisk>) {
     assert_eq!(rt; answer(core.flush()), Ok(4));
 }
 
-// These bytes of a small store, SMALL_LEN of them, with some of them changed.
-fn small_changed(
-    rt: &impl Abort,
-    alloc: Global,
-    whole: &[u8],
-    changes: &[(usize, u8)],
-) -> Result<Vec<u8>, Fail> {
-    assert_eq!(rt; whole.len(), SMALL_LEN);
-    changed(alloc, whole, changes)
+// A store on a disk of these bytes.
+fn opened_from(alloc: Global, bytes: &[u8]) -> Result<Core<MemDisk>, Fail> {
+    let disk = MemDisk::with_bytes(alloc, bytes)?;
+    Ok(Core::open(alloc, disk).ok().ok_or("opens")?)
 }
 
 // A small store with these bytes changed.
-fn with_changes(
-    rt: &impl Abort,
-    alloc: Global,
-    changes: &[(usize, u8)],
-) -> Result<Core<MemDisk>, Fail> {
-    let disk = formatted(alloc)?;
-    let bytes = small_changed(rt, alloc, disk.shown(), changes)?;
-    let disk = MemDisk::with_bytes(alloc, &bytes)?;
-    Ok(Core::open(alloc, disk).ok().ok_or("opens")?)
+fn with_changes(alloc: Global, changes: &[(usize, u8)]) -> Result<Core<MemDisk>, Fail> {
+    let whole = blank(alloc, small()?)?;
+    let bytes = changed(alloc, &whole, changes)?;
+    opened_from(alloc, &bytes)
 }
 
 // A store whose manifest has the last generation freezes no log: slot 1 is open with that generation, and else zeros.
 #[test]
 fn spends_its_generations(rt: HostRuntime) -> Result<(), Fail> {
-    let mut core = with_changes(&rt, rt.alloc(), &LAST_GENERATION)?;
+    let mut core = with_changes(rt.alloc(), &LAST_GENERATION)?;
     takes_four_puts(&rt, rt.alloc(), &mut core);
     let (_, found) = entries_of(rt.alloc(), core.close())?;
     assert_eq!(rt; found, [0, 1, 2, 3, 4, 0, 0, 0]);

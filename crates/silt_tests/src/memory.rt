@@ -136,6 +136,16 @@ fn has_flushed(
     values: [u16; 8],
 ) -> Result<(), Fail> {
     assert_eq!(rt; core.flush().ok(), Some(4));
+    lists(rt, alloc, core, values)
+}
+
+// The list of the entries has these values.
+fn lists(
+    rt: &impl Abort,
+    alloc: Global,
+    core: &Core<MemDisk>,
+    values: [u16; 8],
+) -> Result<(), Fail> {
     let found = listed(alloc, core)?;
     assert_eq!(rt; found, values);
     Ok(())
@@ -157,19 +167,23 @@ fn all_asked(
     Ok(())
 }
 
-// The disk has two hash stores and a sorted entry, and these values.
+// The disk has two hash stores and a sorted entry.
+fn has_merged(rt: &impl Abort, alloc: Global, disk: &MemDisk) -> Result<(), Fail> {
+    let report = checked(alloc, disk)?;
+    assert_eq!(rt; (report.hashes, report.entries), (2, 1));
+    Ok(())
+}
+
+// The same, and these values.
 fn is_found_again(
     rt: &impl Abort,
     alloc: Global,
     disk: MemDisk,
     values: [u16; 8],
 ) -> Result<(), Fail> {
-    let report = checked(alloc, &disk)?;
-    assert_eq!(rt; (report.hashes, report.entries), (2, 1));
+    has_merged(rt, alloc, &disk)?;
     let core = opened(alloc, disk)?;
-    let found = listed(alloc, &core)?;
-    assert_eq!(rt; found, values);
-    Ok(())
+    lists(rt, alloc, &core, values)
 }
 
 // Four puts that freeze nothing, with gets: each reply but a get's is its own.

@@ -1,5 +1,8 @@
 // What is found on a device of given bytes: by a check and by an opening alike.
 
+mod damage;
+mod images;
+
 use super::{Changes, Found, checked, small_blank};
 use silt_device::{MemDisk, MemFault};
 use silt_event::Finding::{self, Crowded, Damaged, NotFormatted};
@@ -10,21 +13,21 @@ use std::alloc::Global;
 use std::process::Abort;
 use std::test::Fail;
 
-/// Lists of changes that are made one after the other, and what is found behind them.
-pub(super) type Case<'a> = (&'a [Changes<'a>], Found);
+// Lists of changes that are made one after the other, and what is found behind them.
+type Case<'a> = (&'a [Changes<'a>], Found);
 
-pub(super) const HEADER: Finding = Damaged(Place::Header);
+const HEADER: Finding = Damaged(Place::Header);
 
-pub(super) const LENGTH: Finding = Damaged(Place::Length);
+const LENGTH: Finding = Damaged(Place::Length);
 
-pub(super) const NO_SLOT: Finding = Damaged(Place::NoSlot);
+const NO_SLOT: Finding = Damaged(Place::NoSlot);
 
-pub(super) const CHARGE: Finding = Damaged(Place::Charge);
+const CHARGE: Finding = Damaged(Place::Charge);
 
-/// The slots of the manifest.
-pub(super) const SLOT_0: Finding = Damaged(Place::Slot(0));
+// The slots of the manifest.
+const SLOT_0: Finding = Damaged(Place::Slot(0));
 
-pub(super) const SLOT_1: Finding = Damaged(Place::Slot(1));
+const SLOT_1: Finding = Damaged(Place::Slot(1));
 
 // The finding for which a store was not opened.
 fn finding_of(refusal: Refusal<MemFault>) -> Result<Finding, Fail> {
@@ -47,8 +50,8 @@ fn opened(rt: &impl Abort, alloc: Global, disk: MemDisk, bytes: &[u8]) -> Result
     }
 }
 
-/// What is found on a device of these bytes, before and after an opening, and by it.
-pub(super) fn looked_at(rt: &impl Abort, alloc: Global, bytes: &[u8]) -> Result<Found, Fail> {
+// What is found on a device of these bytes, before and after an opening, and by it.
+fn looked_at(rt: &impl Abort, alloc: Global, bytes: &[u8]) -> Result<Found, Fail> {
     let disk = MemDisk::with_bytes(alloc, bytes)?;
     let told = checked(alloc, &disk)?;
     is_opened_so(rt, alloc, disk, bytes, told)
@@ -66,8 +69,8 @@ fn is_opened_so(
     Ok(told)
 }
 
-/// What is found on a device of these bytes behind these changes.
-pub(super) fn looked_behind(
+// What is found on a device of these bytes behind these changes.
+fn looked_behind(
     rt: &impl Abort,
     alloc: Global,
     whole: &[u8],
@@ -80,13 +83,8 @@ pub(super) fn looked_behind(
     looked_at(rt, alloc, &bytes)
 }
 
-/// Each of these cases of a device of these bytes.
-pub(super) fn look_at_each(
-    rt: &impl Abort,
-    alloc: Global,
-    whole: &[u8],
-    cases: &[Case],
-) -> Result<(), Fail> {
+// Each of these cases of a device of these bytes.
+fn look_at_each(rt: &impl Abort, alloc: Global, whole: &[u8], cases: &[Case]) -> Result<(), Fail> {
     for (all, expected) in cases {
         let found = looked_behind(rt, alloc, whole, all)?;
         assert_eq!(rt; found, *expected, "{all:?}");
@@ -94,8 +92,8 @@ pub(super) fn look_at_each(
     Ok(())
 }
 
-/// Each of these cases of an empty store of the small geometry.
-pub(super) fn look_at_small(rt: &impl Abort, alloc: Global, cases: &[Case]) -> Result<(), Fail> {
+// Each of these cases of an empty store of the small geometry.
+fn look_at_small(rt: &impl Abort, alloc: Global, cases: &[Case]) -> Result<(), Fail> {
     let whole = small_blank(rt, alloc)?;
     look_at_each(rt, alloc, &whole, cases)
 }
@@ -110,8 +108,8 @@ fn looked_changed(
     looked_at(rt, alloc, &bytes)
 }
 
-/// One byte of a device of these bytes is changed: its place, the byte that is then there, and what is found.
-pub(super) fn find_each_byte(
+// One byte of a device of these bytes is changed: its place, the byte that is then there, and what is found.
+fn find_each_byte(
     rt: &impl Abort,
     alloc: Global,
     whole: &[u8],
@@ -124,8 +122,8 @@ pub(super) fn find_each_byte(
     Ok(())
 }
 
-/// Bytes of a device are changed one after the other. What is found first decides.
-pub(super) fn find_in_turn(
+// Bytes of a device are changed one after the other. What is found first decides.
+fn find_in_turn(
     rt: &impl Abort,
     alloc: Global,
     bytes: &mut [u8],
@@ -139,8 +137,8 @@ pub(super) fn find_in_turn(
     Ok(())
 }
 
-/// The first bytes of a device, as many as this, with these changes, and what is found there.
-pub(super) fn find_each_cut(
+// The first bytes of a device, as many as this, with these changes, and what is found there.
+fn find_each_cut(
     rt: &impl Abort,
     alloc: Global,
     bytes: &[u8],

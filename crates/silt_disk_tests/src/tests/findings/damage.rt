@@ -1,10 +1,10 @@
 // Damaged devices: what is found in each, and of several damages the first.
 
-use super::findings::{
+use super::{
     CHARGE, HEADER, LENGTH, NO_SLOT, SLOT_0, SLOT_1, find_each_byte, find_each_cut, find_in_turn,
     look_at_each, looked_behind,
 };
-use super::{Changes, EMPTY, Found};
+use crate::tests::{Changes, EMPTY, Found};
 use silt_device::Disk;
 use silt_event::Finding::{self, Crowded, Damaged, NotFormatted};
 use silt_event::Place::{Hash, Log, Sorted};

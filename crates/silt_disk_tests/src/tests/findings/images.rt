@@ -1,7 +1,7 @@
 // Crafted images, and what stands in each.
 
-use super::findings::{CHARGE, Case, LENGTH, SLOT_1, find_in_turn, look_at_each, look_at_small};
-use super::{Changes, EMPTY, small_blank};
+use super::{CHARGE, Case, LENGTH, SLOT_1, find_in_turn, look_at_each, look_at_small};
+use crate::tests::{Changes, EMPTY, small_blank};
 use silt_event::Finding::{self, Crowded, Damaged, NotFormatted};
 use silt_event::Place::{Hash, Log, Sorted};
 use silt_event::Report;
