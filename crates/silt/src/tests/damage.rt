@@ -88,6 +88,24 @@ fn tells_damage_of_the_whole(rt: HostRuntime) -> Result<(), Fail> {
     take_in_folder(&rt, "whole", &WHOLE)
 }
 
+// A manifest that names the second region as that of the sorted store, and two entries in it, of which the second has the key of the
+// first: it begins behind the 22 bytes of the first one, in that region.
+const REGION: [Step; 4] = [
+    Step::Tells("silt format region/disk 2 2 4 2 2 8", 0, ""),
+    Step::Overwrite("region/disk", 4212, &[1]),
+    Step::Overwrite("region/disk", 4216, &[2]),
+    Step::Tells(
+        "silt check region/disk",
+        1,
+        "silt: region/disk: an entry of the sorted store is damaged, at byte 40982\n",
+    ),
+];
+
+#[test]
+fn tells_damage_in_the_named_region(rt: HostRuntime) -> Result<(), Fail> {
+    take_in_folder(&rt, "region", &REGION)
+}
+
 // A store that is written over is told of, whole or not, and nothing else that a file held.
 const GONE: [Step; 6] = [
     Step::Fill(

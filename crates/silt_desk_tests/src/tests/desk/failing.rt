@@ -3,35 +3,43 @@ ghost use Rattle.std.specs.Prelude.{◌≡◌};
 
 use crate::tests::desk::{get, put_five, settle_two, two_seats};
 use crate::tests::{Open, opened};
-use silt_desk::{Kept, Naming, Seat, Shared, Wake, converter};
+use silt_desk::{Desk, Kept, Naming, Seat, Shared, Wake, converter};
 use silt_device::{Call, Disk, FaultDisk};
 use silt_event::Refusal;
 use silt_fixtures::{formatted, key};
 use silt_store_set::Core;
-use std::alloc::Global;
+use std::alloc::{AllocError, Global};
 use std::marker::Brand;
 use std::process::Abort;
 use std::sync::ledger::Blank;
 use std::sync::{RwLock, Wait};
 use std::test::Fail;
 
-// The worker waits, and is stopped by its first message; a get is refused.
+// A get is refused, since the store is failed.
+fn is_failed<D: Disk, N: Naming>(
+    rt: &impl Abort,
+    alloc: Global,
+    desk: &mut Desk<D, Kept, N>,
+    seat: &mut Seat<N>,
+) {
+    let mut out = [0; 2];
+    let got = get(desk, alloc, seat, &key(1), &mut out);
+    assert!(rt; matches!(got, Some(Err(Refusal::Failed))));
+}
+
+// The worker waits, and is stopped by its first message, without one of its own.
 fn waits<D: Disk, N: Naming, R: Wait + Abort>(
     rt: &R,
     alloc: Global,
     shared: &Shared<D, Kept, N>,
-    mine: &mut Seat<N>,
-    theirs: Seat<N>,
-) -> Result<Seat<N>, Fail> {
+    seat: Seat<N>,
+) -> Result<Seat<N>, AllocError> {
     let (wake, wakes) = crossbeam_channel::unbounded(alloc)?;
     let (other, others) = crossbeam_channel::unbounded(alloc)?;
     let _ = wake.send(rt, Wake::Stop);
-    let theirs = converter(rt, alloc, shared, theirs, &Open, wakes, other);
+    let seat = converter(rt, alloc, shared, seat, &Open, wakes, other);
     assert!(rt; others.try_recv(rt).is_err());
-    let mut out = [0; 2];
-    let got = get(&mut *shared.write(rt), alloc, mine, &key(1), &mut out);
-    assert!(rt; matches!(got, Some(Err(Refusal::Failed))));
-    Ok(theirs)
+    Ok(seat)
 }
 
 // The write of the first step of a conversion fails.
@@ -49,7 +57,8 @@ fn failed_step<D: Disk, N: Naming, R: Wait + Abort>(
     let (desk, mut mine, theirs) = two_seats::<D, N>(alloc, core, 100, calls, accepted)?;
     let shared: Shared<D, Kept, N> = RwLock::new(desk);
     put_five(rt, alloc, &shared, &mut mine);
-    let theirs = waits(rt, alloc, &shared, &mut mine, theirs)?;
+    let theirs = waits(rt, alloc, &shared, theirs)?;
+    is_failed(rt, alloc, &mut *shared.write(rt), &mut mine);
     assert_eq!(rt; settle_two(rt, alloc, &shared, mine, theirs)?, Some((7, 5)));
     Ok(())
 }

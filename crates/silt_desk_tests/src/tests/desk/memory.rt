@@ -197,6 +197,19 @@ fn records_all<D: Disk, N: Naming>(
     Ok(())
 }
 
+// In this trace nothing is recorded.
+fn is_blank(rt: &impl Abort, trace: &Kept) {
+    assert_eq!(rt;
+        (trace.count(), trace.opening().len(), trace.calls().len()),
+        (0, 0, 0)
+    );
+}
+
+// Of this store and its trace nothing is done and nothing recorded.
+fn is_unused<D: Disk>(rt: &impl Abort, core: &Core<D>, trace: &Kept) {
+    assert_eq!(rt; (core.count(), trace.calls().len()), (0, 0));
+}
+
 // A store that gets no desk is handed back. At a desk all calls that were done are recorded.
 fn records_what_is_done<D: Disk, N: Naming, R: Abort>(
     rt: &R,
@@ -212,14 +225,11 @@ fn records_what_is_done<D: Disk, N: Naming, R: Abort>(
     let Some(trace) = kept_again(alloc, &core) else {
         return Err("a trace".into());
     };
-    assert_eq!(rt;
-        (trace.count(), trace.opening().len(), trace.calls().len()),
-        (0, 0, 0)
-    );
+    is_blank(rt, &trace);
     match Desk::<D, Kept, N>::new(alloc, core, trace, 1, calls, accepted) {
         Ok((mut desk, seats)) => records_all(rt, alloc, &mut desk, seats),
         Err(NotMade::<D, Kept> { core, trace }) => {
-            assert_eq!(rt; (core.count(), trace.calls().len()), (0, 0));
+            is_unused(rt, &core, &trace);
             Ok(())
         }
     }
