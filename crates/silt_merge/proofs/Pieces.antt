@@ -39,6 +39,11 @@ pub are_entries : (rows : List StoredRow) (bytes : List ℕ) (place len count : 
 are_entries rows bytes place len count holds =
     subst (λ p. AreEntries rows p (parts_from bytes len 0 count)) (omega arith) (entries_from rows bytes place len 0 count (λ i low high. holds i (omega arith)))
 
+-- the first of them is the entry in its place
+pub first_part : (rows : List StoredRow) (place : ℕ) (bytes : List ℕ) (len at count : ℕ) → 0 < count → AreEntries rows place (parts_from bytes len at count) → HasEntry rows place (slice_range bytes (at * len) (at * len + len))
+first_part rows place bytes len at zero some are = absurd (omega arith)
+first_part rows place bytes len at (suc count) some are = are.0
+
 -- there are so many parts
 pub part_count : (bytes : List ℕ) (len at count : ℕ) → length (parts_from bytes len at count) ≡ count
 part_count bytes len at zero = refl

@@ -1,5 +1,5 @@
 -- Laws of merges, for the layers above.
-use Rattle.std.specs.Prelude.{◌≡◌, ℕ, ◌+◌, ◌≤◌, IsTrue, List, [], ◌++◌, length}
+use Rattle.std.specs.Prelude.{◌≡◌, ℕ, ◌≤◌, IsTrue, List, [], ◌++◌, length}
 use Rattle.std.specs.FinMap.{len}
 use Rattle.std.specs.List.{All}
 use Rattle.silt_device.specs.Disk.{ChangesWithin, Content, LiesOutside, size}

@@ -122,6 +122,18 @@ module _ (old new : Content) (s : TiersState) (log : LogStoreState) (before afte
     pub next_advances : Advances [] old new s (record s { converting = Some after })
     next_advances = step_advances old new s log before after stands (last_log s log read).1 going more wrote sizes changes steps written
 
+-- of the stores in memory with the conversion one slot on
+pub next_converts : (s : TiersState) (before after : ConversionState) (tags : List (Option ℕ)) (puts : ℕ) → s.converting ≡ Some before → convert_turn s ≡ Moved
+    → after ≡ record before { next = before.next + 1; tags = tags; puts = puts } → Converts Moved s (record s { converting = Some after })
+next_converts s before after tags puts was turn next = record {
+  due = sym turn;
+  done = record {
+    conversion = after;
+    is = refl;
+    step = subst (λ (o : Option ConversionState). IsNextStep s o after) (sym was) (ap (λ (v : ConversionState). v.region) next, ap (λ (v : ConversionState). v.next) next);
+  };
+}
+
 -- ---- the first slot of a new one
 
 -- where no conversion is under way, the first step begins one in a free region

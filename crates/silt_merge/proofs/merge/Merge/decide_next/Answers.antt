@@ -95,3 +95,18 @@ returns-clause-merged g c =
     (subst (λ (n : ℕ). HasMerged old c.args.stores.now c.args.sorted.now merge → HasMerged new c.args.stores.now c.args.sorted.now (let m : MergeState = record merge { waiting = c.mark_decided.new.self.waiting; passed = passed_after c.in-Some.choice.passes merge.passed; written = written_after (nat_lt n c.in-Ok.count) merge.written; keys = keys_after (nat_lt n c.in-Ok.count) merge.keys c.in-Some.choice.key; decided = merge.decided + 1; last = Some c.in-Some.choice.key; ahead = parts_after c.in-Some.choice.passes merge.ahead } in m)) (sym c.len-written.ensures)
     (merged_step old new c.args.stores.now c.args.sorted.now merge c.self.invariant.0 c.next_entry-next.ensures.held fits c.write_due.ensures.region c.first.result c.next_entry-next.result c.in-Some.choice c.next_entry-next.new.out c.read_row.new.out
     c.mark_decided.new.self.waiting c.in-Ok.count all c.first.ensures (sym c.choose.ensures ∙ c.in-Some.is) c.next_entry-next.ensures.is_some there read written c.mark_decided.ensures.gone)))
+
+pub returns-then-is_behind-clause-held : goal.returns-then-is_behind-clause-held
+returns-then-is_behind-clause-held g c = c.pass_entry.ensures.held
+
+pub returns-in_default-clause-held : goal.returns-in_default-clause-held
+returns-in_default-clause-held g c = c.self.invariant.0
+
+pub returns-in-Err-clause-held : goal.returns-in-Err-clause-held
+returns-in-Err-clause-held g c = c.self.invariant.0
+
+pub returns-in-Err-write_due-clause-held : goal.returns-in-Err-write_due-clause-held
+returns-in-Err-write_due-clause-held g c = c.self.invariant.0
+
+pub returns-clause-held : goal.returns-clause-held
+returns-clause-held g c = c.mark_decided.ensures.held

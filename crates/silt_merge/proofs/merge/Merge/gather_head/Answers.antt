@@ -20,3 +20,15 @@ returns-in-Ok-take_row-clause-merged g c =
     (rw (← c.self.view_is) (λ is.
     gathered_step (g.D.Disk.content c.args.disk.now) c.args.stores.now sorted merge c.in-Ok.row c.take_row.new.self.waiting (slot_after merge.store merge.slot (4 * merge.shape.buckets)) c.self.invariant.0 below
     (λ honest same slots. row_of_store sorted.shape merge.shape c.args.stores.now store (g.D.Disk.content c.args.disk.now).shown merge.store merge.slot c.in-Ok.row (omega (arith, below, count)) c.index-stores-self.is shape same (c.in-Ok.ensures.row honest)) gathers refl is))
+
+pub returns-in-Ok-take_row-clause-ok : goal.returns-in-Ok-take_row-clause-ok
+returns-in-Ok-take_row-clause-ok g c = c.in-Ok-take_row.ensures.ok
+
+pub returns-in-Ok-take_row-clause-held : goal.returns-in-Ok-take_row-clause-held
+returns-in-Ok-take_row-clause-held g c = c.take_row.ensures.held
+
+pub returns-in-Err-take_row-clause-held : goal.returns-in-Err-take_row-clause-held
+returns-in-Err-take_row-clause-held g c = c.take_row.ensures.held
+
+pub returns-in-Err-take_row-clause-merged : goal.returns-in-Err-take_row-clause-merged
+returns-in-Err-take_row-clause-merged g c = λ sorted is. subst (HasMerged (g.D.Disk.content c.args.disk.now) c.args.stores.now sorted) (sym c.in-Err-take_row.ensures.err) is

@@ -22,3 +22,18 @@ pub returns-clause-merged : goal.returns-clause-merged
 returns-clause-merged g c =
     let merge : MergeState = state_of c.self.inside in
     rw (← c.self.view_is) (λ stores is. merged_ahead (g.D.Disk.content c.args.disk.now) stores c.args.sorted.now merge c.read_entries.new.self.parts c.in_ok-read_entries.ensures.entries is)
+
+pub invariant_of-self-2 : goal.invariant_of-self-2
+invariant_of-self-2 g c =
+    let merge : MergeState = state_of c.self.inside in
+    (held_ahead merge merge.slots c.read_entries.new.self.parts c.self.invariant.0, c.self.invariant.1, c.read_entries.ensures.len ∙ c.self.invariant.2, c.self.invariant.3, c.self.invariant.4, c.self.invariant.5)
+
+pub returns-clause-held : goal.returns-clause-held
+returns-clause-held g c =
+    let merge : MergeState = state_of c.self.inside in
+    held_ahead merge merge.slots c.read_entries.new.self.parts c.self.invariant.0
+
+pub returns-in_err-read_entries-clause-held : goal.returns-in_err-read_entries-clause-held
+returns-in_err-read_entries-clause-held g c =
+    let merge : MergeState = state_of c.self.inside in
+    held_ahead merge merge.slots c.read_entries.new.self.parts c.self.invariant.0

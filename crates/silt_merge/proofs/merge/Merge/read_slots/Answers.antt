@@ -36,3 +36,18 @@ returns-clause-merged g c =
     merged_slots (g.D.Disk.content c.args.disk.now) c.args.stores.now sorted merge c.read_slots.new.self.parts
     (λ honest same. subst (λ r. AreSlots sorted.shape r image merge.slot c.read_slots.new.self.parts) (sym region)
     (subst (λ (s : Shape). AreSlots s store.region image merge.slot c.read_slots.new.self.parts) (shape ∙ sym same) (c.in_ok-read_slots.ensures.slots honest))) is)
+
+pub invariant_of-self-2 : goal.invariant_of-self-2
+invariant_of-self-2 g c =
+    let merge : MergeState = state_of c.self.inside in
+    (held_ahead merge c.read_slots.new.self.parts merge.ahead c.self.invariant.0, c.read_slots.ensures.len ∙ c.self.invariant.1, c.self.invariant.2, c.self.invariant.3, c.self.invariant.4, c.self.invariant.5)
+
+pub returns-clause-held : goal.returns-clause-held
+returns-clause-held g c =
+    let merge : MergeState = state_of c.self.inside in
+    held_ahead merge c.read_slots.new.self.parts merge.ahead c.self.invariant.0
+
+pub returns-in_err-read_slots-clause-held : goal.returns-in_err-read_slots-clause-held
+returns-in_err-read_slots-clause-held g c =
+    let merge : MergeState = state_of c.self.inside in
+    held_ahead merge c.read_slots.new.self.parts merge.ahead c.self.invariant.0

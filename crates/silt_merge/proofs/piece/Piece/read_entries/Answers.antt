@@ -1,4 +1,4 @@
-use Rattle.std.proofs.Common.{◌≡◌, ℕ, ◌++◌, List, length, take, drop, sym, subst, ◌∙◌, arith}
+use Rattle.std.proofs.Common.{◌≡◌, ℕ, ◌++◌, List, length, take, drop, sym, subst, arith}
 use Rattle.std.proofs.lemmas.List.{take_at}
 use Rattle.silt_device.specs.Layout.{entry_len}
 use Rattle.silt_frame.specs.Rows.{StoredRow}

@@ -10,7 +10,7 @@ use Rattle.silt_event.specs.declared.progress.Progress.TheVariants.{Moved}
 use Rattle.silt_tiers.proofs.ConvertSteps.{begin_converts, begin_turn, begin_waits, first_advances, first_failed_breaks, first_failed_map, started_shape, step_cause}
 use Rattle.silt_tiers.proofs.Exits.{on_error}
 use Rattle.silt_tiers.proofs.Viewing.{state_of}
-use Rattle.silt_tiers.proofs.Works.{went}
+use Rattle.silt_tiers.proofs.Works.{nothing_done, went}
 use Rattle.silt_tiers.proofs.tiers.Tiers.begin_conversion.Goals as goal
 
 pub returns-in_default-lowest_free_hash-clause-converts :
@@ -91,3 +91,9 @@ returns-clause-converts g c =
     let limits = subst InLimits c.geometry-geometry.ensures.value c.hashes.ensures.limits in
     rw (← c.self.view_is) (begin_converts stores c.in-Some.oldest.now c.ruling.result c.hashes.result c.in-Some-lowest_free_hash.region read none c.self.invariant.whole c.ruling.ensures.sound c.ruling.ensures.value hashes c.in-Some-lowest_free_hash.ensures.some
     c.in-Ok.conversion c.in-Ok.ensures.start limits c.step.new.self _ c.in_ok-step.ensures.ok.next)
+
+pub returns-in_default-clause-works : goal.returns-in_default-clause-works
+returns-in_default-clause-works g c = nothing_done g.D.Disk c.args.disk.now c.args.self.now _ c.requires.stands
+
+pub returns-in_default-lowest_free_hash-clause-works : goal.returns-in_default-lowest_free_hash-clause-works
+returns-in_default-lowest_free_hash-clause-works g c = nothing_done g.D.Disk c.args.disk.now c.args.self.now _ c.requires.stands

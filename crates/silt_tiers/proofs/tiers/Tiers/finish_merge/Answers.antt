@@ -1,11 +1,12 @@
-use Rattle.std.proofs.Common.{◌≡◌, ap, sym, ◌∙◌, subst}
+use Rattle.std.proofs.Common.{◌≡◌, ◌<◌, ◌-◌, ◌^◌, length, ap, sym, ◌∙◌, subst, arith}
+use Rattle.std.proofs.lemmas.List.{length-map}
 use Rattle.silt_event.specs.declared.progress.Progress.TheVariants.{Finished}
 use Rattle.silt_manifest.specs.declared.body.Body.{Body}
 use Rattle.silt_tiers.specs.Merge.{merge_turn, merged_body}
-use Rattle.silt_tiers.specs.State.{TiersState}
+use Rattle.silt_tiers.specs.State.{TiersState, hash_region_of}
 use Rattle.silt_tiers.proofs.Holdings.{before_last}
 use Rattle.silt_tiers.proofs.MergeDone.{may_end}
-use Rattle.silt_tiers.proofs.MergeSteps.{is_finished}
+use Rattle.silt_tiers.proofs.MergeSteps.{is_finished, merging_of}
 use Rattle.silt_tiers.proofs.Viewing.{state_of}
 use Rattle.silt_tiers.proofs.tiers.Tiers.finish_merge.Goals as goal
 
@@ -22,3 +23,17 @@ end_merge-requires-clause-ends g c κs within =
     ∙ ap (λ n. merged_body stores.manifest.ruling c.in-Some.merge.stores n c.len.result) region
     ∙ ap (λ n. merged_body stores.manifest.ruling c.in-Some.merge.stores c.in-Some.merge.region n) written in
     rw (← c.self.view_is) (may_end stores c.merged_body-body.result c.in-Some.merge c.in-Ok.sorted c.in-Some.is (is_finished stores c.in-Some.merge c.in-Some.is turn) unspent c.in-Ok.ensures.store body c.in-Ok.ensures.indexed)
+
+pub merged_body-body-requires-clause-count : goal.merged_body-body-requires-clause-count
+merged_body-body-requires-clause-count g c =
+    let stores : TiersState = state_of c.self.inside in
+    let most = (merging_of stores c.in-Some.merge c.self.invariant.whole c.in-Some.is).most in
+    let ids : length c.ruling-ruling.result.hashed ≡ length stores.hashes = ap (λ (b : Body). length b.hashed) c.ruling-ruling.ensures.value ∙ ap length (sym c.self.invariant.whole.hash_regions) ∙ length-map stores.hashes hash_region_of in
+    omega (arith, most, ids, c.stores-count.ensures.value)
+
+pub merged_body-body-requires-clause-unspent : goal.merged_body-body-requires-clause-unspent
+merged_body-body-requires-clause-unspent g c =
+    let stores : TiersState = state_of c.self.inside in
+    let same = ap (λ (b : Body). b.generation) c.ruling-ruling.ensures.value in
+    let unspent = before_last stores.manifest.shape _ stores.manifest.ruling c.ruling-ruling.ensures.sound (λ e. c.if-ruling-eq-LAST_GENERATION.false (same ∙ e)) in
+    subst (λ (b : Body). b.generation < 2 ^ 63 - 1) (sym c.ruling-ruling.ensures.value) unspent

@@ -3,11 +3,12 @@ use Rattle.std.specs.Prelude.{slice_get}
 use Rattle.std.specs.Option.{option_copied}
 use Rattle.silt_log_store.specs.State.{LogStoreState}
 use Rattle.silt_hash_store.specs.Conversion.{ConversionState}
-use Rattle.silt_tiers.specs.State.{TiersState}
+use Rattle.silt_tiers.specs.State.{AreWhole, TiersState}
 use Rattle.silt_tiers.specs.Standing.{Stands}
 use Rattle.silt_tiers.specs.Conversion.{convert_turn, refusal_of_step}
 use Rattle.silt_event.specs.declared.progress.Progress.TheVariants.{Moved}
-use Rattle.silt_tiers.proofs.ConvertSteps.{next_advances, next_failed_breaks, next_failed_map, step_cause}
+use Rattle.silt_tiers.proofs.ConvertDone.{way}
+use Rattle.silt_tiers.proofs.ConvertSteps.{moves_below, next_advances, next_converts, next_failed_breaks, next_failed_map, step_cause}
 use Rattle.silt_tiers.proofs.Exits.{on_error}
 use Rattle.silt_tiers.proofs.Viewing.{state_of}
 use Rattle.silt_tiers.proofs.Works.{went}
@@ -34,3 +35,31 @@ returns-clause-works g c =
     let read = sym (ap option_copied c.in-Some-last.is) ∙ c.last.ensures.value ∙ ap (λ (l : List LogStoreState). slice_get l (length l - 1)) c.deref.ensures.value in
     rw (← c.self.view_is) (went g.D.Disk [] c.args.disk.now c.step.new.disk stores _ _ (record { size = c.step.ensures.size; honest = c.step.ensures.changes.honest }) stands c.in_ok-step.ensures.failures
     (next_advances _ _ stores c.in-Some-last.log.now c.in-Some.conversion c.step.new.self stands read c.in-Some.is turn c.step.ensures.size c.step.ensures.changes c.in_ok-step.ensures.ok c.step.ensures.written))
+
+pub step-requires-clause-more : goal.step-requires-clause-more
+step-requires-clause-more g c κs within =
+    let stores : TiersState = state_of c.self.inside in
+    let stands = subst (λ (v : TiersState). Stands (g.D.Disk.content c.args.disk.now) v) (sym c.self.view_is) c.requires.stands in
+    let turn = subst (λ (v : TiersState). convert_turn v ≡ Moved) (sym c.self.view_is) c.requires.turn in
+    moves_below stores c.in-Some.conversion c.in-Some.is (way _ stores stands c.in-Some.conversion c.in-Some.is) turn
+
+pub invariant_of-self : goal.invariant_of-self
+invariant_of-self g c =
+    let stores : TiersState = state_of c.self.inside in
+    let same = ap (λ (v : ConversionState). let s : TiersState = record stores { converting = Some v } in s) c.in_err-step.ensures.err ∙ ap (λ (o : Option ConversionState). let s : TiersState = record stores { converting = o } in s) (sym c.in-Some.is) in
+    record { whole = subst AreWhole (sym same) c.self.invariant.whole; enough = c.self.invariant.enough; enough_hashes = c.self.invariant.enough_hashes }
+
+pub invariant_of-self-2 : goal.invariant_of-self-2
+invariant_of-self-2 g c =
+    let stores : TiersState = state_of c.self.inside in
+    let stands = subst (λ (v : TiersState). Stands (g.D.Disk.content c.args.disk.now) v) (sym c.self.view_is) c.requires.stands in
+    let turn = subst (λ (v : TiersState). convert_turn v ≡ Moved) (sym c.self.view_is) c.requires.turn in
+    let read = sym (ap option_copied c.in-Some-last.is) ∙ c.last.ensures.value ∙ ap (λ (l : List LogStoreState). slice_get l (length l - 1)) c.deref.ensures.value in
+    let goes = next_advances _ _ stores c.in-Some-last.log.now c.in-Some.conversion c.step.new.self stands read c.in-Some.is turn c.step.ensures.size c.step.ensures.changes c.in_ok-step.ensures.ok c.step.ensures.written in
+    record { whole = goes.stands.whole; enough = c.self.invariant.enough; enough_hashes = c.self.invariant.enough_hashes }
+
+pub returns-clause-converts : goal.returns-clause-converts
+returns-clause-converts g c =
+    let stores : TiersState = state_of c.self.inside in
+    let turn = subst (λ (v : TiersState). convert_turn v ≡ Moved) (sym c.self.view_is) c.requires.turn in
+    rw (← c.self.view_is) (next_converts stores c.in-Some.conversion c.step.new.self _ _ c.in-Some.is turn c.in_ok-step.ensures.ok.next)
