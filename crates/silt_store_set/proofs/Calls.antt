@@ -91,6 +91,10 @@ left_seen facts disk stores count failed holds =
     ] in
     go failed refl
 
+-- what is true of a store stays where its disk and its stores do
+pub core_stays : {D : Type 0} (content : D → Content) (old new : D) (stores after : TiersState) (count : ℕ) (failed : Bool) → IsCore (content old) stores count failed → after ≡ stores → new ≡ old → IsCore (content new) after count failed
+core_stays content old new stores after count failed holds same same_disk = rw (same_disk, same) holds
+
 -- what is true of a store after a failed write or sync
 pub core_broke : (old new : Content) (stores after : TiersState) (count : ℕ) (failed : Bool) → IsCore old stores count failed → SameDisk old new → after.manifest.shape ≡ stores.manifest.shape → Breaks old new stores
     → IsCore new after count true

@@ -128,3 +128,9 @@ returns-clause-hash_rows g c =
     rows_counted content shape body named c.in_ok-active.ensures.sound c.as_slice.result.now c.as_slice.ensures.value c.in_ok-frozen.frozen.stores.items c.in_ok-frozen.frozen.puts c.in_ok-frozen.ensures.read
     c.as_slice-2.result.now c.as_slice-2.ensures.value c.in_ok-hashes.hashes.stores.items c.in_ok-hashes.hashes.puts c.in_ok-hashes.hashes.rows c.in_ok-hashes.ensures.read
     c.args.manifest c.geometry-geometry.ensures.value c.ruling-body.ensures.value
+
+pub read_log-requires-clause-region : goal.read_log-requires-clause-region
+read_log-requires-clause-region g c κs within =
+    let all : HasRegions c.geometry-geometry.result c.ruling-body.result =
+    regions_so c.args.manifest (ruling_slot c.args.manifest) c.geometry-geometry.result c.ruling-body.result c.geometry-geometry.ensures.value c.ruling-body.ensures.value c.sorted_capacity.ensures.limits c.ruling-body.ensures.sound in
+    all.active

@@ -1,4 +1,5 @@
-use Rattle.std.proofs.Common.{◌+◌, IsTrue, List, [], ◌∷◌, get_or, take, subst, sym, ◌∙◌, arith}
+use Rattle.std.proofs.Common.{◌+◌, ℕ, IsTrue, List, [], ◌∷◌, get_or, take, subst, sym, ◌∙◌, arith}
+use Rattle.std.proofs.lemmas.List.{take_all}
 use Rattle.std.proofs.lemmas.Result.{err_from_is_err_and}
 use Rattle.silt_device.specs.Disk.{GaveAny}
 use Rattle.silt_hash_store.specs.State.{HashState}
@@ -29,3 +30,8 @@ loop-region-preserved g c =
       most_rows = omega (arith, next.most.1, c.loop-region.invariant.most_rows);
       room = omega (arith, c.in-Ok-push.ensures.capacity, c.loop-region.invariant.room);
     }
+
+pub returns-clause-read : goal.returns-clause-read
+returns-clause-read g c =
+    let all = take_all c.loop-region.region-index c.args.regions.now c.loop-region-test.false in
+    subst (λ (regions : List ℕ). AreReadHashes (g.D.Disk.content c.args.disk.now) c.args.geometry regions c.loop-region.stores.items c.loop-region.puts c.loop-region.rows) all c.loop-region.invariant.read

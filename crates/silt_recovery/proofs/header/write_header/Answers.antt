@@ -1,5 +1,6 @@
 use Rattle.std.proofs.Common.{List, ℕ, sym, ◌∙◌, ap, subst, arith}
 use Rattle.silt_device.specs.Disk.{Writes, splice}
+use Rattle.silt_device.proofs.Laws.{changes_joined, changes_wider}
 use Rattle.silt_device.specs.Header.{header_bytes}
 use Rattle.silt_recovery.proofs.Formats.{gated}
 use Rattle.silt_recovery.proofs.HalfFormats.{header_behind, header_gated}
@@ -31,3 +32,12 @@ returns-clause-header g c = λ h.
     let h0 = sym first.honest ∙ h1 in
     gated 0 (header_bytes c.args.geometry.now) (g.D.Disk.content c.args.disk.now).shown (g.D.Disk.content c.write_synced.new.disk).shown (g.D.Disk.content c.write_synced-2.new.disk).shown
     (omega (arith, c.requires.size)) (first.shown h0 ∙ ap (λ (bytes : List ℕ). splice 1 bytes (g.D.Disk.content c.args.disk.now).shown) c.header_bytes-header.ensures) (second.shown h1)
+
+pub returns-in_err-write_synced-clause-changes : goal.returns-in_err-write_synced-clause-changes
+returns-in_err-write_synced-clause-changes g c = changes_wider 1 _ 0 37 _ _ c.write_synced.ensures.changes (omega arith) (omega arith)
+
+pub returns-in_err-write_synced-2-clause-changes : goal.returns-in_err-write_synced-2-clause-changes
+returns-in_err-write_synced-2-clause-changes g c = changes_joined 1 _ 0 1 0 37 _ _ _ c.write_synced.ensures.changes c.write_synced-2.ensures.changes (omega arith) (omega arith) (omega arith) (omega arith)
+
+pub returns-clause-changes : goal.returns-clause-changes
+returns-clause-changes g c = changes_joined 1 _ 0 1 0 37 _ _ _ c.write_synced.ensures.changes c.write_synced-2.ensures.changes (omega arith) (omega arith) (omega arith) (omega arith)

@@ -1,4 +1,5 @@
-use Rattle.std.proofs.Common.{◌+◌, IsTrue, List, [], ◌∷◌, get_or, take, subst, sym, ◌∙◌, arith}
+use Rattle.std.proofs.Common.{◌+◌, ℕ, IsTrue, List, [], ◌∷◌, get_or, take, subst, sym, ◌∙◌, arith}
+use Rattle.std.proofs.lemmas.List.{take_all}
 use Rattle.std.proofs.lemmas.Result.{err_from_is_err_and}
 use Rattle.silt_device.specs.Disk.{GaveAny}
 use Rattle.silt_log_store.specs.State.{LogStoreState}
@@ -28,3 +29,8 @@ loop-region-preserved g c =
       most = omega (arith, next.most, c.from-puts.ensures, c.puts.ensures.value, c.loop-region.invariant.most);
       room = omega (arith, c.in-Ok-push.ensures.capacity, c.loop-region.invariant.room);
     }
+
+pub returns-clause-read : goal.returns-clause-read
+returns-clause-read g c =
+    let all = take_all c.loop-region.region-index c.args.regions.now c.loop-region-test.false in
+    subst (λ (regions : List ℕ). AreReadLogs (g.D.Disk.content c.args.disk.now) c.args.geometry regions c.loop-region.stores.items c.loop-region.puts) all c.loop-region.invariant.read

@@ -16,3 +16,12 @@ returns-in-Err-Crowded-clause-cause g c = λ h.
     let refused = rw c.in-Err-Crowded.field-0-is at c.in-Err-Crowded.ensures.err in
     let first = refused h in
     crowded_row c.args.geometry (g.D.Disk.content c.args.disk.now).shown c.args.region first.0 first.1
+
+pub returns-in-Ok-clause-read : goal.returns-in-Ok-clause-read
+returns-in-Ok-clause-read g c = record {
+  has_shape = c.in-Ok.ensures.region.0;
+  bounds = c.puts-puts.ensures.held.bounds;
+  settled = c.in-Ok.ensures.region.2;
+  scanned = λ h. let rebuilt = c.in-Ok.ensures.rebuilt h in rebuilt.scanned;
+  indexed = c.in-Ok.ensures.index;
+}

@@ -1,5 +1,5 @@
-use Rattle.std.proofs.Common.{ap, sym, ◌∙◌}
-use Rattle.silt_store_set.proofs.Calls.{core_broke}
+use Rattle.std.proofs.Common.{[], ap, sym, ◌∙◌, arith}
+use Rattle.silt_store_set.proofs.Calls.{core_broke, core_went}
 use Rattle.silt_store_set.proofs.Flushes.{flushed_none, flushed, flush_broke}
 use Rattle.silt_store_set.proofs.store_core.Core.flush.Goals as goal
 
@@ -19,3 +19,8 @@ pub invariant_of-self-in-Err : goal.invariant_of-self-in-Err
 invariant_of-self-in-Err g c =
     core_broke (g.D.Disk.content c.self.inside.disk) (g.D.Disk.content c.flush.new.disk) c.self.inside.tiers c.flush.new.self c.self.inside.count c.self.inside.failed c.self.invariant c.flush.ensures.works.same
     (ap (λ m. m.shape) c.flush.ensures.behind.manifest) c.in-Err.ensures.err.breaks
+
+pub invariant_of-self : goal.invariant_of-self
+invariant_of-self g c =
+    core_went [] (g.D.Disk.content c.self.inside.disk) (g.D.Disk.content c.flush.new.disk) c.self.inside.tiers c.flush.new.self c.self.inside.count c.self.inside.count c.self.inside.failed c.self.invariant
+    c.if-self.false c.flush.ensures.works.same c.in-Ok.ensures.works.advances (omega arith) c.self.invariant.count_most

@@ -1,5 +1,5 @@
 use Rattle.std.proofs.Common.{[], arith}
-use Rattle.silt_store_set.proofs.Calls.{core_broke, core_went}
+use Rattle.silt_store_set.proofs.Calls.{core_broke, core_stays, core_went}
 use Rattle.silt_store_set.proofs.Merges.{step_broke, step_no_memory, step_spent, step_unread, stepped}
 use Rattle.silt_store_set.proofs.store_core.Core.merge.Goals as goal
 
@@ -46,3 +46,18 @@ pub invariant_of-self : goal.invariant_of-self
 invariant_of-self g c =
     core_went [] (g.D.Disk.content c.self.inside.disk) (g.D.Disk.content c.merge.new.disk) c.self.inside.tiers c.merge.new.self c.self.inside.count c.self.inside.count c.self.inside.failed c.self.invariant
     c.if-self.false c.merge.ensures.works.same c.in-Ok.ensures.works.advances (omega arith) c.self.invariant.count_most
+
+pub invariant_of-self-in-Err-Read : goal.invariant_of-self-in-Err-Read
+invariant_of-self-in-Err-Read g c =
+    let err = rw c.in-Err-Read.field-0-is at c.in-Err-Read.ensures.err in
+    core_stays g.D.Disk.content c.self.inside.disk c.merge.new.disk c.self.inside.tiers c.merge.new.self c.self.inside.count c.self.inside.failed c.self.invariant err.0 err.1
+
+pub invariant_of-self-in-Err-Spent : goal.invariant_of-self-in-Err-Spent
+invariant_of-self-in-Err-Spent g c =
+    let err = rw c.in-Err-Spent.field-0-is at c.in-Err-Spent.ensures.err in
+    core_stays g.D.Disk.content c.self.inside.disk c.merge.new.disk c.self.inside.tiers c.merge.new.self c.self.inside.count c.self.inside.failed c.self.invariant err.0 err.1
+
+pub invariant_of-self-in-Err-NoMemory : goal.invariant_of-self-in-Err-NoMemory
+invariant_of-self-in-Err-NoMemory g c =
+    let err = rw c.in-Err-NoMemory.field-0-is at c.in-Err-NoMemory.ensures.err in
+    core_stays g.D.Disk.content c.self.inside.disk c.merge.new.disk c.self.inside.tiers c.merge.new.self c.self.inside.count c.self.inside.failed c.self.invariant err.0 err.1

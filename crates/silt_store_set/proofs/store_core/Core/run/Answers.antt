@@ -39,3 +39,8 @@ returns-clause-kept g c = λ working.
           keeps_runs g.D.Disk c.args.self.now c.loop-event.self c.args.events.now c.loop-event.replies.items working safe runs
           (sym c.loop-event.invariant.same_disk.honest ∙ h) image left;
     }
+
+pub returns-clause-runs : goal.returns-clause-runs
+returns-clause-runs g c =
+    let all = take_all c.loop-event.event-index c.args.events.now c.loop-event-test.false in
+    subst (λ (events : List Event). Runs g.D.Disk c.args.self.now events c.loop-event.replies.items c.loop-event.self) all c.loop-event.invariant.runs

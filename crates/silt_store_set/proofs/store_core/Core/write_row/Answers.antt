@@ -1,5 +1,5 @@
 use Rattle.std.proofs.Common.{◌+◌, [], ◌∷◌, arith}
-use Rattle.silt_store_set.proofs.Calls.{core_broke, core_went, seen}
+use Rattle.silt_store_set.proofs.Calls.{core_broke, core_stays, core_went, seen}
 use Rattle.silt_store_set.proofs.Rows.{may_count, may_working, row_taken, row_broke, row_unread, row_no_room, row_spent, row_no_memory}
 use Rattle.silt_store_set.proofs.store_core.Core.write_row.Goals as goal
 
@@ -61,3 +61,23 @@ invariant_of-self g c =
     let before = seen g.D.Disk c.self.inside.disk c.self.inside.tiers c.self.inside.count c.self.inside.failed in
     core_went (_ ∷ []) (g.D.Disk.content c.self.inside.disk) (g.D.Disk.content c.write.new.disk) c.self.inside.tiers c.write.new.self c.self.inside.count (c.self.inside.count + 1) c.self.inside.failed
     c.self.invariant (may_working c.args.kind before may) c.write.ensures.works.same c.in-Ok.ensures.works.advances (omega arith) (may_count c.args.kind before may)
+
+pub invariant_of-self-in-Err-Read : goal.invariant_of-self-in-Err-Read
+invariant_of-self-in-Err-Read g c =
+    let err = rw c.in-Err-Read.field-0-is at c.in-Err-Read.ensures.err in
+    core_stays g.D.Disk.content c.self.inside.disk c.write.new.disk c.self.inside.tiers c.write.new.self c.self.inside.count c.self.inside.failed c.self.invariant err.0.0 err.0.1
+
+pub invariant_of-self-in-Err-NoRoom : goal.invariant_of-self-in-Err-NoRoom
+invariant_of-self-in-Err-NoRoom g c =
+    let err = rw c.in-Err-NoRoom.field-0-is at c.in-Err-NoRoom.ensures.err in
+    core_stays g.D.Disk.content c.self.inside.disk c.write.new.disk c.self.inside.tiers c.write.new.self c.self.inside.count c.self.inside.failed c.self.invariant err.0.0 err.0.1
+
+pub invariant_of-self-in-Err-Spent : goal.invariant_of-self-in-Err-Spent
+invariant_of-self-in-Err-Spent g c =
+    let err = rw c.in-Err-Spent.field-0-is at c.in-Err-Spent.ensures.err in
+    core_stays g.D.Disk.content c.self.inside.disk c.write.new.disk c.self.inside.tiers c.write.new.self c.self.inside.count c.self.inside.failed c.self.invariant err.0.0 err.0.1
+
+pub invariant_of-self-in-Err-NoMemory : goal.invariant_of-self-in-Err-NoMemory
+invariant_of-self-in-Err-NoMemory g c =
+    let err = rw c.in-Err-NoMemory.field-0-is at c.in-Err-NoMemory.ensures.err in
+    core_stays g.D.Disk.content c.self.inside.disk c.write.new.disk c.self.inside.tiers c.write.new.self c.self.inside.count c.self.inside.failed c.self.invariant err.0.0 err.0.1
