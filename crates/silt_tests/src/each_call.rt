@@ -186,18 +186,31 @@ struct Failing {
     stop: Option<Fill>,
 }
 
-// All replies before the one that tells the fault are the life's own, and all behind it tell a failed store. Says whether there is one.
+// Whether the store has failed with this reply: behind the one that tells the fault all tell a failed store, and those before it are the life's own.
+fn has_failed_with(
+    rt: &impl Abort,
+    has_failed: bool,
+    told: Told,
+    expected: Told,
+    number: u64,
+) -> bool {
+    if has_failed {
+        assert_eq!(rt; told, Told::Refused(9), "call {number}");
+        return true;
+    }
+    if told == Told::Refused(5) {
+        return true;
+    }
+    assert_eq!(rt; told, expected, "call {number}");
+    false
+}
+
+// All replies are such. Says whether one told the fault.
 fn tells_once(rt: &impl Abort, life: &Life, told: &[Told], number: u64) -> bool {
-    let mut has_failed = false;
     assert_eq!(rt; told.len(), life.told.len());
+    let mut has_failed = false;
     for (told, expected) in told.iter().zip(life.told.iter()) {
-        if has_failed {
-            assert_eq!(rt; *told, Told::Refused(9), "call {number}");
-        } else if *told == Told::Refused(5) {
-            has_failed = true;
-        } else {
-            assert_eq!(rt; told, expected, "call {number}");
-        }
+        has_failed = has_failed_with(rt, has_failed, *told, *expected, number);
     }
     has_failed
 }
@@ -232,8 +245,17 @@ fn answered(
     mut core: Core<FaultDisk>,
     number: u64,
 ) -> Result<(MemDisk, Vec<Told>, bool), Fail> {
-    let (told, is_made) = answers(rt, alloc, life, &mut core, number)?;
-    Ok((core.close().into_disk(), told, is_made))
+    let answers = answers(rt, alloc, life, &mut core, number);
+    with_disk(core.close().into_disk(), answers)
+}
+
+// A disk, and what was told on it.
+fn with_disk(
+    disk: MemDisk,
+    answers: Result<(Vec<Told>, bool), AllocError>,
+) -> Result<(MemDisk, Vec<Told>, bool), Fail> {
+    let (told, is_made) = answers?;
+    Ok((disk, told, is_made))
 }
 
 fn answers(
