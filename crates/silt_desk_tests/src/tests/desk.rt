@@ -64,6 +64,35 @@ fn look<D: Disk, T: Trace, N: Naming>(
     desk.look(key, out).ok()
 }
 
+// A desk that keeps at most so many calls, with so many seats.
+fn seated<D: Disk, N: Naming>(
+    alloc: Global,
+    core: Core<D>,
+    most: u64,
+    count: u64,
+    calls: Blank,
+    accepted: Blank,
+) -> Result<(Desk<D, Kept, N>, Vec<Seat<N>>), Fail>
+    requires calls { (calls.name ≡ N.calls_name) × (calls.parts ≡ N.seats) }
+    requires accepted { (accepted.name ≡ N.accepted_name) × (accepted.parts ≡ N.seats) }
+    requires seats { N.seats ≡ count }
+{
+    let Ok(trace) = Kept::new(alloc, &core, most) else {
+        return Err("a trace".into());
+    };
+    match Desk::<D, Kept, N>::new(alloc, core, trace, count, calls, accepted) {
+        Ok(made) => Ok(made),
+        Err(_) => Err("a desk".into()),
+    }
+}
+
+// Two seats of those that there are, the last one last.
+fn pop_two<N: Naming>(seats: &mut Vec<Seat<N>>) -> Option<(Seat<N>, Seat<N>)> {
+    let second = seats.pop()?;
+    let first = seats.pop()?;
+    Some((first, second))
+}
+
 // A desk that keeps at most so many calls, and its two seats, the first one first.
 fn two_seats<D: Disk, N: Naming>(
     alloc: Global,
@@ -76,16 +105,11 @@ fn two_seats<D: Disk, N: Naming>(
     requires accepted { (accepted.name ≡ N.accepted_name) × (accepted.parts ≡ N.seats) }
     requires seats { N.seats ≡ 2 }
 {
-    let Ok(trace) = Kept::new(alloc, &core, most) else {
-        return Err("a trace".into());
-    };
-    let Ok((desk, mut seats)) = Desk::<D, Kept, N>::new(alloc, core, trace, 2, calls, accepted)
-    else {
-        return Err("a desk".into());
-    };
-    let second = seats.pop().ok_or("a seat")?;
-    let first = seats.pop().ok_or("a seat")?;
-    Ok((desk, first, second))
+    let (desk, mut seats) = seated::<D, N>(alloc, core, most, 2, calls, accepted)?;
+    match pop_two(&mut seats) {
+        Some((first, second)) => Ok((desk, first, second)),
+        None => Err("two seats".into()),
+    }
 }
 
 // How many calls and accepted commands a desk tells with both seats.

@@ -183,18 +183,27 @@ fn kept_again<D: Disk>(alloc: Global, core: &Core<D>) -> Option<Kept>
 }
 
 // All calls that were done are recorded, each once.
-fn records_all<D: Disk, N: Naming>(
+fn records_each<D: Disk, N: Naming>(
     rt: &impl Abort,
     alloc: Global,
     desk: &mut Desk<D, Kept, N>,
-    seats: Vec<Seat<N>>,
+    mut seats: Vec<Seat<N>>,
 ) -> Result<(), Fail> {
-    let mut seats = seats;
     let mut seat = seats.pop().ok_or("a seat")?;
     ask_all(rt, alloc, desk, &mut seat);
     seats.push(seat)?;
     assert_eq!(rt; desk.settle(seats).ok(), Some((33, 5)));
     Ok(())
+}
+
+// The same at a desk with its seat.
+fn records_all<D: Disk, N: Naming>(
+    rt: &impl Abort,
+    alloc: Global,
+    made: (Desk<D, Kept, N>, Vec<Seat<N>>),
+) -> Result<(), Fail> {
+    let (mut desk, seats) = made;
+    records_each(rt, alloc, &mut desk, seats)
 }
 
 // In this trace nothing is recorded.
@@ -206,8 +215,11 @@ fn is_blank(rt: &impl Abort, trace: &Kept) {
 }
 
 // Of this store and its trace nothing is done and nothing recorded.
-fn is_unused<D: Disk>(rt: &impl Abort, core: &Core<D>, trace: &Kept) {
-    assert_eq!(rt; (core.count(), trace.calls().len()), (0, 0));
+fn is_unused<D: Disk>(rt: &impl Abort, not_made: &NotMade<D, Kept>) {
+    assert_eq!(rt;
+        (not_made.core.count(), not_made.trace.calls().len()),
+        (0, 0)
+    );
 }
 
 // A store that gets no desk is handed back. At a desk all calls that were done are recorded.
@@ -227,9 +239,9 @@ fn records_what_is_done<D: Disk, N: Naming, R: Abort>(
     };
     is_blank(rt, &trace);
     match Desk::<D, Kept, N>::new(alloc, core, trace, 1, calls, accepted) {
-        Ok((mut desk, seats)) => records_all(rt, alloc, &mut desk, seats),
-        Err(NotMade::<D, Kept> { core, trace }) => {
-            is_unused(rt, &core, &trace);
+        Ok(made) => records_all(rt, alloc, made),
+        Err(not_made) => {
+            is_unused(rt, &not_made);
             Ok(())
         }
     }

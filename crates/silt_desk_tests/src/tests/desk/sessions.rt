@@ -1,7 +1,7 @@
 // Four threads call at once beside both workers, and what they recorded is done again by a plain map.
 ghost use Rattle.std.specs.Prelude.{◌≡◌};
 
-use crate::tests::desk::{get, join_over, put};
+use crate::tests::desk::{get, join_over, pop_two, put, seated};
 use crate::tests::{Open, are_those, opened, two_bytes};
 use crossbeam_channel::{Receiver, Sender};
 use silt_desk::{Desk, Kept, Naming, RecordedCall, Seat, Shared, Wake, converter, merger, settle};
@@ -175,34 +175,6 @@ fn done_again(map: &mut BTreeMap<Key, [u8; 2]>, call: &RecordedCall) -> Result<b
     }
 }
 
-/// A desk that keeps at most so many calls, with its seats.
-fn seated<D: Disk, N: Naming>(
-    alloc: Global,
-    core: Core<D>,
-    most: u64,
-    calls: Blank,
-    accepted: Blank,
-) -> Result<(Desk<D, Kept, N>, Vec<Seat<N>>), Fail>
-    requires calls { (calls.name ≡ N.calls_name) × (calls.parts ≡ N.seats) }
-    requires accepted { (accepted.name ≡ N.accepted_name) × (accepted.parts ≡ N.seats) }
-    requires seats { N.seats ≡ 6 }
-{
-    let Ok(trace) = Kept::new(alloc, &core, most) else {
-        return Err("a trace".into());
-    };
-    match Desk::<D, Kept, N>::new(alloc, core, trace, 6, calls, accepted) {
-        Ok(made) => Ok(made),
-        Err(_) => Err("a desk".into()),
-    }
-}
-
-/// Two seats of those that there are.
-fn pop_two<N: Naming>(seats: &mut Vec<Seat<N>>) -> Option<(Seat<N>, Seat<N>)> {
-    let first = seats.pop()?;
-    let second = seats.pop()?;
-    Some((first, second))
-}
-
 /// Two seats come back.
 fn push_two<N: Naming>(
     seats: &mut Vec<Seat<N>>,
@@ -220,6 +192,13 @@ fn pop_four<N: Naming>(seats: &mut Vec<Seat<N>>) -> Option<(Seat<N>, Seat<N>, Se
     Some((a, b, c, d))
 }
 
+/// A channel, with one sender for the sessions and one for the other worker.
+fn channel(alloc: Global) -> Result<(Receiver<Wake>, Sender<Wake>, Sender<Wake>), AllocError> {
+    let (wakes, from) = crossbeam_channel::unbounded(alloc)?;
+    let other = wakes.clone()?;
+    Ok((from, wakes, other))
+}
+
 /// The sessions and the workers at once, at seats that are handed out.
 fn run_seated<D: Disk, N: Naming + Send + Sync, R: Threads + Wait + Sync>(
     rt: &R,
@@ -229,19 +208,21 @@ fn run_seated<D: Disk, N: Naming + Send + Sync, R: Threads + Wait + Sync>(
     four: (Seat<N>, Seat<N>, Seat<N>, Seat<N>),
     turns: u32,
 ) -> Result<((Seat<N>, Seat<N>), ((Seat<N>, Seat<N>), (Seat<N>, Seat<N>))), Fail> {
-    let (wakes, from) = crossbeam_channel::unbounded(alloc)?;
-    let (others, other_from) = crossbeam_channel::unbounded(alloc)?;
+    let (first_from, to_first, first_by_other) = channel(alloc)?;
+    let (second_from, to_second, second_by_other) = channel(alloc)?;
     let first = Place {
         seat: workers.0,
-        wakes: from,
-        other: others.clone()?,
+        wakes: first_from,
+        other: second_by_other,
     };
     let second = Place {
         seat: workers.1,
-        wakes: other_from,
-        other: wakes.clone()?,
+        wakes: second_from,
+        other: first_by_other,
     };
-    Ok(run_both(rt, alloc, shared, first, second, four, turns, wakes, others))
+    Ok(run_both(
+        rt, alloc, shared, first, second, four, turns, to_first, to_second,
+    ))
 }
 
 /// The sessions and the workers at once. All seats come back.
@@ -296,7 +277,7 @@ fn many_calls<D: Disk, N: Naming + Send + Sync, R: Threads + Wait + Abort + Sync
     requires accepted { (accepted.name ≡ N.accepted_name) × (accepted.parts ≡ N.seats) }
     requires seats { N.seats ≡ 6 }
 {
-    let (desk, seats) = seated::<D, N>(alloc, core, 1_000_000, calls, accepted)?;
+    let (desk, seats) = seated::<D, N>(alloc, core, 1_000_000, 6, calls, accepted)?;
     let shared: Shared<D, Kept, N> = RwLock::new(desk);
     let seats = run_all(rt, alloc, &shared, seats, turns)?;
     let (settled, _) = settle(rt, &shared, seats).ok().ok_or("all are here")?;
@@ -306,19 +287,36 @@ fn many_calls<D: Disk, N: Naming + Send + Sync, R: Threads + Wait + Abort + Sync
     ends_as_replayed(rt, alloc, desk)
 }
 
+/// What the recorded calls of a desk make of the entries at its opening.
+fn replayed_by<D: Disk, N: Naming>(
+    alloc: Global,
+    desk: &Desk<D, Kept, N>,
+) -> Result<BTreeMap<Key, [u8; 2]>, Fail> {
+    let kept = desk.trace();
+    Ok(replayed(alloc, kept.opening(), kept.calls())?.ok_or("each get is answered so")?)
+}
+
+/// A store ends with these entries.
+fn ends_with<D: Disk, R: Abort>(
+    rt: &R,
+    alloc: Global,
+    core: &Core<D>,
+    map: &BTreeMap<Key, [u8; 2]>,
+) -> Result<(), Fail> {
+    let entries = core.entries(alloc).ok().ok_or("has entries")?;
+    assert!(rt; are_those(&entries, map));
+    assert!(rt; entries.len() > 0);
+    Ok(())
+}
+
 /// The entries at the end are those of the replay.
 fn ends_as_replayed<D: Disk, N: Naming, R: Abort>(
     rt: &R,
     alloc: Global,
     desk: Desk<D, Kept, N>,
 ) -> Result<(), Fail> {
-    let kept = desk.trace();
-    let map = replayed(alloc, kept.opening(), kept.calls())?.ok_or("each get is answered so")?;
-    let core = desk.into_core();
-    let entries = core.entries(alloc).ok().ok_or("has entries")?;
-    assert!(rt; are_those(&entries, &map));
-    assert!(rt; entries.len() > 0);
-    Ok(())
+    let map = replayed_by(alloc, &desk)?;
+    ends_with(rt, alloc, &desk.into_core(), &map)
 }
 
 #[test]

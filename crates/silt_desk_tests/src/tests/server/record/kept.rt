@@ -91,11 +91,8 @@ struct Told {
     ends_alike: bool,
 }
 
-/// What the record of a desk tells.
-fn tell<D: Disk, N: Naming>(alloc: Global, desk: Desk<D, Kept, N>) -> Option<Told> {
-    let calls = desk.trace().calls().len() as u64;
-    let again = replayed(alloc, desk.trace().calls()).ok()?;
-    let core = desk.into_core();
+/// What the record of a desk tells, of which so many calls are done again, and the store behind it.
+fn tell_of<D: Disk>(alloc: Global, core: &Core<D>, again: &Again, calls: u64) -> Option<Told> {
     let entries = core.entries(alloc).ok()?;
     Some(Told {
         calls,
@@ -103,6 +100,13 @@ fn tell<D: Disk, N: Naming>(alloc: Global, desk: Desk<D, Kept, N>) -> Option<Tol
         accepted: again.accepted,
         ends_alike: are_those(&entries, &again.map),
     })
+}
+
+/// What the record of a desk tells.
+fn tell<D: Disk, N: Naming>(alloc: Global, desk: Desk<D, Kept, N>) -> Option<Told> {
+    let calls = desk.trace().calls().len() as u64;
+    let again = replayed(alloc, desk.trace().calls()).ok()?;
+    tell_of(alloc, &desk.into_core(), &again, calls)
 }
 
 /// Serves a store whose calls are kept, and gives what its record tells, with the status. The blanks become the ledgers.
