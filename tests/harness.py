@@ -1,0 +1,105 @@
+"""What every part of the suite stands on: the program, its folder, its random numbers, and the watching library.
+
+A part is a module `test_NAME.py` of this folder with classes derived from `Case`. `tests/run` runs it.
+"""
+import os
+import pathlib
+import random
+import shutil
+import subprocess
+import tempfile
+import unittest
+from dataclasses import dataclass
+
+TESTS = pathlib.Path(__file__).resolve().parent
+TOP = TESTS.parent
+# The gate's seed: each run of the gate makes the same random choices.
+DEFAULT_SEED = 20111023
+# How long one run of the program may take, in seconds. A build with checks is slower.
+TIME_LIMIT = 60
+
+
+def setting(name, default):
+    """A word of the command line, which `tests/run` hands to its parts in the environment."""
+    return os.environ.get(f"SILT_TEST_{name}", default)
+
+
+PROGRAM = pathlib.Path(setting("PROGRAM", TOP / "crates/silt/out/silt"))
+SEED = int(setting("SEED", DEFAULT_SEED))
+LONG = setting("LONG", "") != ""
+# Whether the program is the proved one. A build for trying has a memory checker of its own, so no request for memory can be refused there.
+PROVED = setting("UNPROVED", "") == ""
+
+
+def scaled(count):
+    """A number of random cases: a hundred times as many with --long."""
+    return count * 100 if LONG else count
+
+
+@dataclass
+class Ended:
+    """How a run of the program ended: its status (a negative number is a signal), its output and its error output."""
+
+    status: int
+    out: str
+    err: str
+
+    @property
+    def lines(self):
+        return self.out.splitlines()
+
+
+_library = None
+
+
+def watch_library():
+    """The library of watch.c, which records or refuses calls of the program. It is compiled once a process."""
+    global _library
+    if _library is None:
+        _library = tempfile.TemporaryDirectory(prefix="silt-watch-")
+        source, made = TESTS / "watch.c", pathlib.Path(_library.name) / "watch.so"
+        subprocess.run(["cc", "-O2", "-Wall", "-Werror", "-shared", "-fPIC", "-pthread", "-o", made, source, "-ldl"], check=True)
+    return pathlib.Path(_library.name) / "watch.so"
+
+
+class Case(unittest.TestCase):
+    """A test with a folder of its own, in which the program runs, and random numbers of its own."""
+
+    maxDiff = None
+
+    def setUp(self):
+        self.folder = pathlib.Path(tempfile.mkdtemp(prefix="silt-test-"))
+        self.addCleanup(shutil.rmtree, self.folder, ignore_errors=True)
+        self.random = random.Random(f"{SEED} {self.id()}")
+
+    def path(self, name):
+        return self.folder / name
+
+    def start(self, *words, env=None, **how):
+        """Starts the program with these words in the test's folder. The caller reads and ends it."""
+        how = {"stdin": subprocess.PIPE, "stdout": subprocess.PIPE, "stderr": subprocess.PIPE, "cwd": self.folder} | how
+        return subprocess.Popen([PROGRAM, *map(str, words)], env={**os.environ, **(env or {})}, **how)
+
+    def silt(self, *words, text="", env=None, limit=TIME_LIMIT):
+        """Runs the program with these words and this standard input to its end."""
+        data = text if isinstance(text, bytes) else text.encode()
+        with self.start(*words, env=env) as running:
+            try:
+                out, err = running.communicate(data, timeout=limit)
+            except subprocess.TimeoutExpired:
+                running.kill()
+                self.fail(f"silt {' '.join(map(str, words))} did not end in {limit} seconds")
+        return Ended(running.returncode, out.decode(errors="replace"), err.decode(errors="replace"))
+
+    def store(self, geometry, lines=(), name="store"):
+        """Makes a store of this geometry ('2 2 4 2 2 8') in the test's folder, and runs these lines on it. Returns its path."""
+        made = self.silt("format", name, *geometry.split())
+        self.assertEqual(made.status, 0, made)
+        if lines:
+            ran = self.silt("run", name, text="".join(line + "\n" for line in lines))
+            self.assertEqual(ran.status, 0, ran)
+        return self.path(name)
+
+    def check_report(self, name="store"):
+        """What `check` prints of a store."""
+        return self.silt("check", name)
