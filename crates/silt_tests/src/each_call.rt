@@ -24,8 +24,7 @@ struct Life<'a> {
     told: &'a [Told],
 }
 
-// Which calls of a life fail, one at a time: each read, of which there are at least so many, or each write and each sync, of which there are
-// just so many.
+// Which calls of a life fail, one at a time: each read, or each write and each sync. There are just so many.
 #[derive(Clone, Copy)]
 enum Fails {
     Reads(u64),
@@ -34,7 +33,7 @@ enum Fails {
 
 fn each_fails(rt: &impl Abort, alloc: Global, life: &Life, fails: Fails) -> Result<(), Fail> {
     match fails {
-        Fails::Reads(least) => each_read_fails(rt, alloc, life, least),
+        Fails::Reads(reads) => each_read_fails(rt, alloc, life, reads),
         Fails::Changes(writes, syncs) => each_change_fails(rt, alloc, life, writes, syncs),
     }
 }
@@ -153,29 +152,32 @@ fn faults_of_read(rt: &impl Abort, alloc: Global, life: &Life, number: u64) -> R
     Ok(more.saturating_add(faults))
 }
 
-// Each read of the life fails in turn, of which there are at least so many.
-fn each_read_fails(rt: &impl Abort, alloc: Global, life: &Life, least: u64) -> Result<(), Fail> {
+// Each read of the life fails in turn, of which there are just so many.
+fn each_read_fails(rt: &impl Abort, alloc: Global, life: &Life, reads: u64) -> Result<(), Fail> {
     for number in 1..1000u64 {
         let faults = faults_of_read(rt, alloc, life, number)?;
         assert!(rt; faults < 2, "read {number}");
         if faults == 0 {
-            assert!(rt; number > least, "{number} reads");
+            assert_eq!(rt; number.saturating_sub(1), reads, "reads");
             return Ok(());
         }
     }
     Err("reads without end".into())
 }
 
-// An opening makes four reads, each put of a key whose bucket is taken one of a head, each slot that is not empty one of a row, the get
-// one, and the list at least one for each row.
+// An opening makes four reads. All keys have one bucket, so the four puts that the first log takes read the heads of all rows before them, and
+// the fifth finds the log full. Each slot that is not empty is written from one row. The get reads a row of the active log and two slots; the list
+// that row, eight slots and four values.
 #[test]
 fn each_read_of_a_conversion_fails(rt: HostRuntime) -> Result<(), Fail> {
-    conversion_fails(&rt, rt.alloc(), Fails::Reads(4 + 4 + 4 + 1 + 5))
+    conversion_fails(&rt, rt.alloc(), Fails::Reads(4 + 6 + 4 + 3 + 13))
 }
 
+// Each log has one row, so no put reads. Three conversions read one row each, the merge the slots together and one value. The gets read the active
+// log's row, and then the newest hash store's; the list the entry, sixteen slots and two values, and the active log's row.
 #[test]
 fn each_read_of_a_merge_fails(rt: HostRuntime) -> Result<(), Fail> {
-    merge_fails(&rt, rt.alloc(), Fails::Reads(4 + 3 + 8 + 3))
+    merge_fails(&rt, rt.alloc(), Fails::Reads(4 + 3 + 2 + 3 + 20))
 }
 
 // Which of a kind of call fails, and what a stop behind the life leaves, if there is one.

@@ -10,6 +10,8 @@ mod conversion;
 #[cfg(test)]
 mod each_call;
 #[cfg(test)]
+mod failed_flush;
+#[cfg(test)]
 mod faults;
 #[cfg(test)]
 mod first_steps;
@@ -24,6 +26,8 @@ mod lines;
 mod memory;
 #[cfg(test)]
 mod merges;
+#[cfg(test)]
+mod read_counts;
 #[cfg(test)]
 mod reads;
 #[cfg(test)]

@@ -1,0 +1,105 @@
+// A flush of which one sync fails, and what the next opening finds with no crash in between; and a flush that makes no call.
+
+use crate::life_lines::Line;
+use crate::script::{Told, replies_of};
+use silt_device::{Call, FaultDisk};
+use silt_fixtures::formatted;
+use silt_store_set::{Core, Progress};
+use std::alloc::{AllocError, Global};
+use std::test::Fail;
+
+// A disk, and what was told on it.
+fn with_disk(
+    disk: FaultDisk,
+    told: Result<Vec<Told>, AllocError>,
+) -> Result<(FaultDisk, Vec<Told>), Fail> {
+    Ok((disk, told?))
+}
+
+// What these lines are told by the store on this disk, which is closed behind them.
+fn told_on(alloc: Global, disk: FaultDisk, lines: &[Line]) -> Result<(FaultDisk, Vec<Told>), Fail> {
+    match Core::open(alloc, disk) {
+        Ok(mut core) => {
+            let told = replies_of(alloc, &mut core, lines);
+            with_disk(core.close(), told)
+        }
+        Err(_) => Err("opens".into()),
+    }
+}
+
+// What these lines are told by an empty store on a disk of which this call fails, counted from the opening on.
+fn told_where(
+    alloc: Global,
+    call: Call,
+    number: u64,
+    lines: &[Line],
+) -> Result<(FaultDisk, Vec<Told>), Fail> {
+    told_on(
+        alloc,
+        FaultDisk::new(formatted(alloc)?, call, number),
+        lines,
+    )
+}
+
+// A put, a flush and a get where this sync fails, and a get by the next opening. The opening's sync is the first, the flush makes two.
+fn flush_fails(alloc: Global, sync: u64) -> Result<(Vec<Told>, Vec<Told>), Fail> {
+    let lines = [Line::Put(1, 0x0102), Line::Flush, Line::Get(1)];
+    let (disk, told) = told_where(alloc, Call::Sync, sync, &lines)?;
+    let (_, found) = told_on(alloc, disk, &[Line::Get(1)])?;
+    Ok((told, found))
+}
+
+const FAILED: [Told; 3] = [Told::Accepted(1), Told::Refused(5), Told::Refused(9)];
+
+#[test]
+fn the_put_is_lost_where_the_first_sync_of_its_flush_fails(rt: HostRuntime) -> Result<(), Fail> {
+    let (told, found) = flush_fails(rt.alloc(), 2)?;
+    assert_eq!(rt; told.as_slice(), &FAILED[..]);
+    assert_eq!(rt; found.as_slice(), &[Told::Absent][..]);
+    Ok(())
+}
+
+#[test]
+fn the_put_is_there_where_the_second_sync_of_its_flush_fails(rt: HostRuntime) -> Result<(), Fail> {
+    let (told, found) = flush_fails(rt.alloc(), 3)?;
+    assert_eq!(rt; told.as_slice(), &FAILED[..]);
+    assert_eq!(rt; found.as_slice(), &[Told::Value(1, 2)][..]);
+    Ok(())
+}
+
+// A get, a flush and steps in an empty store, and then a put and its flush.
+const IDLE: [Line; 6] = [
+    Line::Get(1),
+    Line::Flush,
+    Line::Convert,
+    Line::Merge,
+    Line::Put(1, 1),
+    Line::Flush,
+];
+
+const IDLE_TOLD: [Told; 4] = [
+    Told::Absent,
+    Told::Acknowledged(0),
+    Told::Progress(Progress::Idle),
+    Told::Progress(Progress::Idle),
+];
+
+// The next sync behind the opening's is that of the put's flush: nothing before it makes one.
+#[test]
+fn a_flush_with_nothing_waiting_makes_no_sync(rt: HostRuntime) -> Result<(), Fail> {
+    let (_, told) = told_where(rt.alloc(), Call::Sync, 2, &IDLE)?;
+    assert_eq!(rt; told.len(), 6);
+    assert_eq!(rt; &told[..4], &IDLE_TOLD[..]);
+    assert_eq!(rt; &told[4..], &[Told::Accepted(1), Told::Refused(5)][..]);
+    Ok(())
+}
+
+// The first write is the put's: nothing before it makes one.
+#[test]
+fn a_flush_with_nothing_waiting_makes_no_write(rt: HostRuntime) -> Result<(), Fail> {
+    let (_, told) = told_where(rt.alloc(), Call::Write, 1, &IDLE)?;
+    assert_eq!(rt; told.len(), 6);
+    assert_eq!(rt; &told[..4], &IDLE_TOLD[..]);
+    assert_eq!(rt; &told[4..], &[Told::Refused(5), Told::Refused(9)][..]);
+    Ok(())
+}
