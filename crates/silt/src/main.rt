@@ -18,6 +18,7 @@ mod failure;
 mod files;
 mod geometry;
 mod jobs;
+mod listening;
 mod note_lines;
 mod notes;
 mod program;
@@ -46,6 +47,7 @@ use std::process::ExitCode;
 use std::rt::{Files, Runtime};
 use std::sync::Wait;
 use std::thread::Threads;
+use std::time::Clock;
 use streams::{WatchedReader, WatchedWriter};
 use watched_file::WatchedFiles;
 
@@ -60,6 +62,7 @@ fn done<
         + AllocGlobal
         + Files<File = File>
         + Net<Listener = TcpListener, Stream = TcpStream>
+        + Clock
         + Threads
         + Wait
         + Sync,

@@ -22,12 +22,13 @@ use std::io::{self, Read, Write};
 use std::net::{Net, TcpListener, TcpStream};
 use std::sync::Wait;
 use std::thread::Threads;
+use std::time::Clock;
 
 /// Does the job that the words name, of which the first is the program's own, and answers the status: 0 where it is done, 1
 /// where it is refused or a reader or writer fails, 2 where the words name no job.
 pub fn program<
     S: DiskSource,
-    H: Net<Listener = TcpListener, Stream = TcpStream> + Threads + Wait + Sync,
+    H: Net<Listener = TcpListener, Stream = TcpStream> + Clock + Threads + Wait + Sync,
     R: Read + KeepsError,
     W: Write + KeepsError,
     N: Notes + SourceNotes<S::Error> + FaultNotes<<S::Disk as Disk>::Fault>,
@@ -71,7 +72,7 @@ pub fn status_of(ended: io::Result<u8>) -> u8
 /// The reader's or the writer's, and want of memory for the text of a reply.
 pub fn answer<
     S: DiskSource,
-    H: Net<Listener = TcpListener, Stream = TcpStream> + Threads + Wait + Sync,
+    H: Net<Listener = TcpListener, Stream = TcpStream> + Clock + Threads + Wait + Sync,
     R: Read + KeepsError,
     W: Write + KeepsError,
     N: Notes + SourceNotes<S::Error> + FaultNotes<<S::Disk as Disk>::Fault>,
@@ -119,7 +120,7 @@ fn tell_unread<N: Notes>(error: WordsError, words: &[String], notes: &mut N)
 // Does a job, and answers the status.
 fn do_job<
     S: DiskSource,
-    H: Net<Listener = TcpListener, Stream = TcpStream> + Threads + Wait + Sync,
+    H: Net<Listener = TcpListener, Stream = TcpStream> + Clock + Threads + Wait + Sync,
     R: Read + KeepsError,
     W: Write + KeepsError,
     N: Notes + SourceNotes<S::Error> + FaultNotes<<S::Disk as Disk>::Fault>,

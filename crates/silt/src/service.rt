@@ -8,6 +8,7 @@ ghost use Rattle.silt.specs.Notes.{NotOpenedTold, ToldFailures, ToldRefusal};
 
 use crate::failure::Watched;
 use crate::jobs::refuse_opening;
+use crate::listening::PatientListener;
 use crate::notes::{FaultNotes, Notes, SourceNotes, tell_failures};
 use crate::refusal::refuse;
 use silt_desk::{Gate, Spot};
@@ -20,6 +21,7 @@ use std::io::{self, Write};
 use std::net::{Net, TcpListener, TcpStream};
 use std::sync::Wait;
 use std::thread::Threads;
+use std::time::Clock;
 
 // No worker waits for anything but the store.
 #[derive(Drop)]
@@ -37,7 +39,7 @@ impl Gate for Open {
 /// The writer's, and want of memory for the text of a line.
 pub fn serve_file<
     S: DiskSource,
-    H: Net<Listener = TcpListener, Stream = TcpStream> + Threads + Wait + Sync,
+    H: Net<Listener = TcpListener, Stream = TcpStream> + Clock + Threads + Wait + Sync,
     W: Write,
     N: Notes + SourceNotes<S::Error> + FaultNotes<<S::Disk as Disk>::Fault>,
 >(
@@ -72,7 +74,7 @@ where
 // Serves the store on a disk to the connections of a port of this machine. Gives the disk back, and the status.
 fn serve_disk<
     D: Watched,
-    H: Net<Listener = TcpListener, Stream = TcpStream> + Threads + Wait + Sync,
+    H: Net<Listener = TcpListener, Stream = TcpStream> + Clock + Threads + Wait + Sync,
     W: Write,
     N: Notes + FaultNotes<D::Fault>,
 >(
@@ -103,7 +105,7 @@ fn serve_disk<
 // Serves a store to the connections of a port of this machine. Gives its disk back, and the status.
 fn serve_store<
     D: Disk,
-    H: Net<Listener = TcpListener, Stream = TcpStream> + Threads + Wait + Sync,
+    H: Net<Listener = TcpListener, Stream = TcpStream> + Clock + Threads + Wait + Sync,
     W: Write,
     N: Notes,
 >(
@@ -120,7 +122,7 @@ fn serve_store<
     ensures quiet { result.1 ≡ Ok 0 → notes.new ≡ notes.old }
 {
     let listener = match TcpListener::bind(rt, ("127.0.0.1", service.port)) {
-        Ok(listener) => listener,
+        Ok(listener) => PatientListener::new(listener, rt),
         Err(error) => {
             notes.tell_port(service.port, &error);
             return refuse_network(core, writer);

@@ -33,6 +33,7 @@ use std::rt::Files;
 use std::sync::Wait;
 use std::test::Fail;
 use std::thread::Threads;
+use std::time::Clock;
 
 // Values of two bytes, two buckets, four rows a log.
 pub(crate) const SMALL: &str = "silt script 2 2 4 2 2 8";
@@ -274,6 +275,7 @@ pub(crate) fn status_of_call<
         + AllocGlobal
         + Abort
         + Net<Listener = TcpListener, Stream = TcpStream>
+        + Clock
         + Threads
         + Wait
         + Sync,
@@ -335,6 +337,7 @@ pub(crate) fn answers<
         + AllocGlobal
         + Abort
         + Net<Listener = TcpListener, Stream = TcpStream>
+        + Clock
         + Threads
         + Wait
         + Sync,
@@ -353,6 +356,7 @@ pub(crate) fn answers_each<
         + AllocGlobal
         + Abort
         + Net<Listener = TcpListener, Stream = TcpStream>
+        + Clock
         + Threads
         + Wait
         + Sync,
@@ -375,6 +379,7 @@ pub(crate) fn answers_calls<
         + AllocGlobal
         + Abort
         + Net<Listener = TcpListener, Stream = TcpStream>
+        + Clock
         + Threads
         + Wait
         + Sync,
@@ -406,6 +411,7 @@ pub(crate) fn reads<
         + AllocGlobal
         + Abort
         + Net<Listener = TcpListener, Stream = TcpStream>
+        + Clock
         + Threads
         + Wait
         + Sync,
@@ -446,6 +452,7 @@ pub(crate) fn writes_short<
         + AllocGlobal
         + Abort
         + Net<Listener = TcpListener, Stream = TcpStream>
+        + Clock
         + Threads
         + Wait
         + Sync,

@@ -25,8 +25,9 @@ impl Wakes {
     }
 }
 
-// Tells a worker that there may be work, where no message to it waits already.
-fn wake<R: Wait>(rt: &R, worker: &Sender<Wake>) {
+/// Tells a worker that there may be work, where no message to it waits already. So a channel with room for a message of each thread that tells
+/// it, and for one that stops it, is never full.
+pub(crate) fn wake<R: Wait>(rt: &R, worker: &Sender<Wake>) {
     if worker.is_empty() {
         let _ = worker.send(rt, Wake::Go); // the worker may have ended
     }

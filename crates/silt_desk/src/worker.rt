@@ -13,6 +13,7 @@ use crate::desk::Desk;
 use crate::seat::{Naming, Seat};
 use crate::shared::Shared;
 use crate::trace::Trace;
+use crate::wakes::wake;
 use crossbeam_channel::{Receiver, Sender};
 use silt_device::Disk;
 use silt_event::{Progress, Refusal};
@@ -121,7 +122,7 @@ fn rest<W: Hears, R: Wait>(rt: &R, turn: Turn, wakes: &W, other: &Sender<Wake>) 
     match turn {
         Turn::GoOn => true,
         Turn::WakeOther => {
-            let _ = other.send(rt, Wake::Go); // the other one may have ended
+            wake(rt, other);
             true
         }
         Turn::Wait => wakes.goes_on(rt),

@@ -6,6 +6,10 @@ use crossbeam_channel::{Receiver, Sender};
 use silt_desk::{Naming, Seat, Wake, Wakes};
 use std::alloc::{AllocError, Global};
 
+// How many messages a worker's channel holds. It is told by the writer, the other worker and whoever stops it, each by one at a time, so a send never waits
+// for room; and the channel's memory is taken when it is made, so a send never lacks it.
+const MESSAGES: usize = 4;
+
 /// The place of a worker: its seat, where it is woken, and how it wakes the other one.
 #[derive(Drop)]
 pub struct Worker<N: Naming> {
@@ -45,8 +49,8 @@ impl<N: Naming> Crew<N> {
     ) -> Result<Crew<N>, AllocError>
         ensures { IfOk result (λ crew. (crew.writer ≡ writer) × (crew.converter.seat ≡ converter) × (crew.merger.seat ≡ merger)) }
     {
-        let (to_converter, converter_wakes) = crossbeam_channel::unbounded(alloc)?;
-        let (to_merger, merger_wakes) = crossbeam_channel::unbounded(alloc)?;
+        let (to_converter, converter_wakes) = crossbeam_channel::bounded(alloc, MESSAGES)?;
+        let (to_merger, merger_wakes) = crossbeam_channel::bounded(alloc, MESSAGES)?;
         Ok(Crew {
             writer,
             converter: Worker {

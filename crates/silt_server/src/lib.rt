@@ -24,7 +24,9 @@ mod work;
 mod written;
 
 pub use batch::serve_batch;
+pub use client::{AskBy, Asking, Client};
 pub use entrance::Listens;
 pub use job::{Job, Request};
+pub use outlet::Outlet;
 pub use serve::{Hall, refuse_network, serve_desk, serve_on};
 pub use work::{Jobs, writer};

@@ -11,6 +11,7 @@ use std::rt::Files;
 use std::sync::Wait;
 use std::test::Fail;
 use std::thread::Threads;
+use std::time::Clock;
 
 // The length of the device is told, and the file has it.
 const FORMATTED: [Step; 4] = [
@@ -195,6 +196,7 @@ fn refuses<
         + AllocGlobal
         + Abort
         + Net<Listener = TcpListener, Stream = TcpStream>
+        + Clock
         + Threads
         + Wait
         + Sync,

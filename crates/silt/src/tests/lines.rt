@@ -9,6 +9,7 @@ use std::rt::Files;
 use std::sync::Wait;
 use std::test::Fail;
 use std::thread::Threads;
+use std::time::Clock;
 
 // An unknown word, or a wrong number of words. A stop line with a bad number or fill is one too.
 pub(crate) const BAD_LINES: [&str; 21] = [
@@ -69,6 +70,7 @@ fn refuses<
         + AllocGlobal
         + Abort
         + Net<Listener = TcpListener, Stream = TcpStream>
+        + Clock
         + Threads
         + Wait
         + Sync,

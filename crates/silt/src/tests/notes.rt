@@ -21,6 +21,7 @@ use std::rt::Files;
 use std::sync::Wait;
 use std::test::Fail;
 use std::thread::Threads;
+use std::time::Clock;
 
 // Runs the program, which is to end with this status, and compares what people are told.
 pub(crate) fn tells<
@@ -28,6 +29,7 @@ pub(crate) fn tells<
         + AllocGlobal
         + Abort
         + Net<Listener = TcpListener, Stream = TcpStream>
+        + Clock
         + Threads
         + Wait
         + Sync,
@@ -315,6 +317,7 @@ fn fails_to_read<
         + AllocGlobal
         + Abort
         + Net<Listener = TcpListener, Stream = TcpStream>
+        + Clock
         + Threads
         + Wait
         + Sync,
@@ -403,6 +406,7 @@ fn breaks_off<
         + AllocGlobal
         + Abort
         + Net<Listener = TcpListener, Stream = TcpStream>
+        + Clock
         + Threads
         + Wait
         + Sync,
@@ -429,6 +433,7 @@ fn breaks_at_a_write<
         + AllocGlobal
         + Abort
         + Net<Listener = TcpListener, Stream = TcpStream>
+        + Clock
         + Threads
         + Wait
         + Sync,
@@ -443,6 +448,7 @@ fn breaks_at_a_read<
         + AllocGlobal
         + Abort
         + Net<Listener = TcpListener, Stream = TcpStream>
+        + Clock
         + Threads
         + Wait
         + Sync,
@@ -518,6 +524,7 @@ fn refuses_port<
         + AllocGlobal
         + Abort
         + Net<Listener = TcpListener, Stream = TcpStream>
+        + Clock
         + Threads
         + Wait
         + Sync,
@@ -587,6 +594,7 @@ fn complains<
         + AllocGlobal
         + Abort
         + Net<Listener = TcpListener, Stream = TcpStream>
+        + Clock
         + Threads
         + Wait
         + Sync,

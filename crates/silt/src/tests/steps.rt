@@ -12,6 +12,7 @@ use std::rt::Files;
 use std::sync::Wait;
 use std::test::Fail;
 use std::thread::Threads;
+use std::time::Clock;
 
 /// A step of a test on files.
 pub(crate) enum Step {
@@ -94,6 +95,7 @@ fn take_step<
         + AllocGlobal
         + Abort
         + Net<Listener = TcpListener, Stream = TcpStream>
+        + Clock
         + Threads
         + Wait
         + Sync,
@@ -117,6 +119,7 @@ pub(crate) fn take_steps<
         + AllocGlobal
         + Abort
         + Net<Listener = TcpListener, Stream = TcpStream>
+        + Clock
         + Threads
         + Wait
         + Sync,
@@ -133,6 +136,7 @@ pub(crate) fn take_in_folder<
         + AllocGlobal
         + Abort
         + Net<Listener = TcpListener, Stream = TcpStream>
+        + Clock
         + Threads
         + Wait
         + Sync,

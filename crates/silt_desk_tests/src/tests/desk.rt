@@ -10,6 +10,7 @@ mod looks;
 mod memory;
 mod sessions;
 mod steps;
+mod wakes;
 
 use silt_desk::{Desk, Kept, Naming, Seat, Shared, Trace, settle};
 use silt_device::Disk;

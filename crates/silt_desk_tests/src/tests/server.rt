@@ -5,6 +5,7 @@ mod crowd;
 mod held;
 mod lines;
 mod looks;
+mod lost;
 mod network;
 mod record;
 

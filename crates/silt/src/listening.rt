@@ -1,0 +1,53 @@
+// The listener of a server, which outlasts a passing want of descriptors.
+
+use silt_server::Listens;
+use std::net::{TcpListener, TcpStream};
+use std::sync::Wait;
+use std::time::{Clock, Duration};
+use std::{io, thread};
+
+/// How long a server waits before it asks again for a connection that the system has no descriptor or memory for.
+const PAUSE: Duration = Duration::from_millis(10);
+
+/// The errors of the system that pass once a connection is closed or memory is given back: ENOMEM, ENFILE, EMFILE and ENOBUFS.
+const PASSING: [i32; 4] = [12, 23, 24, 105];
+
+/// A listener that asks again, after a pause, where the system has no descriptor or memory for the next connection.
+#[derive(Drop)]
+pub struct PatientListener<'a, H: Clock + Wait> {
+    listener: TcpListener,
+    rt: &'a H,
+}
+
+impl<'a, H: Clock + Wait> PatientListener<'a, H> {
+    /// The connections of this listener.
+    pub fn new(listener: TcpListener, rt: &'a H) -> PatientListener<'a, H> {
+        PatientListener { listener, rt }
+    }
+}
+
+// Whether the system had no descriptor or memory for the connection.
+fn is_lacking(error: &io::Error) -> bool {
+    match error.raw_os_error() {
+        Some(number) => PASSING.contains(&number),
+        None => false,
+    }
+}
+
+impl<H: Clock + Wait> Listens for PatientListener<'_, H> {
+    ghost has_port = { λ listener port. Unit {0} };
+
+    fn port(&self) -> io::Result<u16> {
+        self.listener.port()
+    }
+
+    fn wait(&self) -> io::Result<TcpStream> {
+        for _ in self.rt.forever() {
+            match self.listener.wait() {
+                Err(error) if is_lacking(&error) => thread::sleep(self.rt, PAUSE),
+                answer => return answer,
+            }
+        }
+        unreachable!()
+    }
+}
