@@ -104,51 +104,12 @@ impl LogStore {
         self.log.is_empty()
     }
 
-    /// How many rows are settled behind open gates.
-    pub fn settled(&self) -> u32
-        ensures value { result ≡ self.now.log.settled }
-        ensures bounds { InBounds self.now.log }
-    {
-        self.log.settled()
-    }
-
     /// Whether a row waits for its gate to be opened.
     pub fn has_waiting(&self) -> bool
         ensures value { result ≡ nat_lt self.now.log.settled self.now.log.used }
         ensures bounds { InBounds self.now.log }
     {
         self.log.has_waiting()
-    }
-
-    /// Whether there is no room for a further row.
-    pub fn is_full(&self) -> bool
-        ensures value { result ≡ (self.now.log.used == self.now.log.shape.log_capacity) }
-        ensures bounds { InBounds self.now.log }
-    {
-        self.log.is_full()
-    }
-
-    /// How many rows the region has room for.
-    pub fn capacity(&self) -> u32
-        ensures value { result ≡ self.now.log.shape.log_capacity }
-        ensures bounds { InBounds self.now.log }
-    {
-        self.log.capacity()
-    }
-
-    /// Whether a gate past the first closed one is open, so that the log is to be sealed.
-    pub fn is_loose(&self) -> bool
-        ensures { result ≡ self.now.log.loose }
-    {
-        self.log.is_loose()
-    }
-
-    /// The number of the region.
-    pub fn region(&self) -> u32
-        ensures value { result ≡ self.now.log.region }
-        ensures bounds { InBounds self.now.log }
-    {
-        self.log.region()
     }
 
     /// The geometry of the store.
@@ -339,7 +300,7 @@ impl LogStore {
         };
         match found.kind {
             Kind::Put => {
-                self.read_value(disk, found.place, out)?;
+                self.log.read_value(disk, found.place, out)?;
                 Ok(Some(found))
             }
             Kind::Delete => Ok(Some(found)),
@@ -435,21 +396,6 @@ impl LogStore {
         enter(&mut self.table, placing, place);
         self.puts += kind.puts();
         Ok(())
-    }
-
-    /// Reads the value of the row at a place, behind whatever gate.
-    ///
-    /// # Errors
-    ///
-    /// The fault of the read. The bytes of `out` are then open.
-    pub fn read_value<D: Disk>(&self, disk: &D, place: u32, out: &mut [u8]) -> Result<(), D::Fault>
-        requires place { place < self.now.log.shape.log_capacity }
-        requires out { length out.old ≡ self.now.log.shape.value_len }
-        requires size { device_size self.now.log.shape ≤ size (D.content disk.now) }
-        ensures value { IsTrue (D.content disk.now).honest → OnOk result (out.new ≡ (row_at self.now.log.shape self.now.log.region (D.content disk.now).shown place).value) }
-        ensures fault { IfErr result (GaveAny D.gave disk.now) }
-    {
-        self.log.read_value(disk, place, out)
     }
 
     /// Reads the bytes of the row at a place, behind whatever gate: the kind, the key and the value.

@@ -6,12 +6,22 @@ ghost use Rattle.silt_device.specs.Memory.{memory_content};
 ghost use Rattle.silt_log.specs.Rows.{IsValueOf};
 ghost use Rattle.silt_log_store.specs.State.{IsLogStore};
 
-use crate::tests::{LEN, blank, eight_rows, largest, paired, single, with_fault};
+use crate::tests::{LEN, blank, eight_rows, largest, paired, shows, single, with_fault};
 use silt_device::{Call, Disk, Geometry, MemDisk};
 use silt_frame::{Key, Kind};
 use silt_log_store::{Found, LogStore, RebuildError};
 use std::alloc::Global;
 use std::test::Fail;
+
+// Writes the gate of a row of log 0.
+fn write_gate<D: Disk>(disk: &mut D, place: u32, gate: u8) -> Result<(), D::Fault>
+    requires place { place < 8 }
+    requires size { 16568 ≤ size (D.content disk.old) }
+    ensures { size (D.content disk.new) ≡ size (D.content disk.old) }
+{
+    disk.write(12_288 + u64::from(place), &[gate])?;
+    Ok(())
+}
 
 // Writes a row of this kind and key with an open gate into log 0.
 fn write_row<D: Disk>(disk: &mut D, place: u32, kind: u8, key: &Key) -> Result<(), D::Fault>
@@ -19,7 +29,7 @@ fn write_row<D: Disk>(disk: &mut D, place: u32, kind: u8, key: &Key) -> Result<(
     requires size { 16568 ≤ size (D.content disk.old) }
     ensures { size (D.content disk.new) ≡ size (D.content disk.old) }
 {
-    disk.write(12_288 + u64::from(place), &[0xA7])?;
+    write_gate(disk, place, 0xA7)?;
     disk.write(16_384 + u64::from(place) * 23, &[kind])?;
     disk.write(16_385 + u64::from(place) * 23, &key.0)?;
     Ok(())
@@ -247,7 +257,10 @@ fn the_largest_store_is_made(rt: HostRuntime) -> Result<(), Fail> {
     let geometry = largest()?;
     assert_eq!(rt; rebuild_blank(alloc, geometry)?, Outcome::Rebuilt(0, 0));
     let store = LogStore::new(alloc, geometry, 1)?;
-    assert_eq!(rt; (store.capacity(), store.region()), (131_072, 1));
+    assert_eq!(rt;
+        (store.geometry().log_capacity(), store.len()),
+        (131_072, 0)
+    );
     Ok(())
 }
 
@@ -297,16 +310,13 @@ fn find_first<D: Disk>(store: &LogStore, disk: &D) -> Option<(u32, [u8; 2])>
     requires size { device_size store.now.log.shape ≤ size (D.content disk.now) }
 {
     let mut value = [0; 2];
-    let found = store.find(disk, &paired(1)).ok()??;
-    if found.place >= store.capacity() {
-        return None;
-    }
-    store.read_value(disk, found.place, &mut value).ok()?;
+    let found = store.get(disk, &paired(1), &mut value).ok()??;
     Some((found.place, value))
 }
 
-// What a store that put three rows tells: how many puts it had before and after, how many rows are settled, and what is found of the first key.
-type Told = (u32, u32, u32, Option<(u32, [u8; 2])>);
+// What a store that put three rows tells: how many puts it had before and after, how many rows it has, whether one of them waits, and
+// what is found of the first key.
+type Told = (u32, u32, u32, bool, Option<(u32, [u8; 2])>);
 
 // Prepares log 0 and puts three rows. None where there is no memory.
 fn put_on<D: Disk>(alloc: Global, disk: &mut D) -> Result<Option<Told>, D::Fault>
@@ -325,7 +335,8 @@ fn put_on<D: Disk>(alloc: Global, disk: &mut D) -> Result<Option<Told>, D::Fault
     Ok(Some((
         before,
         store.puts(),
-        store.settled(),
+        store.len(),
+        store.has_waiting(),
         find_first(&store, disk),
     )))
 }
@@ -338,16 +349,15 @@ fn finds_the_last_row_of_a_key(rt: HostRuntime) -> Result<(), Fail> {
     let second = find(alloc, &disk, &paired(2));
     let outcome = rebuild(alloc, &disk);
     drop(disk);
-    assert_eq!(rt; told, Some((0, 2, 3, Some((2, [0, 3])))));
+    assert_eq!(rt; told, Some((0, 2, 3, false, Some((2, [0, 3])))));
     assert_eq!(rt; second, found(Kind::Delete, 1));
     assert_eq!(rt; outcome, Outcome::Rebuilt(3, 2));
     Ok(())
 }
 
-// Rebuilds log 0 after a sync and seals it: whether it was loose before and after.
-fn seal<D: Disk>(alloc: Global, disk: &mut D) -> Option<(bool, bool)>
+// Rebuilds log 0 after a sync and seals it: whether the seal was answered Ok. None where an earlier call was not.
+fn seal<D: Disk>(alloc: Global, disk: &mut D) -> Option<bool>
     requires { 45056 ≤ size (D.content disk.old) }
-    ensures { size (D.content disk.new) ≡ size (D.content disk.old) }
 {
     let Ok(geometry) = eight_rows() else {
         return None;
@@ -358,20 +368,29 @@ fn seal<D: Disk>(alloc: Global, disk: &mut D) -> Option<(bool, bool)>
     let Ok(mut store) = LogStore::rebuild(alloc, disk, geometry, 0) else {
         return None;
     };
-    let before = store.is_loose();
-    let Ok(()) = store.seal(disk) else {
-        return None;
-    };
-    Some((before, store.is_loose()))
+    Some(store.seal(disk).is_ok())
 }
 
+// The same on a disk with two open puts, a gate like this one behind closed ones, and a first write that fails.
+fn sealed_with_fault(alloc: Global, gate: u8) -> Result<Option<bool>, Fail> {
+    let mut disk = crowded(alloc, 2, true)?;
+    write_gate(&mut disk, 5, gate)?;
+    let mut failing = with_fault(disk, Call::Write, 1);
+    Ok(seal(alloc, &mut failing))
+}
+
+// A loose log is sealed by a write, and one that is not is left alone.
 #[test]
 fn seals_a_loose_log(rt: HostRuntime) -> Result<(), Fail> {
     let alloc = rt.alloc();
     let mut disk = crowded(alloc, 2, true)?;
     write_row(&mut disk, 5, 1, &paired(6))?;
-    let seals = (seal(alloc, &mut disk), seal(alloc, &mut disk));
+    let ended = seal(alloc, &mut disk);
+    let closed = shows(&disk, 12_288, &[0xA7, 0xA7, 0, 0, 0, 0, 0, 0]);
     drop(disk);
-    assert_eq!(rt; seals, (Some((true, false)), Some((false, false))));
+    assert_eq!(rt; (ended, closed), (Some(true), true));
+    for (gate, want) in [(0xA7, false), (0x33, true), (0, true)] {
+        assert_eq!(rt; sealed_with_fault(alloc, gate)?, Some(want), "gate {gate}");
+    }
     Ok(())
 }
