@@ -1,5 +1,5 @@
 -- What a walk through the stores finds.
-use Rattle.std.proofs.Common.{◌≡◌, ◌≢◌, ◌<◌, ◌*◌, ℕ, ◌==◌, Bool, true, false, cond, if◌then◌else◌, IsTrue, List, [], ◌∷◌, ◌++◌, suc, zero, inl, inr, length, filter, map, take, get_or, slice_get, reverse, find, Option, Some, None, option_map, option_and_then, refl, ap, sym, ◌∙◌, subst, arith, append_assoc}
+use Rattle.std.proofs.Common.{◌≡◌, ◌≢◌, ◌<◌, ◌*◌, ℕ, ◌==◌, Bool, true, false, cond, if◌then◌else◌, IsTrue, List, [], ◌∷◌, ◌++◌, suc, zero, inl, inr, length, filter, map, take, get_or, slice_get, reverse, find, Option, Some, None, option_and_then, refl, ap, sym, ◌∙◌, subst, arith, append_assoc}
 use Rattle.std.specs.Prelude.{All}
 use Rattle.std.specs.Option.{is_some, option_or}
 use Rattle.std.specs.Str.{bytes_eq}
@@ -30,7 +30,7 @@ use Rattle.silt_log_store.specs.declared.log_store.Found.{Found}
 use Rattle.silt_manifest.specs.declared.body.Body.{Body}
 use Rattle.silt_event.specs.Commands.{Map, map_after}
 use Rattle.silt_log_store.specs.Parts.{log_part, known_rows, oldest_first, part_rows}
-use Rattle.silt_sorted_store.specs.State.{sorted_rows, SortedState, entries_of}
+use Rattle.silt_sorted_store.specs.State.{sorted_rows, entries_of}
 use Rattle.silt_image.specs.Stores.{stores_named}
 use Rattle.silt_hash_store.specs.Findings.{hash_findings, holds_key}
 use Rattle.silt_event.specs.Rows.{map_of_rows, newest_row, value_given}
@@ -38,14 +38,14 @@ use Rattle.silt_image.specs.Meaning.{rows_of}
 use Rattle.silt_sorted_store.specs.Findings.{sorted_findings}
 use Rattle.silt_event.proofs.Rows.{map_law, newest_law}
 use Rattle.silt_image.proofs.Sound.{finds_nothing}
-use Rattle.silt_sorted_store.specs.OnlyRow.{FindsEntry, HasNoEntry, HasOnlyValue, IsOnlyRow}
+use Rattle.silt_sorted_store.specs.OnlyRow.{HasNoEntry, HasOnlyValue, IsOnlyRow}
 use Rattle.silt_sorted_store.proofs.Entries.{entries_law}
-use Rattle.silt_tiers.specs.declared.location.Holder.{Holder}
-use Rattle.silt_tiers.specs.declared.location.Holder.TheVariants.{Active, Frozen, Hashed, Sorted}
+use Rattle.silt_tiers.specs.declared.lookup.Holder.{Holder}
+use Rattle.silt_tiers.specs.declared.lookup.Holder.TheVariants.{Active, Frozen, Hashed}
 use Rattle.silt_tiers.specs.State.{TiersState, hash_region_of, region_of}
 use Rattle.silt_tiers.specs.Standing.{Stands, current_map, shown_stores, waiting_commands}
 use Rattle.silt_tiers.specs.Entries.{hashed_rows}
-use Rattle.silt_tiers.specs.Lookup.{FindsFrozen, FindsHashed, FindsNewest, entry_in, frozen_at, hash_store_at, hash_rows_of, located, row_in, value_at}
+use Rattle.silt_tiers.specs.Lookup.{FindsFrozen, FindsHashed, FindsNewest, frozen_at, hash_store_at, hash_rows_of, row_in, value_found}
 use Rattle.silt_tiers.proofs.Facts.{active_rows, base_is, rows_split, shown_sound}
 use Rattle.silt_tiers.proofs.Elsewhere.{scanned_all}
 
@@ -64,9 +64,6 @@ other_key a b differ = elim (cases_Bool (bytes_eq a b)) [
   | inl same ↦ absurd (differ ((bytes_eq-Decides a b).0 same))
   | inr other ↦ other
 ]
-
-none_or : {X : Type 0} (o : Option X) → option_or None o ≡ o
-none_or o = refl
 
 -- where no row has the key
 pub newest_none : (rows : List StoredRow) (key : List ℕ) → HasNoRow rows key → newest_row rows key ≡ None
@@ -230,11 +227,6 @@ known_in content store = filter has_known_kind (hash_rows_of content store)
 abbrev pub rows_behind : Content → TiersState → List StoredRow
 rows_behind content s = entries_of content s.sorted ++ hashed_rows content s
 
--- the value of an entry that is there
-pub entry_value : (content : Content) (store : SortedState) (place : ℕ) (row : StoredRow) → slice_get (entries_of content store) place ≡ Some row → (entry_in content store place).value ≡ row.value
-entry_value content store place row there =
-    ap (λ (r : StoredRow). r.value) (get_or_from_slice_get (entries_of content store) place row (record { kind = 1; key = []; value = [] }) there)
-
 -- two functions that agree on each element
 map_agree : {X Y : Type 0} (f g : X → Y) (xs : List X) → All (λ x. f x ≡ g x) xs → map f xs ≡ map g xs
 map_agree f g [] same = refl
@@ -334,34 +326,34 @@ module _ (content : Content) (s : TiersState) (stands : Stands content s) (hones
 
   -- ---- a row that is found
 
-  -- its value, at its location
+  -- its value, in its store
   row_value : (store : LogStoreState) (key : List ℕ) (place : ℕ) (row : StoredRow) → IsLastRow (all_rows content store.log) key place row → row ≡ row_at store.log.shape store.log.region content.shown place
   row_value store key place row is =
       let inside = slice_get_within (all_rows content store.log) place row is.there in
       sym (get_or_from_slice_get (all_rows content store.log) place row row is.there) ∙ row_of_all content store.log place row (omega (arith, inside, all_count content store.log))
 
-  located_value : (holder : Holder) (found : Found) (row : StoredRow) → kind_byte found.kind ≡ row.kind → row ≡ row_in content s holder found.place → value_given row ≡ option_map (value_at content s) (located holder found)
-  located_value holder found row kind is =
-      let go : (k : Kind) → found.kind ≡ k → value_given row ≡ option_map (value_at content s) (located holder found) = elim [
+  its_value : (holder : Holder) (found : Found) (row : StoredRow) → kind_byte found.kind ≡ row.kind → row ≡ row_in content s holder found.place → value_given row ≡ value_found content s holder found
+  its_value holder found row kind is =
+      let go : (k : Kind) → found.kind ≡ k → value_given row ≡ value_found content s holder found = elim [
         | Put ↦ λ e.
             let one : row.kind ≡ 1 = sym kind ∙ ap kind_byte e in
             ap (λ (n : ℕ). if n == 1 then Some row.value else None) one
             ∙ ap (λ (r : StoredRow). Some r.value) is
-            ∙ ap (λ (k : Kind). option_map (value_at content s) (if is_put k then Some (record { holder = holder; place = found.place }) else None)) (sym e)
+            ∙ ap (λ (k : Kind). if is_put k then Some (row_in content s holder found.place).value else None) (sym e)
         | Delete ↦ λ e.
             let two : row.kind ≡ 2 = sym kind ∙ ap kind_byte e in
             ap (λ (n : ℕ). if n == 1 then Some row.value else None) two
-            ∙ ap (λ (k : Kind). option_map (value_at content s) (if is_put k then Some (record { holder = holder; place = found.place }) else None)) (sym e)
+            ∙ ap (λ (k : Kind). if is_put k then Some (row_in content s holder found.place).value else None) (sym e)
       ] in
       go found.kind refl
 
   -- the row is in the active log
-  pub found_active : (key : List ℕ) (found : Found) → FindsLast (all_rows content s.active.log) key (Some found) → get (current_map content s) key ≡ option_map (value_at content s) (located Active found)
+  pub found_active : (key : List ℕ) (found : Found) → FindsLast (all_rows content s.active.log) key (Some found) → get (current_map content s) key ≡ value_found content s Active found
   found_active key found (row, is, kind) =
       current_get key
       ∙ ap (λ (o : Option StoredRow). option_and_then value_given (option_or o (option_or (newest_row (oldest_first (map (rows_in content) s.frozen)) key) (newest_row (rows_behind content s) key))))
       (newest_last (all_rows content s.active.log) key found.place row is)
-      ∙ located_value Active found row kind (row_value s.active key found.place row is)
+      ∙ its_value Active found row kind (row_value s.active key found.place row is)
 
   -- the active log has none
   past_active : (key : List ℕ) → HasNoRow (all_rows content s.active.log) key
@@ -381,14 +373,14 @@ module _ (content : Content) (s : TiersState) (stands : Stands content s) (hones
 
   -- the row is in a frozen log
   pub found_frozen : (key : List ℕ) (number : ℕ) (found : Found) → number < length s.frozen → HasNoRow (all_rows content s.active.log) key → FindsFrozen content s key (Some (number, found))
-      → get (current_map content s) key ≡ option_map (value_at content s) (located (Frozen number) found)
+      → get (current_map content s) key ≡ value_found content s (Frozen number) found
   found_frozen key number found inside none (before, (row, is, kind)) =
       past_active key none
       ∙ ap (λ (o : Option StoredRow). option_and_then value_given (option_or o (newest_row (rows_behind content s) key)))
       (walk_some (map (rows_in content) s.frozen) key number row (omega (arith, inside, length-map s.frozen (rows_in content)))
       (λ index below. frozen_lacks key index (omega (arith, below, inside)) (before index below))
       (ap (λ (rows : List StoredRow). newest_row rows key) (rows_at number inside) ∙ newest_last (all_rows content (frozen_at s number).log) key found.place row is))
-      ∙ located_value (Frozen number) found row kind (row_value (frozen_at s number) key found.place row is)
+      ∙ its_value (Frozen number) found row kind (row_value (frozen_at s number) key found.place row is)
 
   -- no log has one
   past_frozen : (key : List ℕ) → HasNoRow (all_rows content s.active.log) key → FindsFrozen content s key None
@@ -410,7 +402,7 @@ module _ (content : Content) (s : TiersState) (stands : Stands content s) (hones
 
   -- the row is in a hash store
   pub found_hashed : (key : List ℕ) (number : ℕ) (found : Found) → number < length s.hashes → HasNoRow (all_rows content s.active.log) key → FindsFrozen content s key None
-      → FindsHashed content s key (Some (number, found)) → get (current_map content s) key ≡ option_map (value_at content s) (located (Hashed number) found)
+      → FindsHashed content s key (Some (number, found)) → get (current_map content s) key ≡ value_found content s (Hashed number) found
   found_hashed key number found inside none frozen (before, (row, there, has_key, kind)) =
       let store : HashState = hash_store_at s number in
       let stands_there = stands.hashed number (record { shape = s.manifest.shape; region = 0; tags = []; puts = 0 }) inside in
@@ -419,7 +411,7 @@ module _ (content : Content) (s : TiersState) (stands : Stands content s) (hones
       (walk_some (map (known_in content) s.hashes) key number row (omega (arith, inside, length-map s.hashes (known_in content)))
       (λ index below. hash_lacks key index (omega (arith, below, inside)) (before index below))
       (ap (λ (rows : List StoredRow). newest_row rows key) (known_at number inside) ∙ newest_found store.shape store.region content.shown key (stands_there.sound honest) found row there has_key kind))
-      ∙ located_value (Hashed number) found row kind (hash_there store.shape store.region content.shown key found.place row there).1
+      ∙ its_value (Hashed number) found row kind (hash_there store.shape store.region content.shown key found.place row there).1
 
   -- no hash store has one
   pub past_hashed : (key : List ℕ) → HasNoRow (all_rows content s.active.log) key → FindsFrozen content s key None → FindsHashed content s key None
@@ -430,20 +422,14 @@ module _ (content : Content) (s : TiersState) (stands : Stands content s) (hones
       (walk_none (map (known_in content) s.hashes) key
       (λ index inside. let here : index < length s.hashes = omega (arith, inside, length-map s.hashes (known_in content)) in hash_lacks key index here (hashed index here)))
 
-  -- the row is an entry
-  pub found_sorted : (key : List ℕ) (place : ℕ) → FindsNewest content s key None → FindsEntry (entries_of content s.sorted) key (Some place)
-      → get (current_map content s) key ≡ option_map (value_at content s) (Some (record { holder = Sorted; place = place }))
-  found_sorted key place newest (row, is) =
+  -- the row is an entry, and this is its value
+  pub found_value : (key value : List ℕ) → FindsNewest content s key None → HasOnlyValue (entries_of content s.sorted) key value → get (current_map content s) key ≡ Some value
+  found_value key value newest (place, row, is, has) =
       let one : row.kind ≡ 1 = (entries_law s.sorted.shape s.sorted.region s.sorted.count content.shown).puts place row is.there in
       newest
       ∙ ap (option_and_then value_given) (newest_only (entries_of content s.sorted) key place row is)
       ∙ ap (λ (n : ℕ). if n == 1 then Some row.value else None) one
-      ∙ ap Some (sym (entry_value content s.sorted place row is.there))
-
-  -- and this is its value
-  pub found_value : (key value : List ℕ) → FindsNewest content s key None → HasOnlyValue (entries_of content s.sorted) key value → get (current_map content s) key ≡ Some value
-  found_value key value newest (place, row, is, has) =
-      found_sorted key place newest (row, is) ∙ ap Some (entry_value content s.sorted place row is.there ∙ has)
+      ∙ ap Some has
 
   -- no store has one
   pub found_nowhere : (key : List ℕ) → FindsNewest content s key None → HasNoEntry (entries_of content s.sorted) key → get (current_map content s) key ≡ None

@@ -2,7 +2,6 @@
 use Rattle.std.proofs.Common.{◌≡◌, ◌<◌, ◌+◌, ◌*◌, ℕ, true, false, IsTrue, List, [], length, get_or, Option, Some, None, inl, inr, refl, ap, sym, ◌∙◌, subst, arith}
 use Rattle.std.specs.Prelude.{IfSome}
 use Rattle.std.specs.FinMap.{get}
-use Rattle.std.specs.Option.{option_map}
 use Rattle.std.proofs.lemmas.Bool.{cases_lt}
 use Rattle.std.proofs.lemmas.List.{get_or_default}
 use Rattle.silt_device.specs.Disk.{Content}
@@ -21,15 +20,14 @@ use Rattle.silt_log_store.specs.LastRow.{FindsLast, HasNoRow, put_place}
 use Rattle.silt_log_store.specs.declared.log_store.Found.{Found}
 use Rattle.silt_frame.specs.Rows.{StoredRow}
 use Rattle.silt_sorted_store.specs.Index.{IsIndexOf}
-use Rattle.silt_sorted_store.specs.OnlyRow.{FindsEntry, HasNoEntry, HasOnlyValue}
+use Rattle.silt_sorted_store.specs.OnlyRow.{HasNoEntry, HasOnlyValue}
 use Rattle.silt_sorted_store.specs.State.{entries_of}
-use Rattle.silt_tiers.specs.declared.location.Holder.{Holder}
-use Rattle.silt_tiers.specs.declared.location.Holder.TheVariants.{Active, Frozen, Hashed, Sorted}
-use Rattle.silt_tiers.specs.declared.location.Location.{Location}
+use Rattle.silt_tiers.specs.declared.lookup.Holder.{Holder}
+use Rattle.silt_tiers.specs.declared.lookup.Holder.TheVariants.{Active, Frozen, Hashed}
 use Rattle.silt_tiers.specs.State.{TiersState}
 use Rattle.silt_tiers.specs.Standing.{Stands, current_map}
-use Rattle.silt_tiers.specs.Lookup.{FindsFrozen, FindsHashed, FindsNewest, IsItsValue, frozen_at, hash_store_at, hash_rows_of, located, row_in, value_at}
-use Rattle.silt_tiers.proofs.Lookups.{entries_sound, found_active, found_frozen, found_hashed, found_nowhere, found_sorted, found_value, past_hashed}
+use Rattle.silt_tiers.specs.Lookup.{FindsFrozen, FindsHashed, FindsNewest, IsItsValue, frozen_at, hash_store_at, hash_rows_of, row_in}
+use Rattle.silt_tiers.proofs.Lookups.{entries_sound, found_active, found_frozen, found_hashed, found_nowhere, found_value, past_hashed}
 
 -- what a frozen log finds, by its number
 log_finds : (content : Content) (s : TiersState) (items : List LogStoreState) (number : ℕ) (store : LogStoreState) (key : List ℕ) (o : Option Found)
@@ -201,11 +199,6 @@ found_delete content s key walked holder found finds some deletes = delete_gives
 
 -- ---- the answer of a lookup
 
--- the row that was found gives the key this value or none
-pub newest_gives : (content : Content) (s : TiersState) (key : List ℕ) (walked : Option (Holder × Found)) (holder : Holder) (found : Found) (location : Option Location) → FindsNewest content s key walked → walked ≡ Some (holder, found)
-    → location ≡ located holder found → get (current_map content s) key ≡ option_map (value_at content s) location
-newest_gives content s key walked holder found location finds some is = subst (FindsNewest content s key) some finds ∙ ap (option_map (value_at content s)) (sym is)
-
 -- no log and no hash store has a row of the key; the entries are seen through the stores' fields
 module _ (content : Content) (view s : TiersState) (is : view ≡ s) (key : List ℕ) (walked : Option (Holder × Found)) (walks : Stands content s → IsTrue content.honest → FindsNewest content s key walked) (none : walked ≡ None)
     (stands : Stands content s) (honest : IsTrue content.honest) where
@@ -217,15 +210,6 @@ module _ (content : Content) (view s : TiersState) (is : view ≡ s) (key : List
   told P tells =
       subst (λ (v : TiersState). sorted_findings (entries_of content v.sorted) ≡ [] → IsIndexOf (entries_of content v.sorted) v.index → P (entries_of content v.sorted)) is tells
       (entries_sound content s stands honest) (stands.located honest)
-
-  module _ (entry : Option ℕ) (looks : IsTrue content.honest → sorted_findings (entries_of content view.sorted) ≡ [] → IsIndexOf (entries_of content view.sorted) view.index → FindsEntry (entries_of content view.sorted) key entry) where
-    -- the entry is found
-    pub locates_sorted : (place : ℕ) → entry ≡ Some place → get (current_map content s) key ≡ option_map (value_at content s) (Some (record { holder = Sorted; place = place }))
-    locates_sorted place some = found_sorted content s stands honest key place newest (subst (FindsEntry (entries_of content s.sorted) key) some (told (λ rows. FindsEntry rows key entry) (looks honest)))
-
-    -- there is none
-    pub locates_none : entry ≡ None → get (current_map content s) key ≡ None
-    locates_none nothing = found_nowhere content s stands honest key newest (subst (FindsEntry (entries_of content s.sorted) key) nothing (told (λ rows. FindsEntry rows key entry) (looks honest)))
 
   -- its value was read
   pub gets_value : (value : List ℕ) → (IsTrue content.honest → sorted_findings (entries_of content view.sorted) ≡ [] → IsIndexOf (entries_of content view.sorted) view.index → HasOnlyValue (entries_of content view.sorted) key value)

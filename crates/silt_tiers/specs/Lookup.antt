@@ -1,17 +1,16 @@
 -- Where the rows of the stores stand, and what lookups answer.
-use Rattle.std.specs.Prelude.{◌≡◌, ◌<◌, ◌*◌, ℕ, false, if◌then◌else◌, IsTrue, List, [], length, get_or, Option, Some, None, IfSome}
-use Rattle.std.specs.Option.{option_and_then, option_map}
+use Rattle.std.specs.Prelude.{◌≡◌, ◌<◌, ℕ, false, if◌then◌else◌, List, [], length, get_or, Option, Some, None, IfSome}
+use Rattle.std.specs.Option.{option_and_then}
 use Rattle.std.specs.BTreeMap.{BTreeMap}
 use Rattle.std.specs.BTreeMap as tree
 use Rattle.std.specs.FinMap.{get}
-use Rattle.silt_frame.specs.declared.key.Kind.TheVariants.{Put}
 use Rattle.silt_device.specs.Disk.{Content}
 use Rattle.silt_frame.specs.declared.key.Key.{Key}
 use Rattle.silt_hash_store.specs.Lookup.{FindsRow}
 use Rattle.silt_hash_store.specs.Slots.{slot_row, hash_rows}
 use Rattle.silt_hash_store.specs.State.{HashState}
 use Rattle.silt_event.specs.Commands.{Map}
-use Rattle.silt_frame.specs.Frame.{is_put, kind_byte}
+use Rattle.silt_frame.specs.Frame.{is_put}
 use Rattle.silt_event.specs.Rows.{newest_row, value_given}
 use Rattle.silt_hash_store.specs.Findings.{holds_key}
 use Rattle.silt_log.specs.Rows.{row_at}
@@ -20,12 +19,11 @@ use Rattle.silt_log.specs.State.{all_rows}
 use Rattle.silt_log_store.specs.declared.log_store.Found.{Found}
 use Rattle.silt_log_store.specs.LastRow.{FindsLast, HasNoRow}
 use Rattle.silt_log_store.specs.State.{LogStoreState}
-use Rattle.silt_tiers.specs.declared.location.Holder.{Holder}
-use Rattle.silt_tiers.specs.declared.location.Holder.TheVariants.{Active, Frozen, Hashed, Sorted}
-use Rattle.silt_tiers.specs.declared.location.Location.{Location}
+use Rattle.silt_tiers.specs.declared.lookup.Holder.{Holder}
+use Rattle.silt_tiers.specs.declared.lookup.Holder.TheVariants.{Active, Frozen, Hashed}
 use Rattle.silt_tiers.specs.declared.entries.EntriesError.{EntriesError}
 use Rattle.silt_tiers.specs.declared.entries.EntriesError.TheVariants.{Device, NoMemory}
-use Rattle.silt_sorted_store.specs.State.{SortedState, entries_of}
+use Rattle.silt_sorted_store.specs.State.{entries_of}
 use Rattle.silt_tiers.specs.State.{TiersState}
 use Rattle.silt_tiers.specs.Standing.{current_map}
 
@@ -41,35 +39,15 @@ hash_store_at s index = get_or s.hashes index (record { shape = s.manifest.shape
 abbrev pub hash_rows_of : Content → HashState → List StoredRow
 hash_rows_of content store = hash_rows store.shape store.region content.shown
 
--- there is a row of this place in the active log, in a frozen log, a slot of this number in a hash store, or an entry at this place
-abbrev pub IsPlace : TiersState → Holder → ℕ → Type 0
-IsPlace s Active place = place < s.active.log.used
-IsPlace s (Frozen index) place = (index < length s.frozen) × (place < (frozen_at s index).log.used)
-IsPlace s (Hashed index) place = (index < length s.hashes) × (place < 4 * s.manifest.shape.buckets)
-IsPlace s Sorted place = place < s.sorted.count
-
--- the row at a location is there
-abbrev pub IsLocation : TiersState → Location → Type 0
-IsLocation s location = IsPlace s location.holder location.place
-
--- the location of a row that was found in a log, where it is a put
-abbrev pub located : Holder → Found → Option Location
-located holder found = if is_put found.kind then Some (record { holder = holder; place = found.place }) else None
-
--- the entry at this place of a sorted store, as a put
-abbrev pub entry_in : Content → SortedState → ℕ → StoredRow
-entry_in content store place = get_or (entries_of content store) place (record { kind = kind_byte Put; key = []; value = [] })
-
 -- the row at a place of a holder
 abbrev pub row_in : Content → TiersState → Holder → ℕ → StoredRow
 row_in content s Active place = row_at s.active.log.shape s.active.log.region content.shown place
 row_in content s (Frozen index) place = row_at (frozen_at s index).log.shape (frozen_at s index).log.region content.shown place
 row_in content s (Hashed index) place = slot_row (hash_store_at s index).shape (hash_store_at s index).region content.shown place
-row_in content s Sorted place = entry_in content s.sorted place
 
--- the value of the row at a location
-abbrev pub value_at : Content → TiersState → Location → List ℕ
-value_at content s location = (row_in content s location.holder location.place).value
+-- what a row that was found there gives its key: its value where it is a put, none where it is a delete
+abbrev pub value_found : Content → TiersState → Holder → Found → Option (List ℕ)
+value_found content s holder found = if is_put found.kind then Some (row_in content s holder found.place).value else None
 
 -- of the frozen logs this is the newest that has a row of the key, and there its last one; none where none has one
 abbrev pub FindsFrozen : Content → TiersState → List ℕ → Option (ℕ × Found) → Type 0
@@ -88,11 +66,7 @@ FindsHashed content s key (Some (number, found)) =
 -- of the logs and the hash stores this is the row that gives the key its value or none; where none of them has a row, the entries do
 abbrev pub FindsNewest : Content → TiersState → List ℕ → Option (Holder × Found) → Type 0
 FindsNewest content s key None = get (current_map content s) key ≡ option_and_then value_given (newest_row (entries_of content s.sorted) key)
-FindsNewest content s key (Some (holder, found)) = get (current_map content s) key ≡ option_map (value_at content s) (located holder found)
-
--- the row at the location has the value that the map has for the key, and there is none where the map has none
-abbrev pub Locates : Content → TiersState → List ℕ → Option Location → Type 0
-Locates content s key location = IsTrue content.honest → get (current_map content s) key ≡ option_map (value_at content s) location
+FindsNewest content s key (Some (holder, found)) = get (current_map content s) key ≡ value_found content s holder found
 
 -- the entries are those of the map
 abbrev pub AreEntriesOf : Map → BTreeMap Key (List ℕ) → Type 0
@@ -105,4 +79,4 @@ EntriesErrorCause WasGiven NoMemory = Unit {0}
 
 -- where a put was found in a store, this is the value of its row
 abbrev pub IsItsValue : Content → TiersState → Holder → Found → List ℕ → Type 0
-IsItsValue content s holder found value = IfSome (located holder found) (λ location. value ≡ value_at content s location)
+IsItsValue content s holder found value = IfSome (value_found content s holder found) (λ its_value. value ≡ its_value)

@@ -24,7 +24,6 @@
 mod conversion;
 mod entries;
 mod laws;
-mod location;
 mod lookup;
 mod merge;
 mod next_log;
@@ -35,7 +34,6 @@ pub use crate::tiers::Tiers;
 pub use conversion::ConvertError;
 pub use entries::EntriesError;
 pub use laws::{converts_law, merges_law, standing_law};
-pub use location::Location;
 pub use merge::MergeError;
 pub use next_log::{NextLog, NoNextLog};
 pub use row_write::WriteError;

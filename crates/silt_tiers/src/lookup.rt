@@ -1,141 +1,34 @@
 // The lookup of a key: the active log, then the frozen ones, then the hash stores, then the sorted store.
-ghost use Rattle.std.specs.Prelude.{◌≡◌, ◌<◌, ◌≤◌, ◌*◌, ℕ, None, option_map, length, true, false, Ok, IsTrue, IfOk, IfErr, IfSome, OnOk};
+ghost use Rattle.std.specs.Prelude.{◌≡◌, ◌<◌, ◌≤◌, ◌*◌, ℕ, None, option_map, length, true, false, Ok, IsTrue, IfOk, IfErr, IfSome};
 ghost use Rattle.silt_device.specs.Disk.{GaveAny, size};
 ghost use Rattle.silt_device.specs.Layout.{device_size};
-ghost use Rattle.silt_log.specs.Rows.{row_at};
 ghost use Rattle.silt_log_store.specs.LastRow.{put_place};
 ghost use Rattle.silt_log_store.specs.declared.log_store.Found.{Found};
 ghost use Rattle.silt_tiers.specs.Calls.{Finds, FindsNone};
-ghost use Rattle.silt_tiers.specs.declared.location.Holder.{Holder as HolderOf};
-ghost use Rattle.silt_tiers.specs.declared.location.Holder.TheVariants.{Frozen, Hashed};
-ghost use Rattle.silt_tiers.specs.Lookup.{FindsFrozen, FindsHashed, FindsNewest, IsItsValue, IsLocation, IsPlace, Locates, frozen_at, value_at};
+ghost use Rattle.silt_tiers.specs.declared.lookup.Holder.{Holder};
+ghost use Rattle.silt_tiers.specs.declared.lookup.Holder.TheVariants.{Frozen, Hashed};
+ghost use Rattle.silt_tiers.specs.Lookup.{FindsFrozen, FindsHashed, FindsNewest, IsItsValue, frozen_at};
 ghost use Rattle.silt_tiers.specs.Standing.{Stands};
 
-use crate::location::{Holder, Location, located};
 use crate::tiers::Tiers;
 use silt_device::Disk;
 use silt_frame::Key;
-use silt_log_store::{Found, LogStore};
+use silt_log_store::Found;
 
-// Reads the value of a row of a log.
-fn read_log_value<D: Disk>(
-    disk: &D,
-    store: &LogStore,
-    place: u32,
-    out: &mut [u8],
-) -> Result<(), D::Fault>
-    requires place { place < store.now.log.used }
-    requires out { length out.old ≡ store.now.log.shape.value_len }
-    requires size { device_size store.now.log.shape ≤ size (D.content disk.now) }
-    ensures value { IsTrue (D.content disk.now).honest → OnOk result (out.new ≡ (row_at store.now.log.shape store.now.log.region (D.content disk.now).shown place).value) }
-    ensures fault { IfErr result (GaveAny D.gave disk.now) }
-{
-    let _held = store.len(); // at most as many as the log has room for
-    store.read_value(disk, place, out)
+/// A log or a hash store.
+#[derive(Clone, Copy)]
+pub enum Holder {
+    /// The log that takes writes.
+    Active,
+    /// A full log, by its place among the frozen ones, the newest first.
+    Frozen(usize),
+    /// A hash store, by its place among these, the newest first.
+    Hashed(usize),
 }
 
 impl Tiers {
-    // The last row of a key among the rows of the newest frozen log that has one, with the number of that log.
-    fn find_frozen<D: Disk>(&self, disk: &D, key: &Key) -> Result<Option<(usize, Found)>, D::Fault>
-        requires size { device_size self.now.manifest.shape ≤ size (D.content disk.now) }
-        ensures found { Stands (D.content disk.now) self.now → IsTrue (D.content disk.now).honest → IfOk result (FindsFrozen (D.content disk.now) self.now key.now.0) }
-        ensures there { IfOk result (λ found. IfSome found (λ row. (row.0 < length self.now.frozen) × (row.1.place < (frozen_at self.now row.0).log.used))) }
-        ensures fault { IfErr result (GaveAny D.gave disk.now) }
-    {
-        for (index, log) in self.frozen.iter().enumerate() {
-            if let Some(found) = log.find(disk, key)? {
-                return Ok(Some((index, found)));
-            }
-        }
-        Ok(None)
-    }
-
-    // The row of a key in the newest hash store that has one, with the number of that store.
-    fn find_hashed<D: Disk>(&self, disk: &D, key: &Key) -> Result<Option<(usize, Found)>, D::Fault>
-        requires size { device_size self.now.manifest.shape ≤ size (D.content disk.now) }
-        ensures found { Stands (D.content disk.now) self.now → IsTrue (D.content disk.now).honest → IfOk result (FindsHashed (D.content disk.now) self.now key.now.0) }
-        ensures there { IfOk result (λ found. IfSome found (λ row. (row.0 < length self.now.hashes) × (row.1.place < 4 * self.now.manifest.shape.buckets))) }
-        ensures fault { IfErr result (GaveAny D.gave disk.now) }
-    {
-        for (index, store) in self.hashes.iter().enumerate() {
-            if let Some(found) = store.find(disk, key)? {
-                return Ok(Some((index, found)));
-            }
-        }
-        Ok(None)
-    }
-
-    // The newest row of a key in the logs and the hash stores, with its store: the active log, then the frozen ones and then the hash
-    // stores are gone through, each the newest first.
-    fn find_newest<D: Disk>(&self, disk: &D, key: &Key) -> Result<Option<(Holder, Found)>, D::Fault>
-        requires size { device_size self.now.manifest.shape ≤ size (D.content disk.now) }
-        ensures found { Stands (D.content disk.now) self.now → IsTrue (D.content disk.now).honest → IfOk result (FindsNewest (D.content disk.now) self.now key.now.0) }
-        ensures there { IfOk result (λ found. IfSome found (λ row. IsPlace self.now row.0 row.1.place)) }
-        ensures fault { IfErr result (GaveAny D.gave disk.now) }
-    {
-        if let Some(found) = self.active.find(disk, key)? {
-            return Ok(Some((Holder::Active, found)));
-        }
-        if let Some((index, found)) = self.find_frozen(disk, key)? {
-            return Ok(Some((Holder::Frozen(index), found)));
-        }
-        match self.find_hashed(disk, key)? {
-            Some((index, found)) => Ok(Some((Holder::Hashed(index), found))),
-            None => Ok(None),
-        }
-    }
-
-    /// Where the row stands that has a key's value: the active log, then the frozen ones and then the hash stores are gone
-    /// through, each the newest first, and the sorted store last. The first row of the key that is found decides. A delete ends the
-    /// lookup with none.
-    ///
-    /// # Errors
-    ///
-    /// The fault of a read.
-    pub fn find<D: Disk>(&self, disk: &D, key: &Key) -> Result<Option<Location>, D::Fault>
-        requires size { device_size self.now.manifest.shape ≤ size (D.content disk.now) }
-        ensures located { Stands (D.content disk.now) self.now → IfOk result (Locates (D.content disk.now) self.now key.now.0) }
-        ensures there { IfOk result (λ location. IfSome location (IsLocation self.now)) }
-        ensures fault { IfErr result (GaveAny D.gave disk.now) }
-    {
-        if let Some((holder, found)) = self.find_newest(disk, key)? {
-            return Ok(located(holder, found));
-        }
-        match self.sorted.find(disk, key)? {
-            Some(place) => Ok(Some(Location {
-                holder: Holder::Sorted,
-                place,
-            })),
-            None => Ok(None),
-        }
-    }
-
-    /// Reads the value of the row at a location.
-    ///
-    /// # Errors
-    ///
-    /// The fault of the read. The bytes of `out` are then open.
-    pub fn read_value<D: Disk>(
-        &self,
-        disk: &D,
-        location: Location,
-        out: &mut [u8],
-    ) -> Result<(), D::Fault>
-        requires location { IsLocation self.now location }
-        requires out { length out.old ≡ self.now.manifest.shape.value_len }
-        requires size { device_size self.now.manifest.shape ≤ size (D.content disk.now) }
-        ensures value { IsTrue (D.content disk.now).honest → OnOk result (out.new ≡ value_at (D.content disk.now) self.now location) }
-        ensures fault { IfErr result (GaveAny D.gave disk.now) }
-    {
-        match location.holder {
-            Holder::Active => read_log_value(disk, &self.active, location.place, out),
-            Holder::Frozen(index) => read_log_value(disk, &self.frozen[index], location.place, out),
-            Holder::Hashed(index) => self.hashes[index].read_value(disk, location.place, out),
-            Holder::Sorted => self.sorted.read_value(disk, location.place, out),
-        }
-    }
-
-    // As `find_frozen`, and where the row is a put its value stands in `out`.
+    // The last row of a key among the rows of the newest frozen log that has one, with the number of that log. Where the row is a put its
+    // value stands in `out`.
     fn get_frozen<D: Disk>(
         &self,
         disk: &D,
@@ -158,7 +51,8 @@ impl Tiers {
         Ok(None)
     }
 
-    // As `find_hashed`, and where the row is a put its value stands in `out`.
+    // The row of a key in the newest hash store that has one, with the number of that store. Where the row is a put its value stands in
+    // `out`.
     fn get_hashed<D: Disk>(
         &self,
         disk: &D,
@@ -181,7 +75,9 @@ impl Tiers {
         Ok(None)
     }
 
-    // As `find_newest`, and where the row is a put its value stands in `out`. Where no put is found `out` stays as it was.
+    // The newest row of a key in the logs and the hash stores, with its store: the active log, then the frozen ones and then the hash
+    // stores are gone through, each the newest first. Where the row is a put its value stands in `out`. Where no put is found `out` stays
+    // as it was.
     fn get_newest<D: Disk>(
         &self,
         disk: &D,
@@ -192,7 +88,7 @@ impl Tiers {
         requires size { device_size self.now.manifest.shape ≤ size (D.content disk.now) }
         ensures found { Stands (D.content disk.now) self.now → IsTrue (D.content disk.now).honest → IfOk result (FindsNewest (D.content disk.now) self.now key.now.0) }
         ensures value { IsTrue (D.content disk.now).honest → IfOk result (λ found. IfSome found (λ row. IsItsValue (D.content disk.now) self.now row.0 row.1 out.new)) }
-        ensures kept { IfOk result (λ found. put_place (option_map (λ (row : HolderOf × Found). row.1) found) ≡ None → out.new ≡ out.old) }
+        ensures kept { IfOk result (λ found. put_place (option_map (λ (row : Holder × Found). row.1) found) ≡ None → out.new ≡ out.old) }
         ensures fault { IfErr result (GaveAny D.gave disk.now) }
     {
         if let Some(found) = self.active.get(disk, key, out)? {
@@ -207,8 +103,10 @@ impl Tiers {
         Ok(Some((Holder::Hashed(number), found)))
     }
 
-    /// Writes a key's value over `out`, and answers whether there is one. Where there is none `out` stays as it was. A row or an
-    /// entry of at most 512 bytes is read whole, so that its key and its value take one read. It takes no memory.
+    /// Writes a key's value over `out`, and answers whether there is one: the active log, then the frozen ones and then the hash stores
+    /// are gone through, each the newest first, and the sorted store last. The first row of the key that is found decides. A delete ends
+    /// the lookup with none. Where there is none `out` stays as it was. A row or an entry of at most 512 bytes is read whole, so that its
+    /// key and its value take one read. It takes no memory.
     ///
     /// # Errors
     ///
