@@ -4,6 +4,7 @@ pub mod Runs
 pub mod Keeps
 pub mod Openings
 pub mod Converts
+pub mod Gatherings
 pub mod Merges
 pub mod Flushes
 pub mod Gets

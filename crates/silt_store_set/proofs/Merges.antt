@@ -19,11 +19,12 @@ use Rattle.silt_merge.specs.State.{MergeState, is_done, oldest_stores, steps_of}
 use Rattle.silt_tiers.specs.Calls.{Advances, Breaks, IsLastGeneration, Remaps, SameDisk}
 use Rattle.silt_tiers.specs.Conversion.{is_work}
 use Rattle.silt_tiers.specs.Merge.{EndsMerged, HasMergedEntries, IsDoneBySteps, IsNextMerge, MayLackMemory, Merges, MergesOn, full_stores, merge_progress, merge_sources, merge_turn, merged_body}
-use Rattle.silt_tiers.specs.Standing.{Stands}
+use Rattle.silt_tiers.specs.Standing.{HasGathered, Stands}
 use Rattle.silt_tiers.specs.State.{IsMerging, TiersState, hash_region_of}
 use Rattle.silt_tiers.proofs.Meaning.{meaning}
-use Rattle.silt_store_set.specs.CoreState.{CoreState, Does, GathersNext, IsMergeDue, MergeGoesOn, MergeLacksMemory, has_decided, merge_due, merge_work}
+use Rattle.silt_store_set.specs.CoreState.{CoreState, Does, GathersNewKey, GathersNext, IsMergeDue, MergeGoesOn, MergeLacksMemory, has_decided, merge_due, merge_work}
 use Rattle.silt_store_set.proofs.Calls.{seen, advanced, answered, broke, refused}
+use Rattle.silt_store_set.proofs.Gatherings.{new_key_next}
 
 -- a test of two numbers tells what holds exactly where they are the same
 tells_same : (a b : ℕ) (c : Bool) → (c ≡ true → a ≡ b) → (a ≡ b → c ≡ true) → (a == b) ≡ c
@@ -154,9 +155,15 @@ module _ {D F : Type 0} (facts : Ghosts D F) (disk : D) (stores : TiersState) (c
       let below : merge.store * (4 * merge.shape.buckets) + merge.slot < merge.stores * (4 * merge.shape.buckets) = slot_below merge.store merge.stores merge.slot (4 * merge.shape.buckets) takes.gathers merging.held.slot in
       subst (λ (n : ℕ). steps_of merge < merge.stores * n) slots (omega (arith, below, merging.held.gathers takes.gathers))
 
+  -- and what it gathers is the first row of a key
+  new_key : IsTrue (facts.content disk).honest → (o : Option MergeState) → IfSome o (IsMerging stores) → IfSome o (HasGathered (facts.content disk) stores)
+      → IfSome o (λ (merge : MergeState). TakesMemory (facts.content disk) (oldest_stores merge.stores stores.hashes) merge) → GathersNewKey before (merge_work o)
+  new_key h None merging merged takes = tt
+  new_key h (Some merge) merging merged takes = new_key_next (facts.content disk) stores stands h merge merging merged takes
+
   lacks : ((merge_turn stores ≡ Moved) × MayLackMemory (facts.content disk) stores) ⊎ ((merge_turn stores ≡ Finished) × (IsLastGeneration stores → ⊥))
       → MergeLacksMemory facts before before
-  lacks (inl (turn, may)) = inl (due Moved (sym turn), gathers stores.merging stands.whole.merging may)
+  lacks (inl (turn, may)) = inl (due Moved (sym turn), gathers stores.merging stands.whole.merging may, λ h. new_key h stores.merging stands.whole.merging stands.merged may)
   lacks (inr (turn, more)) = inr (due Finished (sym turn), more)
 
   pub step_no_memory : (new : D) (after : TiersState) → after ≡ stores → new ≡ disk

@@ -1,5 +1,5 @@
 -- What contracts see of a store, and what its calls do.
-use Rattle.std.specs.Prelude.{◌≡◌, ◌≢◌, ◌≤◌, ◌<◌, ◌-◌, ◌*◌, ◌^◌, ◌%◌, ◌==◌, ◌&&◌, ◌⊎◌, ℕ, ◌+◌, not, Option, Some, None, Bool, true, false, IsTrue, List, [], ◌∷◌, ◌++◌, length}
+use Rattle.std.specs.Prelude.{◌≡◌, ◌≢◌, ◌≤◌, ◌<◌, ◌-◌, ◌*◌, ◌^◌, ◌%◌, ◌==◌, ◌&&◌, ◌⊎◌, ℕ, ◌+◌, not, Option, Some, None, Bool, true, false, IsTrue, List, [], ◌∷◌, ◌++◌, drop, filter, flat_map, length, slice_get, take}
 use Rattle.std.specs.FinMap.{get}
 use Rattle.std.specs.Option.{option_map}
 use Rattle.silt_device.specs.Disk.{Content, GaveAny, LeavesOnly}
@@ -13,7 +13,9 @@ use Rattle.silt_device.specs.declared.disk.Disk.{Ghosts}
 use Rattle.silt_image.specs.Meaning.{image_map, IsGood, StandsFor}
 use Rattle.silt_image.specs.Stores.{Stores, stores_named}
 use Rattle.silt_log.specs.Rows.{log_rows}
-use Rattle.silt_frame.specs.Rows.{StoredRow}
+use Rattle.silt_event.specs.Rows.{newest_row}
+use Rattle.silt_frame.specs.Rows.{StoredRow, has_known_kind}
+use Rattle.silt_log_store.specs.Parts.{part_rows}
 use Rattle.silt_manifest.specs.declared.body.Body.{Body}
 use Rattle.silt_merge.specs.Rows.{key_count, merged_rows}
 use Rattle.silt_merge.specs.State.{MergeState, steps_of}
@@ -178,6 +180,22 @@ abbrev pub GathersNext : Shape → Option MergeWork → Type 0
 GathersNext shape None = Unit {0}
 GathersNext shape (Some work) = work.steps < work.stores * (4 * shape.buckets)
 
+-- the rows in the slots of the hash stores that a merge takes, in the order in which it gathers them
+abbrev pub slots_taken : {D : Type 0} → CoreState D → MergeWork → List StoredRow
+slots_taken core work = flat_map part_rows (drop (length (stores_of core).hashes - work.stores) (stores_of core).hashes)
+
+-- the slot behind so many has a row of a known kind, and none of these has one of its key
+pub record HasNewKey (slots : List StoredRow) (gathered : ℕ) : Type 0 where
+  pub row : StoredRow
+  pub next : slice_get slots gathered ≡ Some row
+  pub known : has_known_kind row ≡ true
+  pub new_key : newest_row (filter has_known_kind (take gathered slots)) row.key ≡ None
+
+-- a merge begins, or the slot that it gathers next has the first row of a key
+abbrev pub GathersNewKey : {D : Type 0} → CoreState D → Option MergeWork → Type 0
+GathersNewKey core None = Unit {0}
+GathersNewKey core (Some work) = HasNewKey (slots_taken core work) work.steps
+
 -- one more step is taken, or the first one of a merge of all hash stores
 abbrev pub MergeGoesOn : Body → Option MergeWork → Option MergeWork → Type 0
 MergeGoesOn body (Some before) (Some after) = (after.stores ≡ before.stores) × (after.steps ≡ before.steps + 1)
@@ -300,9 +318,11 @@ module _ {D F : Type 0} (facts : Ghosts D F) (old new : CoreState D) where
   AnswersMerge Moved = (new.body ≡ old.body) × MergeGoesOn old.body old.merging new.merging
   AnswersMerge Finished = IsMerged facts old new
 
-  -- why a step of merging lacks memory: the merge begins, a slot is gathered, or what the new sorted store keeps is made
+  -- why a step of merging lacks memory: the merge begins, the first row of a key is gathered, or what the new sorted store keeps is made
   abbrev pub MergeLacksMemory : Type 0
-  MergeLacksMemory = (IsMergeDue facts old Moved × GathersNext old.shape old.merging) ⊎ (IsMergeDue facts old Finished × (old.body.generation ≢ last_generation))
+  MergeLacksMemory =
+      (IsMergeDue facts old Moved × GathersNext old.shape old.merging × (IsTrue (facts.content old.disk).honest → GathersNewKey old old.merging))
+      ⊎ (IsMergeDue facts old Finished × (old.body.generation ≢ last_generation))
 
   -- a step of merging: what is due is done, and only the last one writes the manifest
   abbrev pub MergeCause : Reply F → Type 0

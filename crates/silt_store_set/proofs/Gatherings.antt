@@ -1,0 +1,196 @@
+-- The slot that a merge gathers next, where it lacks memory: it has the first row of a key.
+use Rattle.std.proofs.Common.{◌≡◌, ℕ, zero, suc, ◌+◌, ◌-◌, ◌*◌, ◌<◌, ◌≤◌, true, IsTrue, cond, List, [], ◌∷◌, ◌++◌, drop, filter, flat_map, length, map, take, get_or, slice_get, Option, Some, None, option_map, refl, sym, subst, ap, ◌∙◌, arith, append_assoc, suc-mul}
+use Rattle.std.specs.Option.{option_or}
+use Rattle.std.proofs.lemmas.List.{length-append, length-map, take-append-drop}
+use Rattle.std.proofs.lemmas.List.Elements.{filter-append}
+use Rattle.std.proofs.lemmas.Option.{slice_get-get_or}
+use Rattle.std.proofs.Math.Seq.{get_or-append_seam, take-append_seam}
+use Rattle.silt_device.specs.Disk.{Content}
+use Rattle.silt_device.specs.Layout.{Shape}
+use Rattle.silt_event.specs.Rows.{newest_row}
+use Rattle.silt_frame.specs.Rows.{StoredRow, has_known_kind}
+use Rattle.silt_hash_store.specs.Slots.{hash_part, hash_rows, rows_before, slot_row}
+use Rattle.silt_hash_store.specs.State.{HashState}
+use Rattle.silt_hash_store.proofs.Slotting.{all_before, before_count, before_more, before_taken}
+use Rattle.silt_image.specs.Meaning.{with_log_rows}
+use Rattle.silt_image.specs.Stores.{Stores, stores_named}
+use Rattle.silt_log.specs.State.{all_rows}
+use Rattle.silt_log_store.specs.Parts.{known_rows, part_rows}
+use Rattle.silt_manifest.specs.declared.body.Body.{Body}
+use Rattle.silt_merge.specs.Merging.{IsMergedIn, TakesMemory, decided_rows, gathered_rows, source_row}
+use Rattle.silt_merge.specs.Rows.{has_row_with, regions_of, rows_of_hashes}
+use Rattle.silt_merge.specs.State.{MergeState, oldest_stores, source_at, steps_of}
+use Rattle.silt_merge.proofs.Newest.{newest_append}
+use Rattle.silt_tiers.specs.Merge.{full_stores}
+use Rattle.silt_tiers.specs.Standing.{HasGathered, Stands}
+use Rattle.silt_tiers.specs.State.{IsMerging, TiersState}
+use Rattle.silt_tiers.proofs.MergeDone.{full_is, sorted_shape, taken_sound}
+use Rattle.silt_tiers.proofs.MergeStores.{taken_named}
+use Rattle.silt_store_set.specs.CoreState.{HasNewKey}
+
+-- ---- lists one after the other
+
+module _ {X : Type 0} where
+  -- the element behind so many, and those before it
+  next_there : (before : List X) (x : X) (behind : List X) (n : ℕ) → length before ≡ n → slice_get (before ++ x ∷ behind) n ≡ Some x
+  next_there before x behind n long =
+      let inside : length before < length (before ++ x ∷ behind) = omega (arith, length-append before (x ∷ behind)) in
+      ap (slice_get (before ++ x ∷ behind)) (sym long) ∙ slice_get-get_or (before ++ x ∷ behind) (length before) x inside ∙ ap Some (get_or-append_seam before x behind x)
+
+  first_there : (before behind : List X) (n : ℕ) → length before ≡ n → take n (before ++ behind) ≡ before
+  first_there before behind n long = ap (λ (m : ℕ). take m (before ++ behind)) (sym long) ∙ take-append_seam before behind
+
+  -- lists of one length, this many of them
+  lists_long : (f : ℕ → List X) (each : ℕ) → ((n : ℕ) → length (f n) ≡ each) → (ns : List ℕ) (k : ℕ) → k ≤ length ns → length (flat_map f (take k ns)) ≡ k * each
+  lists_long f each all [] zero most = omega arith
+  lists_long f each all [] (suc k) most = absurd (omega arith)
+  lists_long f each all (n ∷ ns) zero most = omega arith
+  lists_long f each all (n ∷ ns) (suc k) most =
+      omega (arith, length-append (f n) (flat_map f (take k ns)), all n, lists_long f each all ns k (omega arith), suc-mul k each)
+
+  -- an element of one of the lists stands behind the lists before, and behind those before it
+  stands_behind : (f : ℕ → List X) (ns : List ℕ) (k d : ℕ) (before : List X) (x : X) (rest : List X) → k < length ns → f (get_or ns k d) ≡ before ++ x ∷ rest
+      → (behind : List X) × (flat_map f ns ≡ (flat_map f (take k ns) ++ before) ++ x ∷ behind)
+  stands_behind f [] k d before x rest below is = absurd (omega arith)
+  stands_behind f (n ∷ ns) zero d before x rest below is = (rest ++ flat_map f ns, ap (λ l. l ++ flat_map f ns) is ∙ append_assoc before (x ∷ rest) (flat_map f ns))
+  stands_behind f (n ∷ ns) (suc k) d before x rest below is =
+      let next = stands_behind f ns k d before x rest (omega arith) is in
+      let front : List X = flat_map f (take k ns) in (
+        next.0,
+        ap (λ l. f n ++ l) next.1 ∙ sym (append_assoc (f n) (front ++ before) (x ∷ next.0)) ∙ ap (λ l. l ++ x ∷ next.0) (sym (append_assoc (f n) front before)),
+      )
+
+-- ---- keys that no row has
+
+-- none of two is none of each
+none_of_both : {A : Type 0} (o p : Option A) → option_or o p ≡ None → (o ≡ None) × (p ≡ None)
+none_of_both None p none = (refl, none)
+none_of_both (Some x) p none = absurd (cc)
+
+module _ (key : List ℕ) where
+  -- no row of either part
+  none_apart : (older newer : List StoredRow) → newest_row (older ++ newer) key ≡ None → (newest_row older key ≡ None) × (newest_row newer key ≡ None)
+  none_apart older newer none =
+      let both = none_of_both (newest_row newer key) (newest_row older key) (sym (newest_append older newer key) ∙ none) in
+      (both.1, both.0)
+
+  -- and none of both
+  none_together : (older newer : List StoredRow) → newest_row older key ≡ None → newest_row newer key ≡ None → newest_row (older ++ newer) key ≡ None
+  none_together older newer old new = newest_append older newer key ∙ ap (λ o. option_or o (newest_row older key)) new ∙ old
+
+  -- as far as rows are of known kinds
+  none_known : (first second : List StoredRow) → newest_row (filter has_known_kind first) key ≡ None → newest_row (filter has_known_kind second) key ≡ None → newest_row (filter has_known_kind (first ++ second)) key ≡ None
+  none_known first second one other = ap (λ l. newest_row l key) (filter-append has_known_kind first second) ∙ none_together (filter has_known_kind first) (filter has_known_kind second) one other
+
+-- ---- the slots of regions
+
+module _ (s : Shape) (image : List ℕ) where
+  -- one region after the other
+  abbrev slots_in : List ℕ → List StoredRow
+  slots_in regions = flat_map (λ region. hash_rows s region image) regions
+
+  parts_slots : (regions : List ℕ) → flat_map part_rows (map (hash_part s image) regions) ≡ slots_in regions
+  parts_slots [] = refl
+  parts_slots (region ∷ regions) = ap (λ l. hash_rows s region image ++ l) (parts_slots regions)
+
+  -- a region has one row a slot
+  region_long : (region : ℕ) → length (hash_rows s region image) ≡ 4 * s.buckets
+  region_long region = ap length (all_before s region image) ∙ before_count s region image (4 * s.buckets)
+
+  -- the row of a slot stands behind those before it
+  row_behind : (region slot : ℕ) → slot < 4 * s.buckets → hash_rows s region image ≡ rows_before s region image slot ++ slot_row s region image slot ∷ drop (slot + 1) (hash_rows s region image)
+  row_behind region slot inside =
+      let rest : List StoredRow = drop (slot + 1) (hash_rows s region image) in
+      sym (take-append-drop (slot + 1) (hash_rows s region image))
+      ∙ ap (λ l. l ++ rest) (before_taken s region image (slot + 1) (omega arith) ∙ before_more s region image slot)
+      ∙ append_assoc (rows_before s region image slot) (slot_row s region image slot ∷ []) rest
+
+  -- a key that no row of stores has, no slot of them has
+  none_in : (key : List ℕ) (regions : List ℕ) → newest_row (rows_of_hashes s image regions) key ≡ None → newest_row (filter has_known_kind (slots_in regions)) key ≡ None
+  none_in key [] none = none
+  none_in key (region ∷ regions) none =
+      let both = none_apart key (rows_of_hashes s image regions) (known_rows (hash_part s image region)) none in
+      none_known key (hash_rows s region image) (slots_in regions) both.1 (none_in key regions both.0)
+
+  -- a key that no gathered row has, no slot before has
+  none_before : (key : List ℕ) (regions : List ℕ) (store slot : ℕ) → newest_row (gathered_rows s image regions store slot) key ≡ None
+      → newest_row (filter has_known_kind (slots_in (take store regions) ++ rows_before s (get_or regions store 0) image slot)) key ≡ None
+  unfolding gathered_rows
+  none_before key regions store slot none =
+      let own : List StoredRow = filter has_known_kind (rows_before s (get_or regions store 0) image slot) in
+      let both = none_apart key own (rows_of_hashes s image (take store regions)) none in
+      none_known key (slots_in (take store regions)) (rows_before s (get_or regions store 0) image slot) (none_in key (take store regions) both.1) both.0
+
+  -- the slot that is gathered next
+  next_slot : (regions : List ℕ) (store slot steps : ℕ) → store < length regions → slot < 4 * s.buckets → steps ≡ store * (4 * s.buckets) + slot
+      → has_known_kind (slot_row s (get_or regions store 0) image slot) ≡ true
+      → newest_row (gathered_rows s image regions store slot) (slot_row s (get_or regions store 0) image slot).key ≡ None
+      → HasNewKey (slots_in regions) steps
+  next_slot regions store slot steps below inside is known none =
+      let region : ℕ = get_or regions store 0 in
+      let row : StoredRow = slot_row s region image slot in
+      let before : List StoredRow = slots_in (take store regions) ++ rows_before s region image slot in
+      let all = stands_behind (λ (r : ℕ). hash_rows s r image) regions store 0 (rows_before s region image slot) row (drop (slot + 1) (hash_rows s region image)) below (row_behind region slot inside) in
+      let long : length before ≡ steps =
+      omega (arith, length-append (slots_in (take store regions)) (rows_before s region image slot), lists_long (λ (r : ℕ). hash_rows s r image) (4 * s.buckets) region_long regions store (omega (arith, below)), before_count s region image slot, is) in
+      record {
+        row = row;
+        next = ap (λ (l : List StoredRow). slice_get l steps) all.1 ∙ next_there before row all.0 steps long;
+        known = known;
+        new_key =
+            ap (λ (l : List StoredRow). newest_row (filter has_known_kind (take steps l)) row.key) all.1
+            ∙ ap (λ (l : List StoredRow). newest_row (filter has_known_kind l) row.key) (first_there before (row ∷ all.0) steps long)
+            ∙ none_before row.key regions store slot none;
+      }
+
+-- ---- a merge under way
+
+-- other rows of a log leave the hash stores
+hashes_with : (region : ℕ) (rows : List StoredRow) (shape : Shape) (body : Body) (image : List ℕ) → (with_log_rows region rows (stores_named shape body image)).hashes ≡ map (hash_part shape image) body.hashed
+unfolding with_log_rows stores_named
+hashes_with region rows shape body image = refl
+
+module _ (content : Content) (s : TiersState) (stands : Stands content s) (honest : IsTrue content.honest) where
+  -- the slots that it takes of the full image are those of its stores
+  slots_taken : (count : ℕ) → flat_map part_rows (drop (length (full_stores content s).hashes - count) (full_stores content s).hashes) ≡ slots_in s.manifest.shape content.shown (regions_of (oldest_stores count s.hashes))
+  slots_taken count =
+      let same : (full_stores content s).hashes ≡ map (hash_part s.manifest.shape content.shown) s.manifest.ruling.hashed =
+      ap (λ (t : Stores). t.hashes) (full_is content s stands honest)
+      ∙ hashes_with s.manifest.ruling.active (all_rows content s.active.log) s.manifest.shape s.manifest.ruling content.shown in
+      ap (λ l. flat_map part_rows (drop (length l - count) l)) same
+      ∙ ap (flat_map part_rows) (taken_named s.manifest.shape content.shown s.manifest.ruling.hashed s.hashes count stands.whole.hash_regions)
+      ∙ parts_slots s.manifest.shape content.shown (regions_of (oldest_stores count s.hashes))
+
+  module _ (merge : MergeState) (way : IsMerging s merge) (merged : HasGathered content s merge) (takes : TakesMemory content (oldest_stores merge.stores s.hashes) merge) where
+    abbrev stores : List HashState
+    stores = oldest_stores merge.stores s.hashes
+
+    abbrev regions : List ℕ
+    regions = regions_of stores
+
+    -- the row in the slot that is due
+    abbrev due_in : Shape → StoredRow
+    due_in sh = slot_row sh (get_or regions merge.store 0) content.shown merge.slot
+
+    was : IsMergedIn content.shown stores s.sorted merge
+    was = merged.merged honest (taken_sound content s stands honest merge.stores)
+
+    -- where no row of a key waits, none of its rows is gathered
+    none_gathered : (key : List ℕ) → source_at merge.waiting key ≡ None → newest_row (gathered_rows s.manifest.shape content.shown regions merge.store merge.slot) key ≡ None
+    none_gathered key none =
+        let rows : Shape → List StoredRow = λ sh. gathered_rows sh content.shown regions merge.store merge.slot in
+        ap (λ (sh : Shape). newest_row (rows sh) key) (sym (sorted_shape content s stands))
+        ∙ sym (ap (λ n. cond (has_row_with key (decided_rows content.shown stores s.sorted n)) None (newest_row (rows s.sorted.shape) key)) (way.held.gathers takes.gathers))
+        ∙ sym (was.gathered.waits key)
+        ∙ ap (option_map (source_row s.sorted.shape content.shown regions)) none
+
+    pub new_key_next : HasNewKey (flat_map part_rows (drop (length (full_stores content s).hashes - merge.stores) (full_stores content s).hashes)) (steps_of merge)
+    new_key_next =
+        let long : length regions ≡ merge.stores = length-map stores (λ store. store.region) ∙ merged.counted in
+        let steps : steps_of merge ≡ merge.store * (4 * s.manifest.shape.buckets) + merge.slot =
+        omega (arith, way.held.gathers takes.gathers, ap (λ (sh : Shape). merge.store * (4 * sh.buckets)) way.has_shape) in
+        subst (λ (l : List StoredRow). HasNewKey l (steps_of merge)) (sym (slots_taken merge.stores))
+        (next_slot s.manifest.shape content.shown regions merge.store merge.slot (steps_of merge) (omega (arith, takes.gathers, long))
+        (subst (λ (sh : Shape). merge.slot < 4 * sh.buckets) way.has_shape way.held.slot) steps
+        (subst (λ (sh : Shape). has_known_kind (due_in sh) ≡ true) way.has_shape (takes.known honest))
+        (none_gathered (due_in s.manifest.shape).key (subst (λ (sh : Shape). source_at merge.waiting (due_in sh).key ≡ None) way.has_shape (takes.new_key honest))))
