@@ -18,7 +18,7 @@ mod failure;
 mod files;
 mod geometry;
 mod jobs;
-mod listening;
+mod listener;
 mod note_lines;
 mod notes;
 mod program;

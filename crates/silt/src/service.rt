@@ -8,7 +8,7 @@ ghost use Rattle.silt.specs.Notes.{NotOpenedTold, ToldFailures, ToldRefusal};
 
 use crate::failure::Watched;
 use crate::jobs::refuse_opening;
-use crate::listening::PatientListener;
+use crate::listener::PatientListener;
 use crate::notes::{FaultNotes, Notes, SourceNotes, tell_failures};
 use crate::refusal::refuse;
 use silt_desk::{Gate, Spot};

@@ -112,13 +112,6 @@ impl Log {
         self.geometry.log_capacity()
     }
 
-    /// Whether a gate past the first closed one is open, so that the log is to be sealed.
-    pub fn is_loose(&self) -> bool
-        ensures { result ≡ self.now.loose }
-    {
-        self.loose
-    }
-
     /// The number of the region.
     pub fn region(&self) -> u32
         ensures value { result ≡ self.now.region }

@@ -38,8 +38,9 @@ const WORKERS: u64 = 3;
 /// most so many; without it they are counted.
 ///
 /// Writes `opened` and `listening` with the listener's port. When the last session has ended, the converter ends once no step of it is due, and
-/// then the merger; a log that waits for a hash region may be left frozen. Then it writes `calls` with the number of recorded calls. Gives the store's disk back, and the status: 0 after that, 1 where nothing is
-/// served, and where the network fails.
+/// then the merger; a log that waits for a hash region may be left frozen. Then it writes `calls` with the number of recorded calls.
+///
+/// Gives the store's disk back, and the status: 0 after that, 1 where nothing is served, and where the network fails.
 ///
 /// # Errors
 ///

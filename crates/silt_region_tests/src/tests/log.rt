@@ -103,15 +103,15 @@ fn crafted(alloc: Global, gates: &[u8; 3], body: &[u8; 23]) -> Result<MemDisk, F
     Ok(disk)
 }
 
-// Scans a log: its rows, how many it has and how many are settled, and whether it is loose. None where that is refused.
-fn scanned<D: Disk>(alloc: Global, log: &mut Log, disk: &D) -> Option<(Vec<Row>, (u32, u32, bool))>
+// Scans a log: its rows, how many it has and how many are settled. None where that is refused.
+fn scanned<D: Disk>(alloc: Global, log: &mut Log, disk: &D) -> Option<(Vec<Row>, (u32, u32))>
     requires { device_size log.old.shape ≤ size (D.content disk.now) }
     ensures { log.new.shape ≡ log.old.shape }
 {
     let Ok(rows) = log.scan(alloc, disk) else {
         return None;
     };
-    Some((rows, (log.len(), log.settled(), log.is_loose())))
+    Some((rows, (log.len(), log.settled())))
 }
 
 // The key and the value of the first row.
@@ -141,7 +141,7 @@ fn a_scan_ends_at_the_first_closed_gate(rt: HostRuntime) -> Result<(), Fail> {
         place: 0,
     };
     assert_eq!(rt; rows.as_slice(), [row].as_slice());
-    assert_eq!(rt; (counts, first), ((1, 1, true), Some((Key(ABC), [1, 2]))));
+    assert_eq!(rt; (counts, first), ((1, 1), Some((Key(ABC), [1, 2]))));
     Ok(())
 }
 
