@@ -1,12 +1,13 @@
 -- What a step of conversion does, from what that of the stores in memory does.
-use Rattle.std.proofs.Common.{◌≡◌, ℕ, ◌+◌, ◌*◌, ◌%◌, ◌^◌, inl, inr, false, true, [], length, Option, Some, None, refl, ap, sym, ◌∙◌}
+use Rattle.std.proofs.Common.{◌≡◌, ℕ, ◌+◌, ◌*◌, ◌%◌, ◌^◌, inl, inr, false, true, IsTrue, [], length, Option, Some, None, IfSome, refl, ap, sym, ◌∙◌, subst}
 use Rattle.std.proofs.lemmas.List.{length-map}
 use Rattle.silt_device.specs.Disk.{GaveAny}
 use Rattle.silt_device.specs.declared.disk.Disk.{Ghosts}
 use Rattle.silt_hash_store.specs.Conversion.{ConversionState}
+use Rattle.silt_hash_store.specs.Slots.{hash_rows}
 use Rattle.silt_tiers.specs.Calls.{Advances, Breaks, IsLastGeneration, Remaps, SameDisk}
-use Rattle.silt_tiers.specs.Conversion.{Converts, Finishes, IsNextStep, MovesOn, convert_turn, is_work, progress_due, written_by}
-use Rattle.silt_tiers.specs.Standing.{Stands}
+use Rattle.silt_tiers.specs.Conversion.{AreConverted, Converts, Finishes, HasConvertedRows, IsNextStep, MovesOn, convert_turn, is_work, oldest_rows, progress_due, written_by}
+use Rattle.silt_tiers.specs.Standing.{Stands, full_image}
 use Rattle.silt_tiers.specs.State.{TiersState, hash_region_of, region_of}
 use Rattle.silt_event.specs.declared.progress.Progress.{Progress as ProgressOf}
 use Rattle.silt_event.specs.declared.progress.Progress.TheVariants.{Idle, Waiting, Moved, Finished}
@@ -46,25 +47,38 @@ module _ {D F : Type 0} (facts : Ghosts D F) (disk : D) (stores : TiersState) (c
   stood progress new after due same_disk same counted does idle =
       rw (same_disk, same) (answered facts disk stores count false Convert (Progress progress) refl stands refl refl refl (refl, due ∙ sym due_same, does, refl) (λ _. refl) (λ _. tt))
 
+  -- what the slots have
+  rows_are : (new : D) (after : TiersState) (conversion : ConversionState) → stores.converting ≡ Some conversion → HasConvertedRows (facts.content disk) (facts.content new) stores after
+      → AreConverted stores.manifest.shape (oldest_rows stores.manifest.shape stores.manifest.ruling (full_image (facts.content disk) stores)) (hash_rows stores.manifest.shape conversion.region (full_image (facts.content new) after))
+  rows_are new after conversion was has =
+      subst (λ (o : Option ConversionState). IfSome o (λ c.
+      AreConverted stores.manifest.shape (oldest_rows stores.manifest.shape stores.manifest.ruling (full_image (facts.content disk) stores)) (hash_rows stores.manifest.shape c.region (full_image (facts.content new) after)))) was has
+
   -- a step was answered
   pub stepped : (progress : ProgressOf) (new : D) (after : TiersState) → SameDisk (facts.content disk) (facts.content new) → Advances [] (facts.content disk) (facts.content new) stores after
-      → Converts progress stores after → (is_work progress ≡ false → new ≡ disk) → facts.failures new ≡ facts.failures disk
+      → Converts progress stores after → (progress ≡ Finished → IsTrue (facts.content disk).honest → HasConvertedRows (facts.content disk) (facts.content new) stores after) → (is_work progress ≡ false → new ≡ disk) → facts.failures new ≡ facts.failures disk
       → Does facts before (seen facts new after count false) Convert (Progress progress)
-  stepped Idle new after same goes converts quiet counted = stood Idle new after converts.due (quiet refl) converts.done counted refl refl
-  stepped Waiting new after same goes converts quiet counted = stood Waiting new after converts.due (quiet refl) converts.done counted refl refl
-  stepped Moved new after same goes converts quiet counted =
+  stepped Idle new after same goes converts rows quiet counted = stood Idle new after converts.due (quiet refl) converts.done counted refl refl
+  stepped Waiting new after same goes converts rows quiet counted = stood Waiting new after converts.due (quiet refl) converts.done counted refl refl
+  stepped Moved new after same goes converts rows quiet counted =
       let moves : MovesOn stores after = converts.done in
       let ruling : after.manifest.ruling ≡ stores.manifest.ruling = ap (λ (s : TiersState). s.manifest.ruling) moves.is in
       let work : after.converting ≡ Some moves.conversion = ap (λ (s : TiersState). s.converting) moves.is in
       let on : ConvertGoesOn stores.manifest.shape.hashes stores.manifest.ruling (convert_work stores.converting) (convert_work after.converting) = rw work (goes_on stores stores.converting moves.conversion moves.step) in
       advanced facts disk new stores after same stands [] count count Convert (Progress Moved) goes refl refl refl refl
       (refl, converts.due ∙ sym due_same, (ruling, on), counted) (λ m to e. e) (λ _ _. ruling) (λ other. absurd (cc)) (λ _. ap (λ (s : TiersState). s.merging) moves.is) (λ _. tt) counted
-  stepped Finished new after same goes converts quiet counted =
+  stepped Finished new after same goes converts rows quiet counted =
       let ends : Finishes stores after = converts.done in
       advanced facts disk new stores after same stands [] count count Convert (Progress Finished) goes refl refl refl refl (
         refl,
         converts.due ∙ sym due_same,
-        record { work = record { region = ends.conversion.region; written = ends.conversion.next }; was = ap convert_work ends.was; none = ap convert_work ends.none; body = ends.ruling },
+        record {
+          work = record { region = ends.conversion.region; written = ends.conversion.next };
+          was = ap convert_work ends.was;
+          none = ap convert_work ends.none;
+          body = ends.ruling;
+          rows = λ h. rows_are new after ends.conversion ends.was (rows refl h);
+        },
         counted,
       )
       (λ m to e. e) (λ _ unfinished. absurd (cc)) (λ other. absurd (cc)) (λ _. ends.merging) (λ _. tt) counted

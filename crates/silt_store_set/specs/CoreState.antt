@@ -20,7 +20,7 @@ use Rattle.silt_manifest.specs.declared.body.Body.{Body}
 use Rattle.silt_merge.specs.Rows.{key_count, merged_rows}
 use Rattle.silt_merge.specs.State.{MergeState, steps_of}
 use Rattle.silt_tiers.specs.Calls.{CannotTake, HasBegun, SameDisk}
-use Rattle.silt_tiers.specs.Conversion.{IsLowestFreeHash, converted_body, is_work, progress_due}
+use Rattle.silt_tiers.specs.Conversion.{AreConverted, IsLowestFreeHash, converted_body, is_work, oldest_rows, progress_due}
 use Rattle.silt_tiers.specs.Merge.{merge_progress, merge_sources, merged_body}
 use Rattle.silt_tiers.specs.NextLog.{IsLowestFree, next_body}
 use Rattle.silt_tiers.specs.Laws.{IsGoodWith}
@@ -29,6 +29,7 @@ use Rattle.silt_event.specs.declared.event.Event.TheVariants.{Put, Delete, Flush
 use Rattle.silt_event.specs.declared.progress.Progress.{Progress as ProgressOf}
 use Rattle.silt_event.specs.declared.progress.Progress.TheVariants.{Idle, Waiting, Moved, Finished}
 use Rattle.silt_hash_store.specs.Conversion.{ConversionState}
+use Rattle.silt_hash_store.specs.Slots.{hash_rows}
 use Rattle.silt_event.specs.declared.refusal.Refusal.{Refusal}
 use Rattle.silt_event.specs.declared.refusal.Refusal.TheVariants.{Device, NoMemory, StoreFull, NoRoom, Failed, Spent}
 use Rattle.silt_event.specs.declared.reply.Reply.{Reply}
@@ -140,13 +141,6 @@ ConvertGoesOn hashes body (Some before) (Some after) = (after.region ≡ before.
 ConvertGoesOn hashes body None (Some after) = IsLowestFreeHash hashes body after.region × (after.written ≡ 1)
 ConvertGoesOn hashes body before None = ⊥
 
--- a conversion is finished: the hash store stands in front of the others, and the oldest log is no longer named
-pub record IsConverted (old_work new_work : Option ConvertWork) (old new : Body) : Type 0 where
-  pub work : ConvertWork
-  pub was : old_work ≡ Some work
-  pub none : new_work ≡ None
-  pub body : new ≡ converted_body old work.region
-
 -- the stores of what is shown, with the gates of the waiting rows open
 abbrev pub stores_of : {D : Type 0} → CoreState D → Stores
 stores_of core = stores_named core.shape core.body core.full
@@ -169,6 +163,15 @@ wants_merge core = not core.failed && is_work (merge_due core)
 
 -- In what follows `facts` is what the trait of disks states of a disk's type: the content, how many writes and syncs have failed, and which call gave
 -- which fault. A clause at `D: Disk` passes `D.Disk`.
+
+-- A conversion is finished: the hash store stands in front of the others, and the oldest log is no longer named. The slots of the hash
+-- store have the last row of each key of that log, and no other.
+pub record IsConverted {D F : Type 0} (facts : Ghosts D F) (old new : CoreState D) : Type 0 where
+  pub work : ConvertWork
+  pub was : old.converting ≡ Some work
+  pub none : new.converting ≡ None
+  pub body : new.body ≡ converted_body old.body work.region
+  pub rows : IsTrue (facts.content old.disk).honest → AreConverted old.shape (oldest_rows old.shape old.body old.full) (hash_rows old.shape work.region new.full)
 
 -- this progress of merging is due: on any device where there is work, and on an honest one exactly this
 pub record IsMergeDue {D F : Type 0} (facts : Ghosts D F) (core : CoreState D) (progress : ProgressOf) : Type 0 where
@@ -299,7 +302,7 @@ module _ {D F : Type 0} (facts : Ghosts D F) (old new : CoreState D) where
   ConvertsTo Idle = new ≡ old
   ConvertsTo Waiting = new ≡ old
   ConvertsTo Moved = (new.body ≡ old.body) × ConvertGoesOn old.shape.hashes old.body old.converting new.converting
-  ConvertsTo Finished = IsConverted old.converting new.converting old.body new.body
+  ConvertsTo Finished = IsConverted facts old new
 
   -- a step of conversion: what is due is done; only a first step takes memory, and only the last one writes the manifest
   abbrev pub ConvertCause : Reply F → Type 0

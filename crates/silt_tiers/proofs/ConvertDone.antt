@@ -122,19 +122,19 @@ module _ (content : Content) (s : TiersState) (stands : Stands content s) (conve
   ending_stores = with_converted ending_body ending_part (shown_stores content s)
 
   -- the oldest log has these rows, also where the waiting rows are settled
-  oldest : IsTrue content.honest → HasOldest rows t
+  pub oldest : IsTrue content.honest → HasOldest rows t
   oldest h = subst (λ (r : List StoredRow). HasOldest r t) (shown_rows content s stands way.some_frozen h) (oldest_named s.manifest.shape s.manifest.ruling 0 content.shown (some_ids content s stands way.some_frozen))
 
   abbrev full : Stores
   full = with_log_rows s.manifest.ruling.active (all_rows content s.active.log) (shown_stores content s)
 
-  oldest_full : IsTrue content.honest → HasOldest rows full
+  pub oldest_full : IsTrue content.honest → HasOldest rows full
   oldest_full h =
       subst (λ (r : List StoredRow). HasOldest r full) (shown_rows content s stands way.some_frozen h)
       (oldest_named_with s.manifest.shape s.manifest.ruling 0 content.shown s.manifest.ruling.active (all_rows content s.active.log) (some_ids content s stands way.some_frozen) (not_the_active content s stands way.some_frozen h))
 
   -- and their table
-  table_of : IsTrue content.honest → IsTableOf t.shape rows (oldest_log s).table
+  pub table_of : IsTrue content.honest → IsTableOf t.shape rows (oldest_log s).table
   table_of h =
       let log_shape : (oldest_log s).log.shape ≡ t.shape = oldest_shape content s stands way.some_frozen ∙ sym t_shape in
       let indexed = (oldest_frozen content s stands way.some_frozen).indexed in

@@ -1,17 +1,19 @@
 -- The end of a conversion: the body that names the hash store, and the stores once it rules.
-use Rattle.std.proofs.Common.{inr, ◌≡◌, ◌≤◌, ◌<◌, ℕ, ◌-◌, IsTrue, List, [], ◌∷◌, ◌++◌, length, map, take, Option, Some, None, refl, ap, sym, ◌∙◌, subst, arith}
+use Rattle.std.proofs.Common.{inr, ◌≡◌, ◌≤◌, ◌<◌, ℕ, ◌-◌, IsTrue, List, [], ◌∷◌, ◌++◌, length, map, take, get_or, Option, Some, None, refl, ap, sym, ◌∙◌, subst, arith}
 use Rattle.std.specs.Prelude.{All, IfSome}
 use Rattle.std.proofs.lemmas.List.{length-map, take-map}
 use Rattle.std.proofs.lemmas.List.Elements.{All-cons, All-take}
+use Rattle.silt_cuckoo.specs.Index.{index_of_keys}
 use Rattle.silt_cuckoo.specs.Slots.{IsBucketCount}
 use Rattle.silt_device.specs.Disk.{Content, LeavesOnly, Rests, Torn, size}
 use Rattle.silt_device.specs.Layout.{Shape, device_size, slot_at}
 use Rattle.silt_device.proofs.Images.{left_at_rest}
 use Rattle.silt_log.specs.Rows.{log_rows}
-use Rattle.silt_frame.specs.Rows.{StoredRow, put_count}
+use Rattle.silt_frame.specs.Rows.{StoredRow, keys_of, put_count}
 use Rattle.silt_log.specs.State.{all_rows}
 use Rattle.silt_log.specs.Calls.{KeepsRows}
 use Rattle.silt_log.proofs.Elsewhere.{log_rows_elsewhere}
+use Rattle.silt_log_store.specs.Parts.{part_rows}
 use Rattle.silt_log_store.specs.State.{IsFrozenStore}
 use Rattle.silt_log_store.proofs.Buckets.{bucket_count_is}
 use Rattle.silt_manifest.specs.Standing.{ManifestState, spare_slot}
@@ -20,7 +22,8 @@ use Rattle.silt_image.specs.Stores.{Stores, stores_named}
 use Rattle.silt_image.specs.Meaning.{IsSound, rows_of, with_log_rows}
 use Rattle.silt_event.specs.Rows.{command_of}
 use Rattle.silt_image.proofs.Named.{whole_law}
-use Rattle.silt_hash_store.specs.Conversion.{ConversionState, HasWritten}
+use Rattle.silt_hash_store.specs.Conversion.{ConversionState, HasWritten, converted_rows}
+use Rattle.silt_hash_store.specs.Slots.{hash_rows}
 use Rattle.silt_hash_store.specs.State.{IsHashStore, IsHeldHash, HashState}
 use Rattle.silt_hash_store.proofs.Writing.{store_stands}
 use Rattle.silt_merge.specs.State.{MergeState}
@@ -28,20 +31,22 @@ use Rattle.silt_merge.specs.Merging.{HasMerged}
 use Rattle.silt_merge.proofs.Elsewhere.{oldest_stores_law}
 use Rattle.silt_sorted_store.specs.State.{SortedState}
 use Rattle.silt_tiers.specs.State.{AreWhole, IsHashOf, IsMerging, IsSettled, IsUnderWay, TiersState, oldest_log, region_of, sorted_named}
-use Rattle.silt_tiers.specs.Standing.{HasGathered, IsFrozen, Stands, shown_stores}
+use Rattle.silt_tiers.specs.Standing.{HasGathered, IsFrozen, Stands, full_image, shown_stores}
 use Rattle.silt_tiers.specs.Calls.{Advances}
 use Rattle.silt_tiers.specs.Succession.{MayRule, NowRules}
-use Rattle.silt_tiers.specs.Conversion.{EndsConversion, MayReplace, converted_body, oldest_replaced, store_of}
+use Rattle.silt_tiers.specs.Conversion.{AreConverted, EndsConversion, HasConvertedRows, MayReplace, converted_body, oldest_replaced, oldest_rows, store_of}
 use Rattle.silt_tiers.proofs.Named.{named_shape}
 use Rattle.silt_tiers.proofs.Facts.{shown_named}
 use Rattle.silt_tiers.proofs.Elsewhere.{frozen_named, indexed_same, named_below, outside_slot, scanned_all}
-use Rattle.silt_tiers.proofs.Standing.{Fits}
+use Rattle.silt_tiers.proofs.Standing.{Fits, shown_are}
 use Rattle.silt_tiers.proofs.Wholes.{merging_in}
 use Rattle.silt_tiers.proofs.ConvertCounting.{may_end}
 use Rattle.silt_tiers.proofs.Remains.{active_stays, frozen_stays, hashed_stays, located_stays, merged_stays, slot_below, waiting_stays, written_stays}
 use Rattle.silt_tiers.proofs.NextBodies.{now_named, succeeds}
 use Rattle.silt_tiers.proofs.ConvertStores.{converted_named, converted_ruling, converted_shape}
-use Rattle.silt_tiers.proofs.ConvertDone.{ending_counted, ending_full_sound, ending_map, ending_slots, ending_sound, ending_stores, oldest_frozen, oldest_shape, oldest_stands, way}
+use Rattle.silt_tiers.proofs.ConvertDone.{ending_counted, ending_full_sound, ending_map, ending_slots, ending_sound, ending_stores, oldest_frozen, oldest_shape, oldest_stands, table_of, way}
+use Rattle.silt_tiers.proofs.ConvertRows.{front_converted, front_named, no_part, oldest_same}
+use Rattle.silt_tiers.proofs.MergeDone.{full_is}
 
 -- ---- the body that names the hash store
 
@@ -219,3 +224,40 @@ module _ (old : Content) (s : TiersState) (body : Body) (stands : Stands old s) 
         let whole_after : AreWhole (oldest_replaced s m ends.conversion) = subst AreWhole is is_whole in
         subst (λ (t : TiersState). Advances [] old new s t) (sym is)
         (succeeds old new s body stands converted_may_rule sizes m now after (fits whole_after) now.has_shape (λ h. ap (map command_of) (waiting_stays old new s stands sizes now.changes h)))
+
+    -- its slots have the rows that are due
+    slots_now : AreWhole (oldest_replaced s m ends.conversion) → IsTrue old.honest
+        → hash_rows s.manifest.shape ends.conversion.region (full_image new after) ≡ converted_rows s.manifest.shape (oldest_log s).table (all_rows old (oldest_log s).log)
+    unfolding converted_may_rule
+    slots_now is_whole h =
+        let here : IsTrue new.honest = subst IsTrue (sym now.changes.honest) h in
+        let stand : Stands new after = (converted_advances after is_whole refl).stands in
+        let fit : Fits new after converted_stores = fits is_whole in
+        let front : Stores → List StoredRow = λ t. part_rows (get_or t.hashes 0 no_part) in
+        ap (λ (sh : Shape). hash_rows sh ends.conversion.region (full_image new after)) (sym now.has_shape)
+        ∙ sym (front_named m.shape s.manifest.ruling ends.conversion.region (full_image new after))
+        ∙ ap (λ (b : Body). front (stores_named m.shape b (full_image new after))) (sym ruling_is)
+        ∙ ap front (full_is new after stand here)
+        ∙ ap (λ (t : Stores). front (with_log_rows m.ruling.active (all_rows new s.active.log) t)) (shown_are new after converted_stores fit.same_shape fit.same_body fit.named here)
+        ∙ front_converted _ _ _ _ _
+        ∙ ap (λ (sh : Shape). converted_rows sh (oldest_log s).table (all_rows old (oldest_log s).log)) (named_shape s.manifest.shape s.manifest.ruling old.shown)
+
+    -- which are the last rows of the log's keys, as the full image had them on a disk that shows the same stores
+    pub has_converted_rows : (first : Content) (finished : TiersState) → AreWhole finished → finished ≡ oldest_replaced s m ends.conversion → Stands first s → IsTrue first.honest → IsTrue old.honest
+        → shown_stores old s ≡ shown_stores first s → HasConvertedRows first new s finished
+    has_converted_rows first finished is_whole is stood was_honest h same =
+        let rows : List StoredRow = oldest_rows s.manifest.shape s.manifest.ruling (full_image first s) in
+        let log_rows_are : rows ≡ all_rows old (oldest_log s).log = oldest_same first old s stood stands ends.conversion ends.was was_honest h same in
+        let table_shape : (shown_stores old s).shape ≡ s.manifest.shape = named_shape s.manifest.shape s.manifest.ruling old.shown in
+        let converted : AreConverted s.manifest.shape rows (hash_rows s.manifest.shape ends.conversion.region (full_image new finished)) = record {
+          table = (oldest_log s).table;
+          indexed =
+              ap (λ (l : List StoredRow). index_of_keys s.manifest.shape.buckets (keys_of l)) log_rows_are
+              ∙ ap (λ (sh : Shape). index_of_keys sh.buckets (keys_of (all_rows old (oldest_log s).log))) (sym table_shape)
+              ∙ (table_of old s stands ends.conversion ends.was h).indexed;
+          are =
+              ap (λ (t : TiersState). hash_rows s.manifest.shape ends.conversion.region (full_image new t)) is
+              ∙ slots_now (subst AreWhole is is_whole) h
+              ∙ ap (converted_rows s.manifest.shape (oldest_log s).table) (sym log_rows_are);
+        } in
+        subst (λ (o : Option ConversionState). IfSome o (λ conversion. AreConverted s.manifest.shape rows (hash_rows s.manifest.shape conversion.region (full_image new finished)))) (sym ends.was) converted

@@ -26,6 +26,7 @@ pub mod Takes
 pub mod ConvertCounting
 pub mod ConvertStores
 pub mod ConvertDone
+pub mod ConvertRows
 pub mod ConvertSlots
 pub mod ConvertTurns
 pub mod ConvertSteps

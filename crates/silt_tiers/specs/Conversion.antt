@@ -1,11 +1,17 @@
 -- The conversion of the oldest frozen log into a hash store, step by step.
-use Rattle.std.specs.Prelude.{◌≡◌, ◌<◌, ◌+◌, ◌-◌, ◌*◌, ◌^◌, ◌==◌, ℕ, Bool, true, false, if◌then◌else◌, length, take, ◌∷◌, Option, Some, None}
-use Rattle.silt_device.specs.Disk.{GaveAny}
+use Rattle.std.specs.Prelude.{◌≡◌, ◌<◌, ◌+◌, ◌-◌, ◌*◌, ◌^◌, ◌==◌, ℕ, Bool, true, false, if◌then◌else◌, List, length, take, get_or, ◌∷◌, Option, Some, None, IfSome}
+use Rattle.silt_cuckoo.specs.Index.{index_of_keys}
+use Rattle.silt_cuckoo.specs.Slots.{Slots}
+use Rattle.silt_device.specs.Disk.{Content, GaveAny}
+use Rattle.silt_device.specs.Layout.{Shape}
 use Rattle.silt_device.specs.declared.disk.Disk.{Ghosts}
-use Rattle.silt_hash_store.specs.Conversion.{ConversionState}
+use Rattle.silt_frame.specs.Rows.{StoredRow, keys_of}
+use Rattle.silt_hash_store.specs.Conversion.{ConversionState, converted_rows}
+use Rattle.silt_hash_store.specs.Slots.{hash_rows}
 use Rattle.silt_hash_store.specs.State.{HashState, IsHeldHash}
 use Rattle.silt_hash_store.specs.declared.conversion.StepError.{StepError}
 use Rattle.silt_hash_store.specs.declared.conversion.StepError.TheVariants as step_error
+use Rattle.silt_log.specs.Rows.{log_rows}
 use Rattle.silt_manifest.specs.Standing.{ManifestState}
 use Rattle.silt_manifest.specs.declared.body.Body.{Body}
 use Rattle.silt_tiers.specs.declared.conversion.ConvertError.{ConvertError}
@@ -14,6 +20,7 @@ use Rattle.silt_event.specs.declared.progress.Progress.{Progress}
 use Rattle.silt_event.specs.declared.progress.Progress.TheVariants.{Idle, Waiting, Moved, Finished}
 use Rattle.silt_tiers.specs.State.{AreWhole, TiersState, names_hash, oldest_log}
 use Rattle.silt_tiers.specs.Calls.{BreaksOff, IsLastGeneration}
+use Rattle.silt_tiers.specs.Standing.{full_image}
 
 -- the next progress, with so many frozen logs, hash stores and hash regions, where so many of all slots are written: none where no
 -- conversion is under way
@@ -85,6 +92,22 @@ StepsOn Finished before after = Finishes before after
 pub record Converts (progress : Progress) (before after : TiersState) : Type 0 where
   pub due : progress ≡ convert_turn before
   pub done : StepsOn progress before after
+
+-- the rows of the oldest frozen log that a body names, in an image
+abbrev pub oldest_rows : Shape → Body → List ℕ → List StoredRow
+oldest_rows shape body image = log_rows shape (get_or body.frozen (length body.frozen - 1) body.active) image
+
+-- the slots of a hash store have of each key of a log's rows the last row, where the table of the log's keys has it, and no other
+pub record AreConverted (shape : Shape) (rows slots : List StoredRow) : Type 0 where
+  pub table : Slots
+  pub indexed : index_of_keys shape.buckets (keys_of rows) ≡ Some table
+  pub are : slots ≡ converted_rows shape table rows
+
+-- the slots of the conversion's region have the last row of each key of the log that was the oldest one, and no other
+abbrev pub HasConvertedRows : Content → Content → TiersState → TiersState → Type 0
+HasConvertedRows old new before after =
+    IfSome before.converting (λ conversion.
+    AreConverted before.manifest.shape (oldest_rows before.manifest.shape before.manifest.ruling (full_image old before)) (hash_rows before.manifest.shape conversion.region (full_image new after)))
 
 -- the error that tells why a slot was not written
 abbrev pub refusal_of_step : {F : Type 0} → StepError F → ConvertError F

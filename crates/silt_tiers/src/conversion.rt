@@ -2,7 +2,7 @@
 ghost use Rattle.std.specs.Prelude.{◌≡◌, ◌<◌, ◌*◌, ◌-◌, ◌^◌, [], length, false, true, None, IsSome, IsTrue, IfOk, IfErr, IfSome, IfNone, OnOk};
 ghost use Rattle.silt_device.specs.Disk.{Rests};
 ghost use Rattle.silt_tiers.specs.Calls.{BreaksOff, Works};
-ghost use Rattle.silt_tiers.specs.Conversion.{AreAllHashesNamed, ConvertErrorCause, Converts, EndsConversion, Finishes, IsLowestFreeHash};
+ghost use Rattle.silt_tiers.specs.Conversion.{AreAllHashesNamed, ConvertErrorCause, Converts, EndsConversion, Finishes, HasConvertedRows, IsLowestFreeHash};
 ghost use Rattle.silt_tiers.specs.Conversion.{MayReplace, convert_turn, converted_body, is_work, oldest_replaced};
 ghost use Rattle.silt_event.specs.declared.progress.Progress.TheVariants.{Finished, Moved};
 ghost use Rattle.silt_tiers.specs.State.{AreWhole, names_hash};
@@ -103,6 +103,7 @@ impl Tiers {
         requires none { self.old.converting ≡ None }
         ensures works { Works D.Disk [] disk.old disk.new self.old self.new result }
         ensures converts { IfOk result (λ progress. Converts progress self.old self.new) }
+        ensures moves { IfOk result (λ progress. progress ≡ Finished → ⊥) }
         ensures quiet { IfOk result (λ progress. is_work progress ≡ false → disk.new ≡ disk.old) }
         ensures err { IfErr result (ConvertErrorCause D.Disk disk.old disk.new self.old self.new) }
     {
@@ -128,6 +129,7 @@ impl Tiers {
         requires turn { convert_turn self.old ≡ Moved }
         ensures works { Works D.Disk [] disk.old disk.new self.old self.new result }
         ensures converts { IfOk result (λ progress. Converts progress self.old self.new) }
+        ensures moves { IfOk result (λ progress. progress ≡ Moved) }
         ensures err { IfErr result (ConvertErrorCause D.Disk disk.old disk.new self.old self.new) }
     {
         let Some(conversion) = &mut self.converting else {
@@ -179,6 +181,7 @@ impl Tiers {
         requires ends { EndsConversion self.old body.now }
         ensures works { Works D.Disk [] disk.old disk.new self.old self.new result }
         ensures finishes { OnOk result (Finishes self.old self.new) }
+        ensures rows { OnOk result (IsTrue (D.content disk.old).honest → HasConvertedRows (D.content disk.old) (D.content disk.new) self.old self.new) }
         ensures err { IfErr result (BreaksOff D.Disk disk.old disk.new self.old self.new) }
     {
         self.settle_work(disk)?;
@@ -196,6 +199,7 @@ impl Tiers {
         requires turn { convert_turn self.old ≡ Finished }
         ensures works { Works D.Disk [] disk.old disk.new self.old self.new result }
         ensures converts { IfOk result (λ progress. Converts progress self.old self.new) }
+        ensures rows { OnOk result (IsTrue (D.content disk.old).honest → HasConvertedRows (D.content disk.old) (D.content disk.new) self.old self.new) }
         ensures err { IfErr result (ConvertErrorCause D.Disk disk.old disk.new self.old self.new) }
     {
         let ruling = self.manifest.ruling();
@@ -229,6 +233,7 @@ impl Tiers {
         requires stands { Stands (D.content disk.old) self.old }
         ensures works { Works D.Disk [] disk.old disk.new self.old self.new result }
         ensures converts { IfOk result (λ progress. Converts progress self.old self.new) }
+        ensures rows { IfOk result (λ progress. progress ≡ Finished → IsTrue (D.content disk.old).honest → HasConvertedRows (D.content disk.old) (D.content disk.new) self.old self.new) }
         ensures quiet { IfOk result (λ progress. is_work progress ≡ false → disk.new ≡ disk.old) }
         ensures err { IfErr result (ConvertErrorCause D.Disk disk.old disk.new self.old self.new) }
     {

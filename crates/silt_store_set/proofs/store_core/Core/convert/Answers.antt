@@ -7,7 +7,7 @@ pub returns-in-Ok : goal.returns-in-Ok
 returns-in-Ok g c =
     let working = c.if-self.false in
     rw (← c.self.view_is, working) (stepped g.D.Disk c.self.inside.disk c.self.inside.tiers c.self.inside.count
-    (c.self.invariant.stands working) c.in-Ok.progress c.convert.new.disk c.convert.new.self c.convert.ensures.works.same c.in-Ok.ensures.works.advances c.in-Ok.ensures.converts c.in-Ok.ensures.quiet c.in-Ok.ensures.works.failures)
+    (c.self.invariant.stands working) c.in-Ok.progress c.convert.new.disk c.convert.new.self c.convert.ensures.works.same c.in-Ok.ensures.works.advances c.in-Ok.ensures.converts c.in-Ok.ensures.rows c.in-Ok.ensures.quiet c.in-Ok.ensures.works.failures)
 
 pub returns-in-Err-Write : goal.returns-in-Err-Write
 returns-in-Err-Write g c =

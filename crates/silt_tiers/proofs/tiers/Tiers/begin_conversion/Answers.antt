@@ -6,7 +6,7 @@ use Rattle.silt_log_store.specs.State.{LogStoreState}
 use Rattle.silt_tiers.specs.State.{TiersState}
 use Rattle.silt_tiers.specs.Standing.{Stands}
 use Rattle.silt_tiers.specs.Conversion.{convert_turn, refusal_of_step}
-use Rattle.silt_event.specs.declared.progress.Progress.TheVariants.{Moved}
+use Rattle.silt_event.specs.declared.progress.Progress.TheVariants.{Finished, Moved}
 use Rattle.silt_tiers.proofs.ConvertSteps.{begin_converts, begin_turn, begin_waits, first_advances, first_failed_breaks, first_failed_map, started_shape, step_cause}
 use Rattle.silt_tiers.proofs.Exits.{on_error}
 use Rattle.silt_tiers.proofs.Viewing.{state_of}
@@ -97,3 +97,6 @@ returns-in_default-clause-works g c = nothing_done g.D.Disk c.args.disk.now c.ar
 
 pub returns-in_default-lowest_free_hash-clause-works : goal.returns-in_default-lowest_free_hash-clause-works
 returns-in_default-lowest_free_hash-clause-works g c = nothing_done g.D.Disk c.args.disk.now c.args.self.now _ c.requires.stands
+
+pub returns-clause-moves : goal.returns-clause-moves
+returns-clause-moves g c = λ is. let no : Moved ≡ Finished = is in cc
