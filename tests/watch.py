@@ -1,0 +1,93 @@
+"""Reads what watch.c recorded, and says how a program is run under it.
+
+    env = watching(self, log="log", fail="fdatasync:3:EIO")
+    self.silt("run", "store", env=env)
+    for call in read_record(self.path("log")):
+        print(call.name, call.file, call.at, call.data)
+"""
+import errno
+import itertools
+import pathlib
+import struct
+from dataclasses import dataclass
+
+from harness import watch_library
+
+HEAD = struct.Struct("<B3xiiIqqqI4x")
+STREAMS = {0: "standard input", 1: "standard output", 2: "standard error"}
+# Calls that put bytes into a stream or a socket, and those that take bytes out.
+OUT, IN = ("write", "send"), ("read", "recv")
+
+
+@dataclass
+class Call:
+    """One call of the system.
+
+    `file` is the path that was opened, a stream's name, or `socket N` for the N-th connection.
+    `at` is the offset, and of ftruncate the length. `asked` is the number of bytes, or the flags.
+    `result` is what the system returned; if that is negative, `error` has the error's name.
+    `data` is the bytes to write, or those that were read from a stream.
+    """
+
+    name: str
+    file: str
+    fd: int
+    at: int
+    asked: int
+    result: int
+    error: str
+    thread: int
+    data: bytes
+
+    @property
+    def moved(self):
+        """The bytes that were really written."""
+        return self.data[:max(self.result, 0)]
+
+
+def watching(case, log=None, counts=None, **plans):
+    """The environment of a watched run. The plans are fail, short and drop: a word or a list."""
+    env = {"LD_PRELOAD": str(watch_library())}
+    for name, path in (("LOG", log), ("COUNTS", counts)):
+        if path:
+            env[f"SILT_WATCH_{name}"] = str(case.path(path))
+    for name, words in plans.items():
+        env[f"SILT_WATCH_{name.upper()}"] = words if isinstance(words, str) else ",".join(words)
+    return env
+
+
+def read_counts(path):
+    """How often the program made each call, by name."""
+    return {name: int(number) for name, number in map(str.split, pathlib.Path(path).read_text().splitlines())}
+
+
+def read_raw(path):
+    """The records as they stand in the file: a name, the numbers and the bytes of each."""
+    data = pathlib.Path(path).read_bytes()
+    names = data[:data.index(b"\n")].decode().split()
+    at = data.index(b"\n") + 1
+    while at + HEAD.size <= len(data):
+        call, *numbers, size = HEAD.unpack_from(data, at)
+        at += HEAD.size
+        yield names[call], numbers, data[at:at + size]
+        at += size
+
+
+def read_record(path):
+    """The calls in their order. Each names the file that its number stood for when it was made."""
+    files, calls, sockets = dict(STREAMS), [], itertools.count(1)
+    for name, (fd, error, thread, at, asked, result), data in read_raw(path):
+        if name == "result":
+            latest = next(it for it in reversed(calls) if it.thread == thread and it.name in OUT)
+            latest.result, latest.error = result, errno.errorcode.get(error, "")
+            continue
+        if result >= 0 and name in ("open", "accept"):
+            files[result] = data.decode() if name == "open" else f"socket {next(sockets)}"
+        file = data.decode() if name == "open" else files.get(result if name == "accept" else fd, "")
+        calls.append(Call(name, file, fd, at, asked, result, errno.errorcode.get(error, ""), thread, data))
+    return calls
+
+
+def sent(calls, file):
+    """All bytes that a stream or a socket took."""
+    return b"".join(it.moved for it in calls if it.name in OUT and it.file == file)
