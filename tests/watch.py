@@ -7,11 +7,14 @@
 """
 import errno
 import itertools
+import os
 import pathlib
+import shutil
 import struct
+import tempfile
 from dataclasses import dataclass
 
-from harness import watch_library
+from harness import TIME_LIMIT, Case, watch_library
 
 HEAD = struct.Struct("<B3xiiIqqqI4x")
 STREAMS = {0: "standard input", 1: "standard output", 2: "standard error"}
@@ -91,3 +94,30 @@ def read_record(path):
 def sent(calls, file):
     """All bytes that a stream or a socket took."""
     return b"".join(it.moved for it in calls if it.name in OUT and it.file == file)
+
+
+class WatchedCase(Case):
+    """A case whose folder lies in memory where the system has such a place, so that syncs are quick."""
+
+    def setUp(self):
+        super().setUp()
+        place = "/dev/shm" if os.access("/dev/shm", os.W_OK) else None
+        self.folder = pathlib.Path(tempfile.mkdtemp(prefix="silt-test-", dir=place))
+        self.addCleanup(shutil.rmtree, self.folder, ignore_errors=True)
+
+    def recorded(self, *words, text="", **plans):
+        """Runs the program under the watching library: how it ended, and its calls."""
+        ended = self.silt(*words, text=text, env=watching(self, log="record", **plans))
+        return ended, read_record(self.path("record"))
+
+    def record_by_lines(self, lines, name="store", **plans):
+        """A recorded run that gets each line only when the line before is answered."""
+        with self.start("run", name, env=watching(self, log="record", **plans)) as running:
+            replies = [running.stdout.readline().decode().rstrip("\n")]
+            for line in lines:
+                running.stdin.write(line.encode() + b"\n")
+                running.stdin.flush()
+                replies.append(running.stdout.readline().decode().rstrip("\n"))
+            out, err = running.communicate(timeout=TIME_LIMIT)
+        self.assertEqual((running.returncode, out), (0, b""), err)
+        return replies, read_record(self.path("record"))

@@ -1,0 +1,497 @@
+"""The order of the calls of the system: which writes and syncs each call of the store makes, and how many reads.
+
+What is due is worked out of the table in docs/layout.md: the device calls of each call of the store. A disk in a file
+buffers adjacent writes, and makes them one write before a write elsewhere, before a sync, and when its room is full.
+"""
+from layout import CLOSED, DELETE, OPEN, PUT, SECTOR, Layout, manifest
+from watch import WatchedCase
+
+# How many bytes a disk in a file buffers.
+ROOM = 65536
+SYNC = ("fdatasync",)
+G = "2 2 4 2 2 8"
+# Keys whose two buckets are bucket 0, where there are two buckets. LATER lies in bucket 1 first.
+A, B, C, D, E = (f"{n:02}".ljust(40, "0") for n in range(1, 6))
+LATER = "0001".ljust(40, "0")
+
+
+class Buffer:
+    """The calls of the system that device calls become."""
+
+    def __init__(self):
+        self.calls, self.at, self.bytes = [], 0, b""
+
+    def go_out(self):
+        if self.bytes:
+            self.calls.append(("pwrite", self.at, self.bytes))
+        self.bytes = b""
+
+    def write(self, at, data):
+        if self.bytes and (at != self.at + len(self.bytes) or len(self.bytes) + len(data) > ROOM):
+            self.go_out()
+        if not self.bytes:
+            self.at = at
+        self.bytes += data
+
+    def make(self, device_calls):
+        """Makes these writes and syncs. The calls of the system that come of it."""
+        self.calls = []
+        for call in device_calls:
+            if call == SYNC:
+                self.go_out()
+                self.calls.append(SYNC)
+            else:
+                self.write(*call)
+        return self.calls
+
+
+class Rules:
+    """The device calls of the table, for one layout."""
+
+    def __init__(self, words):
+        self.layout = Layout.of(words)
+
+    def row(self, log, place, kind, key, value=None):
+        at, row = self.layout.bodies(log) + place * self.layout.row_len, self.layout.row(kind, key, value)
+        return [(at, row[:21]), (at + 21, row[21:])]
+
+    def flush(self, log, first, count):
+        return [SYNC, (self.layout.gates(log) + first, OPEN * count), SYNC]
+
+    def prepare(self, log):
+        return [(self.layout.gates(log), CLOSED * self.layout.rows), SYNC]
+
+    def manifest(self, body, is_closed):
+        """The writes of a manifest's body, into a slot whose gate is closed already or not."""
+        slot = SECTOR * (1 + body[7] % 2)
+        return [(slot + (4095 if is_closed else 0), CLOSED), SYNC, (slot + 1, body), SYNC, (slot, OPEN), SYNC]
+
+    def slot(self, region, slot, row=None):
+        """A slot of a conversion, which without a row gets zeros."""
+        at = self.layout.hash_region(region) + slot * self.layout.row_len
+        return [(at, row or bytes(self.layout.row_len))]
+
+    def slots(self, region, rows):
+        """All slots of a conversion, of which these have rows, one list for each step."""
+        return [self.slot(region, n, rows.get(n)) for n in range(self.layout.slots)]
+
+    def entry(self, region, place, key, value):
+        entry = self.layout.row(PUT, key, value)[1:]
+        return [(self.layout.sorted_region(region) + place * self.layout.entry_len, entry)]
+
+    def empty_store(self):
+        """What formatting writes."""
+        return ([(0, CLOSED), SYNC, (2 * SECTOR, CLOSED)] + self.prepare(0) + self.manifest(manifest(0, 0), False)
+                + [(1, self.layout.header), SYNC, (0, OPEN), SYNC])
+
+
+def changes(calls):
+    """The writes and syncs of the store's file."""
+    made = {"pwrite": lambda it: ("pwrite", it.at, it.data), "fdatasync": lambda _: SYNC}
+    made |= {name: lambda it: (it.name, it.file) for name in ("fsync", "ftruncate")}
+    return [made[it.name](it) for it in calls if it.name in made]
+
+
+def reads(calls):
+    """The reads of the store's file: their offsets and lengths."""
+    return [(it.at, it.asked) for it in calls if it.name == "pread"]
+
+
+def by_line(calls):
+    """The calls before `opened`, and then those behind each reply up to the next."""
+    parts = [[]]
+    for call in calls:
+        if call.file == "standard output":
+            parts.append([])
+        else:
+            parts[-1].append(call)
+    return parts[:-1]
+
+
+class CallCase(WatchedCase):
+    def calls_of(self, lines, **plans):
+        """The calls that opening and each of these lines make."""
+        return by_line(self.record_by_lines(lines, **plans)[1])
+
+    def judge(self, steps, **plans):
+        """Judges the writes and syncs of lines, of which each comes with the device calls that are due."""
+        buffer = Buffer()
+        got = self.calls_of([line for line, _ in steps], **plans)[1:]
+        for (line, device_calls), calls in zip(steps, got, strict=True):
+            self.assertEqual(changes(calls), buffer.make(device_calls), line)
+        return got
+
+
+class Writes(CallCase):
+    """Writes and syncs, with the geometry 2 2 4 2 2 8: logs of four rows, tables of eight slots."""
+
+    def setUp(self):
+        super().setUp()
+        self.rules = Rules(G)
+
+    def put(self, place, key, value, log=0):
+        return f"put {key} {value}", self.rules.row(log, place, PUT, key, value)
+
+    def fill(self, log=0):
+        """The puts of four rows into an empty log, and the flush behind them."""
+        puts = [self.put(n, key, f"000{n + 1}", log) for n, key in enumerate((A, B, C, D))]
+        return [*puts, ("flush", self.rules.flush(log, 0, 4))]
+
+    def rows(self, count=4):
+        """The rows of such a log, by their slots in the table: all four in the first bucket."""
+        keys = (A, B, C, D)[:count]
+        return {n: self.rules.layout.row(PUT, key, f"000{n + 1}") for n, key in enumerate(keys)}
+
+    def freeze(self, body, is_closed, log=1):
+        return self.rules.prepare(log) + self.rules.manifest(body, is_closed)
+
+    def convert(self, rows, body, is_closed, region=0):
+        """All steps of a conversion: each slot, and the manifest that names the hash store."""
+        slots = [("convert", it) for it in self.rules.slots(region, rows)]
+        return [*slots, ("convert", [SYNC, *self.rules.manifest(body, is_closed)])]
+
+    def frozen_log(self):
+        """Log 0 is frozen, and the first row of log 1 is settled."""
+        first = manifest(1, 1, frozen=[0])
+        put = self.rules.row(1, 0, PUT, E, "0005")
+        return self.fill() + [(f"put {E} 0005", self.freeze(first, True) + put), ("flush", self.rules.flush(1, 0, 1))]
+
+    def hash_store(self):
+        """And then log 0 is converted."""
+        return self.frozen_log() + self.convert(self.rows(), manifest(2, 1, hashes=[0]), False)
+
+    def test_puts_and_flushes(self):
+        self.store(G)
+        self.judge([self.put(0, A, "0102"), ("flush", self.rules.flush(0, 0, 1)), ("flush", []),
+                    self.put(1, B, "0304"), self.put(2, C, "0506"), ("flush", self.rules.flush(0, 1, 2))])
+
+    def test_a_delete(self):
+        self.store(G)
+        self.judge([(f"delete {A}", self.rules.row(0, 0, DELETE, A)), ("flush", self.rules.flush(0, 0, 1))])
+
+    def test_lines_that_write_nothing(self):
+        self.store(G)
+        self.judge([("flush", []), (f"get {A}", []), ("convert", []), ("merge", []), ("pot", []), (f"put {A} 01", [])])
+
+    def test_a_freeze_with_rows_waiting(self):
+        self.store(G)
+        due = self.rules.flush(0, 0, 4) + self.freeze(manifest(1, 1, frozen=[0]), True)
+        self.judge(self.fill()[:-1] + [(f"put {E} 0005", due + self.rules.row(1, 0, PUT, E, "0005"))])
+
+    def test_a_freeze_with_none_waiting(self):
+        self.store(G)
+        self.judge(self.frozen_log())
+
+    def test_a_delete_that_freezes(self):
+        self.store(G)
+        due = self.freeze(manifest(1, 1, frozen=[0]), True) + self.rules.row(1, 0, DELETE, E)
+        self.judge(self.fill() + [(f"delete {E}", due), ("flush", self.rules.flush(1, 0, 1))])
+
+    def test_no_room_and_a_full_store(self):
+        self.store(G)
+        puts = [self.put(n, key, "0009", 1) for n, key in enumerate((A, B, C), 1)]
+        self.judge(self.frozen_log() + [*puts, (f"put {D} 0009", []), (f"delete {D}", [])])
+
+    def test_a_conversion(self):
+        self.store(G)
+        self.judge(self.hash_store() + [("convert", [])])
+
+    def test_a_conversion_with_rows_waiting(self):
+        """The bytes of a waiting row go out before the first slot, and its gate stays closed."""
+        self.store(G)
+        steps = self.convert(self.rows(), manifest(2, 1, hashes=[0]), False)
+        row = self.put(1, A, "0006", 1)
+        self.judge(self.frozen_log() + [row, *steps, ("flush", self.rules.flush(1, 1, 1))])
+
+    def test_a_conversion_between_rows(self):
+        """Slots and rows by turns are no adjacent writes."""
+        self.store(G)
+        steps = self.convert(self.rows(), manifest(2, 1, hashes=[0]), False)
+        rows = [self.put(1, A, "0006", 1), self.put(2, B, "0007", 1)]
+        self.judge(self.frozen_log() + [steps[0], rows[0], steps[1], rows[1], *steps[2:]])
+
+    def test_a_conversion_of_overwritten_rows(self):
+        """Of each key the last row, in the key's slot; a delete is a row."""
+        self.store(G)
+        row = self.rules.layout.row
+        puts = [self.put(0, A, "0001"), self.put(1, LATER, "0002"), self.put(2, A, "0003"),
+                (f"delete {LATER}", self.rules.row(0, 3, DELETE, LATER)), ("flush", self.rules.flush(0, 0, 4))]
+        freeze = self.freeze(manifest(1, 1, frozen=[0]), True) + self.rules.row(1, 0, PUT, E, "0005")
+        slots = {0: row(PUT, A, "0003"), 4: row(DELETE, LATER)}
+        self.judge([*puts, (f"put {E} 0005", freeze), ("flush", self.rules.flush(1, 0, 1)),
+                    *self.convert(slots, manifest(2, 1, hashes=[0]), False)])
+
+    def merge(self, entries, body, gathered=8, region=1):
+        """All steps of a merge: slots that are gathered, keys with their values or None, and the manifest."""
+        steps, place = [("merge", [])] * gathered, 0
+        for key, value in entries:
+            steps.append(("merge", self.rules.entry(region, place, key, value) if value else []))
+            place += value is not None
+        return [*steps, ("merge", [SYNC, *self.rules.manifest(body, False)])]
+
+    def merged(self):
+        """And then the hash store is merged into sorted region 1."""
+        entries = [(A, "0001"), (B, "0002"), (C, "0003"), (D, "0004")]
+        return self.hash_store() + self.merge(entries, manifest(3, 1, region=1, count=4))
+
+    def test_a_merge(self):
+        self.store(G)
+        self.judge(self.merged() + [("merge", [])])
+
+    def test_a_merge_between_rows(self):
+        """Entries and rows by turns are no adjacent writes."""
+        self.store(G)
+        steps = self.merged()
+        row = self.put(1, A, "0006", 1)
+        self.judge([*steps[:-4], row, *steps[-4:]])
+
+    def test_a_merge_of_overwritten_and_deleted_keys(self):
+        """The next merge: a deleted key is left out, an overwritten one and an old entry are written."""
+        self.store(G)
+        row = self.rules.layout.row
+        lines = [(f"delete {B}", self.rules.row(1, 1, DELETE, B)), self.put(2, C, "0007", 1),
+                 ("flush", self.rules.flush(1, 1, 2)), self.put(3, LATER, "0008", 1),
+                 ("flush", self.rules.flush(1, 3, 1))]
+        freeze = self.freeze(manifest(4, 0, frozen=[1], region=1, count=4), False, log=0)
+        lines.append((f"put {D} 0009", freeze + self.rules.row(0, 0, PUT, D, "0009")))
+        slots = {0: row(PUT, E, "0005"), 1: row(DELETE, B), 2: row(PUT, C, "0007"), 4: row(PUT, LATER, "0008")}
+        body = manifest(5, 0, hashes=[0], region=1, count=4)
+        entries = [(LATER, "0008"), (A, "0001"), (B, None), (C, "0007"), (D, "0004"), (E, "0005")]
+        self.judge(self.merged() + lines + self.convert(slots, body, False)
+                   + self.merge(entries, manifest(6, 0, region=0, count=5), region=0))
+
+    def test_a_conversion_beside_a_merge(self):
+        """Their steps by turns are no adjacent writes, and the hash store that comes stays in front."""
+        words = "2 2 1 3 3 8"
+        self.rules = Rules(words)
+        self.store(words, [f"put {A} 0001", f"put {B} 0002", "flush"] + ["convert"] * 9
+                   + [f"put {C} 0003", "flush"] + ["merge"] * 8)
+        # Opening forgets the merge under way. Log 1 is frozen, and the hash store in region 0 has key A.
+        rows = {0: self.rules.layout.row(PUT, B, "0002")}
+        converts = self.convert(rows, manifest(4, 0, hashes=[1, 0]), False, region=1)
+        merges = self.merge([(A, "0001")], manifest(5, 0, hashes=[1], region=1, count=1))
+        self.judge([*merges[:8], *converts[:4], merges[8], *converts[4:], merges[9]])
+
+    def test_more_than_the_buffer_takes(self):
+        """Rows of 4,117 bytes: fifteen and the head of another fit the buffer."""
+        words = "4096 8 32 2 2 32"
+        self.rules = Rules(words)
+        self.store(words)
+        keys = [f"{n:04x}{n + 1:04x}".ljust(40, "0") for n in range(18)]
+        puts = [self.put(n, key, f"{n:02x}" * 4096) for n, key in enumerate(keys)]
+        got = self.judge([*puts, ("flush", self.rules.flush(0, 0, 18))])
+        self.assertEqual([len(changes(it)) for it in got[14:17]], [0, 1, 0])
+
+    def test_a_missing_sync_is_refused(self):
+        """Sync 1 is the opening's, 2 and 3 are a flush's."""
+        for number in (2, 3):
+            self.store(G)
+            with self.assertRaises(AssertionError):
+                self.judge([self.put(0, A, "0102"), ("flush", self.rules.flush(0, 0, 1))], drop=f"fdatasync:{number}")
+
+
+class Jobs(CallCase):
+    """What the jobs of the program call, from the opening of the file on."""
+
+    def opened(self, calls, flags, lock, file="store"):
+        """Judges that the file is opened so, and then locked, before anything else is done. Returns the rest."""
+        first, second, *rest = [it for it in calls if it.file == file or it.name == "open"]
+        self.assertEqual((first.name, first.file, first.asked & 0o103), ("open", file, flags))
+        self.assertEqual((second.name, second.asked, second.result), ("flock", lock, 0))
+        return rest
+
+    def test_an_opening(self):
+        self.store(G, [f"put {A} 0001", "flush"])
+        calls = self.opened(self.calls_of([])[0], 0o2, 6)
+        self.assertEqual(changes(calls), [("fsync", "store"), SYNC])
+        self.assertEqual(reads(calls), [(0, 37), (4096, 121), (8192, 121), (12288, 4), (16384, 21)])
+        self.assertEqual([it.name for it in calls[:3]], ["fsync", "fdatasync", "pread"])
+
+    def test_an_opening_that_seals(self):
+        """Gates behind the first closed one are open: those behind it are closed, and it is not touched."""
+        path = self.store(G, [f"put {A} 0001", "flush"])
+        content = bytearray(path.read_bytes())
+        content[12288:12292] = OPEN + CLOSED + OPEN + b"\x01"
+        path.write_bytes(content)
+        calls = self.opened(self.calls_of([])[0], 0o2, 6)
+        self.assertEqual(changes(calls), [("fsync", "store"), SYNC, ("pwrite", 12290, bytes(2)), SYNC])
+        self.assertEqual(calls[-3].name, "pread", "the gates are closed behind the last read")
+
+    def test_an_opening_with_other_closed_gates(self):
+        """Bytes that open no gate are no reason to write."""
+        path = self.store(G)
+        content = bytearray(path.read_bytes())
+        content[12288:12292] = b"\x01\x02\x00\xff"
+        path.write_bytes(content)
+        self.assertEqual(changes(self.calls_of([])[0]), [("fsync", "store"), SYNC])
+
+    def test_a_format(self):
+        due = Buffer().make(Rules(G).empty_store())
+        for is_new in (True, False):
+            ended, calls = self.recorded("format", "store", *G.split())
+            self.assertEqual(ended.out, "formatted 45056\n")
+            rest = self.opened(calls, 0o102, 6)
+            folder = [("ftruncate", "store"), ("fsync", "store"), ("fsync", ".")]
+            self.assertEqual(changes(rest[:2] + [it for it in calls if it.file == "."] + rest[2:]), folder + due)
+            self.assertEqual([it.at for it in calls if it.name == "ftruncate"], [45056])
+            names = [it.name for it in calls]
+            self.assertLess(names.index("ftruncate"), names.index("fsync"))
+            self.assertLess(max(n for n, it in enumerate(calls) if it.name == "fsync"), names.index("pwrite"))
+            self.assertEqual(reads(calls), [(0, 37)], "whether a store is lost")
+
+    def test_a_check(self):
+        """It reads what an opening reads, and makes no sync."""
+        self.store(G, [f"put {A} 0001", "flush"])
+        calls = self.opened(self.recorded("check", "store")[1], 0o0, 5)
+        self.assertEqual(changes(calls), [])
+        self.assertEqual(reads(calls), [(0, 37), (4096, 121), (8192, 121), (12288, 4), (16384, 21)])
+
+    def test_a_script_touches_no_file(self):
+        ended, calls = self.recorded("script", *G.split(), text="put =a 0001\nflush\nget =a\n")
+        self.assertEqual(ended.lines[-1], "value 0001")
+        self.assertEqual([it for it in calls if it.name in ("open", "pwrite", "fsync", "fdatasync")], [])
+
+    def test_replies_come_behind_the_last_sync(self):
+        self.store(G)
+        ended, calls = self.recorded("run", "store", text="put =abc 0102\nflush\n")
+        names = [it.name for it in calls if it.file in ("store", "standard output")]
+        self.assertEqual(names[-7:], ["write", "pwrite", "fdatasync", "pwrite", "fdatasync", "write", "close"])
+
+
+# How many reads: tables of 64 buckets, and keys of which each has two buckets of its own.
+WIDE = "2 64 8 4 4 64"
+
+
+def key(number, more=0):
+    """The key with two buckets of its own, and others in the same two buckets."""
+    return f"{number:04x}{32 + number:04x}{more:04x}".ljust(40, "0")
+
+
+class Reads(CallCase):
+    """How many reads each line makes. Behind each comment is what the design needs."""
+
+    def setUp(self):
+        super().setUp()
+        self.layout = Layout.of(WIDE)
+
+    def row(self, place, length, log=0):
+        return self.layout.bodies(log) + place * self.layout.row_len, length
+
+    def slot(self, bucket, length, region=0):
+        return self.layout.hash_region(region) + 4 * bucket * self.layout.row_len, length
+
+    def judge_reads(self, steps):
+        got = self.calls_of([line for line, _ in steps])[1:]
+        for (line, due), calls in zip(steps, got, strict=True):
+            self.assertEqual(reads(calls), due, line)
+
+    def puts(self, numbers):
+        return [f"put {key(n)} {n:04x}" for n in numbers]
+
+    def test_keys_of_the_active_log(self):
+        """A candidate costs one read: its head for a put, its row for a get. A buffered one costs none."""
+        self.store(WIDE, self.puts(range(2)) + ["flush"])
+        self.judge_reads([
+            (f"get {key(0)}", [self.row(0, 23)]), (f"get {key(9)}", []),
+            (f"put {key(5)} 0001", []), (f"delete {key(6)}", []),
+            (f"get {key(5)}", []), (f"put {key(5)} 0002", []), (f"delete {key(5)}", []), (f"get {key(5)}", []),
+            (f"put {key(1)} 0002", [self.row(1, 21)]), (f"delete {key(0)}", [self.row(0, 21)]), ("flush", []),
+            (f"get {key(0)}", [self.row(7, 23)])])
+
+    def test_keys_that_share_buckets(self):
+        """Each candidate before the key's own costs a read, and so does each of an absent key."""
+        first, second, absent = key(3), key(3, 1), key(3, 2)
+        self.store(WIDE, [f"put {first} 0001", f"put {second} 0002", "flush"])
+        both = [self.row(0, 23), self.row(1, 23)]
+        self.judge_reads([(f"get {first}", both[:1]), (f"get {second}", both), (f"get {absent}", both),
+                          (f"put {absent} 0003", [self.row(0, 21), self.row(1, 21)])])
+
+    def frozen(self):
+        """Keys 0 to 7 in log 0, which is frozen, and key 8 in log 1."""
+        self.store(WIDE, self.puts(range(9)) + ["flush"])
+
+    def test_keys_of_a_frozen_log(self):
+        """A put asks the active log alone."""
+        self.frozen()
+        self.judge_reads([(f"get {key(2)}", [self.row(2, 23)]), (f"get {key(8)}", [self.row(0, 23, log=1)]),
+                          (f"put {key(3)} 0009", []), (f"delete {key(4)}", []), (f"get {key(20)}", [])])
+
+    def test_a_conversion(self):
+        """One read for each slot with a row, none for the others, and none at its end."""
+        self.frozen()
+        steps = {4 * n: [self.row(n, 23)] for n in range(8)}
+        self.judge_reads([("convert", steps.get(n, [])) for n in range(self.layout.slots + 1)])
+
+    def test_keys_of_a_hash_store(self):
+        self.frozen()
+        self.silt("run", "store", text="convert\n" * 257)
+        self.judge_reads([(f"get {key(2)}", [self.slot(2, 23)]), (f"put {key(3)} 0009", []),
+                          (f"delete {key(4)}", []), (f"get {key(20)}", []), (f"get {key(4)}", [])])
+
+    def merged(self):
+        """And then keys 0 to 7 are entries, in sorted region 1."""
+        self.frozen()
+        self.silt("run", "store", text="convert\n" * 257 + "merge\n" * (256 + 8 + 1))
+
+    def entry(self, place, length=22):
+        return self.layout.sorted_region(1) + place * self.layout.entry_len, length
+
+    def test_keys_of_the_sorted_store(self):
+        """One read, of the entry at the one place at which the key can be."""
+        self.merged()
+        gets = [(f"get {key(n)}", [self.entry(n)]) for n in range(8)]
+        self.judge_reads([*gets, (f"put {key(3)} 0009", []), (f"delete {key(4)}", []), (f"get {key(4)}", [])])
+
+    def test_absent_keys_of_a_sorted_store(self):
+        """At most one read."""
+        self.merged()
+        lines = [f"get {key(n, n)}" for n in range(9, 30)] + [f"get {'ff' * 20}", f"get {'00' * 20}"]
+        for line, calls in zip(lines, self.calls_of(lines)[1:], strict=True):
+            self.assertLessEqual(len(reads(calls)), 1, line)
+
+    def test_a_merge(self):
+        """The slots of a hash store by one read of at most 64 KiB, and the value of each row that is written."""
+        self.frozen()
+        self.silt("run", "store", text="convert\n" * 257)
+        slots = [("merge", [(self.layout.hash_region(0), 256 * 23)])] + [("merge", [])] * 255
+        values = [("merge", [(self.slot(n, 0)[0] + 21, 2)]) for n in range(8)]
+        self.judge_reads([*slots, *values, ("merge", [])])
+
+    def test_a_merge_with_old_entries(self):
+        """The old entries by one read. One that stays and a delete cost none of their own."""
+        self.merged()
+        lines = [f"delete {key(0)}", f"put {key(3)} 0009"] + self.puts(range(10, 15)) + ["flush", f"put {key(20)} 0001"]
+        self.silt("run", "store", text="\n".join(lines) + "\nflush\n" + "convert\n" * 257)
+        got = self.calls_of(["merge"] * (256 + 14))[1:]
+        self.assertEqual([reads(it) for it in got[:256]], [[(self.layout.hash_region(0), 256 * 23)]] + [[]] * 255)
+        due = [[self.entry(0, 8 * 22)]] + [[]] * 2 + [[(self.slot(3, 0)[0] + 21, 2)]] + [[]] * 4
+        due += [[(self.slot(n, 0)[0] + 21, 2)] for n in (8, 10, 11, 12, 13, 14)]
+        self.assertEqual([reads(it) for it in got[256:]], due + [[]] * (14 - len(due)))
+
+    def test_an_opening(self):
+        """The gates and each row of the named logs, the slots and the entries by reads of at most 64 KiB."""
+        self.merged()
+        lines = self.puts(range(10, 17)) + ["flush"]
+        self.silt("run", "store", text="\n".join(lines) + "\n" + "flush\nconvert\n" * 300 + f"put {key(20)} 0001\nflush\n")
+        calls = self.calls_of([])[0]
+        head = [(0, 37), (4096, 121), (8192, 121)]
+        active = [(self.layout.gates(0), 8), self.row(0, 21)]
+        frozen = [(self.layout.gates(1), 8)] + [self.row(n, 21, log=1) for n in range(8)]
+        self.assertEqual(reads(calls), head + active + frozen + [self.entry(0, 8 * 22)])
+        self.silt("run", "store", text="convert\n" * 257)
+        slots = [(self.layout.hash_region(0), 256 * 23)]
+        self.assertEqual(reads(self.calls_of([])[0]), head + active + slots + [self.entry(0, 8 * 22)])
+
+    def test_long_values(self):
+        """A row or an entry of more than 512 bytes takes two reads: its head, and the value of a put."""
+        words = "493 64 2 4 4 64"
+        self.layout, value = Layout.of(words), "ab" * 493
+        self.store(words, [f"put {key(1)} {value}", f"delete {key(2)}", "flush"])
+        self.judge_reads([(f"get {key(1)}", [self.row(0, 21), (self.row(0, 0)[0] + 21, 493)]),
+                          (f"get {key(2)}", [self.row(1, 21)])])
+        self.silt("run", "store", text=f"put {key(3)} {value}\nflush\n" + "convert\n" * 257)
+        at = self.slot(1, 0)[0]
+        self.judge_reads([(f"get {key(1)}", [(at, 21), (at + 21, 493)]), (f"get {key(2)}", [self.slot(2, 21)])])
+        self.silt("run", "store", text="merge\n" * (256 + 3))
+        at = self.entry(0)[0]
+        self.judge_reads([(f"get {key(1)}", [(at, 20), (at + 20, 493)])])
