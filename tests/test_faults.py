@@ -1,0 +1,325 @@
+"""Refused calls of the system: each read, write and sync fails in turn, moves one byte alone, or is interrupted.
+
+A job ends with a refusal, one line is refused, or the store has failed; the reason is on the standard error. Behind
+each run the file is whole: it holds the accepted commands up to one that is not before the last acknowledged one.
+"""
+import errno
+import os
+import re
+import resource
+import signal
+import subprocess
+from dataclasses import dataclass
+
+from commands import answer, is_command, maps_after
+from failing import DEVICE, EVERY, GEOMETRY, LINES, LIVES, NO_STORE, Job, JobCase
+from harness import PROGRAM, TIME_LIMIT, Ended
+from watch import read_counts, watching
+
+
+@dataclass
+class Fault:
+    """A call that fails with an error, moves one byte (no error), or is interrupted."""
+
+    call: str
+    error: str = ""
+    onwards: str = ""
+
+    def plan(self, number):
+        if not self.error:
+            return {"short": f"{self.call}:{number}"}
+        return {"fail": f"{self.call}:{number}{self.onwards}:{self.error}"}
+
+    @property
+    def is_none(self):
+        """Whether the program has to end as without it: short and interrupted calls are made again."""
+        return self.error in ("", "EINTR")
+
+    @property
+    def text(self):
+        number = getattr(errno, self.error)
+        return f"{os.strerror(number)} (os error {number})"
+
+
+STREAMS = [Fault("read", "EIO"), Fault("read", "EINTR"), Fault("read"), Fault("write", "EIO"), Fault("write", "ENOSPC"),
+           Fault("write", "EINTR"), Fault("write")]
+READS = [Fault("pread", "EIO"), Fault("pread", "EINTR"), Fault("pread")]
+WRITES = [Fault("pwrite", "EIO"), Fault("pwrite", "ENOSPC", "+"), Fault("pwrite", "EINTR"), Fault("pwrite")]
+SYNCS = [Fault("fdatasync", "EIO"), Fault("fdatasync", "ENOSPC", "+"), Fault("fdatasync", "EINTR"),
+         Fault("fsync", "EIO"), Fault("fsync", "EINTR")]
+OPENS = [Fault("open", "EACCES"), Fault("open", "EMFILE"), Fault("open", "EINTR"), Fault("ftruncate", "ENOSPC"),
+         Fault("ftruncate", "EINTR")]
+
+
+class FaultCase(JobCase):
+    def try_all(self, job, judge, faults, short=""):
+        """Runs the job with each fault at each call in turn, and judges each run. Other calls may be short always."""
+        self.put_back(job.before)
+        whole = self.silt(*job.words, text=job.text, env=watching(self, counts="counts", short=short))
+        at_end, counts, tried = self.left(), read_counts(self.path("counts")), 0
+        for fault in faults:
+            begin = self.random.randint(1, min(EVERY, max(1, counts[fault.call])))
+            for number in range(begin, counts[fault.call] + 1, EVERY):
+                self.put_back(job.before)
+                ended, calls = self.recorded(*job.words, text=job.text, **{"short": short} | fault.plan(number))
+                with self.subTest(job=job.words[0], call=fault.call, number=number, error=fault.error):
+                    if fault.is_none:
+                        self.assertEqual((ended, self.left()), (whole, at_end))
+                    else:
+                        judge(job, fault, whole, ended, calls)
+                tried += 1
+        self.assertGreater(tried, 0)
+
+    def failed_call(self, fault, calls):
+        """The number of the call that failed first."""
+        return next(n for n, it in enumerate(calls) if it.name == fault.call and it.error == fault.error)
+
+    def reason(self, fault, call):
+        """What the standard error says, as a pattern."""
+        if call.name in ("read", "write"):
+            return f"silt: {re.escape(fault.text)}\n"
+        where = {"pread": f"a read at {call.at}: ", "pwrite": r"(a sync|a write at \d+): ", "fdatasync": "a sync: "}
+        return f"silt: store: {where.get(call.name, '')}{re.escape(fault.text)}\n"
+
+    def judge_reason(self, fault, call, ended):
+        self.assertRegex(ended.err, rf"\A{self.reason(fault, call)}\Z")
+
+    def judge_early(self, fault, whole, ended):
+        """What was printed is a beginning. All of it is there only if the read of the end failed."""
+        self.assertEqual(ended.status, 1)
+        self.assertTrue(whole.out.startswith(ended.out), ended.out)
+        self.assertTrue(fault.call == "read" or ended.out != whole.out)
+
+
+class Runs(FaultCase):
+    """A run with freezes, conversions and merges."""
+
+    def judge_run(self, job, fault, whole, ended, calls):
+        left, at = self.left(), self.failed_call(fault, calls)
+        self.judge_reason(fault, calls[at], ended)
+        is_open = any(it.file == "standard output" for it in calls[:at])
+        commands = self.judge_replies(job, fault, whole, ended, is_open)
+        self.judge_file(left, commands, ended.lines)
+
+    def judge_replies(self, job, fault, whole, ended, is_open):
+        """Judges what was answered. The commands that may have been accepted, in their order."""
+        lines, due = job.lines, whole.lines[1:]
+        if fault.call in ("read", "write"):
+            self.judge_early(fault, whole, ended)
+        elif not is_open:
+            self.assertEqual((ended.status, ended.out), (1, DEVICE))
+        else:
+            lines, due = self.judge_line(job, fault, whole, ended)
+        return [line for line, reply in zip(lines, due) if is_command(line) and reply.startswith("accepted")]
+
+    def judge_line(self, job, fault, whole, ended):
+        """One line is refused: all others are as where it is not asked, or the store has failed."""
+        self.assertEqual(ended.status, 0)
+        got, due = ended.lines[1:], whole.lines[1:]
+        at = next(n for n, (one, other) in enumerate(zip(got, due)) if one != other)
+        self.assertEqual(got[at], "refused 5 Device")
+        others = job.lines[:at] + job.lines[at + 1:]
+        if fault.call == "pread":
+            self.assertEqual(got[:at] + got[at + 1:], self.plain(job, others).lines[1:])
+            return others, got[:at] + got[at + 1:]
+        rest = [it if it.startswith("refused 2") else "refused 9 Failed" for it in due[at + 1:]]
+        self.assertEqual(got[at + 1:], rest)
+        return job.lines, got
+
+    def job(self):
+        before = self.store(GEOMETRY).read_bytes()
+        return Job(["run", "store"], LINES, before)
+
+    def test_the_standard_streams(self):
+        self.try_all(self.job(), self.judge_run, STREAMS)
+
+    def test_replies_one_by_one(self):
+        """Each line comes by itself, and so does its reply."""
+        faults = [Fault("write", "EIO"), Fault("write", "EINTR")]
+        self.try_all(self.job(), self.judge_run, faults, short="read:1+")
+
+    def test_all_calls_move_one_byte(self):
+        job = self.job()
+        whole = self.plain(job)
+        self.put_back(job.before)
+        names = ("read", "write", "pread", "pwrite")
+        ended, calls = self.recorded(*job.words, text=job.text, short=[f"{it}:1+" for it in names])
+        self.assertEqual(ended, whole)
+        self.assertEqual({it.result for it in calls if it.name in names}, {0, 1})
+
+    def test_reads(self):
+        self.try_all(self.job(), self.judge_run, READS)
+
+    def test_writes(self):
+        self.try_all(self.job(), self.judge_run, WRITES)
+
+    def test_syncs(self):
+        self.try_all(self.job(), self.judge_run, SYNCS)
+
+    def test_the_opening_of_the_file(self):
+        self.try_all(self.job(), self.judge_run, [it for it in OPENS if it.call == "open"])
+
+    def test_an_opening_that_seals(self):
+        """The write and the sync that close what a crash left open."""
+        content = bytearray(self.store("2 2 4 2 2 8", ["put =a 0001", "flush"]).read_bytes())
+        content[12288:12292] = b"\xa7\x00\xa7\xa7"
+        job = Job(["run", "store"], ["put =b 0002", "put =a 0003", "flush", "get =a"], bytes(content))
+        self.try_all(job, self.judge_sealed, WRITES + SYNCS + READS)
+
+    def judge_sealed(self, job, fault, whole, ended, calls):
+        """As any run, on a map that has one key already."""
+        left, at = self.left(), self.failed_call(fault, calls)
+        self.judge_reason(fault, calls[at], ended)
+        is_open = any(it.file == "standard output" for it in calls[:at])
+        commands = self.judge_replies(job, fault, whole, ended, is_open)
+        self.assertRegex(self.report(left), r"\Ageneration ")
+        found = self.silt("run", "store", text="get =a\nget =b\n").lines[1:]
+        least = max([int(it.split()[1]) for it in ended.lines if it.startswith("acknowledged")], default=0)
+        maps = maps_after({"=a": "0001"}, commands)[least:]
+        self.assertIn(found, [[answer(values, key) for key in ("=a", "=b")] for values in maps])
+
+    def test_a_dropped_sync_is_no_refused_one(self):
+        """The judge refuses a run that hides a failure."""
+        job = self.job()
+        ended, calls = self.recorded("run", "store", text=job.text, fail="fdatasync:3:EIO")
+        whole = self.plain(job)
+        with self.assertRaises(AssertionError):
+            self.judge_run(job, Fault("fdatasync", "EIO"), whole, whole, calls)
+        hidden = Ended(ended.status, ended.out.replace("refused 9 Failed", "accepted 4"), ended.err)
+        with self.assertRaises(AssertionError):
+            self.judge_run(job, Fault("fdatasync", "EIO"), whole, hidden, calls)
+
+
+class Others(FaultCase):
+    """Checks, scripts and formattings."""
+
+    def used(self):
+        """A store with a frozen log, hash stores and entries."""
+        return self.store(GEOMETRY, LINES).read_bytes()
+
+    def judge_check(self, job, fault, whole, ended, calls):
+        """The report or a refusal, and the file is as it was."""
+        self.assertEqual(self.left(), job.before)
+        self.judge_reason(fault, calls[self.failed_call(fault, calls)], ended)
+        if fault.call == "write":
+            self.judge_early(fault, whole, ended)
+        else:
+            self.assertEqual((ended.status, ended.out), (1, DEVICE))
+
+    def test_a_check(self):
+        job = Job(["check", "store"], [], self.used())
+        faults = [it for it in STREAMS if it.call == "write"] + READS + [it for it in OPENS if it.call == "open"]
+        self.try_all(job, self.judge_check, faults)
+
+    def judge_script(self, job, fault, whole, ended, calls):
+        self.judge_reason(fault, calls[self.failed_call(fault, calls)], ended)
+        self.judge_early(fault, whole, ended)
+
+    def test_a_script(self):
+        self.try_all(Job(["script", *GEOMETRY.split()], LIVES), self.judge_script, STREAMS)
+
+    def judge_format(self, job, fault, whole, ended, calls):
+        """The file is no store, an empty one or the old one. The next formatting makes an empty store of it."""
+        left = self.left()
+        empty = self.report_after(None, job)
+        if fault.call == "pread":
+            # It looks whether a store is lost, for people.
+            self.assertEqual((ended.status, ended.out, self.report(left)), (0, whole.out, empty))
+            return
+        call = calls[self.failed_call(fault, calls)]
+        if call.file == "standard error":
+            # That a store is lost is then told in part.
+            self.assertEqual((ended.status, ended.out, self.report(left)), (0, whole.out, empty))
+            self.assertTrue(whole.err.startswith(ended.err))
+            return
+        self.judge_reason(fault, call, ended)
+        if fault.call == "write":
+            self.judge_early(fault, whole, ended)
+            self.assertEqual(self.report(left), empty)
+            return
+        self.assertEqual((ended.status, ended.out), (1, DEVICE))
+        if left is not None:
+            self.assertIn(self.report(left), [empty, NO_STORE, self.report(job.before)])
+        self.assertEqual(self.report_after(left, job), empty)
+
+    def report_after(self, content, job):
+        """What a check says of a file of this content that is formatted."""
+        self.put_back(content)
+        self.silt(*job.words)
+        return self.report(self.left())
+
+    def test_a_format_of_a_new_file(self):
+        self.try_all(Job(["format", "store", *GEOMETRY.split()]), self.judge_format, self.of_a_format())
+
+    def test_a_format_of_a_store(self):
+        job = Job(["format", "store", *GEOMETRY.split()], [], self.used())
+        self.try_all(job, self.judge_format, self.of_a_format())
+
+    def of_a_format(self):
+        return [it for it in STREAMS if it.call == "write"] + READS + WRITES + SYNCS + OPENS
+
+
+class Files(FaultCase):
+    """Files that cannot be opened, and a file system that takes no more."""
+
+    def refused(self, *words, reason):
+        ended = self.silt(*words)
+        self.assertEqual((ended.status, ended.out, ended.err), (1, DEVICE, f"silt: {reason}\n"))
+
+    def test_files_that_cannot_be_opened(self):
+        missing, folder = "No such file or directory (os error 2)", "Is a directory (os error 21)"
+        self.path("folder").mkdir()
+        for job in ("run", "check"):
+            self.refused(job, "none", reason=f"none: {missing}")
+        self.refused("serve", "none", 0, reason=f"none: {missing}")
+        self.refused("run", "folder", reason=f"folder: {folder}")
+        self.refused("format", "folder", *GEOMETRY.split(), reason=f"folder: {folder}")
+        self.refused("format", "none/store", *GEOMETRY.split(), reason=f"none/store: {missing}")
+        self.assertFalse(self.path("none").exists())
+
+    def test_a_file_in_use(self):
+        before = self.store(GEOMETRY).read_bytes()
+        with self.start("run", "store") as running:
+            running.stdout.readline()
+            for words in (["run", "store"], ["check", "store"], ["serve", "store", 0], ["format", "store", *GEOMETRY.split()]):
+                self.refused(*words, reason="store: the file is in use")
+            running.communicate()
+        self.assertEqual(self.path("store").read_bytes(), before)
+
+    def limited(self, limit, job, is_ignored):
+        """Runs a job that may write no file beyond this length. A signal comes with that, which may be ignored."""
+        def prepare():
+            signal.signal(signal.SIGXFSZ, signal.SIG_IGN if is_ignored else signal.SIG_DFL)
+            resource.setrlimit(resource.RLIMIT_FSIZE, (limit, limit))
+
+        ran = subprocess.run([PROGRAM, *job.words], input=job.text.encode(), cwd=self.folder, preexec_fn=prepare,
+                             restore_signals=False, capture_output=True, timeout=TIME_LIMIT)
+        return Ended(ran.returncode, ran.stdout.decode(), ran.stderr.decode())
+
+    def test_a_limit_of_the_file(self):
+        """Writes beyond a length fail: EFBIG, or a signal that ends the program."""
+        job = Job(["run", "store"], LINES, self.store(GEOMETRY).read_bytes())
+        for limit in (4096, 12290, 16400, 20480, 24700, 28700, 40960 + 30):
+            for is_ignored in (True, False):
+                self.put_back(job.before)
+                ended = self.limited(limit, job, is_ignored)
+                with self.subTest(limit=limit, is_ignored=is_ignored):
+                    self.judge_limited(job, ended, is_ignored)
+
+    def judge_limited(self, job, ended, is_ignored):
+        if is_ignored or ended.status >= 0:
+            self.assertEqual(ended.status, 0)
+            self.assertRegex(ended.err, r"\Asilt: store: a (sync|write at \d+): File too large \(os error 27\)\n\Z")
+            at = ended.lines.index("refused 5 Device")
+            self.assertEqual({it for it in ended.lines[at + 1:] if not it.startswith("refused 2")}, {"refused 9 Failed"})
+        else:
+            self.assertEqual(-ended.status, signal.SIGXFSZ)
+        commands = [line for line in job.lines if is_command(line) and line != "put =c"]
+        self.judge_file(self.left(), commands, ended.lines)
+
+    def test_a_limit_of_a_format(self):
+        job = Job(["format", "store", *GEOMETRY.split()])
+        ended = self.limited(30000, job, True)
+        self.assertEqual((ended.status, ended.out, ended.err), (1, DEVICE, "silt: store: File too large (os error 27)\n"))
+        self.assertEqual(self.report(self.left()), NO_STORE)
+        self.assertEqual(self.silt(*job.words).status, 0)

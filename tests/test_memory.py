@@ -1,0 +1,253 @@
+"""Refused memory: each request of a job, of a server and of some test programs is refused in turn.
+
+A job is refused, ends early, or answers one line with a refusal; nothing that was acknowledged is lost.
+"""
+import signal
+import socket
+import subprocess
+import unittest
+
+from commands import answer, done, is_command, maps_after
+from failing import DEVICE, GEOMETRY, KEYS, LINES, LIVES, NO_STORE, Job, JobCase
+from harness import PROVED, TOP
+from watch import read_counts, watching
+
+NO_MEMORY = "refused 6 NoMemory\n"
+# A file that cannot be opened for lack of memory is refused as a device.
+OF_A_JOB = (NO_MEMORY, DEVICE)
+
+
+def lines_of_replies(lines):
+    """For each reply of a script the numbers of the lines that are not done if it is a refusal: the line's own, and
+    for a life that is not opened all of its lines."""
+    made, life = [], []
+    for number, line in enumerate([*lines, "stop"]):
+        if line.startswith("stop"):
+            made += [life] + [[n] for n in life] + [[]]
+            life = []
+        else:
+            life.append(number)
+    return made
+
+
+@unittest.skipUnless(PROVED, "a build with a memory checker has an allocator of its own")
+class MemoryCase(JobCase):
+    def plan(self, number, onwards=""):
+        return {"fail": f"memory:{number}{onwards}:ENOMEM"}
+
+    def requests(self):
+        """How many requests for memory the last run made."""
+        return read_counts(self.path("counts"))["memory"]
+
+    def ended(self, job, **plans):
+        """How the job ends, which is made to read its lines byte by byte, so that it answers each by itself."""
+        self.put_back(job.before)
+        return self.silt(*job.words, text=job.text, env=watching(self, short="read:1+", **plans), limit=20)
+
+    def try_all(self, job, judge):
+        """Runs the job with each request refused in turn, and with some and all later ones."""
+        whole = self.ended(job, counts="counts")
+        last = self.requests()
+        self.assertGreater(last, 50)
+        for onwards, numbers in (("", range(1, last + 1)), ("+", range(self.random.randint(1, 4), last + 1, 4))):
+            for number in numbers:
+                ended = self.ended(job, **self.plan(number, onwards))
+                with self.subTest(job=job.words[0], request=f"{number}{onwards}"):
+                    self.judge_end(ended)
+                    judge(job, whole, ended, onwards)
+
+    def judge_end(self, ended):
+        """No signal, no other status, and reasons alone on the standard error."""
+        self.assertIn(ended.status, (0, 1), ended)
+        self.assertRegex(ended.err, r"\A(silt: .*\n)*\Z")
+
+    def is_job(self, whole, ended):
+        """Whether the job ended as a whole job may: as it does with memory, by one refusal, or early."""
+        if ended == whole:
+            return True
+        if ended.status == 1 and ended.out in OF_A_JOB:
+            return True
+        return ended.status == 1 and whole.out.startswith(ended.out)
+
+    def judge_lines(self, job, whole, ended):
+        """As a job, or one line is refused. The numbers of the lines that were not done."""
+        if self.is_job(whole, ended):
+            return []
+        got, due = ended.out.splitlines(), whole.out.splitlines()
+        at = next((n for n, (one, other) in enumerate(zip(got, due)) if one != other), None)
+        self.assertIsNotNone(at, ended)
+        self.assertEqual((ended.status, got[at] + "\n"), (whole.status, NO_MEMORY))
+        left_out = lines_of_replies(job.lines)[at]
+        other = self.plain(job, [line for n, line in enumerate(job.lines) if n not in left_out]).lines
+        self.assertEqual(got[at + 1:], other[at + (due[at] == "opened"):])
+        return left_out
+
+
+class Jobs(MemoryCase):
+    def judge_run(self, job, whole, ended, onwards):
+        """What was answered, and what the next run finds: a command may be done whose reply was lost, but one alone."""
+        left, replies = self.left(), ended.lines[1:]
+        if not onwards:
+            self.judge_lines(job, whole, ended)
+        accepted = [line for line, reply in zip(job.lines, replies) if reply.startswith("accepted")]
+        lost = [line for line, reply in zip(job.lines, whole.lines[1:]) if reply.startswith("accepted")]
+        lost = [line for line in job.lines[len(replies):][:1] if line in lost]
+        self.judge_file(left, accepted + lost, ended.lines)
+
+    def test_a_run(self):
+        before = self.store(GEOMETRY).read_bytes()
+        self.try_all(Job(["run", "store"], LINES, before), self.judge_run)
+
+    def judge_script(self, job, whole, ended, onwards):
+        if not onwards:
+            self.judge_lines(job, whole, ended)
+
+    def test_a_script(self):
+        self.try_all(Job(["script", *GEOMETRY.split()], LIVES), self.judge_script)
+
+    def judge_check(self, job, whole, ended, onwards):
+        self.assertEqual(self.left(), job.before)
+        self.assertTrue(self.is_job(whole, ended), ended)
+
+    def test_a_check(self):
+        before = self.store(GEOMETRY, LINES).read_bytes()
+        self.try_all(Job(["check", "store"], [], before), self.judge_check)
+
+    def judge_format(self, job, whole, ended, onwards):
+        """The file is no store, an empty one or the old one. The next formatting makes an empty store of it."""
+        left = self.left()
+        self.assertTrue(self.is_job(whole, ended), ended)
+        if left is not None:
+            self.assertIn(self.report(left), [self.empty, NO_STORE, self.report(job.before)])
+        self.put_back(left)
+        self.assertEqual(self.silt(*job.words).status, 0)
+        self.assertEqual(self.report(self.left()), self.empty)
+
+    def test_a_format(self):
+        self.empty = self.report(self.store(GEOMETRY).read_bytes())
+        used = self.store(GEOMETRY, LINES).read_bytes()
+        words = ["format", "store", *GEOMETRY.split()]
+        self.try_all(Job(words, [], used), self.judge_format)
+
+    def test_another_refusal_is_refused(self):
+        """The judge sees a request that is reported as something else, and a line that is left out."""
+        job = Job(["run", "store"], LINES, self.store(GEOMETRY).read_bytes())
+        whole = self.plain(job)
+        other = whole.out.replace("accepted 2", "refused 5 Device")
+        for out in (other, whole.out.replace("accepted 2\n", ""), whole.out + "accepted 7\n"):
+            with self.assertRaises(AssertionError):
+                self.judge_lines(job, whole, type(whole)(0, out, ""))
+
+
+# A session of which each put freezes a log, so that both workers have something to do. A log that they have not
+# freed yet may be missing to one.
+OF_SERVERS = "2 2 1 6 3 40"
+SESSION = [f"put {KEYS[n % 4]} {n:04x}" for n in range(1, 9)] + ["flush", "get =a", "delete =b", "get =b", "get =d"]
+
+
+class Servers(MemoryCase):
+    def talk(self, port):
+        """Sends the lines of a session one by one, by another connection if one is closed. The replies, None for a
+        line whose reply did not come."""
+        replies = []
+        for _ in range(4):
+            try:
+                with socket.create_connection(("127.0.0.1", port), timeout=20) as link, link.makefile("rb") as answers:
+                    while len(replies) < len(SESSION):
+                        link.sendall(SESSION[len(replies)].encode() + b"\n")
+                        replies.append(self.reply(answers))
+                        if replies[-1] is None:
+                            break
+            except ConnectionError:
+                replies += [None] * (len(replies) < len(SESSION))
+            if len(replies) == len(SESSION):
+                break
+        return replies
+
+    def reply(self, answers):
+        line = answers.readline()
+        return line.decode().rstrip("\n") if line.endswith(b"\n") else None
+
+    def serve(self, **plans):
+        """A server with one session: what it printed, and the replies, none if it did not listen."""
+        with self.start("serve", "store", 0, "--sessions", 1, env=watching(self, **plans)) as running:
+            first, second = (running.stdout.readline().decode() for _ in range(2))
+            replies = self.talk(int(second.split()[1])) if second.startswith("listening") else []
+            try:
+                rest, err = running.communicate(timeout=1 if None in replies else 20)
+            except subprocess.TimeoutExpired:
+                running.send_signal(signal.SIGTERM)
+                rest, err = running.communicate(timeout=20)
+        return running.returncode, first + second + rest.decode(), err.decode(), replies
+
+    def judge_session(self, replies):
+        """Judges the replies to the lines, and gives the maps of which the file may be one."""
+        values, unknown = {}, []
+        for line, reply in zip(SESSION, replies):
+            if reply is None and is_command(line):
+                unknown.append(line)
+            elif reply in (None, "refused 6 NoMemory", "refused 8 NoRoom"):
+                continue
+            elif is_command(line):
+                self.assertRegex(reply, r"\Aaccepted \d+\Z")
+                values, unknown = done(values, line), []
+            elif line == "flush":
+                self.assertRegex(reply, r"\Aacknowledged \d+\Z")
+            elif not unknown:
+                self.assertEqual(reply, answer(values, line.split()[1]))
+        return maps_after(values, unknown)
+
+    def judge_server(self, status, out, err, replies):
+        if not replies:
+            self.assertEqual(status, 1)
+            self.assertIn(out.removeprefix("opened\n"), (*OF_A_JOB, "network fault\n", ""))
+            return
+        self.assertIn(status, (0, 1, -signal.SIGTERM))
+        maps = self.judge_session(replies)
+        left = self.left()
+        self.assertRegex(self.report(left), r"\Ageneration ")
+        found = self.silt("run", "store", text="".join(f"get {key}\n" for key in KEYS)).lines[1:]
+        self.assertIn(found, [[answer(values, key) for key in KEYS] for values in maps])
+
+    def test_a_server(self):
+        before = self.store(OF_SERVERS).read_bytes()
+        status, out, err, replies = self.serve(counts="counts")
+        self.assertEqual((status, err, None in replies), (0, "", False), replies)
+        for number in range(1, self.requests() + 3):
+            self.put_back(before)
+            ended = self.serve(**self.plan(number))
+            with self.subTest(request=number):
+                self.judge_server(*ended)
+
+
+# Tests that pass whichever of their requests is refused: a refused call changes nothing, and is asked again.
+PROGRAMS = {
+    "silt_tests": ["memory::each_call_lacks_memory", "memory::a_run_lacks_memory", "memory::a_life_lacks_memory"],
+    "silt_desk_tests": ["tests::desk::memory::each_call_is_asked_again", "tests::inbox::a_queue_keeps_the_order"],
+    "silt_line_tests": ["wire::sessions::ends_where_memory_is_refused"],
+}
+
+
+class Programs(MemoryCase):
+    def run_test(self, program, test, **plans):
+        return subprocess.run([program, test], env=watching(self, **plans), cwd=self.folder, capture_output=True, timeout=60)
+
+    def try_program(self, crate):
+        program = TOP / f"crates/{crate}/out/{crate}_tests"
+        if not program.exists():
+            self.skipTest(f"rt test in crates/{crate} makes {program.name}")
+        for test in PROGRAMS[crate]:
+            self.assertEqual(self.run_test(program, test, counts="counts").returncode, 0)
+            for number in range(1, self.requests() + 1):
+                ran = self.run_test(program, test, **self.plan(number))
+                with self.subTest(test=test, request=number):
+                    self.assertEqual(ran.returncode, 0, ran.stdout.decode() + ran.stderr.decode())
+
+    def test_stores(self):
+        self.try_program("silt_tests")
+
+    def test_desks(self):
+        self.try_program("silt_desk_tests")
+
+    def test_sessions(self):
+        self.try_program("silt_line_tests")
