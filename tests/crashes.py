@@ -1,8 +1,8 @@
 """What a crash may leave of a file, worked out of the recorded writes and syncs of a program.
 
-A byte that no write touched since the last sync is as that sync left it. Any other byte is pending: a crash leaves it
-as it was, as a write since made it, or as anything at all. The writes of a device may reach it in any order and in
-any parts.
+A byte that no write touched since the last sync is as that sync left it. Any other byte is
+pending: a crash leaves it as it was, as a write since made it, or as anything at all. The writes
+of a device may reach it in any order and in any parts.
 """
 from dataclasses import dataclass
 
@@ -13,8 +13,8 @@ SECTORS = (64, 512, 4096)
 
 @dataclass
 class Cut:
-    """A moment of a recorded run: the number of the call that a crash stopped, what was settled then, and the writes
-    that no sync had settled, in their order: offsets and bytes."""
+    """A moment of a recorded run: the number of the call that a crash stopped, what was settled
+    then, and the writes that no sync had settled, in their order: offsets and bytes."""
 
     number: int
     settled: bytes
@@ -22,8 +22,8 @@ class Cut:
 
 
 def cuts(before, calls, file):
-    """The moments at which a crash may stop the writes and syncs of a file that was this before: within each of
-    these calls, and behind the last."""
+    """The moments at which a crash may stop the writes and syncs of a file that was this before:
+    within each of these calls, and behind the last."""
     settled, pending = bytearray(before), []
     for number, call in enumerate(calls):
         if call.file != file or call.name not in CHANGES:
@@ -73,7 +73,8 @@ def first_bytes(random, pending):
 
 
 def last_bytes(random, pending):
-    """The writes from some byte on: those that came later have reached the device, and those before not."""
+    """The writes from some byte on: those that came later have reached the device, and those
+    before not."""
     left, kept = random.randint(0, sum(len(data) for _, data in pending)), []
     for at, data in reversed(pending):
         begin = max(0, len(data) - left)

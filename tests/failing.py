@@ -1,4 +1,5 @@
-"""The jobs of the program that are tried with failing calls and with refused memory, and how their files are judged."""
+"""The jobs of the program that are tried with failing calls and with refused memory, and how
+their files are judged."""
 from dataclasses import dataclass, field
 
 from commands import answer, maps_after
@@ -58,7 +59,8 @@ class JobCase(WatchedCase):
         return self.silt("check", "store").out
 
     def judge_file(self, left, commands, replies):
-        """The next run finds the accepted commands up to one that is not before the last acknowledged one."""
+        """The next run finds the accepted commands up to one that is not before the last
+        acknowledged one."""
         least = max([int(it.split()[1]) for it in replies if it.startswith("acknowledged")], default=0)
         self.assertRegex(self.report(left), r"\Ageneration ")
         self.assertEqual(self.left(), left, "a check wrote")

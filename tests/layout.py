@@ -1,4 +1,5 @@
-"""Where the parts of a store lie in its file, and the bytes of rows, entries and manifests, as docs/layout.md has them."""
+"""Where the parts of a store lie in its file, and the bytes of rows, entries and manifests, as
+docs/layout.md has them."""
 import hashlib
 from dataclasses import dataclass
 

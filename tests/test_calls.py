@@ -1,7 +1,9 @@
-"""The order of the calls of the system: which writes and syncs each call of the store makes, and how many reads.
+"""The order of the calls of the system: which writes and syncs each call of the store makes, and
+how many reads.
 
-What is due is worked out of the table in docs/layout.md: the device calls of each call of the store. A disk in a file
-buffers adjacent writes, and makes them one write before a write elsewhere, before a sync, and when its room is full.
+What is due is worked out of the table in docs/layout.md: the device calls of each call of the
+store. A disk in a file buffers adjacent writes, and makes them one write before a write
+elsewhere, before a sync, and when its room is full.
 """
 from layout import CLOSED, DELETE, OPEN, PUT, SECTOR, Layout, manifest
 from watch import WatchedCase
@@ -114,7 +116,8 @@ class CallCase(WatchedCase):
         return by_line(self.record_by_lines(lines, **plans)[1])
 
     def judge(self, steps, **plans):
-        """Judges the writes and syncs of lines, of which each comes with the device calls that are due."""
+        """Judges the writes and syncs of lines, of which each comes with the device calls that
+        are due."""
         buffer = Buffer()
         got = self.calls_of([line for line, _ in steps], **plans)[1:]
         for (line, device_calls), calls in zip(steps, got, strict=True):
@@ -222,7 +225,8 @@ class Writes(CallCase):
                     *self.convert(slots, manifest(2, 1, hashes=[0]), False)])
 
     def merge(self, entries, body, gathered=8, region=1):
-        """All steps of a merge: slots that are gathered, keys with their values or None, and the manifest."""
+        """All steps of a merge: slots that are gathered, keys with their values or None, and the
+        manifest."""
         steps, place = [("merge", [])] * gathered, 0
         for key, value in entries:
             steps.append(("merge", self.rules.entry(region, place, key, value) if value else []))
@@ -246,7 +250,8 @@ class Writes(CallCase):
         self.judge([*steps[:-4], row, *steps[-4:]])
 
     def test_a_merge_of_overwritten_and_deleted_keys(self):
-        """The next merge: a deleted key is left out, an overwritten one and an old entry are written."""
+        """The next merge: a deleted key is left out, an overwritten one and an old entry are
+        written."""
         self.store(G)
         row = self.rules.layout.row
         lines = [(f"delete {B}", self.rules.row(1, 1, DELETE, B)), self.put(2, C, "0007", 1),
@@ -261,12 +266,14 @@ class Writes(CallCase):
                    + self.merge(entries, manifest(6, 0, region=0, count=5), region=0))
 
     def test_a_conversion_beside_a_merge(self):
-        """Their steps by turns are no adjacent writes, and the hash store that comes stays in front."""
+        """Their steps by turns are no adjacent writes, and the hash store that comes stays in
+        front."""
         words = "2 2 1 3 3 8"
         self.rules = Rules(words)
         self.store(words, [f"put {A} 0001", f"put {B} 0002", "flush"] + ["convert"] * 9
                    + [f"put {C} 0003", "flush"] + ["merge"] * 8)
-        # Opening forgets the merge under way. Log 1 is frozen, and the hash store in region 0 has key A.
+        # Opening forgets the merge under way. Log 1 is frozen, and the hash store in region 0 has
+        # key A.
         rows = {0: self.rules.layout.row(PUT, B, "0002")}
         converts = self.convert(rows, manifest(4, 0, hashes=[1, 0]), False, region=1)
         merges = self.merge([(A, "0001")], manifest(5, 0, hashes=[1], region=1, count=1))
@@ -294,7 +301,8 @@ class Jobs(CallCase):
     """What the jobs of the program call, from the opening of the file on."""
 
     def opened(self, calls, flags, lock, file="store"):
-        """Judges that the file is opened so, and then locked, before anything else is done. Returns the rest."""
+        """Judges that the file is opened so, and then locked, before anything else is done.
+        Returns the rest."""
         first, second, *rest = [it for it in calls if it.file == file or it.name == "open"]
         self.assertEqual((first.name, first.file, first.asked & 0o103), ("open", file, flags))
         self.assertEqual((second.name, second.asked, second.result), ("flock", lock, 0))
@@ -308,7 +316,8 @@ class Jobs(CallCase):
         self.assertEqual([it.name for it in calls[:3]], ["fsync", "fdatasync", "pread"])
 
     def test_an_opening_that_seals(self):
-        """Gates behind the first closed one are open: those behind it are closed, and it is not touched."""
+        """Gates behind the first closed one are open: those behind it are closed, and it is not
+        touched."""
         path = self.store(G, [f"put {A} 0001", "flush"])
         content = bytearray(path.read_bytes())
         content[12288:12292] = OPEN + CLOSED + OPEN + b"\x01"
@@ -389,7 +398,8 @@ class Reads(CallCase):
         return [f"put {key(n)} {n:04x}" for n in numbers]
 
     def test_keys_of_the_active_log(self):
-        """A candidate costs one read: its head for a put, its row for a get. A buffered one costs none."""
+        """A candidate costs one read: its head for a put, its row for a get. A buffered one
+        costs none."""
         self.store(WIDE, self.puts(range(2)) + ["flush"])
         self.judge_reads([
             (f"get {key(0)}", [self.row(0, 23)]), (f"get {key(9)}", []),
@@ -450,7 +460,8 @@ class Reads(CallCase):
             self.assertLessEqual(len(reads(calls)), 1, line)
 
     def test_a_merge(self):
-        """The slots of a hash store by one read of at most 64 KiB, and the value of each row that is written."""
+        """The slots of a hash store by one read of at most 64 KiB, and the value of each row
+        that is written."""
         self.frozen()
         self.silt("run", "store", text="convert\n" * 257)
         slots = [("merge", [(self.layout.hash_region(0), 256 * 23)])] + [("merge", [])] * 255
@@ -469,10 +480,12 @@ class Reads(CallCase):
         self.assertEqual([reads(it) for it in got[256:]], due + [[]] * (14 - len(due)))
 
     def test_an_opening(self):
-        """The gates and each row of the named logs, the slots and the entries by reads of at most 64 KiB."""
+        """The gates and each row of the named logs, the slots and the entries by reads of at
+        most 64 KiB."""
         self.merged()
         lines = self.puts(range(10, 17)) + ["flush"]
-        self.silt("run", "store", text="\n".join(lines) + "\n" + "flush\nconvert\n" * 300 + f"put {key(20)} 0001\nflush\n")
+        lines += [f"put {key(20)} 0001", "flush", ""]
+        self.silt("run", "store", text="\n".join(lines))
         calls = self.calls_of([])[0]
         head = [(0, 37), (4096, 121), (8192, 121)]
         active = [(self.layout.gates(0), 8), self.row(0, 21)]
@@ -483,7 +496,8 @@ class Reads(CallCase):
         self.assertEqual(reads(self.calls_of([])[0]), head + active + slots + [self.entry(0, 8 * 22)])
 
     def test_long_values(self):
-        """A row or an entry of more than 512 bytes takes two reads: its head, and the value of a put."""
+        """A row or an entry of more than 512 bytes takes two reads: its head, and the value of a
+        put."""
         words = "493 64 2 4 4 64"
         self.layout, value = Layout.of(words), "ab" * 493
         self.store(words, [f"put {key(1)} {value}", f"delete {key(2)}", "flush"])

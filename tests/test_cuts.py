@@ -1,8 +1,8 @@
 """Power cuts on real files.
 
-All writes and syncs of a run or of a server are recorded. Then the file is made anew as a crash at any call could leave
-it. It has to open, to hold what was acknowledged, to be the map of a beginning of the accepted commands, and to take
-new commands.
+All writes and syncs of a run or of a server are recorded. Then the file is made anew as a crash
+at any call could leave it. It has to open, to hold what was acknowledged, to be the map of a
+beginning of the accepted commands, and to take new commands.
 """
 import collections
 import socket
@@ -19,12 +19,14 @@ OF_RUNS, OF_SERVERS, OF_FORMATS = (scaled(it) for it in ((1600, 400, 100) if PRO
 OF_A_LIFE = 12
 GEOMETRIES = ("2 2 4 3 3 64", "3 4 7 2 2 64", "1 2 1 3 3 64", "700 2 3 4 2 40")
 KEYS = names(8)
-# The parts of a file that have to be pending at some cuts: rows, a conversion, a merge, and a freeze or an end of these.
+# The parts of a file that have to be pending at some cuts: rows, a conversion, a merge, and a
+# freeze or an end of these.
 PARTS = ("log", "hash", "sorted", "manifest")
 
 
 class Lived:
-    """A recorded run of lines: which commands it accepted, and what a crash at each call may leave of them."""
+    """A recorded run of lines: which commands it accepted, and what a crash at each call may
+    leave of them."""
 
     def __init__(self, lines, replies, calls):
         self.lines, self.replies, self.calls = lines, replies[1:], calls
@@ -36,7 +38,8 @@ class Lived:
             self.told.append(self.told[-1] + ends * (it.file == "standard output"))
 
     def owed(self, number):
-        """The least and the greatest number of commands that a crash at the call of this number may leave.
+        """The least and the greatest number of commands that a crash at the call of this number may
+        leave.
 
         Those count as acknowledged whose reply was begun before. `opened` is no reply to a line."""
         told = self.replies[:max(0, self.told[number])]
@@ -45,7 +48,8 @@ class Lived:
 
 
 def lines_after(layout, keys, value):
-    """The lines that a file is tried with: gets, commands, all work in the background to its end, and commands."""
+    """The lines that a file is tried with: gets, commands, all work in the background to its
+    end, and commands."""
     gets = [f"get {key}" for key in keys]
     new = [f"put {keys[0]} {value}", "flush", f"delete {keys[1]}", "flush"]
     steps = (layout.slots + 1) * layout.hashes
@@ -66,7 +70,8 @@ class CutCase(WatchedCase):
         return Lived(lines, replies, calls)
 
     def take_up(self, content, layout, keys=KEYS, value=None):
-        """Opens a file of this content, and tries whether it takes all that a store takes. The map that it held."""
+        """Opens a file of this content, and tries whether it takes all that a store takes. The
+        map that it held."""
         path = self.path("cut")
         path.write_bytes(content)
         checked = self.silt("check", "cut")
@@ -99,7 +104,8 @@ class CutCase(WatchedCase):
                 self.assertIn(reply, ("idle", "waiting", "moved", "finished"), line)
 
     def some_cuts(self, layout, before, calls, count):
-        """Some cuts of a record. Those with pending bytes in a part of the file that seldom has some are as many."""
+        """Some cuts of a record. Those with pending bytes in a part of the file that seldom has
+        some are as many."""
         by_part = collections.defaultdict(list)
         for cut in cuts(before, calls, "store"):
             for part in {layout.place(at) for at, _ in cut.pending} or {None}:
@@ -108,7 +114,8 @@ class CutCase(WatchedCase):
         return [self.random.choice(by_part[self.random.choice(parts)]) for _ in range(count)]
 
     def judge(self, cut, content, layout, base, commands, owed):
-        """Whether the file is the map of a beginning of the commands within these bounds. Returns that map."""
+        """Whether the file is the map of a beginning of the commands within these bounds.
+        Returns that map."""
         least, most = owed
         try:
             held = self.take_up(content, layout)
@@ -133,7 +140,8 @@ class Runs(CutCase):
         return left
 
     def try_lives(self, geometry):
-        """Lives one after the other, each on a file that a crash left, until there are enough cuts of each kind."""
+        """Lives one after the other, each on a file that a crash left, until there are enough
+        cuts of each kind."""
         layout, seen = Layout.of(geometry), collections.Counter()
         left, count = (self.store(geometry).read_bytes(), {}), OF_RUNS // len(GEOMETRIES)
         while seen["cut"] < count or not all(seen[part] for part in PARTS):
@@ -170,9 +178,55 @@ class Runs(CutCase):
             self.judge(at, at.settled, Layout.of(GEOMETRIES[0]), {}, life.accepted, life.owed(at.number))
 
 
+# A flush, a freeze with none waiting, and a conversion. The numbers are of the syncs that no later
+# one stands for: a flush's two, a manifest's before its gate is opened, the closing of an open
+# gate.
+LINES = (["put =aa 0001", "put =ab 0002", "put =ac 0003", "put =ad 0004", "flush", "put =ae 0005", "flush"]
+         + ["convert"] * 9)
+NEEDED = {2: "rows", 3: "gates", 6: "a body", 8: "rows", 9: "gates", 11: "the closing", 12: "a body"}
+
+
+class Needed(CutCase):
+    """The judge sees each sync that is left out, if the file needs it."""
+
+    def window(self, before, calls, number):
+        """The last cut before a sync that is not in the record, where what it should have
+        settled is pending."""
+        found, syncs = None, 1
+        for cut in cuts(before, calls, "store"):
+            found = cut if syncs == number else found
+            syncs += cut.number < len(calls) and calls[cut.number].name == "fdatasync"
+        return found
+
+    def test_each_needed_sync(self):
+        layout, before = Layout.of(GEOMETRIES[0]), self.store(GEOMETRIES[0]).read_bytes()
+        for number, name in NEEDED.items():
+            self.path("store").write_bytes(before)
+            replies, calls = self.record_by_lines(LINES, drop=f"fdatasync:{number}")
+            life, cut = Lived(LINES, replies, calls), self.window(before, calls, number)
+            with self.subTest(sync=number, of=name), self.assertRaises(AssertionError):
+                for _ in range(300):
+                    content = image(self.random, cut)
+                    self.judge(cut, content, layout, {}, life.accepted, life.owed(cut.number))
+
+    def test_a_row_that_is_torn(self):
+        """A gate that is open before its row, as a program would leave it that opens gates
+        first."""
+        layout, before = Layout.of(GEOMETRIES[0]), self.store(GEOMETRIES[0]).read_bytes()
+        self.path("store").write_bytes(before)
+        life = Lived(LINES, *self.record_by_lines(LINES))
+        gates = next(n for n, it in enumerate(life.calls) if it.name == "pwrite" and it.at == layout.gates(0))
+        cut = next(it for it in cuts(before, life.calls, "store") if it.number == gates)
+        torn = bytearray(image(self.random, cut))
+        torn[layout.gates(0):layout.gates(0) + 4] = b"\xa7" * 4
+        torn[layout.bodies(0) + layout.row_len + 5] ^= 1
+        with self.assertRaises(AssertionError):
+            self.judge(cut, bytes(torn), layout, {}, life.accepted, life.owed(cut.number))
+
+
 class Session:
-    """The lines of one connection and their replies, each with the number of the call that moved its last byte, or,
-    of a reply, its first."""
+    """The lines of one connection and their replies, each with the number of the call that moved
+    its last byte, or, of a reply, its first."""
 
     def __init__(self, calls, name):
         self.lines = list(pieces(calls, name, "recv"))
@@ -189,7 +243,8 @@ def pieces(calls, file, name):
 
 
 class Served:
-    """A recorded server: its accepted commands in their order, and what a crash at each call may leave of them."""
+    """A recorded server: its accepted commands in their order, and what a crash at each call may
+    leave of them."""
 
     def __init__(self, calls):
         self.calls, commands = calls, {}

@@ -1,7 +1,9 @@
-"""Refused calls of the system: each read, write and sync fails in turn, moves one byte alone, or is interrupted.
+"""Refused calls of the system: each read, write and sync fails in turn, moves one byte alone, or is
+interrupted.
 
-A job ends with a refusal, one line is refused, or the store has failed; the reason is on the standard error. Behind
-each run the file is whole: it holds the accepted commands up to one that is not before the last acknowledged one.
+A job ends with a refusal, one line is refused, or the store has failed; the reason is on the
+standard error. Behind each run the file is whole: it holds the accepted commands up to one that
+is not before the last acknowledged one.
 """
 import errno
 import os
@@ -32,7 +34,8 @@ class Fault:
 
     @property
     def is_none(self):
-        """Whether the program has to end as without it: short and interrupted calls are made again."""
+        """Whether the program has to end as without it: short and interrupted calls are made
+        again."""
         return self.error in ("", "EINTR")
 
     @property
@@ -53,7 +56,8 @@ OPENS = [Fault("open", "EACCES"), Fault("open", "EMFILE"), Fault("open", "EINTR"
 
 class FaultCase(JobCase):
     def try_all(self, job, judge, faults, short=""):
-        """Runs the job with each fault at each call in turn, and judges each run. Other calls may be short always."""
+        """Runs the job with each fault at each call in turn, and judges each run. Other calls
+        may be short always."""
         self.put_back(job.before)
         whole = self.silt(*job.words, text=job.text, env=watching(self, counts="counts", short=short))
         at_end, counts, tried = self.left(), read_counts(self.path("counts")), 0
@@ -85,7 +89,8 @@ class FaultCase(JobCase):
         self.assertRegex(ended.err, rf"\A{self.reason(fault, call)}\Z")
 
     def judge_early(self, fault, whole, ended):
-        """What was printed is a beginning. All of it is there only if the read of the end failed."""
+        """What was printed is a beginning. All of it is there only if the read of the end
+        failed."""
         self.assertEqual(ended.status, 1)
         self.assertTrue(whole.out.startswith(ended.out), ended.out)
         self.assertTrue(fault.call == "read" or ended.out != whole.out)
@@ -219,7 +224,8 @@ class Others(FaultCase):
         self.try_all(Job(["script", *GEOMETRY.split()], LIVES), self.judge_script, STREAMS)
 
     def judge_format(self, job, fault, whole, ended, calls):
-        """The file is no store, an empty one or the old one. The next formatting makes an empty store of it."""
+        """The file is no store, an empty one or the old one. The next formatting makes an empty
+        store of it."""
         left = self.left()
         empty = self.report_after(None, job)
         if fault.call == "pread":
@@ -281,13 +287,15 @@ class Files(FaultCase):
         before = self.store(GEOMETRY).read_bytes()
         with self.start("run", "store") as running:
             running.stdout.readline()
-            for words in (["run", "store"], ["check", "store"], ["serve", "store", 0], ["format", "store", *GEOMETRY.split()]):
-                self.refused(*words, reason="store: the file is in use")
+            for job in ("run", "check", "serve", "format"):
+                more = {"serve": ["0"], "format": GEOMETRY.split()}.get(job, [])
+                self.refused(job, "store", *more, reason="store: the file is in use")
             running.communicate()
         self.assertEqual(self.path("store").read_bytes(), before)
 
     def limited(self, limit, job, is_ignored):
-        """Runs a job that may write no file beyond this length. A signal comes with that, which may be ignored."""
+        """Runs a job that may write no file beyond this length. A signal comes with that, which
+        may be ignored."""
         def prepare():
             signal.signal(signal.SIGXFSZ, signal.SIG_IGN if is_ignored else signal.SIG_DFL)
             resource.setrlimit(resource.RLIMIT_FSIZE, (limit, limit))
@@ -310,8 +318,8 @@ class Files(FaultCase):
         if is_ignored or ended.status >= 0:
             self.assertEqual(ended.status, 0)
             self.assertRegex(ended.err, r"\Asilt: store: a (sync|write at \d+): File too large \(os error 27\)\n\Z")
-            at = ended.lines.index("refused 5 Device")
-            self.assertEqual({it for it in ended.lines[at + 1:] if not it.startswith("refused 2")}, {"refused 9 Failed"})
+            behind = ended.lines[ended.lines.index("refused 5 Device") + 1:]
+            self.assertEqual({it for it in behind if not it.startswith("refused 2")}, {"refused 9 Failed"})
         else:
             self.assertEqual(-ended.status, signal.SIGXFSZ)
         commands = [line for line in job.lines if is_command(line) and line != "put =c"]
@@ -320,6 +328,7 @@ class Files(FaultCase):
     def test_a_limit_of_a_format(self):
         job = Job(["format", "store", *GEOMETRY.split()])
         ended = self.limited(30000, job, True)
-        self.assertEqual((ended.status, ended.out, ended.err), (1, DEVICE, "silt: store: File too large (os error 27)\n"))
+        reason = "silt: store: File too large (os error 27)\n"
+        self.assertEqual((ended.status, ended.out, ended.err), (1, DEVICE, reason))
         self.assertEqual(self.report(self.left()), NO_STORE)
         self.assertEqual(self.silt(*job.words).status, 0)

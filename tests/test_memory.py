@@ -1,6 +1,7 @@
 """Refused memory: each request of a job, of a server and of some test programs is refused in turn.
 
-A job is refused, ends early, or answers one line with a refusal; nothing that was acknowledged is lost.
+A job is refused, ends early, or answers one line with a refusal; nothing that was acknowledged
+is lost.
 """
 import signal
 import socket
@@ -18,8 +19,8 @@ OF_A_JOB = (NO_MEMORY, DEVICE)
 
 
 def lines_of_replies(lines):
-    """For each reply of a script the numbers of the lines that are not done if it is a refusal: the line's own, and
-    for a life that is not opened all of its lines."""
+    """For each reply of a script the numbers of the lines that are not done if it is a refusal:
+    the line's own, and for a life that is not opened all of its lines."""
     made, life = [], []
     for number, line in enumerate([*lines, "stop"]):
         if line.startswith("stop"):
@@ -40,7 +41,8 @@ class MemoryCase(JobCase):
         return read_counts(self.path("counts"))["memory"]
 
     def ended(self, job, **plans):
-        """How the job ends, which is made to read its lines byte by byte, so that it answers each by itself."""
+        """How the job ends, which is made to read its lines byte by byte, so that it answers
+        each by itself."""
         self.put_back(job.before)
         return self.silt(*job.words, text=job.text, env=watching(self, short="read:1+", **plans), limit=20)
 
@@ -62,7 +64,8 @@ class MemoryCase(JobCase):
         self.assertRegex(ended.err, r"\A(silt: .*\n)*\Z")
 
     def is_job(self, whole, ended):
-        """Whether the job ended as a whole job may: as it does with memory, by one refusal, or early."""
+        """Whether the job ended as a whole job may: as it does with memory, by one refusal, or
+        early."""
         if ended == whole:
             return True
         if ended.status == 1 and ended.out in OF_A_JOB:
@@ -85,7 +88,8 @@ class MemoryCase(JobCase):
 
 class Jobs(MemoryCase):
     def judge_run(self, job, whole, ended, onwards):
-        """What was answered, and what the next run finds: a command may be done whose reply was lost, but one alone."""
+        """What was answered, and what the next run finds: a command may be done whose reply was
+        lost, but one alone."""
         left, replies = self.left(), ended.lines[1:]
         if not onwards:
             self.judge_lines(job, whole, ended)
@@ -114,7 +118,8 @@ class Jobs(MemoryCase):
         self.try_all(Job(["check", "store"], [], before), self.judge_check)
 
     def judge_format(self, job, whole, ended, onwards):
-        """The file is no store, an empty one or the old one. The next formatting makes an empty store of it."""
+        """The file is no store, an empty one or the old one. The next formatting makes an empty
+        store of it."""
         left = self.left()
         self.assertTrue(self.is_job(whole, ended), ended)
         if left is not None:
@@ -130,7 +135,8 @@ class Jobs(MemoryCase):
         self.try_all(Job(words, [], used), self.judge_format)
 
     def test_another_refusal_is_refused(self):
-        """The judge sees a request that is reported as something else, and a line that is left out."""
+        """The judge sees a request that is reported as something else, and a line that is left
+        out."""
         job = Job(["run", "store"], LINES, self.store(GEOMETRY).read_bytes())
         whole = self.plain(job)
         other = whole.out.replace("accepted 2", "refused 5 Device")
@@ -139,16 +145,16 @@ class Jobs(MemoryCase):
                 self.judge_lines(job, whole, type(whole)(0, out, ""))
 
 
-# A session of which each put freezes a log, so that both workers have something to do. A log that they have not
-# freed yet may be missing to one.
+# A session of which each put freezes a log, so that both workers have something to do. A log that
+# they have not freed yet may be missing to one.
 OF_SERVERS = "2 2 1 6 3 40"
 SESSION = [f"put {KEYS[n % 4]} {n:04x}" for n in range(1, 9)] + ["flush", "get =a", "delete =b", "get =b", "get =d"]
 
 
 class Servers(MemoryCase):
     def talk(self, port):
-        """Sends the lines of a session one by one, by another connection if one is closed. The replies, None for a
-        line whose reply did not come."""
+        """Sends the lines of a session one by one, by another connection if one is closed. The
+        replies, None for a line whose reply did not come."""
         replies = []
         for _ in range(4):
             try:
@@ -169,7 +175,8 @@ class Servers(MemoryCase):
         return line.decode().rstrip("\n") if line.endswith(b"\n") else None
 
     def serve(self, **plans):
-        """A server with one session: what it printed, and the replies, none if it did not listen."""
+        """A server with one session: what it printed, and the replies, none if it did not
+        listen."""
         with self.start("serve", "store", 0, "--sessions", 1, env=watching(self, **plans)) as running:
             first, second = (running.stdout.readline().decode() for _ in range(2))
             replies = self.talk(int(second.split()[1])) if second.startswith("listening") else []
@@ -220,7 +227,8 @@ class Servers(MemoryCase):
                 self.judge_server(*ended)
 
 
-# Tests that pass whichever of their requests is refused: a refused call changes nothing, and is asked again.
+# Tests that pass whichever of their requests is refused: a refused call changes nothing, and is
+# asked again.
 PROGRAMS = {
     "silt_tests": ["memory::each_call_lacks_memory", "memory::a_run_lacks_memory", "memory::a_life_lacks_memory"],
     "silt_desk_tests": ["tests::desk::memory::each_call_is_asked_again", "tests::inbox::a_queue_keeps_the_order"],
@@ -230,7 +238,8 @@ PROGRAMS = {
 
 class Programs(MemoryCase):
     def run_test(self, program, test, **plans):
-        return subprocess.run([program, test], env=watching(self, **plans), cwd=self.folder, capture_output=True, timeout=60)
+        return subprocess.run([program, test], env=watching(self, **plans), cwd=self.folder, timeout=60,
+                              capture_output=True)
 
     def try_program(self, crate):
         program = TOP / f"crates/{crate}/out/{crate}_tests"

@@ -136,7 +136,8 @@ static void read_plans(enum what what, const char *name) {
         if (*word) read_plan(what, word);
 }
 
-// The record's file gets a high number, so that the program's own files have the numbers that they have without it.
+// The record's file gets a high number, so that the program's own files have the numbers that they
+// have without it.
 static void open_log(void) {
     const char *path = getenv("SILT_WATCH_LOG");
     if (!path) return;

@@ -97,7 +97,8 @@ def sent(calls, file):
 
 
 class WatchedCase(Case):
-    """A case whose folder lies in memory where the system has such a place, so that syncs are quick."""
+    """A case whose folder lies in memory where the system has such a place, so that syncs are
+    quick."""
 
     def setUp(self):
         super().setUp()
