@@ -1,0 +1,209 @@
+"""A server under test and its clients.
+
+A `Server` is a running `silt serve`. A `Client` is one connection to it. `ServedCase` starts both and ends them with the test.
+"""
+import os
+import select
+import socket
+import struct
+import subprocess
+import time
+
+from harness import TIME_LIMIT, Case, Ended
+
+# Logs of four rows: the fifth put freezes one, and work in the background begins.
+SMALL = "2 2 4 2 2 8"
+# A store that takes some thousand puts.
+ROOMY = "2 16 64 8 16 4000"
+# The number of sessions that a server has at once.
+MOST_SESSIONS = 64
+# The longest line, without its line feed.
+LONGEST_LINE = 8300
+
+
+class Client:
+    """A connection to a server: it sends lines and receives replies."""
+
+    def __init__(self, port, address="127.0.0.1", limit=TIME_LIMIT):
+        self.socket = socket.create_connection((address, port), timeout=limit)
+        self.socket.setsockopt(socket.IPPROTO_TCP, socket.TCP_NODELAY, 1)
+        self.received = bytearray()
+
+    def send(self, *lines):
+        """Sends these lines in one write."""
+        self.send_bytes("".join(line + "\n" for line in lines).encode())
+
+    def send_bytes(self, data):
+        self.socket.sendall(data)
+
+    def receive(self):
+        """Receives some bytes, and returns whether there were any. A reset counts as an end."""
+        try:
+            data = self.socket.recv(1 << 16)
+        except (ConnectionResetError, BrokenPipeError):
+            data = b""
+        self.received += data
+        return data != b""
+
+    def reply(self):
+        """The next reply without its line feed. None if the server closed the connection before its end."""
+        while (end := self.received.find(b"\n")) < 0:
+            if not self.receive():
+                return None
+        line = self.received[:end].decode()
+        del self.received[: end + 1]
+        return line
+
+    def replies(self, count):
+        return [self.reply() for _ in range(count)]
+
+    def ask(self, *lines):
+        """Sends these lines in one write, and returns as many replies."""
+        self.send(*lines)
+        return self.replies(len(lines))
+
+    def end_input(self):
+        """Ends what the client sends. The server then answers what it has and closes."""
+        self.socket.shutdown(socket.SHUT_WR)
+
+    def rest(self):
+        """All replies until the server closes the connection."""
+        while self.receive():
+            pass
+        text, self.received = self.received.decode(), bytearray()
+        return text.splitlines()
+
+    def close(self):
+        self.socket.close()
+
+    def reset(self):
+        """Closes the connection with a reset, as a client that crashed."""
+        self.socket.setsockopt(socket.SOL_SOCKET, socket.SO_LINGER, struct.pack("ii", 1, 0))
+        self.socket.close()
+
+
+class Server:
+    """A running `silt serve`. Its output is read as it comes, and its error output is kept in a file."""
+
+    def __init__(self, case, words, env, how):
+        self.case = case
+        self.printed = b""
+        self.error_file = case.path(f"errors of {time.monotonic_ns()}")
+        with open(self.error_file, "wb") as errors:
+            how = {"stdin": subprocess.DEVNULL, "stderr": errors} | how
+            self.process = case.start("serve", *words, env=env, **how)
+        case.addCleanup(self.kill)
+
+    def line(self, number):
+        """The line of its output with this number, counted from 0. None if the output ended before."""
+        by = time.monotonic() + TIME_LIMIT
+        while self.printed.count(b"\n") <= number:
+            if not select.select([self.process.stdout], [], [], max(0, by - time.monotonic()))[0]:
+                self.case.fail(f"the server printed {self.printed}, and nothing more in {TIME_LIMIT} seconds")
+            data = os.read(self.process.stdout.fileno(), 1 << 16)
+            if not data:
+                return None
+            self.printed += data
+        return self.printed.decode().splitlines()[number]
+
+    def listen(self):
+        """Waits until it listens. Returns itself."""
+        self.case.assertEqual(self.line(0), "opened", self.errors())
+        words = (self.line(1) or "").split()
+        self.case.assertEqual(words[:1], ["listening"], self.printed)
+        self.port = int(words[1])
+        return self
+
+    def errors(self):
+        return self.error_file.read_text(errors="replace")
+
+    def is_running(self):
+        return self.process.poll() is None
+
+    def send_signal(self, number):
+        self.process.send_signal(number)
+
+    def ended(self, limit=TIME_LIMIT):
+        """Waits until it ends, and returns how, with all that it printed."""
+        try:
+            rest, _ = self.process.communicate(timeout=limit)
+        except subprocess.TimeoutExpired:
+            self.case.fail(f"the server did not end in {limit} seconds; it printed {self.printed}")
+        self.printed += rest
+        return Ended(self.process.returncode, self.printed.decode(), self.errors())
+
+    def kill(self):
+        """Ends it as a crash of the process does, and returns how it ended."""
+        if self.process.stdout.closed:
+            return None
+        self.process.kill()
+        return self.ended()
+
+
+class ServedCase(Case):
+    """A test with servers and clients, which end with it."""
+
+    def begin(self, *words, env=None, **how):
+        """Starts `silt serve` with these words, and waits for nothing."""
+        return Server(self, words, env, how)
+
+    def serve(self, *options, name="store", port=0, env=None, **how):
+        """A server of this store, which listens."""
+        return self.begin(name, port, *options, env=env, **how).listen()
+
+    def client(self, server):
+        client = Client(server.port)
+        self.addCleanup(client.close)
+        return client
+
+    def clients(self, server, count):
+        return [self.client(server) for _ in range(count)]
+
+    def served_client(self, server):
+        """A client that has a session. It connects anew for as long as no place is free."""
+        for _ in self.turns("a place for a client"):
+            client = self.client(server)
+            client.send("get =nothing")
+            if client.reply() is not None:
+                return client
+            client.close()
+
+    def turns(self, what, limit=TIME_LIMIT):
+        """Turns of waiting for something, until it takes too long."""
+        by = time.monotonic() + limit
+        while time.monotonic() < by:
+            yield
+            time.sleep(0.01)
+        self.fail(f"waited {limit} seconds for {what}")
+
+    def wait_until(self, holds, what, limit=TIME_LIMIT):
+        for _ in self.turns(what, limit):
+            if holds():
+                return
+
+    def check_calls(self, ended, calls):
+        """The server ended well after so many calls."""
+        self.assertEqual(ended.status, 0, ended)
+        self.assertEqual(ended.lines[-1], f"calls {calls}", ended)
+
+    def report(self, *lines, name="store"):
+        """`check` prints these lines of the store."""
+        told = self.check_report(name)
+        self.assertEqual((told.status, told.lines), (0, list(lines)), told)
+
+    def check_whole(self, name="store"):
+        """`check` finds the store whole. Returns its numbers by the words before them."""
+        told = self.check_report(name)
+        self.assertEqual((told.status, told.err), (0, ""), told)
+        return {line.rsplit(" ", 1)[0]: int(line.rsplit(" ", 1)[1]) for line in told.lines}
+
+    def found(self, *keys, name="store"):
+        """What a new run of the store answers to gets of these keys."""
+        ran = self.silt("run", name, text="".join(f"get {key}\n" for key in keys))
+        self.assertEqual((ran.status, ran.lines[:1], ran.err), (0, ["opened"], ""), ran)
+        return ran.lines[1:]
+
+
+def digits(number):
+    """A key of forty digits that begins with two digits of this number."""
+    return f"{number:02}".ljust(40, "0")

@@ -1,0 +1,362 @@
+"""The server when calls of the system fail: flushes, connections, threads, memory, and the limits of a process."""
+import resource
+import signal
+import unittest
+
+from harness import PROVED, scaled
+from served import MOST_SESSIONS, ROOMY, SMALL, ServedCase, digits
+from watch import read_counts, read_record, watching
+
+# The descriptors of a server with no connections: three streams, the store's file and the listener.
+DESCRIPTORS = 5
+FIVE_PUTS = [f"put {digits(it)} {it:04}" for it in range(1, 6)]
+
+
+class Flushes(ServedCase):
+    """A put is answered only behind the flush that settles it, and as that was answered."""
+
+    def setUp(self):
+        super().setUp()
+        self.store(SMALL)
+
+    def test_a_reply_comes_behind_its_syncs(self):
+        server = self.serve("--sessions", 1, env=watching(self, log="record"))
+        client = self.client(server)
+        lines = ["put =abc 0102", "delete =abc", "put =pear 0102"]
+        self.assertEqual([client.ask(line)[0] for line in lines], ["accepted 1", "accepted 2", "accepted 3"])
+        self.assertEqual(client.ask("flush"), ["acknowledged 3"])
+        client.close()
+        self.check_calls(server.ended(), 7)
+        calls = [it.name for it in read_record(self.path("record")) if it.name in ("pwrite", "fdatasync", "send")]
+        # The row, settled, its commit byte, settled, and then the reply. The opening makes one sync.
+        self.assertEqual(calls, ["fdatasync"] + ["pwrite", "fdatasync", "pwrite", "fdatasync", "send"] * 3 + ["send"])
+
+    def check_failure(self, fault, words, found):
+        """A put whose flush fails with this fault, and what comes after it."""
+        server = self.serve("--sessions", 1, env=watching(self, fail=fault))
+        client = self.client(server)
+        self.assertEqual(client.ask("put =abc 0102"), ["unsettled 1"])
+        note = f"silt: {words}; the store takes nothing more until it is opened again\n"
+        self.wait_until(lambda: server.errors(), "a note of the failure", limit=10)
+        self.assertEqual((server.errors(), server.is_running()), (note, True))
+        self.assertEqual(client.ask("put =pear 0304", "flush", "get =abc", "delete =abc"), ["refused 9 Failed"] * 4)
+        client.close()
+        ended = server.ended()
+        self.assertEqual((ended.status, ended.err), (0, note + f"silt: store: {words}\n"), ended)
+        self.check_whole()
+        self.assertIn(self.found("=abc")[0], found)
+        self.assertEqual(self.found("=pear"), ["absent"])
+
+    def test_the_sync_of_a_row_fails(self):
+        self.check_failure("fdatasync:2:EIO", "a sync: Input/output error (os error 5)", {"absent", "value 0102"})
+
+    def test_the_sync_of_a_commit_byte_fails(self):
+        words = "a sync: No space left on device (os error 28)"
+        self.check_failure("fdatasync:3:ENOSPC", words, {"absent", "value 0102"})
+
+    def test_the_write_of_a_row_fails(self):
+        # Writes are kept until the sync that settles them, so it is that sync which fails.
+        self.check_failure("pwrite:1:ENOSPC", "a sync: No space left on device (os error 28)", {"absent"})
+
+    def test_many_clients_of_a_flush_that_fails(self):
+        server = self.serve(env=watching(self, fail="fdatasync:2+:EIO"))
+        clients = self.clients(server, 8)
+        for number, client in enumerate(clients):
+            client.send(f"put {digits(number)} 0001", "flush")
+        replies = [client.replies(2) for client in clients]
+        puts = sorted(put for put, _ in replies)
+        unsettled = [f"unsettled {it}" for it in range(1, 1 + sum(it.startswith("unsettled") for it in puts))]
+        self.assertEqual(puts, ["refused 9 Failed"] * (8 - len(unsettled)) + unsettled)
+        self.assertGreaterEqual(len(unsettled), 1)
+        self.assertEqual({flush for _, flush in replies}, {"refused 9 Failed"})
+
+    def test_a_read_that_fails(self):
+        server = self.serve(env=watching(self, fail="pread:5:EIO", counts="counts"))
+        client = self.client(server)
+        self.assertEqual(client.ask("put =abc 0102"), ["accepted 1"])
+        replies = client.ask(*["get =abc"] * 8)
+        self.assertEqual(sorted(replies), ["refused 5 Device"] + ["value 0102"] * 7)
+        self.assertEqual(client.ask("put =pear 0102", "get =pear"), ["accepted 2", "value 0102"])
+
+
+class Limits(ServedCase):
+    """Limits of the process: the length of its files and the number of its descriptors."""
+
+    def setUp(self):
+        super().setUp()
+        self.store(SMALL)
+
+    def limited(self, is_signal_ignored):
+        """A server that may not write behind the first log, and a client of it."""
+        def limit():
+            signal.signal(signal.SIGXFSZ, signal.SIG_IGN if is_signal_ignored else signal.SIG_DFL)
+            resource.setrlimit(resource.RLIMIT_FSIZE, (16384, 16384))
+
+        server = self.serve("--sessions", 1, preexec_fn=limit, restore_signals=False)
+        return server, self.client(server)
+
+    def test_a_file_that_may_not_be_so_long(self):
+        server, client = self.limited(is_signal_ignored=True)
+        replies = client.ask("put =abc 0102", "put =pear 0304", "get =abc")
+        self.assertEqual(replies, ["unsettled 1"] + ["refused 9 Failed"] * 2)
+        client.close()
+        ended = server.ended()
+        self.assertIn("silt: store: a sync: File too large (os error 27)\n", ended.err)
+        self.assertEqual(ended.status, 0)
+        self.check_whole()
+        self.assertEqual(self.found("=abc", "=pear"), ["absent"] * 2)
+
+    def test_a_signal_for_such_a_file(self):
+        server, client = self.limited(is_signal_ignored=False)
+        client.send("put =abc 0102")
+        self.assertEqual(client.rest(), [])
+        self.assertEqual(server.ended().status, -signal.SIGXFSZ)
+        self.check_whole()
+        self.assertEqual(self.found("=abc"), ["absent"])
+
+    def crowded(self, places):
+        """A server that has descriptors for so many clients, these clients, and one more that is not answered now."""
+        server = self.serve()
+        most = DESCRIPTORS + places
+        resource.prlimit(server.process.pid, resource.RLIMIT_NOFILE, (most, 1024))
+        clients = self.clients(server, places)
+        for number, client in enumerate(clients):
+            self.assertEqual(client.ask(f"put {digits(number)} 0001"), [f"accepted {number + 1}"])
+        late = self.client(server)
+        late.send("get =late")
+        late.socket.settimeout(0.3)
+        try:
+            self.assertIsNone(late.reply())
+        except TimeoutError:
+            pass
+        return server, clients
+
+    def test_sessions_go_on_without_descriptors(self):
+        server, clients = self.crowded(4)
+        for number, client in enumerate(clients):
+            lines = (f"get {digits(number)}", f"delete {digits(number)}", "flush")
+            self.assertEqual(client.ask(*lines), ["value 0001", f"accepted {number + 5}", f"acknowledged {number + 5}"])
+        self.assertTrue(server.is_running())
+
+    # The server takes want of descriptors for the end of its listener. It accepts nothing more, and
+    # ends with `network fault` when its last session has ended.
+    @unittest.expectedFailure
+    def test_a_descriptor_that_is_given_back_serves_another_client(self):
+        server, clients = self.crowded(4)
+        clients[0].close()
+        for _ in self.turns("a client with the descriptor", limit=5):
+            client = self.client(server)
+            client.socket.settimeout(0.3)
+            client.send("get =abc")
+            try:
+                if client.reply() == "absent":
+                    break
+            except TimeoutError:
+                client.close()
+        self.assertTrue(server.is_running())
+
+    # As above.
+    @unittest.expectedFailure
+    def test_more_descriptors_serve_more_clients(self):
+        server, clients = self.crowded(4)
+        resource.prlimit(server.process.pid, resource.RLIMIT_NOFILE, (1024, 1024))
+        client = self.client(server)
+        client.socket.settimeout(5)
+        self.assertEqual(client.ask("get =abc"), ["absent"])
+
+
+class Accepting(ServedCase):
+    """An accept that fails."""
+
+    def setUp(self):
+        super().setUp()
+        self.store(SMALL)
+
+    def check_passing(self, *errors):
+        """Each of these errors of one accept leaves the server serving. The failed ones are not counted."""
+        for error in errors:
+            server = self.serve("--sessions", 2, env=watching(self, fail=[f"accept:1:{error}", f"accept:3:{error}"]))
+            for _ in range(2):
+                client = self.client(server)
+                client.socket.settimeout(10)
+                self.assertEqual(client.ask("get =abc"), ["absent"], error)
+                client.close()
+            self.check_calls(server.ended(), 0)
+
+    def test_a_connection_that_is_gone(self):
+        self.check_passing("ECONNABORTED", "ECONNRESET", "EINTR")
+
+    # The server ends with `network fault` at the first of these, as if its listener were gone.
+    @unittest.expectedFailure
+    def test_passing_want_of_descriptors(self):
+        self.check_passing("EMFILE", "ENFILE")
+
+    # As above.
+    @unittest.expectedFailure
+    def test_passing_want_of_memory(self):
+        self.check_passing("ENOMEM")
+
+    def gone(self):
+        """How a server ends whose listener fails for good, while one session goes on."""
+        server = self.serve(env=watching(self, fail="accept:2+:EINVAL"))
+        client = self.client(server)
+        self.assertEqual(client.ask("put =abc 0102", "get =abc"), ["accepted 1", "value 0102"])
+        client.close()
+        return server.ended()
+
+    def test_a_listener_that_is_gone(self):
+        ended = self.gone()
+        self.assertEqual((ended.status, ended.lines[2:]), (1, ["network fault"]), ended)
+        self.check_whole()
+        self.assertEqual(self.found("=abc"), ["value 0102"])
+
+    # The server drops the error of a failed accept.
+    @unittest.expectedFailure
+    def test_the_cause_is_reported(self):
+        self.assertIn("Invalid argument (os error 22)", self.gone().err)
+
+
+class Threads(ServedCase):
+    """A thread that cannot be started. The first three are those of the merger, the converter and the writer."""
+
+    def setUp(self):
+        super().setUp()
+        self.store(SMALL)
+
+    def test_threads_of_sessions(self):
+        first = 4
+        faults = [f"thread:{it}:EAGAIN" for it in range(first, first + MOST_SESSIONS)]
+        server = self.serve("--sessions", 2, env=watching(self, fail=faults))
+        for _ in range(MOST_SESSIONS):
+            client = self.client(server)
+            client.send("get =abc")
+            self.assertIsNone(client.reply())
+            client.close()
+        clients = self.clients(server, 2)
+        self.assertEqual([it.ask("get =abc") for it in clients], [["absent"]] * 2)
+        for client in clients:
+            client.close()
+        self.check_calls(server.ended(), 0)
+
+    def test_the_thread_of_the_writer(self):
+        ended = self.begin("store", 0, env=watching(self, fail="thread:3:EAGAIN")).ended()
+        self.assertEqual((ended.status, ended.lines[0], ended.lines[2:]), (1, "opened", ["refused 6 NoMemory"]), ended)
+        self.check_whole()
+
+    def check_late_work(self, faults):
+        server = self.serve("--sessions", 1, env=watching(self, fail=faults))
+        client = self.client(server)
+        self.assertEqual(client.ask(*FIVE_PUTS), [f"accepted {it}" for it in range(1, 6)])
+        client.close()
+        self.check_calls(server.ended(), 32)
+        self.report("generation 3", "active log 1 rows 1", "frozen logs 0 rows 0", "hash stores 0 rows 0", "sorted entries 4", "charge 5")
+
+    def test_the_thread_of_the_merger(self):
+        self.check_late_work(["thread:1:EAGAIN"])
+
+    def test_the_thread_of_the_converter(self):
+        self.check_late_work(["thread:2:EAGAIN"])
+
+    def test_the_threads_of_both(self):
+        self.check_late_work(["thread:1:EAGAIN", "thread:2:EAGAIN"])
+
+
+class Sessions(ServedCase):
+    """A connection that fails ends its own session alone, and a command that may have been done is not told as refused."""
+
+    def setUp(self):
+        super().setUp()
+        self.store(ROOMY)
+
+    def check_alone(self, fault, found):
+        server = self.serve("--sessions", 2, env=watching(self, fail=fault))
+        client = self.client(server)
+        client.send("put =abc 0102", "get =abc")
+        self.assertEqual(client.rest(), [])
+        other = self.client(server)
+        self.assertIn(other.ask("get =abc")[0], found)
+        self.assertEqual(other.ask("put =abc 0304", "get =abc")[1], "value 0304")
+        other.close()
+        self.assertEqual(server.ended().status, 0)
+        self.assertEqual(self.found("=abc"), ["value 0304"])
+
+    def test_a_reply_that_cannot_be_sent(self):
+        self.check_alone("send:1:EPIPE", {"value 0102"})
+        self.check_alone("send:1:ECONNRESET", {"value 0102"})
+
+    def test_lines_that_cannot_be_received(self):
+        self.check_alone("recv:1:ECONNRESET", {"absent"})
+
+    def test_calls_that_are_interrupted(self):
+        server = self.serve("--sessions", 1, env=watching(self, fail=["send:1:EINTR", "recv:1:EINTR", "recv:3:EINTR"]))
+        client = self.client(server)
+        self.assertEqual(client.ask("put =abc 0102", "get =abc"), ["accepted 1", "value 0102"])
+        self.assertEqual(client.ask("get =abc"), ["value 0102"])
+        client.close()
+        self.check_calls(server.ended(), 2)
+
+    def test_replies_that_are_sent_in_parts(self):
+        server = self.serve("--sessions", 1, env=watching(self, short=[f"send:{it}" for it in range(1, 9)]))
+        client = self.client(server)
+        self.assertEqual(client.ask("put =abc 0102", "get =abc"), ["accepted 1", "value 0102"])
+        client.close()
+        self.check_calls(server.ended(), 2)
+
+    def memory_requests(self, lines):
+        """How many requests for memory a server makes that answers these lines."""
+        server = self.serve("--sessions", 1, env=watching(self, counts="counts"))
+        client = self.client(server)
+        client.ask(*lines)
+        client.close()
+        self.assertEqual(server.ended().status, 0)
+        return read_counts(self.path("counts"))["memory"]
+
+    @unittest.skipUnless(PROVED, "a build with checks has an allocator of its own")
+    def test_memory_that_is_refused(self):
+        lines = ["put =abc 0102", "put =abc 0304", "get =abc", "delete =abc", "get =abc", "flush"]
+        most = self.memory_requests(lines)
+        numbers = range(1, most + 1)
+        if most > scaled(150):
+            numbers = sorted(self.random.sample(numbers, scaled(150)))
+        for number in numbers:
+            self.check_refused_memory(number, lines)
+
+    def check_refused_memory(self, number, lines):
+        """One request is refused: each reply is the one that is due, or `refused 6`, and those that are missing are the last."""
+        self.silt("format", "store", *ROOMY.split())
+        server = self.begin("store", 0, "--sessions", 1, env=watching(self, fail=f"memory:{number}:ENOMEM"))
+        if (server.line(1) or "").startswith("listening"):
+            self.answer_without_memory(server.listen(), lines, number)
+            self.connect_again(server)
+        ended = server.ended()
+        self.assertIn(ended.status, (0, 1), (number, ended))
+        if ended.status == 1:
+            told = {"refused 6 NoMemory", "silt: out of memory", "silt: store: out of memory"}
+            self.assertTrue(told.intersection(ended.lines + ended.err.splitlines()), (number, ended))
+        self.check_whole()
+
+    def connect_again(self, server):
+        """One more connection, since one whose thread finds no memory is not counted as a session."""
+        try:
+            self.client(server).close()
+        except ConnectionRefusedError:
+            pass  # the server has ended
+
+    def answer_without_memory(self, server, lines, number):
+        client = self.client(server)
+        state, count = "absent", 0
+        for line in lines:
+            client.send(line)
+            reply = client.reply()
+            if reply is None:
+                break
+            word = line.split()[0]
+            if reply != "refused 6 NoMemory" and word in ("put", "delete"):
+                count, state = count + 1, "value " + line.split()[2] if word == "put" else "absent"
+            due = {"get": state, "flush": f"acknowledged {count}"}.get(word, f"accepted {count}")
+            self.assertIn(reply, (due, "refused 6 NoMemory"), (number, line, server.errors()))
+        client.close()
+
+
+if __name__ == "__main__":
+    unittest.main()

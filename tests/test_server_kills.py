@@ -1,0 +1,158 @@
+"""A server that is killed under load: what a client was told is accepted is there when the store is opened again."""
+import signal
+import threading
+import unittest
+
+from harness import PROVED, scaled
+from served import ServedCase
+
+# Logs of eight rows and few regions, so that freezes, conversions and merges go on all the time.
+BUSY = "4 4 8 4 3 200"
+CLIENTS = 4
+KEYS = 6
+ROUNDS = 20
+
+
+class Writer:
+    """A client with keys of its own. It knows what its last accepted command left, and which command is under way."""
+
+    def __init__(self, number, random):
+        self.number, self.random = number, random
+        self.values = {f"=client/{number}/{key}": "absent" for key in range(KEYS)}
+        self.under_way = None
+        self.turn = 0
+        self.wrong = []
+
+    def next_command(self):
+        """A put of a new value, or a delete now and then."""
+        self.turn += 1
+        key = self.random.choice(list(self.values))
+        if self.random.randrange(5) == 0:
+            return key, "absent", f"delete {key}"
+        value = f"{self.number:02x}{self.turn:06x}"
+        return key, f"value {value}", f"put {key} {value}"
+
+    def run(self, client, counted):
+        """Sends one command after the other until the connection breaks."""
+        while True:
+            key, value, line = self.next_command()
+            self.under_way = (key, value)
+            try:
+                client.send(line)
+                reply = client.reply()
+            except OSError:
+                reply = None
+            if reply is None:
+                return
+            self.take(key, value, reply)
+            counted()
+
+    def take(self, key, value, reply):
+        """Notes the reply to the command that is under way."""
+        self.under_way = None
+        if reply.startswith("accepted "):
+            self.values[key] = value
+        elif reply not in ("refused 7 StoreFull", "refused 8 NoRoom"):
+            self.wrong.append(reply)
+
+    def find(self, found):
+        """Takes over what a run found, and returns what it may not have found."""
+        lost = []
+        for key, value in found.items():
+            if value != self.values[key] and (key, value) != self.under_way:
+                lost.append((key, value, self.values[key], self.under_way))
+            self.values[key] = value
+        self.under_way = None
+        return lost
+
+
+class Load:
+    """Clients that write to a server in threads, until the server ends."""
+
+    def __init__(self, case, server, writers):
+        self.lock, self.count, self.least, self.reached = threading.Lock(), 0, 0, threading.Event()
+        self.threads = [threading.Thread(target=it.run, args=(case.client(server), self.note)) for it in writers]
+        for thread in self.threads:
+            thread.start()
+
+    def note(self):
+        """One more reply came."""
+        with self.lock:
+            self.count += 1
+            if self.count >= self.least:
+                self.reached.set()
+
+    def wait(self, count, limit):
+        """Waits until so many replies came."""
+        with self.lock:
+            self.least = count
+            if self.count < count:
+                self.reached.clear()
+        return self.reached.wait(limit)
+
+    def join(self):
+        for thread in self.threads:
+            thread.join()
+
+
+class Kills(ServedCase):
+    def setUp(self):
+        super().setUp()
+        self.store(BUSY)
+        self.writers = [Writer(it, self.random) for it in range(CLIENTS)]
+
+    def load_and_end(self, most, number):
+        """Loads a server until some of at most so many replies came, and sends it this signal."""
+        server = self.serve()
+        load = Load(self, server, self.writers)
+        count = self.random.randrange(1, most)
+        self.assertTrue(load.wait(count, limit=60), (count, server.errors()))
+        server.send_signal(number)
+        ended = server.ended(limit=20)
+        load.join()
+        self.assertEqual((ended.status, ended.err), (-number, ""), ended)
+        self.assertEqual([it.wrong for it in self.writers], [[]] * CLIENTS)
+
+    def check_kept(self):
+        """A new run finds what each client knows."""
+        keys = [key for it in self.writers for key in it.values]
+        replies = dict(zip(keys, self.found(*keys), strict=True))
+        for writer in self.writers:
+            self.assertEqual(writer.find({key: replies[key] for key in writer.values}), [])
+
+    def check_rounds(self, rounds, most, number):
+        generations = []
+        for _ in range(rounds):
+            self.load_and_end(most, number)
+            numbers = self.check_whole()
+            generations.append(numbers["generation"])
+            self.check_kept()
+        return generations, numbers
+
+    def test_killed_under_load(self):
+        most = 300 if PROVED else 100
+        generations, numbers = self.check_rounds(scaled(ROUNDS), most, signal.SIGKILL)
+        self.assertEqual(generations, sorted(generations))
+        # Each freeze, conversion and merge makes a generation: much of that went on.
+        self.assertGreater(generations[-1], ROUNDS * 3, generations)
+        self.assertGreater(numbers["sorted entries"], 0)
+
+    def test_terminated_under_load(self):
+        self.check_rounds(scaled(3), 200, signal.SIGTERM)
+        self.check_rounds(scaled(3), 200, signal.SIGINT)
+
+    def test_served_again_and_again(self):
+        """What a killed server kept the next one serves, with no run between them."""
+        for _ in range(5):
+            self.load_and_end(100, signal.SIGKILL)
+            server = self.serve()
+            client = self.client(server)
+            for writer in self.writers:
+                keys = list(writer.values)
+                found = dict(zip(keys, client.ask(*(f"get {key}" for key in keys)), strict=True))
+                self.assertEqual(writer.find(found), [])
+            server.kill()
+
+
+if __name__ == "__main__":
+    unittest.main()
