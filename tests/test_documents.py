@@ -1,0 +1,284 @@
+"""The documents and the examples: each command that they show is run as it is written, and prints what they show.
+
+What is read of a document are its fenced blocks that name no language, or a shell's:
+
+- A line that begins with `$ ` is a command, and lines that begin with `> ` go on with it. The lines
+  from there to the next command are what it prints, on both outputs. A line `..` stands for any lines.
+- A command that shows nothing has to end well. What it prints is then free, but a script of the
+  examples prints what is written beside it.
+- A block of no commands is what the last such command above it prints, if that one shows nothing
+  and is under the same heading.
+- A block whose first line begins with `./silt ` has commands that show nothing.
+
+All commands of a document run in one shell, in a folder where `./silt` is the program and examples/
+is there. A store that a document does not make itself is made for it. A port is a free one.
+"""
+import itertools
+import os
+import pathlib
+import re
+import shutil
+import signal
+import socket
+import subprocess
+import sys
+import unittest
+from dataclasses import dataclass, field
+
+from harness import PROGRAM, TIME_LIMIT, TOP, Case
+
+SHELLS = ("", "sh", "bash", "shell", "console", "text")
+# Commands that are not run, and why.
+LEFT_OUT = {
+    r"^rt\b|^\./build\b|\brt (check|test|try|ci)\b": "builds and proves, which takes long",
+    r"^(nice .*)?tests/run\b": "is this suite",
+    r"\bstrace\b": "needs the system's trace, and the document shortens its lines",
+    r"\bbench/run\b|measure_server\.sh": "measures how fast something is",
+    r"try_faults\.py|faults\.(c|so)": "needs the test programs of crates, or takes minutes",
+    r"^git\b": "works on the repository",
+}
+# The status of a command whose pipe was closed by the next one.
+CLOSED_PIPE = str(128 + signal.SIGPIPE)
+# The shell's part in front of a document's commands.
+PROLOGUE = r"""
+lines_come() { for _ in $(seq 300); do [ "$(wc -l <"$1")" -lt "$2" ] || return 0; sleep 0.1; done; }
+"""
+# A netcat for this one use, since there are several, with other words.
+NETCAT = """#!{python}
+import shutil, socket, sys
+connection = socket.create_connection((sys.argv[-2], int(sys.argv[-1])))
+connection.sendall(sys.stdin.buffer.read())
+connection.shutdown(socket.SHUT_WR)
+shutil.copyfileobj(connection.makefile("rb"), sys.stdout.buffer)
+"""
+
+
+@dataclass
+class Block:
+    """A fenced block, its place, and under which heading it stands."""
+
+    place: str
+    section: int
+    language: str
+    lines: list = field(default_factory=list)
+
+
+@dataclass
+class Command:
+    """A command, its place, and the lines that it prints, if the document shows any."""
+
+    place: str
+    section: int
+    text: str
+    shown: list = field(default_factory=list)
+    may_be_shown_below: bool = True
+
+    @property
+    def why_left_out(self):
+        return next((why for words, why in LEFT_OUT.items() if re.search(words, self.text)), None)
+
+
+def blocks_of(document):
+    """The fenced blocks of a document."""
+    blocks, open_block, section = [], None, 0
+    for number, line in enumerate(document.read_text().splitlines(), 1):
+        if line.startswith("```"):
+            if open_block:
+                blocks.append(open_block)
+                open_block = None
+            else:
+                open_block = Block(f"{document.relative_to(TOP)}:{number}", section, line.strip("`").strip())
+        elif open_block:
+            open_block.lines.append(line)
+        elif line.startswith("#"):
+            section += 1
+    return blocks
+
+
+def commands_in(block):
+    """The commands of one block."""
+    if block.lines and block.lines[0].startswith("./silt "):
+        return [Command(block.place, block.section, line, may_be_shown_below=False) for line in block.lines if line]
+    commands = []
+    for line in block.lines:
+        if line.startswith("$ "):
+            commands.append(Command(block.place, block.section, line[2:]))
+        elif commands and line.startswith("> ") and not commands[-1].shown:
+            commands[-1].text += "\n" + line[2:]
+        elif commands:
+            commands[-1].shown.append(line)
+    return commands
+
+
+def commands_of(document):
+    """The commands of a document, in order."""
+    commands = []
+    for block in blocks_of(document):
+        if block.language not in SHELLS:
+            continue
+        found = commands_in(block)
+        if not found and commands and shows_below(commands[-1], block):
+            commands[-1].shown = block.lines
+        commands += found
+    return commands
+
+
+def shows_below(command, block):
+    """Whether a block of no commands is what this command prints."""
+    return command.may_be_shown_below and not command.shown and command.section == block.section
+
+
+def pattern_of(lines):
+    """An expression for what these lines show."""
+    return "".join(r"(?:.*\n)*" if line in ("..", "...") else re.escape(line) + r"\n" for line in lines)
+
+
+def free_port():
+    with socket.create_server(("127.0.0.1", 0)) as listener:
+        return str(listener.getsockname()[1])
+
+
+def end_group(number):
+    """Ends what a shell left running, if anything."""
+    try:
+        os.killpg(number, signal.SIGKILL)
+    except ProcessLookupError:
+        pass
+
+
+class Shell(Case):
+    """A test whose folder is as the top of the repository is for a reader."""
+
+    def setUp(self):
+        super().setUp()
+        self.path("silt").symlink_to(PROGRAM)
+        shutil.copytree(TOP / "examples", self.path("examples"))
+        self.path("bin").mkdir()
+        self.path("bin/nc").write_text(NETCAT.format(python=sys.executable))
+        self.path("bin/nc").chmod(0o755)
+
+    def shell(self, script, limit=TIME_LIMIT):
+        """Runs a script in the test's folder. Returns its standard output."""
+        env = {**os.environ, "PATH": f"{self.path('bin')}:{os.environ['PATH']}", "LC_ALL": "C"}
+        self.path("script").write_text(script)
+        how = {"stdin": subprocess.DEVNULL, "stdout": subprocess.PIPE, "stderr": subprocess.DEVNULL}
+        with subprocess.Popen(["bash", "script"], cwd=self.folder, env=env, start_new_session=True, **how) as running:
+            try:
+                return running.communicate(timeout=limit)[0].decode(errors="replace")
+            except subprocess.TimeoutExpired:
+                self.fail(f"not done in {limit} seconds:\n{script}")
+            finally:
+                end_group(running.pid)
+
+
+class Documents(Shell):
+    """The commands of the documents."""
+
+    def with_free_ports(self, commands):
+        """The same commands, with a free port in place of each that a server is given."""
+        ports = {it for command in commands for it in re.findall(r"\bserve \S+ ([1-9]\d*)", command.text)}
+        for port in ports:
+            free = free_port()
+            for command in commands:
+                command.text = re.sub(rf"\b{port}\b", free, command.text)
+                command.shown = [re.sub(rf"\b{port}\b", free, line) for line in command.shown]
+        return commands
+
+    def stores_to_make(self, commands):
+        """Commands that make the stores which the document only uses."""
+        made, making = set(), []
+        for name, command in [(it, command) for command in commands for it in re.findall(r"\b\w+\.silt\b", command.text)]:
+            if name not in made and f"format {name}" not in command.text:
+                making.append(f"./silt format {name} 2 64 224 2 2 1000 >made")
+            made.add(name)
+        return making
+
+    def script_of(self, commands):
+        """A shell's script that runs these commands, each with its output in a file of its own."""
+        script = [PROLOGUE, *self.stores_to_make(commands)]
+        for number, command in enumerate(commands):
+            script.append(f"{{ {command.text}\necho ${{PIPESTATUS[*]}} >status.{number}\n}} >out.{number} 2>&1")
+            if command.text.endswith("&"):
+                script.append(f"lines_come out.{number} {len(command.shown)}")
+        return "\n".join([*script, "kill $(jobs -p) 2>/dev/null", "true"])
+
+    def due(self, command):
+        """What a command prints, as an expression."""
+        example = re.search(r"< (examples/\w+)\.txt$", command.text)
+        if not command.shown and example:
+            return re.escape(self.path(example.group(1) + ".out").read_text())
+        return pattern_of(command.shown) if command.shown else r"(?s:.*)"
+
+    def check_document(self, name):
+        """Runs the commands of a document. Returns how many were run."""
+        commands = [it for it in commands_of(TOP / name) if not it.why_left_out]
+        commands = self.with_free_ports(commands)
+        self.shell(self.script_of(commands))
+        for number, command in enumerate(commands):
+            told, what = self.path(f"out.{number}").read_text(errors="replace"), f"{command.place}: {command.text}"
+            if not re.fullmatch(self.due(command), told):
+                self.assertEqual(told.splitlines(), command.shown, what)
+                self.fail(f"{what} printed\n{told}")
+            statuses = self.path(f"status.{number}").read_text().split()
+            if not command.shown:
+                self.assertLessEqual(set(statuses), {"0", CLOSED_PIPE}, f"{what} printed\n{told}")
+        return len(commands)
+
+    def test_readme(self):
+        self.assertGreaterEqual(self.check_document("README.md"), 5)
+
+    def test_docs(self):
+        for document in sorted((TOP / "docs").glob("*.md")):
+            self.check_document(document.relative_to(TOP))
+            for made in itertools.chain(self.folder.glob("*.silt"), self.folder.glob("out.*")):
+                made.unlink()
+
+    def test_readme_of_the_examples(self):
+        self.check_document("examples/README.md")
+
+
+class Examples(Shell):
+    """Each example answers what is written beside it."""
+
+    def calls(self):
+        """The example's names, and how each is called."""
+        text = (TOP / "examples/README.md").read_text()
+        return {name: call for call, name in re.findall(r"`([^`\n]*examples/(\w+)\.(?:txt|sh))`", text)}
+
+    def test_all_are_listed(self):
+        names = {it.stem for it in (TOP / "examples").iterdir() if it.suffix in (".txt", ".sh")}
+        self.assertEqual(set(self.calls()), names)
+        self.assertEqual({it.stem for it in (TOP / "examples").glob("*.out")}, names)
+
+    def test_each(self):
+        for name, call in self.calls().items():
+            told = self.shell(f"set -e\n{call}")
+            self.assertEqual(told, (TOP / f"examples/{name}.out").read_text(), call)
+
+    def test_the_comparison_of_all(self):
+        blocks = [it for it in blocks_of(TOP / "examples/README.md") if any(".out" in line for line in it.lines)]
+        self.assertEqual(len(blocks), 1)
+        told = self.shell("\n".join(blocks[0].lines))
+        self.assertEqual(sorted(told.splitlines()), sorted(f"{it} ok" for it in self.calls()))
+
+
+class Parsing(unittest.TestCase):
+    """How a document is read."""
+
+    def test_commands_and_what_they_print(self):
+        lines = ["$ one", "a", "..", "$ two \\", "> more", "$ three &", "b"]
+        commands = commands_in(Block("here", 0, "", lines))
+        self.assertEqual([it.text for it in commands], ["one", "two \\\nmore", "three &"])
+        self.assertEqual([it.shown for it in commands], [["a", ".."], [], ["b"]])
+
+    def test_lines_that_are_left_out(self):
+        shown = pattern_of(["a.", "..", "d"])
+        self.assertTrue(re.fullmatch(shown, "a.\nb\nc\nd\n") and re.fullmatch(shown, "a.\nd\n"))
+        self.assertFalse(re.fullmatch(shown, "ab\nd\n") or re.fullmatch(shown, "a.\nb\n"))
+
+    def test_documents_show_commands(self):
+        self.assertGreaterEqual(len(commands_of(TOP / "README.md")), 5)
+
+
+if __name__ == "__main__":
+    unittest.main()
