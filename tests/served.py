@@ -1,17 +1,20 @@
 """A server under test and its clients.
 
-A `Server` is a running `silt serve`. A `Client` is one connection to it. `ServedCase` starts both and ends them with the test.
+A `Server` is a running `silt serve`. A `Client` is one connection to it. `ServedCase` starts both,
+and ends them with the test.
 """
 import os
 import select
+import signal
 import socket
 import struct
 import subprocess
 import time
 
-from harness import TIME_LIMIT, Case, Ended
+from harness import TIME_LIMIT, Ended
+from watch import WatchedCase
 
-# Logs of four rows: the fifth put freezes one, and work in the background begins.
+# Logs of four rows: the fifth put freezes one, and background work begins.
 SMALL = "2 2 4 2 2 8"
 # A store that takes some thousand puts.
 ROOMY = "2 16 64 8 16 4000"
@@ -46,7 +49,7 @@ class Client:
         return data != b""
 
     def reply(self):
-        """The next reply without its line feed. None if the server closed the connection before its end."""
+        """The next reply without its line feed. None if the server closed the connection first."""
         while (end := self.received.find(b"\n")) < 0:
             if not self.receive():
                 return None
@@ -83,7 +86,7 @@ class Client:
 
 
 class Server:
-    """A running `silt serve`. Its output is read as it comes, and its error output is kept in a file."""
+    """A running `silt serve`. Its output is read as it comes; its error output goes to a file."""
 
     def __init__(self, case, words, env, how):
         self.case = case
@@ -95,7 +98,7 @@ class Server:
         case.addCleanup(self.kill)
 
     def line(self, number):
-        """The line of its output with this number, counted from 0. None if the output ended before."""
+        """The line of its output with this number, from 0. None if the output ended before it."""
         by = time.monotonic() + TIME_LIMIT
         while self.printed.count(b"\n") <= number:
             if not select.select([self.process.stdout], [], [], max(0, by - time.monotonic()))[0]:
@@ -140,8 +143,13 @@ class Server:
         return self.ended()
 
 
-class ServedCase(Case):
+class ServedCase(WatchedCase):
     """A test with servers and clients, which end with it."""
+
+    def setUp(self):
+        super().setUp()
+        # A shell starts a background job with this signal ignored, which the server would inherit.
+        signal.signal(signal.SIGINT, signal.default_int_handler)
 
     def begin(self, *words, env=None, **how):
         """Starts `silt serve` with these words, and waits for nothing."""
@@ -160,7 +168,7 @@ class ServedCase(Case):
         return [self.client(server) for _ in range(count)]
 
     def served_client(self, server):
-        """A client that has a session. It connects anew for as long as no place is free."""
+        """A client that has a session. It connects again until a place is free."""
         for _ in self.turns("a place for a client"):
             client = self.client(server)
             client.send("get =nothing")
@@ -169,7 +177,7 @@ class ServedCase(Case):
             client.close()
 
     def turns(self, what, limit=TIME_LIMIT):
-        """Turns of waiting for something, until it takes too long."""
+        """Turns of a loop that waits for something. It fails when that takes too long."""
         by = time.monotonic() + limit
         while time.monotonic() < by:
             yield
@@ -187,18 +195,18 @@ class ServedCase(Case):
         self.assertEqual(ended.lines[-1], f"calls {calls}", ended)
 
     def report(self, *lines, name="store"):
-        """`check` prints these lines of the store."""
-        told = self.check_report(name)
-        self.assertEqual((told.status, told.lines), (0, list(lines)), told)
+        """`check` prints these lines."""
+        checked = self.check_report(name)
+        self.assertEqual((checked.status, checked.lines), (0, list(lines)), checked)
 
     def check_whole(self, name="store"):
         """`check` finds the store whole. Returns its numbers by the words before them."""
-        told = self.check_report(name)
-        self.assertEqual((told.status, told.err), (0, ""), told)
-        return {line.rsplit(" ", 1)[0]: int(line.rsplit(" ", 1)[1]) for line in told.lines}
+        checked = self.check_report(name)
+        self.assertEqual((checked.status, checked.err), (0, ""), checked)
+        return {words: int(number) for words, number in (it.rsplit(" ", 1) for it in checked.lines)}
 
     def found(self, *keys, name="store"):
-        """What a new run of the store answers to gets of these keys."""
+        """What a new run of the store replies to gets of these keys."""
         ran = self.silt("run", name, text="".join(f"get {key}\n" for key in keys))
         self.assertEqual((ran.status, ran.lines[:1], ran.err), (0, ["opened"], ""), ran)
         return ran.lines[1:]

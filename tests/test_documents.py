@@ -1,17 +1,18 @@
-"""The documents and the examples: each command that they show is run as it is written, and prints what they show.
+"""The documents and the examples: each command that they show runs, and prints what they show.
 
-What is read of a document are its fenced blocks that name no language, or a shell's:
+The commands are in the fenced blocks that name no language, or a shell's:
 
-- A line that begins with `$ ` is a command, and lines that begin with `> ` go on with it. The lines
-  from there to the next command are what it prints, on both outputs. A line `..` stands for any lines.
-- A command that shows nothing has to end well. What it prints is then free, but a script of the
-  examples prints what is written beside it.
-- A block of no commands is what the last such command above it prints, if that one shows nothing
+- A line that begins with `$ ` is a command. Lines that begin with `> ` continue it. The lines from
+  there to the next command are its output, standard error included. A line `..` means any lines.
+- A command without output has to end well. It may print anything, but a script of the examples
+  prints the text of the file beside it.
+- A block without commands is the output of the last such command above it, if that one has none
   and is under the same heading.
-- A block whose first line begins with `./silt ` has commands that show nothing.
+- A block whose first line begins with `./silt ` has commands without output.
 
 All commands of a document run in one shell, in a folder where `./silt` is the program and examples/
-is there. A store that a document does not make itself is made for it. A port is a free one.
+is there. If a document uses a store that it does not make, the test makes one. Ports are replaced
+by free ones.
 """
 import itertools
 import os
@@ -43,7 +44,7 @@ CLOSED_PIPE = str(128 + signal.SIGPIPE)
 PROLOGUE = r"""
 lines_come() { for _ in $(seq 300); do [ "$(wc -l <"$1")" -lt "$2" ] || return 0; sleep 0.1; done; }
 """
-# A netcat for this one use, since there are several, with other words.
+# A netcat of our own: there are several, with different words.
 NETCAT = """#!{python}
 import shutil, socket, sys
 connection = socket.create_connection((sys.argv[-2], int(sys.argv[-1])))
@@ -55,7 +56,7 @@ shutil.copyfileobj(connection.makefile("rb"), sys.stdout.buffer)
 
 @dataclass
 class Block:
-    """A fenced block, its place, and under which heading it stands."""
+    """A fenced block, where it is, and the number of the heading above it."""
 
     place: str
     section: int
@@ -65,7 +66,7 @@ class Block:
 
 @dataclass
 class Command:
-    """A command, its place, and the lines that it prints, if the document shows any."""
+    """A command, where it is, and the output that the document shows, if any."""
 
     place: str
     section: int
@@ -124,12 +125,12 @@ def commands_of(document):
 
 
 def shows_below(command, block):
-    """Whether a block of no commands is what this command prints."""
+    """Whether a block without commands is the output of this command."""
     return command.may_be_shown_below and not command.shown and command.section == block.section
 
 
 def pattern_of(lines):
-    """An expression for what these lines show."""
+    """A regular expression of the output that these lines show."""
     return "".join(r"(?:.*\n)*" if line in ("..", "...") else re.escape(line) + r"\n" for line in lines)
 
 
@@ -139,7 +140,7 @@ def free_port():
 
 
 def end_group(number):
-    """Ends what a shell left running, if anything."""
+    """Ends the processes that a shell left running, if any."""
     try:
         os.killpg(number, signal.SIGKILL)
     except ProcessLookupError:
@@ -147,7 +148,7 @@ def end_group(number):
 
 
 class Shell(Case):
-    """A test whose folder is as the top of the repository is for a reader."""
+    """A test in whose folder a reader's commands run as at the top of the repository."""
 
     def setUp(self):
         super().setUp()
@@ -175,7 +176,7 @@ class Documents(Shell):
     """The commands of the documents."""
 
     def with_free_ports(self, commands):
-        """The same commands, with a free port in place of each that a server is given."""
+        """The same commands, with a free port in place of each port of a server."""
         ports = {it for command in commands for it in re.findall(r"\bserve \S+ ([1-9]\d*)", command.text)}
         for port in ports:
             free = free_port()
@@ -185,16 +186,17 @@ class Documents(Shell):
         return commands
 
     def stores_to_make(self, commands):
-        """Commands that make the stores which the document only uses."""
-        made, making = set(), []
-        for name, command in [(it, command) for command in commands for it in re.findall(r"\b\w+\.silt\b", command.text)]:
-            if name not in made and f"format {name}" not in command.text:
-                making.append(f"./silt format {name} 2 64 224 2 2 1000 >made")
-            made.add(name)
+        """Commands that make the stores which the document uses and does not make."""
+        known, making = set(), []
+        for command in commands:
+            for name in re.findall(r"\b\w+\.silt\b", command.text):
+                if name not in known and f"format {name}" not in command.text:
+                    making.append(f"./silt format {name} 2 64 224 2 2 1000 >made")
+                known.add(name)
         return making
 
     def script_of(self, commands):
-        """A shell's script that runs these commands, each with its output in a file of its own."""
+        """A script that runs these commands, each with its output and statuses in its own files."""
         script = [PROLOGUE, *self.stores_to_make(commands)]
         for number, command in enumerate(commands):
             script.append(f"{{ {command.text}\necho ${{PIPESTATUS[*]}} >status.{number}\n}} >out.{number} 2>&1")
@@ -203,7 +205,7 @@ class Documents(Shell):
         return "\n".join([*script, "kill $(jobs -p) 2>/dev/null", "true"])
 
     def due(self, command):
-        """What a command prints, as an expression."""
+        """A regular expression of a command's output."""
         example = re.search(r"< (examples/\w+)\.txt$", command.text)
         if not command.shown and example:
             return re.escape(self.path(example.group(1) + ".out").read_text())
@@ -215,13 +217,13 @@ class Documents(Shell):
         commands = self.with_free_ports(commands)
         self.shell(self.script_of(commands))
         for number, command in enumerate(commands):
-            told, what = self.path(f"out.{number}").read_text(errors="replace"), f"{command.place}: {command.text}"
-            if not re.fullmatch(self.due(command), told):
-                self.assertEqual(told.splitlines(), command.shown, what)
-                self.fail(f"{what} printed\n{told}")
+            printed, what = self.path(f"out.{number}").read_text(errors="replace"), f"{command.place}: {command.text}"
+            if not re.fullmatch(self.due(command), printed):
+                self.assertEqual(printed.splitlines(), command.shown, what)
+                self.fail(f"{what} printed\n{printed}")
             statuses = self.path(f"status.{number}").read_text().split()
             if not command.shown:
-                self.assertLessEqual(set(statuses), {"0", CLOSED_PIPE}, f"{what} printed\n{told}")
+                self.assertLessEqual(set(statuses), {"0", CLOSED_PIPE}, f"{what} printed\n{printed}")
         return len(commands)
 
     def test_readme(self):
@@ -238,10 +240,10 @@ class Documents(Shell):
 
 
 class Examples(Shell):
-    """Each example answers what is written beside it."""
+    """Each example prints the text of the file beside it."""
 
     def calls(self):
-        """The example's names, and how each is called."""
+        """The call of each example, by its name."""
         text = (TOP / "examples/README.md").read_text()
         return {name: call for call, name in re.findall(r"`([^`\n]*examples/(\w+)\.(?:txt|sh))`", text)}
 
@@ -252,20 +254,20 @@ class Examples(Shell):
 
     def test_each(self):
         for name, call in self.calls().items():
-            told = self.shell(f"set -e\n{call}")
-            self.assertEqual(told, (TOP / f"examples/{name}.out").read_text(), call)
+            printed = self.shell(f"set -e\n{call}")
+            self.assertEqual(printed, (TOP / f"examples/{name}.out").read_text(), call)
 
     def test_the_comparison_of_all(self):
         blocks = [it for it in blocks_of(TOP / "examples/README.md") if any(".out" in line for line in it.lines)]
         self.assertEqual(len(blocks), 1)
-        told = self.shell("\n".join(blocks[0].lines))
-        self.assertEqual(sorted(told.splitlines()), sorted(f"{it} ok" for it in self.calls()))
+        printed = self.shell("\n".join(blocks[0].lines))
+        self.assertEqual(sorted(printed.splitlines()), sorted(f"{it} ok" for it in self.calls()))
 
 
 class Parsing(unittest.TestCase):
     """How a document is read."""
 
-    def test_commands_and_what_they_print(self):
+    def test_commands_and_their_output(self):
         lines = ["$ one", "a", "..", "$ two \\", "> more", "$ three &", "b"]
         commands = commands_in(Block("here", 0, "", lines))
         self.assertEqual([it.text for it in commands], ["one", "two \\\nmore", "three &"])

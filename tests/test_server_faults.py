@@ -1,9 +1,11 @@
-"""The server when calls of the system fail: flushes, connections, threads, memory, and the limits of a process."""
+"""The server when calls of the system fail: syncs, accepts, threads, requests for memory."""
+import os
 import resource
 import signal
+import subprocess
 import unittest
 
-from harness import PROVED, scaled
+from harness import PROVED, TIME_LIMIT, scaled
 from served import MOST_SESSIONS, ROOMY, SMALL, ServedCase, digits
 from watch import read_counts, read_record, watching
 
@@ -13,7 +15,7 @@ FIVE_PUTS = [f"put {digits(it)} {it:04}" for it in range(1, 6)]
 
 
 class Flushes(ServedCase):
-    """A put is answered only behind the flush that settles it, and as that was answered."""
+    """The reply to a put comes after the flush that settles it, and says whether that failed."""
 
     def setUp(self):
         super().setUp()
@@ -28,11 +30,11 @@ class Flushes(ServedCase):
         client.close()
         self.check_calls(server.ended(), 7)
         calls = [it.name for it in read_record(self.path("record")) if it.name in ("pwrite", "fdatasync", "send")]
-        # The row, settled, its commit byte, settled, and then the reply. The opening makes one sync.
+        # The opening makes one sync. A put writes its row and then its commit byte, each settled.
         self.assertEqual(calls, ["fdatasync"] + ["pwrite", "fdatasync", "pwrite", "fdatasync", "send"] * 3 + ["send"])
 
     def check_failure(self, fault, words, found):
-        """A put whose flush fails with this fault, and what comes after it."""
+        """The flush of a put fails with this fault, and the store takes nothing more."""
         server = self.serve("--sessions", 1, env=watching(self, fail=fault))
         client = self.client(server)
         self.assertEqual(client.ask("put =abc 0102"), ["unsettled 1"])
@@ -55,14 +57,15 @@ class Flushes(ServedCase):
         self.check_failure("fdatasync:3:ENOSPC", words, {"absent", "value 0102"})
 
     def test_the_write_of_a_row_fails(self):
-        # Writes are kept until the sync that settles them, so it is that sync which fails.
+        # A write is made at the sync that settles it, so the failure is that sync's.
         self.check_failure("pwrite:1:ENOSPC", "a sync: No space left on device (os error 28)", {"absent"})
 
     def test_many_clients_of_a_flush_that_fails(self):
-        server = self.serve(env=watching(self, fail="fdatasync:2+:EIO"))
+        self.store(ROOMY, name="roomy")
+        server = self.serve(name="roomy", env=watching(self, fail="fdatasync:2+:EIO"))
         clients = self.clients(server, 8)
         for number, client in enumerate(clients):
-            client.send(f"put {digits(number)} 0001", "flush")
+            client.send(f"put =client/{number} 0001", "flush")
         replies = [client.replies(2) for client in clients]
         puts = sorted(put for put, _ in replies)
         unsettled = [f"unsettled {it}" for it in range(1, 1 + sum(it.startswith("unsettled") for it in puts))]
@@ -87,7 +90,7 @@ class Limits(ServedCase):
         self.store(SMALL)
 
     def limited(self, is_signal_ignored):
-        """A server that may not write behind the first log, and a client of it."""
+        """A server that may not write to the first log or behind it, and a client."""
         def limit():
             signal.signal(signal.SIGXFSZ, signal.SIG_IGN if is_signal_ignored else signal.SIG_DFL)
             resource.setrlimit(resource.RLIMIT_FSIZE, (16384, 16384))
@@ -114,8 +117,32 @@ class Limits(ServedCase):
         self.check_whole()
         self.assertEqual(self.found("=abc"), ["absent"])
 
+    def test_no_descriptor_for_the_listener(self):
+        def limit():
+            resource.setrlimit(resource.RLIMIT_NOFILE, (DESCRIPTORS - 1, DESCRIPTORS - 1))
+
+        ended = self.begin("store", 0, preexec_fn=limit).ended()
+        self.assertEqual((ended.status, ended.out), (1, "opened\nnetwork fault\n"), ended)
+        self.assertEqual(ended.err, "silt: 127.0.0.1:0: Too many open files (os error 24)\n")
+
+    def ended_without_output(self, stdout):
+        """How a server ends whose output goes where it cannot be written."""
+        running = self.start("serve", "store", 0, stdin=subprocess.DEVNULL, stdout=stdout)
+        _, errors = running.communicate(timeout=TIME_LIMIT)
+        return running.returncode, errors.decode()
+
+    def test_output_that_cannot_be_written(self):
+        with open("/dev/full", "wb") as full:
+            self.assertEqual(self.ended_without_output(full), (1, "silt: No space left on device (os error 28)\n"))
+        reading, writing = os.pipe()
+        os.close(reading)
+        self.assertEqual(self.ended_without_output(writing), (1, ""))
+        os.close(writing)
+        self.check_whole()
+
     def crowded(self, places):
-        """A server that has descriptors for so many clients, these clients, and one more that is not answered now."""
+        """A server with descriptors for so many clients, these clients, and one more, which gets no
+        reply for now."""
         server = self.serve()
         most = DESCRIPTORS + places
         resource.prlimit(server.process.pid, resource.RLIMIT_NOFILE, (most, 1024))
@@ -138,8 +165,8 @@ class Limits(ServedCase):
             self.assertEqual(client.ask(*lines), ["value 0001", f"accepted {number + 5}", f"acknowledged {number + 5}"])
         self.assertTrue(server.is_running())
 
-    # The server takes want of descriptors for the end of its listener. It accepts nothing more, and
-    # ends with `network fault` when its last session has ended.
+    # The server takes a lack of descriptors for the end of its listener. It accepts nothing more,
+    # and ends with `network fault` after its last session.
     @unittest.expectedFailure
     def test_a_descriptor_that_is_given_back_serves_another_client(self):
         server, clients = self.crowded(4)
@@ -173,7 +200,8 @@ class Accepting(ServedCase):
         self.store(SMALL)
 
     def check_passing(self, *errors):
-        """Each of these errors of one accept leaves the server serving. The failed ones are not counted."""
+        """The server goes on after an accept that failed with one of these errors, and does not
+        count it."""
         for error in errors:
             server = self.serve("--sessions", 2, env=watching(self, fail=[f"accept:1:{error}", f"accept:3:{error}"]))
             for _ in range(2):
@@ -188,12 +216,12 @@ class Accepting(ServedCase):
 
     # The server ends with `network fault` at the first of these, as if its listener were gone.
     @unittest.expectedFailure
-    def test_passing_want_of_descriptors(self):
+    def test_a_passing_lack_of_descriptors(self):
         self.check_passing("EMFILE", "ENFILE")
 
     # As above.
     @unittest.expectedFailure
-    def test_passing_want_of_memory(self):
+    def test_a_passing_lack_of_memory(self):
         self.check_passing("ENOMEM")
 
     def gone(self):
@@ -217,7 +245,8 @@ class Accepting(ServedCase):
 
 
 class Threads(ServedCase):
-    """A thread that cannot be started. The first three are those of the merger, the converter and the writer."""
+    """A thread that cannot be started. The first is the merger's, then come the converter's, the
+    writer's, and those of the sessions."""
 
     def setUp(self):
         super().setUp()
@@ -249,7 +278,8 @@ class Threads(ServedCase):
         self.assertEqual(client.ask(*FIVE_PUTS), [f"accepted {it}" for it in range(1, 6)])
         client.close()
         self.check_calls(server.ended(), 32)
-        self.report("generation 3", "active log 1 rows 1", "frozen logs 0 rows 0", "hash stores 0 rows 0", "sorted entries 4", "charge 5")
+        numbers = self.check_whole()
+        self.assertEqual((numbers["generation"], numbers["sorted entries"], numbers["charge"]), (3, 4, 5))
 
     def test_the_thread_of_the_merger(self):
         self.check_late_work(["thread:1:EAGAIN"])
@@ -262,7 +292,8 @@ class Threads(ServedCase):
 
 
 class Sessions(ServedCase):
-    """A connection that fails ends its own session alone, and a command that may have been done is not told as refused."""
+    """A connection that fails ends its own session alone. No reply says that a command was refused
+    if it may have been done."""
 
     def setUp(self):
         super().setUp()
@@ -322,7 +353,8 @@ class Sessions(ServedCase):
             self.check_refused_memory(number, lines)
 
     def check_refused_memory(self, number, lines):
-        """One request is refused: each reply is the one that is due, or `refused 6`, and those that are missing are the last."""
+        """One request is refused: each reply is the one that is due or `refused 6`, and only the
+        last ones may be missing."""
         self.silt("format", "store", *ROOMY.split())
         server = self.begin("store", 0, "--sessions", 1, env=watching(self, fail=f"memory:{number}:ENOMEM"))
         if (server.line(1) or "").startswith("listening"):
@@ -331,15 +363,15 @@ class Sessions(ServedCase):
         ended = server.ended()
         self.assertIn(ended.status, (0, 1), (number, ended))
         if ended.status == 1:
-            told = {"refused 6 NoMemory", "silt: out of memory", "silt: store: out of memory"}
-            self.assertTrue(told.intersection(ended.lines + ended.err.splitlines()), (number, ended))
+            reasons = {"refused 6 NoMemory", "silt: out of memory", "silt: store: out of memory"}
+            self.assertTrue(reasons.intersection(ended.lines + ended.err.splitlines()), (number, ended))
         self.check_whole()
 
     def connect_again(self, server):
-        """One more connection, since one whose thread finds no memory is not counted as a session."""
+        """Connects once more, since a connection whose thread finds no memory is not counted."""
         try:
             self.client(server).close()
-        except ConnectionRefusedError:
+        except ConnectionError:
             pass  # the server has ended
 
     def answer_without_memory(self, server, lines, number):

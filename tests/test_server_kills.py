@@ -1,4 +1,4 @@
-"""A server that is killed under load: what a client was told is accepted is there when the store is opened again."""
+"""A server that is killed under load: each command that it accepted is there in the next run."""
 import signal
 import threading
 import unittest
@@ -14,12 +14,13 @@ ROUNDS = 20
 
 
 class Writer:
-    """A client with keys of its own. It knows what its last accepted command left, and which command is under way."""
+    """A client with keys of its own. It knows their values by its accepted commands, and the
+    command that has no reply yet."""
 
     def __init__(self, number, random):
         self.number, self.random = number, random
         self.values = {f"=client/{number}/{key}": "absent" for key in range(KEYS)}
-        self.under_way = None
+        self.pending = None
         self.turn = 0
         self.wrong = []
 
@@ -36,7 +37,7 @@ class Writer:
         """Sends one command after the other until the connection breaks."""
         while True:
             key, value, line = self.next_command()
-            self.under_way = (key, value)
+            self.pending = (key, value)
             try:
                 client.send(line)
                 reply = client.reply()
@@ -48,21 +49,21 @@ class Writer:
             counted()
 
     def take(self, key, value, reply):
-        """Notes the reply to the command that is under way."""
-        self.under_way = None
+        """Notes the reply to the latest command."""
+        self.pending = None
         if reply.startswith("accepted "):
             self.values[key] = value
         elif reply not in ("refused 7 StoreFull", "refused 8 NoRoom"):
             self.wrong.append(reply)
 
     def find(self, found):
-        """Takes over what a run found, and returns what it may not have found."""
+        """Takes over the values that a run found. Returns those that it may not find."""
         lost = []
         for key, value in found.items():
-            if value != self.values[key] and (key, value) != self.under_way:
-                lost.append((key, value, self.values[key], self.under_way))
+            if value != self.values[key] and (key, value) != self.pending:
+                lost.append((key, value, self.values[key], self.pending))
             self.values[key] = value
-        self.under_way = None
+        self.pending = None
         return lost
 
 
@@ -102,7 +103,7 @@ class Kills(ServedCase):
         self.writers = [Writer(it, self.random) for it in range(CLIENTS)]
 
     def load_and_end(self, most, number):
-        """Loads a server until some of at most so many replies came, and sends it this signal."""
+        """Loads a server, and sends it this signal after a random number of replies."""
         server = self.serve()
         load = Load(self, server, self.writers)
         count = self.random.randrange(1, most)
@@ -114,7 +115,7 @@ class Kills(ServedCase):
         self.assertEqual([it.wrong for it in self.writers], [[]] * CLIENTS)
 
     def check_kept(self):
-        """A new run finds what each client knows."""
+        """A new run finds the values that each client knows."""
         keys = [key for it in self.writers for key in it.values]
         replies = dict(zip(keys, self.found(*keys), strict=True))
         for writer in self.writers:
@@ -133,7 +134,7 @@ class Kills(ServedCase):
         most = 300 if PROVED else 100
         generations, numbers = self.check_rounds(scaled(ROUNDS), most, signal.SIGKILL)
         self.assertEqual(generations, sorted(generations))
-        # Each freeze, conversion and merge makes a generation: much of that went on.
+        # Each freeze, and each end of a conversion or a merge, makes a generation.
         self.assertGreater(generations[-1], ROUNDS * 3, generations)
         self.assertGreater(numbers["sorted entries"], 0)
 
@@ -142,7 +143,7 @@ class Kills(ServedCase):
         self.check_rounds(scaled(3), 200, signal.SIGINT)
 
     def test_served_again_and_again(self):
-        """What a killed server kept the next one serves, with no run between them."""
+        """The next server serves what the killed one kept, with no run between them."""
         for _ in range(5):
             self.load_and_end(100, signal.SIGKILL)
             server = self.serve()
