@@ -1,0 +1,113 @@
+"""Random scripts of several lives: the program prints what the model prints."""
+import collections
+
+import model
+from harness import PROVED, Case, scaled
+from lines import Maker, make_geometry, make_stop
+
+COUNT = scaled(3000 if PROVED else 300)
+# Replies that a batch of scripts must have seen, or its scripts are too tame.
+SEEN = ["accepted", "acknowledged", "value", "absent", "idle", "waiting", "moved", "finished", "opened", "stopped"]
+SEEN_REFUSALS = [5, 7, 8, 9, 20, 21, 22, 23]
+
+
+def join_lines(lines):
+    return b"".join(line + b"\n" for line in lines)
+
+
+def make_script(random, lives, length, full_tables=False):
+    """A geometry and the bytes of a script. A stop is placed by the calls that the model makes."""
+    geometry = make_geometry(random, full_tables)
+    maker = Maker(random, geometry, full_tables)
+    image, text = model.formatted_image(geometry), b""
+    for _ in range(lives - 1):
+        data = join_lines(maker.lines(random.randint(0, length)))
+        lines = list(model.split_lines(data))
+        _, whole, _ = model.run_life(image, lines)
+        stop = make_stop(random, whole)
+        call, fill = model.read_stop(stop, len(stop))
+        _, device, _ = model.run_life(image, lines, call)
+        image = device.left_by_stop(fill)
+        text += data + stop + random.choice([b"\n", b"\n", b"\r\n"])
+    text += join_lines(maker.lines(random.randint(1, length)))
+    return geometry, text + random.choice([b"", b"", b"flush", b"stop 0 old"])
+
+
+def count_words(counts, printed):
+    for line in printed:
+        words = line.split()
+        counts[" ".join(words[:2]) if words[0] == "refused" else words[0]] += 1
+
+
+class Scripts(Case):
+    def compare(self, count, lives, length, full_tables=False):
+        """Runs so many scripts, and returns how often each reply came."""
+        counts = collections.Counter()
+        for number in range(count):
+            geometry, text = make_script(self.random, self.random.choice(lives), length, full_tables)
+            expected = model.run_script(geometry, text)
+            ran = self.silt("script", *geometry.numbers, text=text)
+            if ran.lines != expected or ran.status or ran.err:
+                self.tell_difference(number, geometry, text, expected, ran)
+            count_words(counts, expected)
+        return counts
+
+    def tell_difference(self, number, geometry, text, expected, ran):
+        pairs = zip([*expected, None], [*ran.lines, None])
+        first = next((i for i, (one, other) in enumerate(pairs) if one != other), len(expected))
+        self.fail(
+            f"script {number}, silt script {geometry.words}: status {ran.status}, {ran.err!r}\n"
+            f"reply {first}: expected {expected[first:first + 3]}, got {ran.lines[first:first + 3]}\n"
+            f"the script: {text!r}"
+        )
+
+    def test_short_scripts(self):
+        counts = self.compare(COUNT // 4, [1, 2, 2, 3], 12)
+        self.assertTrue(counts["stopped"] and counts["accepted"])
+
+    def test_scripts_that_fill_tables(self):
+        counts = self.compare(COUNT // 8, [1, 1, 2], 100, full_tables=True)
+        self.assertTrue(counts["value"] and counts["finished"])
+
+    def test_scripts_of_one_long_life(self):
+        counts = self.compare(COUNT // 4, [1], 120)
+        missing = [it for it in ("finished", "waiting", "refused 7", "refused 8") if not counts[it]]
+        self.assertEqual(missing, [], "no script led to these")
+
+    def test_scripts_of_many_lives(self):
+        counts = self.compare(3 * COUNT // 8, [2, 3, 4, 6], 60)
+        wanted = SEEN + [f"refused {it}" for it in SEEN_REFUSALS]
+        self.assertEqual([it for it in wanted if not counts[it]], [], "no script led to these")
+
+
+class Calls(Case):
+    """The model counts device calls as the rules do: a stop at the last one, and one past it."""
+
+    def key(self, digits):
+        return digits.ljust(40, "0")
+
+    def compare(self, geometry, lines, calls):
+        lines = [" ".join(self.key(it) if i == 1 else it for i, it in enumerate(line.split())) for line in lines]
+        numbers = model.Geometry(*map(int, geometry.split()))
+        data = "".join(line + "\n" for line in lines).encode()
+        _, device, _ = model.run_life(model.formatted_image(numbers), list(model.split_lines(data)))
+        self.assertEqual(len(device.calls), calls)
+        for stop_at, failed in ((calls, 1), (calls + 1, 0)):
+            ran = self.silt("script", *numbers.numbers, text=data + f"stop {stop_at} mix\nget =a\n".encode())
+            self.assertEqual(ran.lines.count("refused 5 Device"), failed, (stop_at, ran.lines))
+
+    def test_converting_makes_40_calls(self):
+        puts = [f"put 0{i} 000{i}" for i in range(1, 6)]
+        self.compare("2 2 4 2 2 8", [*puts, "flush", "get 01", "get 05", *["convert"] * 9], 40)
+
+    def test_merging_twice_makes_106_calls(self):
+        convert, merge = ["convert"] * 9, ["merge"]
+        lines = ["put 01 0102", "put 02 0304", *convert, *merge * 10, "delete 01", *convert]
+        lines += ["put 03 0506", *convert, *merge * 19, "get 01", "get 02", "get 03", "flush"]
+        self.compare("2 2 1 2 2 4", lines, 106)
+
+    def test_converting_while_merging_makes_95_calls(self):
+        convert, merge = ["convert"] * 9, ["merge"]
+        lines = ["put 01 0001", "put 02 0002", *convert, "put 01 0003", *merge * 3, *convert]
+        lines += ["put 02 0004", *convert, *merge * 7, "get 01", "get 02"]
+        self.compare("2 2 1 3 3 8", lines, 95)
