@@ -2,6 +2,10 @@
 import model
 
 
+def join_lines(lines):
+    return b"".join(line + b"\n" for line in lines)
+
+
 def make_geometry(random, full_tables=False):
     """A small geometry. With full tables a log has as many rows as its table has slots."""
     b = random.choice([2, 2, 2, 4, 4, 8])

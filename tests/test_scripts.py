@@ -3,16 +3,12 @@ import collections
 
 import model
 from harness import PROVED, Case, scaled
-from lines import Maker, make_geometry, make_stop
+from lines import Maker, join_lines, make_geometry, make_stop
 
 COUNT = scaled(3000 if PROVED else 300)
 # Replies that a batch of scripts must have seen, or its scripts are too tame.
 SEEN = ["accepted", "acknowledged", "value", "absent", "idle", "waiting", "moved", "finished", "opened", "stopped"]
 SEEN_REFUSALS = [5, 7, 8, 9, 20, 21, 22, 23]
-
-
-def join_lines(lines):
-    return b"".join(line + b"\n" for line in lines)
 
 
 def make_script(random, lives, length, full_tables=False):

@@ -1,0 +1,446 @@
+"""What may be wrong with a store's bytes, and what may differ and is not wrong.
+
+A damage changes the image of a sound store, and returns the refusal that has to come, or None where
+the store has nothing to be damaged so. `DAMAGES` has them by group, in the order in which an opening
+looks: of two damages of different groups, the one of the earlier group decides.
+"""
+import struct
+
+import model
+
+HEADER_NUMBERS = {"v": 13, "b": 17, "cap": 21, "nl": 25, "nh": 29, "s": 33}
+# Offsets in a manifest slot, whose body begins at 1.
+GENERATION, ACTIVE, FROZEN, HASHES, SORTED, COUNT = 1, 9, 13, 45, 113, 117
+
+DAMAGES = {it: [] for it in ("unknown", "header", "length", "slots", "no slot", "logs", "hashes", "sorted", "charge")}
+HARMLESS = []
+
+
+def damage(group):
+    def add(function):
+        DAMAGES[group].append(function)
+        return function
+
+    return add
+
+
+def harmless(function):
+    HARMLESS.append(function)
+    return function
+
+
+def set_number(image, at, number, length=4):
+    image[at : at + length] = number.to_bytes(length, "big")
+
+
+def get_number(image, at, length=4):
+    return int.from_bytes(image[at : at + length], "big")
+
+
+def other_byte(random, *not_these):
+    return random.choice([it for it in range(256) if it not in not_these])
+
+
+# ---------------------------------------------------------------- header and length
+
+
+@damage("unknown")
+def header_gate_closed(image, store, random):
+    image[0] = random.choice([0, 0xFF, other_byte(random, model.OPEN)])
+    return "refused 1 NotFormatted"
+
+
+@damage("unknown")
+def other_magic(image, store, random):
+    image[random.randint(1, 8)] ^= random.randint(1, 255)
+    return "refused 1 NotFormatted"
+
+
+@damage("unknown")
+def other_version(image, store, random):
+    set_number(image, 9, random.choice([9, 0, 256, 1 << 24, 2**32 - 1]))
+    return "refused 1 NotFormatted"
+
+
+@damage("unknown")
+def shorter_than_a_header(image, store, random):
+    del image[random.choice([0, 1, 36, random.randrange(37)]) :]
+    return "refused 1 NotFormatted"
+
+
+def number_out_of_limits(name):
+    def change(image, store, random):
+        bad = {
+            "v": [0, 4097, 2**32 - 1],
+            "b": [0, 1, 3, 6, 32767, 65536, 2**31, 2**32 - 1],
+            "cap": [0, store.geometry.slots + 1, 2**32 - 1],
+            "nl": [0, 1, 9, 2**32 - 1],
+            "nh": [0, 17, 2**32 - 1],
+            "s": [0, 16_777_217, 2**32 - 1],
+        }
+        set_number(image, HEADER_NUMBERS[name], random.choice(bad[name]))
+        return "refused 3 Damaged header"
+
+    change.__name__ = f"header_{name}_out_of_limits"
+    return change
+
+
+for one_name in HEADER_NUMBERS:
+    damage("header")(number_out_of_limits(one_name))
+
+
+@damage("length")
+def one_byte_short(image, store, random):
+    del image[-1]
+    return "refused 3 Damaged length"
+
+
+@damage("length")
+def one_byte_long(image, store, random):
+    image.append(random.randrange(256))
+    return "refused 3 Damaged length"
+
+
+@damage("length")
+def header_alone(image, store, random):
+    del image[random.choice([37, 38, 4096, 4097, 12288]) :]
+    return "refused 3 Damaged length"
+
+
+@damage("length")
+def length_of_more_regions(image, store, random):
+    name, most = random.choice([("nl", 8), ("nh", 16)])
+    set_number(image, HEADER_NUMBERS[name], random.randint(getattr(store.geometry, name) + 1, most))
+    return "refused 3 Damaged length"
+
+
+# ---------------------------------------------------------------- manifest slots
+
+
+def current_slot(store):
+    return store.generation % 2
+
+
+def open_slot(image, store, slot):
+    """Opens a slot, by a body that is well formed if it is closed, and returns its offset."""
+    at, current = model.slot_at(slot), model.slot_at(current_slot(store))
+    if image[at] != model.OPEN and at != current:
+        image[at : at + 121] = image[current : current + 121]
+        set_number(image, at + GENERATION, abs(store.generation - 1), 8)
+    image[at] = model.OPEN
+    return at
+
+
+def bad_slot(name, edit):
+    """A damage of either slot. `edit` sets fields of the slot at an offset, or returns False."""
+
+    def change(image, store, random):
+        slot = random.randrange(2)
+        at = open_slot(image, store, slot)
+        if edit(image, at, store.geometry, random) is False:
+            return None
+        return f"refused 3 Damaged slot {slot}"
+
+    change.__name__ = f"slot_with_{name}"
+    damage("slots")(change)
+
+
+def set_ids(image, at, ids):
+    set_number(image, at, len(ids))
+    for i, one in enumerate(ids):
+        set_number(image, at + 4 + 4 * i, one)
+
+
+def repeated_frozen_log(image, at, geometry, random):
+    if geometry.nl < 3:
+        return False
+    one = next(it for it in range(geometry.nl) if it != get_number(image, at + ACTIVE))
+    set_ids(image, at + FROZEN, [one, one])
+    return True
+
+
+def repeated_hash_store(image, at, geometry, random):
+    if geometry.nh < 2:
+        return False
+    set_ids(image, at + HASHES, [1, 1])
+    return True
+
+
+bad_slot("a_great_generation", lambda image, at, g, random: image.__setitem__(at + GENERATION, 0x80))
+bad_slot("the_other_slot's_generation", lambda image, at, g, random: image.__setitem__(at + 8, image[at + 8] ^ 1))
+bad_slot(
+    "an_active_log_too_many",
+    lambda image, at, g, random: set_number(image, at + ACTIVE, random.choice([g.nl, 8, 256, 2**32 - 1])),
+)
+bad_slot(
+    "too_many_frozen_logs",
+    lambda image, at, g, random: set_number(image, at + FROZEN, random.choice([g.nl, 8, 256, 2**32 - 1])),
+)
+bad_slot("a_frozen_log_too_many", lambda image, at, g, random: set_ids(image, at + FROZEN, [g.nl]))
+bad_slot(
+    "its_active_log_frozen",
+    lambda image, at, g, random: set_ids(image, at + FROZEN, [get_number(image, at + ACTIVE)]),
+)
+bad_slot("a_log_frozen_twice", repeated_frozen_log)
+bad_slot(
+    "too_many_hash_stores",
+    lambda image, at, g, random: set_number(image, at + HASHES, random.choice([g.nh + 1, 17, 256, 2**32 - 1])),
+)
+bad_slot("a_hash_store_too_many", lambda image, at, g, random: set_ids(image, at + HASHES, [g.nh]))
+bad_slot("a_hash_store_twice", repeated_hash_store)
+bad_slot(
+    "a_third_sorted_region",
+    lambda image, at, g, random: set_number(image, at + SORTED, random.choice([2, 256, 2**32 - 1])),
+)
+bad_slot(
+    "too_many_entries",
+    lambda image, at, g, random: set_number(image, at + COUNT, random.choice([g.s + 1, 2**24 + 1, 2**32 - 1])),
+)
+
+
+@damage("no slot")
+def both_slots_closed(image, store, random):
+    for slot in (0, 1):
+        image[model.slot_at(slot)] = other_byte(random, model.OPEN)
+    return "refused 3 Damaged no slot"
+
+
+# ---------------------------------------------------------------- logs
+
+
+def row_place(store, log, row):
+    return store.geometry.rows_at(log.region) + row * store.geometry.row_length
+
+
+def write_rows(image, store, log, rows):
+    """Writes rows (kind, key, value) from the first one on, and opens their gates."""
+    for i, (kind, key, value) in enumerate(rows):
+        at = row_place(store, log, i)
+        image[at : at + store.geometry.row_length] = bytes([kind]) + key + value
+        image[store.geometry.gates_at(log.region) + i] = model.OPEN
+
+
+@damage("logs")
+def row_of_no_kind(image, store, random):
+    log = random.choice([it for it in (store.active, *store.frozen) if it.rows] or [None])
+    if log is None:
+        return None
+    row = random.randrange(len(log.rows))
+    image[row_place(store, log, row)] = random.choice([0, 3, 0xA7, 0xFF, other_byte(random, 1, 2)])
+    return f"refused 3 Damaged log {log.region} row {row}"
+
+
+@damage("logs")
+def gate_open_over_no_row(image, store, random):
+    log = store.active
+    row = len(log.rows)
+    if row == store.geometry.cap:
+        return None
+    image[store.geometry.gates_at(log.region) + row] = model.OPEN
+    image[row_place(store, log, row)] = random.choice([0, 3, 0xFF])
+    return f"refused 3 Damaged log {log.region} row {row}"
+
+
+@damage("logs")
+def crowded(image, store, random):
+    """More keys with the same buckets than their slots: five of one bucket, or nine of two."""
+    log = random.choice([store.active, *store.frozen])
+    pair = random.choice([(0, 0), (1, 1), (0, 1), (1, 0)])
+    count = 5 if pair[0] == pair[1] else 9
+    if store.geometry.cap < count:
+        return None
+    keys = [struct.pack(">HHB15x", *pair, i) for i in range(count)]
+    write_rows(image, store, log, [(random.choice([1, 2]), key, bytes(store.geometry.v)) for key in keys])
+    return "refused 4 Crowded"
+
+
+# ---------------------------------------------------------------- hash stores
+
+
+def pick_row(store, random):
+    """A hash store and the number of one of its rows, or None."""
+    found = [(it, i) for it in store.hashes for i, row in enumerate(it.slots) if row]
+    return random.choice(found) if found else None
+
+
+def slot_place(store, one, slot):
+    return store.geometry.hash_at(one.region) + slot * store.geometry.row_length
+
+
+def copy_slot(image, store, one, source, target):
+    length = store.geometry.row_length
+    at, to = slot_place(store, one, source), slot_place(store, one, target)
+    image[to : to + length] = image[at : at + length]
+
+
+@damage("hashes")
+def slot_of_no_kind(image, store, random):
+    if not store.hashes:
+        return None
+    one, slot = random.choice(store.hashes), random.randrange(store.geometry.slots)
+    image[slot_place(store, one, slot)] = random.choice([3, 0xA7, 0xFF, random.randint(3, 255)])
+    return f"refused 3 Damaged hash {one.region} slot {slot}"
+
+
+@damage("hashes")
+def row_outside_its_buckets(image, store, random):
+    picked = pick_row(store, random)
+    if not picked:
+        return None
+    one, source = picked
+    own = store.geometry.buckets(one.slots[source][1])
+    others = [i for i in range(store.geometry.slots) if i // 4 not in own]
+    if not others:
+        return None
+    target = random.choice(others)
+    copy_slot(image, store, one, source, target)
+    return f"refused 3 Damaged hash {one.region} slot {target}"
+
+
+@damage("hashes")
+def key_in_two_slots(image, store, random):
+    picked = pick_row(store, random)
+    if not picked:
+        return None
+    one, source = picked
+    own = store.geometry.buckets(one.slots[source][1])
+    target = random.choice([i for i in range(store.geometry.slots) if i // 4 in own and i != source])
+    copy_slot(image, store, one, source, target)
+    return f"refused 3 Damaged hash {one.region} slot {max(source, target)}"
+
+
+# ---------------------------------------------------------------- sorted entries and charge
+
+
+def entry_place(store, entry):
+    return store.geometry.sorted_at(store.sorted.region) + entry * store.geometry.entry_length
+
+
+@damage("sorted")
+def equal_entries(image, store, random):
+    if len(store.sorted.entries) < 2:
+        return None
+    entry = random.randrange(1, len(store.sorted.entries))
+    at, to = entry_place(store, entry - 1), entry_place(store, entry)
+    image[to : to + 20] = image[at : at + 20]
+    return f"refused 3 Damaged sorted {entry}"
+
+
+@damage("sorted")
+def falling_entries(image, store, random):
+    if len(store.sorted.entries) < 2:
+        return None
+    entry = random.randrange(1, len(store.sorted.entries))
+    at, to = entry_place(store, entry - 1), entry_place(store, entry)
+    image[at : at + 20], image[to : to + 20] = image[to : to + 20], image[at : at + 20]
+    return f"refused 3 Damaged sorted {entry}"
+
+
+@damage("sorted")
+def entry_above_all_others(image, store, random):
+    if len(store.sorted.entries) < 2:
+        return None
+    entry = random.randrange(len(store.sorted.entries) - 1)
+    at = entry_place(store, entry)
+    image[at : at + 20] = b"\xff" * 20
+    return f"refused 3 Damaged sorted {entry + 1}"
+
+
+@damage("charge")
+def charge_above_its_limit(image, store, random):
+    """A lower S in the header, for which the device is as long, and no slot has more entries."""
+    geometry = store.geometry
+    counts = [get_number(image, model.slot_at(slot) + COUNT) for slot in (0, 1) if store.slots_open[slot]]
+    low = max(1, *counts, len(store.sorted.entries))
+    fits = [s for s in range(low, store.charge()) if model.Geometry(*geometry.numbers[:5], s).size == geometry.size]
+    if not fits:
+        return None
+    set_number(image, HEADER_NUMBERS["s"], random.choice(fits))
+    return "refused 3 Damaged charge"
+
+
+# ---------------------------------------------------------------- what is not looked at
+
+
+def set_noise(image, at, end, random):
+    image[at:end] = random.randbytes(end - at)
+
+
+@harmless
+def noise_behind_the_header(image, store, random):
+    set_noise(image, 37, 4096, random)
+
+
+@harmless
+def noise_behind_the_bodies(image, store, random):
+    for slot in (0, 1):
+        set_noise(image, model.slot_at(slot) + 121, model.slot_at(slot) + 4096, random)
+
+
+@harmless
+def noise_in_unused_places_of_a_body(image, store, random):
+    for slot in (0, 1):
+        for at, places in ((FROZEN, 7), (HASHES, 16)):
+            at += model.slot_at(slot)
+            if (used := get_number(image, at)) <= places:
+                set_noise(image, at + 4 + 4 * used, at + 4 + 4 * places, random)
+
+
+@harmless
+def noise_in_a_closed_slot(image, store, random):
+    other = model.slot_at(1 - current_slot(store))
+    set_noise(image, other, other + 4096, random)
+    image[other] = other_byte(random, model.OPEN)
+
+
+@harmless
+def noise_in_closed_gates_and_behind_them(image, store, random):
+    geometry, log = store.geometry, store.active
+    for row in range(len(log.rows), geometry.cap):
+        image[geometry.gates_at(log.region) + row] = other_byte(random, model.OPEN)
+        set_noise(image, row_place(store, log, row), row_place(store, log, row + 1), random)
+
+
+@harmless
+def open_gates_past_a_closed_one(image, store, random):
+    geometry, log = store.geometry, store.active
+    for row in range(len(log.rows) + 1, geometry.cap):
+        image[geometry.gates_at(log.region) + row] = random.choice([model.OPEN, other_byte(random)])
+        set_noise(image, row_place(store, log, row), row_place(store, log, row + 1), random)
+
+
+@harmless
+def gate_closed_among_the_rows(image, store, random):
+    log = random.choice([store.active, *store.frozen])
+    row = random.randrange(store.geometry.cap)
+    image[store.geometry.gates_at(log.region) + row] = other_byte(random, model.OPEN)
+
+
+@harmless
+def other_values(image, store, random):
+    for log in (store.active, *store.frozen):
+        for i, row in enumerate(log.rows):
+            if row[0] == model.PUT:
+                set_noise(image, row_place(store, log, i) + 21, row_place(store, log, i + 1), random)
+
+
+@harmless
+def noise_behind_the_kind_of_empty_slots(image, store, random):
+    for one in store.hashes:
+        for slot, row in enumerate(one.slots):
+            if not row:
+                set_noise(image, slot_place(store, one, slot) + 1, slot_place(store, one, slot + 1), random)
+
+
+@harmless
+def noise_in_regions_that_are_not_named(image, store, random):
+    geometry = store.geometry
+    logs = {it.region for it in (store.active, *store.frozen)}
+    hashes = {it.region for it in store.hashes}
+    ends = [(geometry.gates_at(it), geometry.gates_at(it + 1)) for it in range(geometry.nl) if it not in logs]
+    ends += [(geometry.hash_at(it), geometry.hash_at(it + 1)) for it in range(geometry.nh) if it not in hashes]
+    other = 1 - store.sorted.region
+    ends += [(geometry.sorted_at(other), geometry.sorted_at(other + 1))]
+    ends += [(entry_place(store, len(store.sorted.entries)), geometry.sorted_at(store.sorted.region + 1))]
+    for at, end in ends:
+        set_noise(image, at, end, random)

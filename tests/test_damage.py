@@ -1,0 +1,194 @@
+"""Damaged stores: check and run tell the finding that the rules name, and change no byte.
+
+Each damage says which refusal has to come, and the model has to find it too.
+"""
+import model
+from damages import DAMAGES, HARMLESS
+from harness import PROVED, scaled
+from lines import Maker, join_lines
+from test_stores import FileCase
+
+COUNT = scaled(40 if PROVED else 8)
+# How many pairs of damages are planted in each store.
+PAIRS = 30
+
+
+def make_rich_geometry(random):
+    """A geometry with room for all kinds of stores at once."""
+    b = random.choice([2, 2, 4, 8])
+    cap = random.choice([random.randint(2, 8), random.randint(5, 8), min(4 * b, 10)])
+    nl, nh = random.randint(2, 4), random.randint(1, 3)
+    return model.Geometry(random.randint(1, 4), b, cap, nl, nh, 6 * cap + nl * cap + random.randint(0, 9))
+
+
+def rich_lines(random, geometry):
+    """Lines after which the store has entries, hash stores, frozen logs, and rows in its log."""
+    maker = Maker(random, geometry, full_tables=True)
+    maker.keys = [b"=%d" % i for i in range(5 * geometry.cap)]
+    convert = [b"convert"] * (geometry.slots + 1)
+
+    def commands(count):
+        return [(maker.make_put() if random.random() < 0.8 else maker.make_delete())[0] for _ in range(count)]
+
+    lines = commands(geometry.cap + 1) + convert
+    lines += [b"merge"] * (geometry.slots + geometry.cap + 1)
+    for _ in range(min(geometry.nh, 2)):
+        lines += commands(geometry.cap) + convert
+    lines += commands((geometry.nl - 1) * geometry.cap)
+    return lines + [b"flush"]
+
+
+class DamageCase(FileCase):
+    def make_rich_store(self):
+        """Makes a store, and returns its bytes and what the model finds there."""
+        geometry = make_rich_geometry(self.random)
+        self.path("store").unlink(missing_ok=True)
+        self.store(geometry.words)
+        self.compare_run(join_lines(rich_lines(self.random, geometry)), geometry.words)
+        return self.image(), model.examine(self.image())
+
+    def assert_refused(self, image, expected, note):
+        """Check and run give this refusal of an image, and leave the file as it was."""
+        self.path("store").write_bytes(image)
+        self.assertEqual(model.check(image), ([expected], 1), f"the model, {note}")
+        for call, text in (("check", ""), ("run", "get =a\nput =a 00\nflush\n")):
+            ran = self.silt(call, "store", text=text)
+            self.assertEqual((ran.out, ran.status), (expected + "\n", 1), f"{call}, {note}")
+            self.assertEqual(self.image(), bytes(image), f"{note}: a refused {call} changed the file")
+
+
+class Damage(DamageCase):
+    def test_each_damage_alone(self):
+        planted = set()
+        for _ in range(COUNT):
+            sound, store = self.make_rich_store()
+            for kind in (it for group in DAMAGES.values() for it in group):
+                image = bytearray(sound)
+                expected = kind(image, store, self.random)
+                if expected:
+                    planted.add(kind)
+                    self.assert_refused(image, expected, f"{kind.__name__} in {store.geometry.words}")
+        missing = [it.__name__ for group in DAMAGES.values() for it in group if it not in planted]
+        self.assertEqual(missing, [], "damages that no store had")
+
+    def test_the_first_of_two_damages_decides(self):
+        """The later one is planted first, since some damages of the header change the length."""
+        groups = list(DAMAGES.values())
+        for _ in range(COUNT):
+            sound, store = self.make_rich_store()
+            for _ in range(PAIRS):
+                first, second = sorted(self.random.sample(range(len(groups)), 2))
+                kinds = [self.random.choice(groups[it]) for it in (first, second)]
+                image = bytearray(sound)
+                later, earlier = (kind(image, store, self.random) for kind in reversed(kinds))
+                if earlier and later:
+                    note = f"{kinds[0].__name__} and {kinds[1].__name__} in {store.geometry.words}"
+                    self.assert_refused(image, earlier, note)
+
+    def test_what_is_not_looked_at_is_no_damage(self):
+        for _ in range(COUNT):
+            sound, store = self.make_rich_store()
+            maker = Maker(self.random, store.geometry)
+            maker.keys = [b"=%d" % i for i in range(5 * store.geometry.cap)]
+            for kind in HARMLESS:
+                note = f"{kind.__name__} in {store.geometry.words}"
+                image = bytearray(sound)
+                kind(image, store, self.random)
+                self.path("store").write_bytes(image)
+                self.assertEqual(model.check(image)[1], 0, note)
+                self.compare_check(note)
+                gets = [b"get " + key for key in maker.keys]
+                self.compare_run(join_lines(gets + maker.lines(40) + gets + [b"flush"]), note)
+                self.compare_check(note)
+
+
+class WorkedDamage(DamageCase):
+    """The worked findings of `2 2 4 2 2 8`, with their bytes written out by hand."""
+
+    GEOMETRY = "2 2 4 2 2 8"
+
+    def crafted(self, *changes, geometry=GEOMETRY, lines=()):
+        """A store's image, with these bytes in place: (offset, hexadecimal digits)."""
+        image = bytearray(self.store(geometry, lines).read_bytes())
+        for at, digits in changes:
+            data = bytes.fromhex(digits)
+            image[at : at + len(data)] = data
+        return image
+
+    def converted(self):
+        """The image after five puts and a conversion."""
+        puts = [f"put {f'0{i}'.ljust(40, '0')} 000{i}" for i in range(1, 6)]
+        return self.crafted(lines=[*puts, "flush", *["convert"] * 9])
+
+    def rows(self, count, value="0001"):
+        """The bytes of put rows of the keys 01.., 02.. and so on."""
+        return "".join("01" + f"0{i}".ljust(40, "0") + value for i in range(1, count + 1))
+
+    def test_one_byte_short(self):
+        self.assert_refused(self.crafted()[:-1], "refused 3 Damaged length", "")
+
+    def test_slot_1_of_generation_0(self):
+        self.assert_refused(self.crafted((8192, "a7" + "00" * 120)), "refused 3 Damaged slot 1", "")
+
+    def test_two_equal_entries(self):
+        image = self.crafted((4096 + 117, "00000002"), (36864, ("05" * 20 + "0001") * 2))
+        self.assert_refused(image, "refused 3 Damaged sorted 1", "")
+
+    def test_row_of_kind_3(self):
+        self.assert_refused(self.crafted((12288, "a7"), (16384, "03")), "refused 3 Damaged log 0 row 0", "")
+
+    def test_zero_bytes(self):
+        self.assert_refused(b"", "refused 1 NotFormatted", "")
+        self.assert_refused(bytes(45056), "refused 1 NotFormatted", "")
+
+    def test_last_generation(self):
+        self.crafted()
+        image = self.crafted((8192, "a77fffffffffffffff" + "00" * 112))
+        self.path("store").write_bytes(image)
+        puts = [f"put 0{i}{'0' * 38} 000{i}" for i in range(1, 6)]
+        ran = self.silt("run", "store", text="".join(line + "\n" for line in [*puts, "flush"]))
+        accepted = [f"accepted {i}" for i in range(1, 5)]
+        self.assertEqual(ran.lines, ["opened", *accepted, "refused 10 Spent", "acknowledged 4"])
+
+    def test_five_keys_of_one_bucket(self):
+        geometry = "2 2 8 2 2 16"
+        image = self.crafted((12288, "a7" * 5), (16384, self.rows(5)), geometry=geometry)
+        self.assert_refused(image, "refused 4 Crowded", "")
+        self.path("store").write_bytes(self.crafted((12288, "a7" * 4), (16384, self.rows(4)), geometry=geometry))
+        self.assertEqual(self.silt("run", "store").out, "opened\n")
+
+    def test_slot_of_kind_3(self):
+        image = self.converted()
+        image[28695] = 3
+        self.assert_refused(image, "refused 3 Damaged hash 0 slot 1", "")
+
+    def test_row_copied_into_another_bucket(self):
+        image = self.converted()
+        image[28764 : 28764 + 23] = image[28672 : 28672 + 23]
+        self.assert_refused(image, "refused 3 Damaged hash 0 slot 4", "")
+
+    def test_header_gate_closed(self):
+        self.assert_refused(self.crafted((0, "00")), "refused 1 NotFormatted", "")
+
+    def test_version_9(self):
+        self.assert_refused(self.crafted((9, "00000009")), "refused 1 NotFormatted", "")
+
+    def test_three_buckets(self):
+        image = self.crafted((17, "00000003"))
+        self.assert_refused(image, "refused 3 Damaged header", "")
+        self.assert_refused(image[:-1], "refused 3 Damaged header", "one byte short")
+
+    def test_active_log_2(self):
+        self.assert_refused(self.crafted((4096 + 9, "00000002")), "refused 3 Damaged slot 0", "")
+
+    def test_both_slots_closed(self):
+        self.assert_refused(self.crafted((4096, "00")), "refused 3 Damaged no slot", "")
+
+    def test_nine_puts(self):
+        """Eight entries and a row of the log, where eight are the limit."""
+        entries = "".join(f"0{i}".ljust(40, "0") + "0001" for i in range(1, 9))
+        image = self.crafted((4096 + 117, "00000008"), (36864, entries), (12288, "a7"), (16384, self.rows(1)))
+        self.assert_refused(image, "refused 3 Damaged charge", "")
+        image[12288] = 0
+        self.path("store").write_bytes(image)
+        self.assertEqual(self.check_report().lines[-2:], ["sorted entries 8", "charge 8"])

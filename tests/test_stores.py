@@ -1,0 +1,102 @@
+"""Random stores in files: replies, reports and each settled byte are the model's."""
+import model
+from harness import PROVED, Case, scaled
+from lines import Maker, join_lines, make_geometry
+
+COUNT = scaled(200 if PROVED else 40)
+
+
+class FileCase(Case):
+    """A test that compares a file with the model's device."""
+
+    def image(self, name="store"):
+        return self.path(name).read_bytes()
+
+    def compare_bytes(self, device, note):
+        """Each settled byte has to be in the file. At a pending place either byte may be."""
+        image = self.image()
+        self.assertEqual(len(image), len(device.shown), note)
+        if image == device.settled:
+            return
+        pending = device.pending_places()
+        for place, byte in enumerate(image):
+            allowed = {device.settled[place]} | ({device.shown[place]} if place in pending else set())
+            if byte not in allowed:
+                self.fail(f"{note}: byte {place} of the file is {byte:#04x}, and not of {allowed}")
+
+    def compare_run(self, data, note):
+        """Runs lines on the file, and compares replies and bytes with the model's."""
+        said, device, _ = model.run_life(self.image(), list(model.split_lines(data)))
+        ran = self.silt("run", "store", text=data)
+        self.assertEqual(ran.lines, said, note)
+        self.assertEqual(ran.status, 0 if said[0] == "opened" else 1, note)
+        self.compare_bytes(device, note)
+
+    def compare_check(self, note):
+        """Checks the file. The report is the model's, and no byte is changed."""
+        before = self.image()
+        said, status = model.check(before)
+        ran = self.check_report()
+        self.assertEqual((ran.lines, ran.status), (said, status), note)
+        self.assertEqual(self.image(), before, f"{note}: a check changed the file")
+
+
+class Stores(FileCase):
+    def test_stores_of_random_runs(self):
+        for number in range(COUNT):
+            geometry = make_geometry(self.random, self.random.random() < 0.3)
+            note = f"store {number} of {geometry.words}"
+            self.path("store").unlink(missing_ok=True)
+            self.store(geometry.words)
+            self.assertEqual(self.image(), model.formatted_image(geometry), note)
+            maker = Maker(self.random, geometry, geometry.cap == geometry.slots)
+            for turn in range(self.random.choice([1, 1, 2, 3])):
+                lines = maker.lines(self.random.randint(1, 150)) + self.random.choice([[], [b"flush"]])
+                data = join_lines(lines) + self.random.choice([b"", b"flush"])
+                self.compare_run(data, f"{note}, run {turn}: {data!r}")
+            self.compare_check(note)
+
+    def test_format_makes_any_file_an_empty_store(self):
+        for number in range(COUNT // 10):
+            geometry = make_geometry(self.random)
+            old = self.random.randbytes(self.random.choice([0, 1, geometry.size, 2 * geometry.size]))
+            self.path("store").write_bytes(old)
+            ran = self.silt("format", "store", *geometry.numbers)
+            self.assertEqual(ran.out, f"formatted {geometry.size}\n")
+            self.compare_check(f"store {number} of {geometry.words}")
+            self.assertEqual(self.check_report().lines[-1], "charge 0")
+            self.compare_run(b"get =a\nput =a " + b"00" * geometry.v + b"\nflush\nget =a\n", f"store {number}")
+
+
+class WorkedBytes(FileCase):
+    """The bytes of a store of `2 2 4 2 2 8`, written out by hand."""
+
+    def key(self, digits):
+        return digits.ljust(40, "0")
+
+    def assert_bytes(self, at, digits):
+        length = len(digits) // 2
+        self.assertEqual(self.image()[at : at + length].hex(), digits, f"at {at}")
+
+    def test_bytes_after_format(self):
+        self.store("2 2 4 2 2 8")
+        header = "a753494c54464c534800000001000000020000000200000004000000020000000200000008"
+        self.assert_bytes(0, header)
+        self.assert_bytes(4096, "a7" + "00" * 120)
+        self.assert_bytes(8192, "00")
+        self.assertEqual(len(self.image()), 45056)
+
+    def test_bytes_after_a_put_and_a_flush(self):
+        self.store("2 2 4 2 2 8", ["put =abc 0102", "flush"])
+        self.assert_bytes(12288, "a700")
+        self.assert_bytes(16384, "01a9993e364706816aba3e25717850c26c9cd0d89d0102")
+
+    def test_bytes_after_a_freeze_and_a_conversion(self):
+        puts = [f"put {self.key(f'0{i}')} 000{i}" for i in range(1, 6)]
+        self.store("2 2 4 2 2 8", [*puts, "flush"])
+        self.assert_bytes(8192, "a7000000000000000100000001" + "00000001" + "00000000" * 26)
+        self.assert_bytes(12288, "a7a7a7a7")
+        self.assert_bytes(20480, "a700")
+        self.silt("run", "store", text="convert\n" * 9)
+        self.assert_bytes(28672, "01" + self.key("01") + "0001")
+        self.assert_bytes(4096, "a7000000000000000200000001" + "00" * 32 + "00000001" + "00" * 72)
