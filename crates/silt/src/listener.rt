@@ -6,8 +6,8 @@ use std::sync::Wait;
 use std::time::{Clock, Duration};
 use std::{io, thread};
 
-/// How long a server waits before it asks again for a connection that the system has no descriptor or memory for.
-const PAUSE: Duration = Duration::from_millis(10);
+/// How many milliseconds a server waits before it asks again for a connection that the system has no descriptor or memory for.
+const PAUSE: u64 = 10;
 
 /// The errors of the system that pass once a connection is closed or memory is given back: ENOMEM, ENFILE, EMFILE and ENOBUFS.
 const PASSING: [i32; 4] = [12, 23, 24, 105];
@@ -44,7 +44,10 @@ impl<H: Clock + Wait> Listens for PatientListener<'_, H> {
     fn wait(&self) -> io::Result<TcpStream> {
         for _ in self.rt.forever() {
             match self.listener.wait() {
-                Err(error) if is_lacking(&error) => thread::sleep(self.rt, PAUSE),
+                Err(error) if is_lacking(&error) => thread::sleep(
+                    self.rt,
+                    Duration::from_millis(PAUSE),
+                ),
                 answer => return answer,
             }
         }
