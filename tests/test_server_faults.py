@@ -141,8 +141,8 @@ class Limits(ServedCase):
         self.check_whole()
 
     def crowded(self, places):
-        """A server with descriptors for so many clients, these clients, and one more, which gets no
-        reply for now."""
+        """A server with descriptors for so many clients, these clients, and one more, which asks for
+        a value and gets no reply for now."""
         server = self.serve()
         most = DESCRIPTORS + places
         resource.prlimit(server.process.pid, resource.RLIMIT_NOFILE, (most, 1024))
@@ -156,40 +156,28 @@ class Limits(ServedCase):
             self.assertIsNone(late.reply())
         except TimeoutError:
             pass
-        return server, clients
+        return server, clients, late
 
     def test_sessions_go_on_without_descriptors(self):
-        server, clients = self.crowded(4)
+        server, clients, _ = self.crowded(4)
         for number, client in enumerate(clients):
             lines = (f"get {digits(number)}", f"delete {digits(number)}", "flush")
             self.assertEqual(client.ask(*lines), ["value 0001", f"accepted {number + 5}", f"acknowledged {number + 5}"])
         self.assertTrue(server.is_running())
 
-    # The server takes a lack of descriptors for the end of its listener. It accepts nothing more,
-    # and ends with `network fault` after its last session.
-    @unittest.expectedFailure
-    def test_a_descriptor_that_is_given_back_serves_another_client(self):
-        server, clients = self.crowded(4)
+    def test_a_descriptor_that_is_given_back_serves_the_client_that_waits(self):
+        server, clients, late = self.crowded(4)
         clients[0].close()
-        for _ in self.turns("a client with the descriptor", limit=5):
-            client = self.client(server)
-            client.socket.settimeout(0.3)
-            client.send("get =abc")
-            try:
-                if client.reply() == "absent":
-                    break
-            except TimeoutError:
-                client.close()
+        late.socket.settimeout(TIME_LIMIT)
+        self.assertEqual(late.reply(), "absent")
         self.assertTrue(server.is_running())
 
-    # As above.
-    @unittest.expectedFailure
     def test_more_descriptors_serve_more_clients(self):
-        server, clients = self.crowded(4)
+        server, _, late = self.crowded(4)
         resource.prlimit(server.process.pid, resource.RLIMIT_NOFILE, (1024, 1024))
-        client = self.client(server)
-        client.socket.settimeout(5)
-        self.assertEqual(client.ask("get =abc"), ["absent"])
+        late.socket.settimeout(TIME_LIMIT)
+        self.assertEqual(late.reply(), "absent")
+        self.assertEqual(self.client(server).ask("get =abc"), ["absent"])
 
 
 class Accepting(ServedCase):
@@ -214,13 +202,9 @@ class Accepting(ServedCase):
     def test_a_connection_that_is_gone(self):
         self.check_passing("ECONNABORTED", "ECONNRESET", "EINTR")
 
-    # The server ends with `network fault` at the first of these, as if its listener were gone.
-    @unittest.expectedFailure
     def test_a_passing_lack_of_descriptors(self):
         self.check_passing("EMFILE", "ENFILE")
 
-    # As above.
-    @unittest.expectedFailure
     def test_a_passing_lack_of_memory(self):
         self.check_passing("ENOMEM")
 
@@ -239,7 +223,6 @@ class Accepting(ServedCase):
         self.assertEqual(self.found("=abc"), ["value 0102"])
 
     # The server drops the error of a failed accept.
-    @unittest.expectedFailure
     def test_the_cause_is_reported(self):
         self.assertIn("Invalid argument (os error 22)", self.gone().err)
 

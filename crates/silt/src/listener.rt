@@ -2,7 +2,7 @@
 
 use silt_server::Listens;
 use std::net::{TcpListener, TcpStream};
-use std::sync::Wait;
+use std::sync::{OnceLock, Wait};
 use std::time::{Clock, Duration};
 use std::{io, thread};
 
@@ -12,17 +12,28 @@ const PAUSE: u64 = 10;
 /// The errors of the system that pass once a connection is closed or memory is given back: ENOMEM, ENFILE, EMFILE and ENOBUFS.
 const PASSING: [i32; 4] = [12, 23, 24, 105];
 
-/// A listener that asks again, after a pause, where the system has no descriptor or memory for the next connection.
+/// A listener that asks again, after a pause, where the system has no descriptor or memory for the next connection. It keeps the first error of
+/// another kind.
 #[derive(Drop)]
 pub struct PatientListener<'a, H: Clock + Wait> {
     listener: TcpListener,
     rt: &'a H,
+    failure: OnceLock<io::Error>,
 }
 
 impl<'a, H: Clock + Wait> PatientListener<'a, H> {
     /// The connections of this listener.
     pub fn new(listener: TcpListener, rt: &'a H) -> PatientListener<'a, H> {
-        PatientListener { listener, rt }
+        PatientListener {
+            listener,
+            rt,
+            failure: OnceLock::new(),
+        }
+    }
+
+    /// Why it gave no connection, if it failed.
+    pub fn failure(&self) -> Option<io::Error> {
+        self.failure.get().copied()
     }
 }
 
@@ -44,11 +55,14 @@ impl<H: Clock + Wait> Listens for PatientListener<'_, H> {
     fn wait(&self) -> io::Result<TcpStream> {
         for _ in self.rt.forever() {
             match self.listener.wait() {
-                Err(error) if is_lacking(&error) => thread::sleep(
-                    self.rt,
-                    Duration::from_millis(PAUSE),
-                ),
-                answer => return answer,
+                Err(error) if is_lacking(&error) => {
+                    thread::sleep(self.rt, Duration::from_millis(PAUSE));
+                }
+                Err(error) => {
+                    let _ = self.failure.try_set(error); // the first one stays
+                    return Err(error);
+                }
+                Ok(stream) => return Ok(stream),
             }
         }
         unreachable!()

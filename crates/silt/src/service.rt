@@ -130,7 +130,28 @@ fn serve_store<
     };
     let sessions = service.sessions.unwrap_or(0);
     let calls = calls_kept(service.audit);
-    serve_on(rt, alloc, &listener, core, calls, sessions, &Open, writer)
+    let (disk, status) = serve_on(rt, alloc, &listener, core, calls, sessions, &Open, writer);
+    tell_listener(service.port, listener.failure(), &status, notes);
+    (disk, status)
+}
+
+// Tells why the listener of this port failed, where the server did not end well.
+fn tell_listener<N: Notes>(
+    port: u16,
+    failure: Option<io::Error>,
+    status: &io::Result<u8>,
+    notes: &mut N,
+)
+    ensures { status.now ≡ Ok 0 → notes.new ≡ notes.old }
+{
+    match status {
+        Ok(0) => {}
+        _ => {
+            if let Some(error) = failure {
+                notes.tell_port(port, &error);
+            }
+        }
+    }
 }
 
 // How many calls a record keeps, where there is to be one.

@@ -12,4 +12,4 @@ pub returns-in-Err-clause-told : goal.returns-in-Err-clause-told
 returns-in-Err-clause-told g c = status_told c.refuse_network.result.1 (λ broken. inr (inr (inl broken))) c.refuse_network.ensures.told
 
 pub returns-clause-served : goal.returns-clause-served
-returns-clause-served g c = λ is. (c.serve_on.ensures.served is, rw (c.calls_kept-calls.ensures) at (c.serve_on.ensures.kept is))
+returns-clause-served g c = λ is. (c.serve_on-disk.ensures.served is, rw (c.calls_kept-calls.ensures) at (c.serve_on-disk.ensures.kept is))
