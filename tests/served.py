@@ -18,6 +18,8 @@ from watch import WatchedCase
 SMALL = "2 2 4 2 2 8"
 # A store that takes some thousand puts.
 ROOMY = "2 16 64 8 16 4000"
+# The descriptors of a server without connections: three streams, the store's file, the listener.
+DESCRIPTORS = 5
 # The number of sessions that a server has at once.
 MOST_SESSIONS = 64
 # The longest line, without its line feed.
@@ -28,6 +30,7 @@ class Client:
     """A connection to a server: it sends lines and receives replies."""
 
     def __init__(self, port, address="127.0.0.1", limit=TIME_LIMIT):
+        self.limit = limit
         self.socket = socket.create_connection((address, port), timeout=limit)
         self.socket.setsockopt(socket.IPPROTO_TCP, socket.TCP_NODELAY, 1)
         self.received = bytearray()
@@ -56,6 +59,16 @@ class Client:
         line = self.received[:end].decode()
         del self.received[: end + 1]
         return line
+
+    def is_answered(self, patience):
+        """Whether a reply comes within so many seconds."""
+        self.socket.settimeout(patience)
+        try:
+            return self.reply() is not None
+        except TimeoutError:
+            return False
+        finally:
+            self.socket.settimeout(self.limit)
 
     def replies(self, count):
         return [self.reply() for _ in range(count)]
@@ -167,12 +180,13 @@ class ServedCase(WatchedCase):
     def clients(self, server, count):
         return [self.client(server) for _ in range(count)]
 
-    def served_client(self, server):
-        """A client that has a session. It connects again until a place is free."""
-        for _ in self.turns("a place for a client"):
+    def served_client(self, server, limit=TIME_LIMIT, patience=TIME_LIMIT):
+        """A client that has a session. It connects again if it is closed, or if it has waited for
+        its first reply for so many seconds."""
+        for _ in self.turns("a session for a client", limit):
             client = self.client(server)
             client.send("get =nothing")
-            if client.reply() is not None:
+            if client.is_answered(patience):
                 return client
             client.close()
 

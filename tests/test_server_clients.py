@@ -5,7 +5,7 @@ import time
 import unittest
 
 from harness import PROVED, scaled
-from served import LONGEST_LINE, MOST_SESSIONS, ROOMY, SMALL, ServedCase
+from served import DESCRIPTORS, LONGEST_LINE, MOST_SESSIONS, ROOMY, SMALL, ServedCase
 from watch import read_record, watching
 
 # Values of this length make a put under a name of 8,000 bytes a line of 8,300.
@@ -288,12 +288,11 @@ class BrokenClients(ServedCase):
     def test_no_descriptor_and_no_memory_is_lost(self):
         server = self.serve()
         self.turn_over(server, 20)
-        before = self.held(server)
+        before = self.memory_held(server)
         self.turn_over(server, 200)
-        after = self.held(server)
-        self.assertEqual(after[0], before[0])
+        after = self.memory_held(server)
         if PROVED:
-            self.assertLess(after[1] - before[1], 4096, "KiB of memory more, for 200 sessions")
+            self.assertLess(after - before, 4096, "KiB of memory more, for 200 sessions")
 
     def turn_over(self, server, count):
         """So many sessions, one after the other."""
@@ -302,13 +301,13 @@ class BrokenClients(ServedCase):
             client.ask("put =abc 0102", "get =abc")
             client.close()
 
-    def held(self, server):
-        """The descriptors and the KiB of memory that a server holds when its clients have gone."""
+    def memory_held(self, server):
+        """The KiB of memory that a server holds when its clients have gone, and all descriptors
+        of their connections are closed."""
         folder = f"/proc/{server.process.pid}"
-        self.wait_until(lambda: len(os.listdir(f"{folder}/fd")) == 5, "the descriptors of closed connections")
+        self.wait_until(lambda: len(os.listdir(f"{folder}/fd")) == DESCRIPTORS, "the end of all sessions")
         with open(f"{folder}/status") as status:
-            memory = next(int(line.split()[1]) for line in status if line.startswith("VmRSS:"))
-        return len(os.listdir(f"{folder}/fd")), memory
+            return next(int(line.split()[1]) for line in status if line.startswith("VmRSS:"))
 
 
 if __name__ == "__main__":

@@ -6,11 +6,9 @@ import subprocess
 import unittest
 
 from harness import PROVED, TIME_LIMIT, scaled
-from served import MOST_SESSIONS, ROOMY, SMALL, ServedCase, digits
+from served import DESCRIPTORS, MOST_SESSIONS, ROOMY, SMALL, ServedCase, digits
 from watch import read_counts, read_record, watching
 
-# The descriptors of a server with no connections: three streams, the store's file and the listener.
-DESCRIPTORS = 5
 FIVE_PUTS = [f"put {digits(it)} {it:04}" for it in range(1, 6)]
 
 
@@ -151,11 +149,7 @@ class Limits(ServedCase):
             self.assertEqual(client.ask(f"put {digits(number)} 0001"), [f"accepted {number + 1}"])
         late = self.client(server)
         late.send("get =late")
-        late.socket.settimeout(0.3)
-        try:
-            self.assertIsNone(late.reply())
-        except TimeoutError:
-            pass
+        self.assertFalse(late.is_answered(patience=0.3))
         return server, clients, late
 
     def test_sessions_go_on_without_descriptors(self):
@@ -177,7 +171,8 @@ class Limits(ServedCase):
         resource.prlimit(server.process.pid, resource.RLIMIT_NOFILE, (1024, 1024))
         late.socket.settimeout(TIME_LIMIT)
         self.assertEqual(late.reply(), "absent")
-        self.assertEqual(self.client(server).ask("get =abc"), ["absent"])
+        for _ in range(8):
+            self.served_client(server, limit=10, patience=1)
 
 
 class Accepting(ServedCase):
@@ -193,10 +188,7 @@ class Accepting(ServedCase):
         for error in errors:
             server = self.serve("--sessions", 2, env=watching(self, fail=[f"accept:1:{error}", f"accept:3:{error}"]))
             for _ in range(2):
-                client = self.client(server)
-                client.socket.settimeout(10)
-                self.assertEqual(client.ask("get =abc"), ["absent"], error)
-                client.close()
+                self.served_client(server).close()
             self.check_calls(server.ended(), 0)
 
     def test_a_connection_that_is_gone(self):
