@@ -5,9 +5,9 @@ import signal
 import subprocess
 import unittest
 
-from harness import PROVED, TIME_LIMIT, scaled
+from harness import TIME_LIMIT
 from served import DESCRIPTORS, MOST_SESSIONS, ROOMY, SMALL, ServedCase, digits
-from watch import read_counts, read_record, watching
+from watch import read_record, watching
 
 FIVE_PUTS = [f"put {digits(it)} {it:04}" for it in range(1, 6)]
 
@@ -267,8 +267,7 @@ class Threads(ServedCase):
 
 
 class Sessions(ServedCase):
-    """A connection that fails ends its own session alone. No reply says that a command was refused
-    if it may have been done."""
+    """A connection that fails ends its own session alone."""
 
     def setUp(self):
         super().setUp()
@@ -307,62 +306,6 @@ class Sessions(ServedCase):
         self.assertEqual(client.ask("put =abc 0102", "get =abc"), ["accepted 1", "value 0102"])
         client.close()
         self.check_calls(server.ended(), 2)
-
-    def memory_requests(self, lines):
-        """How many requests for memory a server makes that answers these lines."""
-        server = self.serve("--sessions", 1, env=watching(self, counts="counts"))
-        client = self.client(server)
-        client.ask(*lines)
-        client.close()
-        self.assertEqual(server.ended().status, 0)
-        return read_counts(self.path("counts"))["memory"]
-
-    @unittest.skipUnless(PROVED, "a build with checks has an allocator of its own")
-    def test_memory_that_is_refused(self):
-        lines = ["put =abc 0102", "put =abc 0304", "get =abc", "delete =abc", "get =abc", "flush"]
-        most = self.memory_requests(lines)
-        numbers = range(1, most + 1)
-        if most > scaled(150):
-            numbers = sorted(self.random.sample(numbers, scaled(150)))
-        for number in numbers:
-            self.check_refused_memory(number, lines)
-
-    def check_refused_memory(self, number, lines):
-        """One request is refused: each reply is the one that is due or `refused 6`, and only the
-        last ones may be missing."""
-        self.silt("format", "store", *ROOMY.split())
-        server = self.begin("store", 0, "--sessions", 1, env=watching(self, fail=f"memory:{number}:ENOMEM"))
-        if (server.line(1) or "").startswith("listening"):
-            self.answer_without_memory(server.listen(), lines, number)
-            self.connect_again(server)
-        ended = server.ended()
-        self.assertIn(ended.status, (0, 1), (number, ended))
-        if ended.status == 1:
-            reasons = {"refused 6 NoMemory", "silt: out of memory", "silt: store: out of memory"}
-            self.assertTrue(reasons.intersection(ended.lines + ended.err.splitlines()), (number, ended))
-        self.check_whole()
-
-    def connect_again(self, server):
-        """Connects once more, since a connection whose thread finds no memory is not counted."""
-        try:
-            self.client(server).close()
-        except ConnectionError:
-            pass  # the server has ended
-
-    def answer_without_memory(self, server, lines, number):
-        client = self.client(server)
-        state, count = "absent", 0
-        for line in lines:
-            client.send(line)
-            reply = client.reply()
-            if reply is None:
-                break
-            word = line.split()[0]
-            if reply != "refused 6 NoMemory" and word in ("put", "delete"):
-                count, state = count + 1, "value " + line.split()[2] if word == "put" else "absent"
-            due = {"get": state, "flush": f"acknowledged {count}"}.get(word, f"accepted {count}")
-            self.assertIn(reply, (due, "refused 6 NoMemory"), (number, line, server.errors()))
-        client.close()
 
 
 if __name__ == "__main__":

@@ -1,0 +1,157 @@
+"""One call of a server fails, each in its turn, while a client writes and background work goes on.
+
+Whatever fails, a reply never says more than was done, and the store is whole in the next run.
+"""
+import re
+import unittest
+
+from harness import PROVED, scaled
+from served import SMALL, ServedCase
+from watch import read_counts, watching
+
+KEYS = [f"=key/{it}" for it in range(6)]
+# Seven rows freeze a log of four, which is then converted and merged.
+LINES = [
+    *(f"put {key} {number:04x}" for number, key in enumerate(KEYS[:5])),
+    f"put {KEYS[0]} 00ff",
+    f"delete {KEYS[1]}",
+    "flush",
+    *(f"get {key}" for key in KEYS),
+]
+# Servers that are tried for each kind of call.
+MOST = 50
+# The errors that a server may report.
+CALL = r"a (read|write|sync)( at \d+)?: Input/output error \(os error 5\)"
+REPORT = rf"(silt: {CALL}; the store takes nothing more until it is opened again\n)?(silt: store: {CALL}\n)*"
+
+
+class Told:
+    """What a client knows of the store: the values that each key may have, and the commands."""
+
+    def __init__(self, case):
+        self.case = case
+        self.values = {key: {"absent"} for key in KEYS}
+        self.accepted = 0
+        self.has_failed = False
+        self.refusals = []
+
+    def take(self, line, reply, refusals):
+        """Checks a reply, and notes what it says."""
+        what = (line, reply, self.accepted, self.values)
+        if self.has_failed:
+            self.case.assertEqual(reply, "refused 9 Failed", what)
+        self.has_failed |= reply == "refused 9 Failed" or reply.startswith("unsettled")
+        word, *rest = line.split()
+        if reply.startswith("refused "):
+            self.case.assertIn(reply, refusals, what)
+            self.refusals.append(reply)
+        if word in ("put", "delete"):
+            self.take_command(rest[0], f"value {rest[1]}" if word == "put" else "absent", reply, what)
+        elif not reply.startswith("refused "):
+            due = {f"acknowledged {self.accepted}"} if word == "flush" else self.values[rest[0]]
+            self.case.assertIn(reply, due, what)
+
+    def take_command(self, key, value, reply, what):
+        """A command that was accepted is done. One that a device refused may have been done."""
+        if reply.startswith("refused "):
+            if reply == "refused 5 Device":
+                self.values[key] = self.values[key] | {value}
+            return
+        self.accepted += 1
+        self.case.assertIn(reply, (f"accepted {self.accepted}", f"unsettled {self.accepted}"), what)
+        was = self.values[key] if reply.startswith("unsettled") else set()
+        self.values[key] = was | {value}
+
+
+class Sweeps(ServedCase):
+    def calls_made(self, name):
+        """How many calls of this name a server makes for all lines."""
+        self.store(SMALL)
+        server = self.serve("--sessions", 1, env=watching(self, counts="counts"))
+        client = self.client(server)
+        for line in LINES:
+            client.ask(line)
+        client.close()
+        self.check_calls(server.ended(), len(LINES[:8]) + self.steps())
+        return read_counts(self.path("counts"))[name]
+
+    def steps(self):
+        """Seven flushes beside those that were asked for, and the steps of a conversion and a merge."""
+        return 7 + 9 + 13
+
+    def sweep(self, call, error, refusals):
+        """Each of these calls fails in its turn, or some of them, if there are many."""
+        made = self.calls_made(call)
+        numbers = range(1, made + 1)
+        if made > scaled(MOST):
+            numbers = sorted(self.random.sample(numbers, scaled(MOST)))
+        for number in numbers:
+            fault = f"{call}:{number}:{error}"
+            try:
+                self.check_fault(fault, refusals)
+            except AssertionError as wrong:
+                raise AssertionError(f"with {fault}: {wrong}") from wrong
+
+    def check_fault(self, fault, refusals):
+        """A server with this fault, a client of it, and what the next run finds."""
+        self.silt("format", "store", *SMALL.split())
+        server = self.begin("store", 0, "--sessions", 1, env=watching(self, fail=fault))
+        told = Told(self)
+        if (server.line(1) or "").startswith("listening"):
+            self.ask_all(server.listen(), told, refusals)
+            self.connect_again(server)
+        ended = server.ended()
+        self.check_end(ended, told)
+        self.check_whole()
+        for key, found in zip(KEYS, self.found(*KEYS), strict=True):
+            self.assertIn(found, told.values[key], key)
+
+    def ask_all(self, server, told, refusals):
+        """Sends one line after the other, until the server ends the session."""
+        client = self.client(server)
+        for line in LINES:
+            client.send(line)
+            reply = client.reply()
+            if reply is None:
+                self.assertIn("refused 6 NoMemory", refusals, line)
+                if line.startswith(("put", "delete")):
+                    told.take(line, "refused 5 Device", {"refused 5 Device"})
+                break
+            told.take(line, reply, refusals)
+        client.close()
+
+    def connect_again(self, server):
+        """Connects once more, since a connection whose thread finds no memory is not counted."""
+        try:
+            self.client(server).close()
+        except ConnectionError:
+            pass  # the server has ended
+
+    def check_end(self, ended, told):
+        """The server ended well, or with a reason, and reported each failure of the store."""
+        if ended.status == 1:
+            reasons = {"refused 5 Device", "refused 6 NoMemory", "silt: out of memory", "silt: store: out of memory"}
+            self.assertTrue(reasons.intersection(ended.lines + ended.err.splitlines()), ended)
+            return
+        self.assertEqual(ended.status, 0, ended)
+        self.assertTrue(re.fullmatch(REPORT, ended.err), ended)
+        if told.has_failed:
+            self.assertIn("takes nothing more", ended.err)
+            self.assertIn("silt: store: ", ended.err)
+
+    def test_syncs(self):
+        self.sweep("fdatasync", "EIO", {"refused 5 Device", "refused 8 NoRoom", "refused 9 Failed"})
+
+    def test_writes(self):
+        self.sweep("pwrite", "EIO", {"refused 5 Device", "refused 8 NoRoom", "refused 9 Failed"})
+
+    def test_reads(self):
+        self.sweep("pread", "EIO", {"refused 5 Device"})
+
+    @unittest.skipUnless(PROVED, "a build with checks has an allocator of its own")
+    def test_memory(self):
+        self.sweep("memory", "ENOMEM", {"refused 6 NoMemory"})
+
+
+if __name__ == "__main__":
+    unittest.main()
