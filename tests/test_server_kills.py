@@ -1,6 +1,7 @@
 """A server that is killed under load: each command that it accepted is there in the next run."""
 import signal
 import threading
+import time
 import unittest
 
 from harness import PROVED, scaled
@@ -131,7 +132,7 @@ class Kills(ServedCase):
         return generations, numbers
 
     def test_killed_under_load(self):
-        most = 300 if PROVED else 100
+        most = 600 if PROVED else 100
         generations, numbers = self.check_rounds(scaled(ROUNDS), most, signal.SIGKILL)
         self.assertEqual(generations, sorted(generations))
         # Each freeze, and each end of a conversion or a merge, makes a generation.
@@ -141,6 +142,18 @@ class Kills(ServedCase):
     def test_terminated_under_load(self):
         self.check_rounds(scaled(3), 200, signal.SIGTERM)
         self.check_rounds(scaled(3), 200, signal.SIGINT)
+
+    def test_killed_while_it_opens(self):
+        self.load_and_end(300, signal.SIGKILL)
+        begun = time.monotonic()
+        self.serve().kill()
+        opening = time.monotonic() - begun
+        for _ in range(scaled(20)):
+            server = self.begin("store", 0)
+            time.sleep(self.random.random() * opening)
+            server.kill()
+        self.check_whole()
+        self.check_kept()
 
     def test_served_again_and_again(self):
         """The next server serves what the killed one kept, with no run between them."""

@@ -72,16 +72,14 @@ class Sweeps(ServedCase):
         for line in LINES:
             client.ask(line)
         client.close()
-        self.check_calls(server.ended(), len(LINES[:8]) + self.steps())
+        # 7 commands, a flush behind each, the flush, 9 steps of a conversion and 13 of a merge.
+        self.check_calls(server.ended(), 7 + 7 + 1 + 9 + 13)
         return read_counts(self.path("counts"))[name]
-
-    def steps(self):
-        """Seven flushes beside those that were asked for, and the steps of a conversion and a merge."""
-        return 7 + 9 + 13
 
     def sweep(self, call, error, refusals):
         """Each of these calls fails in its turn, or some of them, if there are many."""
         made = self.calls_made(call)
+        self.assertGreater(made, 20, call)
         numbers = range(1, made + 1)
         if made > scaled(MOST):
             numbers = sorted(self.random.sample(numbers, scaled(MOST)))
