@@ -5,12 +5,14 @@ What is due is worked out of the table in docs/layout.md: the device calls of ea
 store. A disk in a file buffers adjacent writes, and makes them one write before a write
 elsewhere, before a sync, and when its room is full.
 """
+from commands import Commands
+from engine import SYNC, Engine
+from harness import PROVED, scaled
 from layout import CLOSED, DELETE, OPEN, PUT, SECTOR, Layout, manifest
 from watch import WatchedCase
 
 # How many bytes a disk in a file buffers.
 ROOM = 65536
-SYNC = ("fdatasync",)
 G = "2 2 4 2 2 8"
 # Keys whose two buckets are bucket 0, where there are two buckets. LATER lies in bucket 1 first.
 A, B, C, D, E = (f"{n:02}".ljust(40, "0") for n in range(1, 6))
@@ -35,13 +37,20 @@ class Buffer:
             self.at = at
         self.bytes += data
 
+    def read(self, at, count):
+        """A read makes no call if all its bytes are buffered."""
+        if not self.at <= at <= at + count <= self.at + len(self.bytes):
+            self.calls.append(("pread", at, count))
+
     def make(self, device_calls):
-        """Makes these writes and syncs. The calls of the system that come of it."""
+        """Makes these device calls. The calls of the system that come of it."""
         self.calls = []
         for call in device_calls:
             if call == SYNC:
                 self.go_out()
                 self.calls.append(SYNC)
+            elif call[0] == "pread":
+                self.read(*call[1:])
             else:
                 self.write(*call)
         return self.calls
@@ -509,3 +518,67 @@ class Reads(CallCase):
         self.silt("run", "store", text="merge\n" * (256 + 3))
         at = self.entry(0)[0]
         self.judge_reads([(f"get {key(1)}", [(at, 20), (at + 20, 493)])])
+
+
+def all_calls(calls):
+    """The reads, writes and syncs of the store's file."""
+    made = {"pread": lambda it: ("pread", it.at, it.asked), "pwrite": lambda it: ("pwrite", it.at, it.data)}
+    return [made.get(it.name, lambda _: SYNC)(it) for it in calls if it.name in (*made, "fdatasync")]
+
+
+class Random(CallCase):
+    """Random lines: each reply, and all device calls of each, as the rules have them."""
+
+    def keys(self, count, buckets):
+        """Keys, of which many share their buckets if there are few of these."""
+        heads = [self.random.randrange(buckets) for _ in range(2 * count)]
+        return [f"{heads[2 * n]:04x}{heads[2 * n + 1]:04x}{self.random.getrandbits(128):032x}" for n in range(count)]
+
+    def some_lines(self, made, engine):
+        """A line, or steps of what there is to do in the background."""
+        work = ["convert"] * bool(engine.frozen) + ["merge"] * bool(engine.hashes)
+        if work and (self.random.random() < 0.1 or len(engine.frozen) + 1 == engine.layout.logs):
+            return [self.random.choice(work)] * self.random.randint(1, engine.layout.slots + 4)
+        return made.lines(1)
+
+    def answered(self, engine, keys, count):
+        """Lines, each with its reply, its device calls, and the entries that a get of an absent
+        key may read."""
+        made, steps = Commands(self.random, keys, engine.layout.values), []
+        while len(steps) < count:
+            for line in self.some_lines(made, engine):
+                reply = engine.answer(line)
+                steps.append((line, reply, engine.calls, engine.entry_reads() if reply == "absent" else []))
+        return steps
+
+    def try_lines(self, geometry, keys, count):
+        """Lines on a new store. A get of an absent key may read one entry, of which the rules do
+        not say which."""
+        layout, buffer = Layout.of(geometry), Buffer()
+        steps = self.answered(Engine(layout), self.keys(keys, layout.buckets), count)
+        self.store(geometry)
+        replies, calls = self.record_by_lines([line for line, _, _, _ in steps])
+        for n, (step, reply, part) in enumerate(zip(steps, replies[1:], by_line(calls)[1:], strict=True)):
+            line, due_reply, device_calls, entries = step
+            due, got = buffer.make(device_calls), all_calls(part)
+            self.assertEqual(reply, due_reply, f"line {n}: {line}")
+            self.assertIn(got, [due] + [[*due, it] for it in entries], f"line {n}: {line}")
+
+    def test_small_stores(self):
+        for _ in range(scaled(16 if PROVED else 4)):
+            words = (2, self.random.choice((2, 4)), self.random.randint(1, 8), self.random.randint(2, 5),
+                     self.random.randint(1, 3), self.random.choice((12, 64)))
+            self.try_lines(" ".join(map(str, words)), self.random.choice((6, 12, 30)), 500)
+
+    def test_full_tables(self):
+        """Logs that may have as many rows as their tables have slots: entries move, and the rule
+        gives up."""
+        for _ in range(scaled(6 if PROVED else 2)):
+            self.try_lines("1 8 32 3 2 250", 200, 900)
+
+    def test_more_buckets(self):
+        for _ in range(scaled(3 if PROVED else 1)):
+            self.try_lines("9 32 100 3 2 300", 250, 2500)
+
+    def test_rows_of_several_sectors(self):
+        self.try_lines("480 4 16 3 2 60", 20, 600)
