@@ -2,7 +2,8 @@
 
 A byte that no write touched since the last sync is as that sync left it. Any other byte is
 pending: a crash leaves it as it was, as a write since made it, or as anything at all. The writes
-of a device may reach it in any order and in any parts.
+of a device may reach it in any order and in any parts. A write that failed may have reached it too,
+and a sync that failed settles nothing.
 """
 from dataclasses import dataclass
 
@@ -29,7 +30,7 @@ def cuts(before, calls, file):
         if call.file != file or call.name not in CHANGES:
             continue
         if call.name == "pwrite":
-            pending.append((call.at, call.moved))
+            pending.append((call.at, call.moved if call.result >= 0 else call.data))
         yield Cut(number, bytes(settled), list(pending))
         if call.name in SYNCS and call.result == 0:
             settle(settled, pending)

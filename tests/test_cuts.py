@@ -160,6 +160,16 @@ class Runs(CutCase):
     def test_rows_over_several_sectors(self):
         self.try_lives(GEOMETRIES[3])
 
+    def test_behind_failed_calls(self):
+        """A write or a sync fails, the store is failed, and then the crash comes."""
+        layout = Layout.of(GEOMETRIES[0])
+        before = self.store(GEOMETRIES[0]).read_bytes()
+        for _ in range(max(2, OF_RUNS // 8 // OF_A_LIFE)):
+            call = self.random.choice(("pwrite", "fdatasync"))
+            # The first sync is the opening's.
+            fault = f"{call}:{self.random.randint(2, 40)}:{self.random.choice(('EIO', 'ENOSPC'))}"
+            self.try_life(layout, before, {}, collections.Counter(), fail=fault)
+
     def test_a_program_without_syncs_is_refused(self):
         before = self.store(GEOMETRIES[0]).read_bytes()
         with self.assertRaises(AssertionError):
