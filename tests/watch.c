@@ -261,6 +261,7 @@ static ssize_t write_out(enum call call, int fd, const void *buf, size_t len, in
 }
 
 ssize_t write(int fd, const void *buf, size_t len) { return write_out(WRITE, fd, buf, len, 0); }
+ssize_t __write(int fd, const void *buf, size_t len) { return write_out(WRITE, fd, buf, len, 0); }
 ssize_t send(int fd, const void *buf, size_t len, int flags) { return write_out(SEND, fd, buf, len, flags); }
 
 ssize_t pwrite(int fd, const void *buf, size_t len, off_t at) {

@@ -14,7 +14,7 @@ import struct
 import tempfile
 from dataclasses import dataclass
 
-from harness import TIME_LIMIT, Case, watch_library
+from harness import Case, watch_library
 
 HEAD = struct.Struct("<B3xiiIqqqI4x")
 STREAMS = {0: "standard input", 1: "standard output", 2: "standard error"}
@@ -112,13 +112,9 @@ class WatchedCase(Case):
         return ended, read_record(self.path("record"))
 
     def record_by_lines(self, lines, name="store", **plans):
-        """A recorded run that gets each line only when the line before is answered."""
-        with self.start("run", name, env=watching(self, log="record", **plans)) as running:
-            replies = [running.stdout.readline().decode().rstrip("\n")]
-            for line in lines:
-                running.stdin.write(line.encode() + b"\n")
-                running.stdin.flush()
-                replies.append(running.stdout.readline().decode().rstrip("\n"))
-            out, err = running.communicate(timeout=TIME_LIMIT)
-        self.assertEqual((running.returncode, out), (0, b""), err)
-        return replies, read_record(self.path("record"))
+        """A recorded run that reads its lines byte by byte, so that it answers each before it reads
+        the next. The replies, and the calls."""
+        text = "".join(line + "\n" for line in lines)
+        ended, calls = self.recorded("run", name, text=text, short="read:1+", **plans)
+        self.assertEqual((ended.status, len(ended.lines)), (0, len(lines) + 1), ended)
+        return ended.lines, calls
