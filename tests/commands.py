@@ -8,7 +8,7 @@ def names(count):
 
 
 def value_of(number, length):
-    """A value that tells the number of its command."""
+    """A value that holds the number of its command."""
     return (number.to_bytes(2, "big") * (length // 2 + 1))[-length:].hex()
 
 

@@ -24,7 +24,7 @@ class Cut:
 
 def cuts(before, calls, file):
     """The moments at which a crash may stop the writes and syncs of a file that was this before:
-    within each of these calls, and behind the last."""
+    within each of these calls, and after the last."""
     settled, pending = bytearray(before), []
     for number, call in enumerate(calls):
         if call.file != file or call.name not in CHANGES:
@@ -91,7 +91,7 @@ def filled(random, pending):
 
 
 def garbage(random, pending):
-    """Other bytes at some pending places, of which many are those of an open gate."""
+    """Other bytes at some pending places, many of them an open gate's."""
     made = some_bytes(random, pending)
     return [(at, bytes([random.choice((0xA7, 0xA7, random.randrange(256)))])) for at, _ in made]
 

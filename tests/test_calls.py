@@ -14,7 +14,7 @@ from watch import WatchedCase
 # How many bytes a disk in a file buffers.
 ROOM = 65536
 G = "2 2 4 2 2 8"
-# Keys whose two buckets are bucket 0, where there are two buckets. LATER lies in bucket 1 first.
+# Keys whose two buckets are both bucket 0 of two. The first bucket of LATER is bucket 1.
 A, B, C, D, E = (f"{n:02}".ljust(40, "0") for n in range(1, 6))
 LATER = "0001".ljust(40, "0")
 
@@ -83,7 +83,7 @@ class Rules:
         return [(at, row or bytes(self.layout.row_len))]
 
     def slots(self, region, rows):
-        """All slots of a conversion, of which these have rows, one list for each step."""
+        """All slots of a conversion, one list for each step. These have rows."""
         return [self.slot(region, n, rows.get(n)) for n in range(self.layout.slots)]
 
     def entry(self, region, place, key, value):
@@ -109,7 +109,7 @@ def reads(calls):
 
 
 def by_line(calls):
-    """The calls before `opened`, and then those behind each reply up to the next."""
+    """The calls before `opened`, and then those after each reply up to the next."""
     parts = [[]]
     for call in calls:
         if call.file == "standard output":
@@ -145,7 +145,7 @@ class Writes(CallCase):
         return f"put {key} {value}", self.rules.row(log, place, PUT, key, value)
 
     def fill(self, log=0):
-        """The puts of four rows into an empty log, and the flush behind them."""
+        """The puts of four rows into an empty log, and the flush after them."""
         puts = [self.put(n, key, f"000{n + 1}", log) for n, key in enumerate((A, B, C, D))]
         return [*puts, ("flush", self.rules.flush(log, 0, 4))]
 
@@ -325,7 +325,7 @@ class Jobs(CallCase):
         self.assertEqual([it.name for it in calls[:3]], ["fsync", "fdatasync", "pread"])
 
     def test_an_opening_that_seals(self):
-        """Gates behind the first closed one are open: those behind it are closed, and it is not
+        """Gates after the first closed one are open: those after it are closed, and it is not
         touched."""
         path = self.store(G, [f"put {A} 0001", "flush"])
         content = bytearray(path.read_bytes())
@@ -333,7 +333,7 @@ class Jobs(CallCase):
         path.write_bytes(content)
         calls = self.opened(self.calls_of([])[0], 0o2, 6)
         self.assertEqual(changes(calls), [("fsync", "store"), SYNC, ("pwrite", 12290, bytes(2)), SYNC])
-        self.assertEqual(calls[-3].name, "pread", "the gates are closed behind the last read")
+        self.assertEqual(calls[-3].name, "pread", "the gates are closed after the last read")
 
     def test_an_opening_with_other_closed_gates(self):
         """Bytes that open no gate are no reason to write."""
@@ -369,14 +369,14 @@ class Jobs(CallCase):
         self.assertEqual(ended.lines[-1], "value 0001")
         self.assertEqual([it for it in calls if it.name in ("open", "pwrite", "fsync", "fdatasync")], [])
 
-    def test_replies_come_behind_the_last_sync(self):
+    def test_replies_come_after_the_last_sync(self):
         self.store(G)
         ended, calls = self.recorded("run", "store", text="put =abc 0102\nflush\n")
         names = [it.name for it in calls if it.file in ("store", "standard output")]
         self.assertEqual(names[-7:], ["write", "pwrite", "fdatasync", "pwrite", "fdatasync", "write", "close"])
 
 
-# How many reads: tables of 64 buckets, and keys of which each has two buckets of its own.
+# How many reads: tables of 64 buckets. Each key has two buckets of its own.
 WIDE = "2 64 8 4 4 64"
 
 
@@ -386,7 +386,7 @@ def key(number, more=0):
 
 
 class Reads(CallCase):
-    """How many reads each line makes. Behind each comment is what the design needs."""
+    """How many reads each line makes. The docstrings say what the design needs."""
 
     def setUp(self):
         super().setUp()
@@ -530,7 +530,7 @@ class Random(CallCase):
     """Random lines: each reply, and all device calls of each, as the rules have them."""
 
     def keys(self, count, buckets):
-        """Keys, of which many share their buckets if there are few of these."""
+        """Keys. Many share their buckets if there are few of these."""
         heads = [self.random.randrange(buckets) for _ in range(2 * count)]
         return [f"{heads[2 * n]:04x}{heads[2 * n + 1]:04x}{self.random.getrandbits(128):032x}" for n in range(count)]
 

@@ -31,19 +31,19 @@ class Lived:
     def __init__(self, lines, replies, calls):
         self.lines, self.replies, self.calls = lines, replies[1:], calls
         self.accepted = [line for line, it in zip(lines, self.replies) if it.startswith("accepted")]
-        self.read, self.told = [0], [-1]
+        self.read, self.replied = [0], [-1]
         for it in calls:
             ends = it.data.count(b"\n")
             self.read.append(self.read[-1] + ends * (it.file == "standard input"))
-            self.told.append(self.told[-1] + ends * (it.file == "standard output"))
+            self.replied.append(self.replied[-1] + ends * (it.file == "standard output"))
 
     def owed(self, number):
         """The least and the greatest number of commands that a crash at the call of this number may
         leave.
 
         Those count as acknowledged whose reply was begun before. `opened` is no reply to a line."""
-        told = self.replies[:max(0, self.told[number])]
-        least = max([int(it.split()[1]) for it in told if it.startswith("acknowledged")], default=0)
+        seen = self.replies[:max(0, self.replied[number])]
+        least = max([int(it.split()[1]) for it in seen if it.startswith("acknowledged")], default=0)
         return least, sum(it.startswith("accepted") for it in self.replies[:self.read[number]])
 
 
@@ -160,7 +160,7 @@ class Runs(CutCase):
     def test_rows_over_several_sectors(self):
         self.try_lives(GEOMETRIES[3])
 
-    def test_behind_failed_calls(self):
+    def test_after_failed_calls(self):
         """A write or a sync fails, the store is failed, and then the crash comes."""
         layout = Layout.of(GEOMETRIES[0])
         before = self.store(GEOMETRIES[0]).read_bytes()

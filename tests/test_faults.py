@@ -2,7 +2,7 @@
 interrupted.
 
 A job ends with a refusal, one line is refused, or the store has failed; the reason is on the
-standard error. Behind each run the file is whole: it holds the accepted commands up to one that
+standard error. After each run the file is whole: it holds the accepted commands up to one that
 is not before the last acknowledged one.
 """
 import errno
@@ -118,7 +118,8 @@ class Runs(FaultCase):
         return [line for line, reply in zip(lines, due) if is_command(line) and reply.startswith("accepted")]
 
     def judge_line(self, job, fault, whole, ended):
-        """One line is refused: all others are as where it is not asked, or the store has failed."""
+        """One line is refused: all others are as if it had not been asked, or the store has
+        failed."""
         self.assertEqual(ended.status, 0)
         got, due = ended.lines[1:], whole.lines[1:]
         at = next(n for n, (one, other) in enumerate(zip(got, due)) if one != other)
@@ -234,7 +235,7 @@ class Others(FaultCase):
             return
         call = calls[self.failed_call(fault, calls)]
         if call.file == "standard error":
-            # That a store is lost is then told in part.
+            # It says in part that a store is lost.
             self.assertEqual((ended.status, ended.out, self.report(left)), (0, whole.out, empty))
             self.assertTrue(whole.err.startswith(ended.err))
             return
@@ -318,8 +319,8 @@ class Files(FaultCase):
         if is_ignored or ended.status >= 0:
             self.assertEqual(ended.status, 0)
             self.assertRegex(ended.err, r"\Asilt: store: a (sync|write at \d+): File too large \(os error 27\)\n\Z")
-            behind = ended.lines[ended.lines.index("refused 5 Device") + 1:]
-            self.assertEqual({it for it in behind if not it.startswith("refused 2")}, {"refused 9 Failed"})
+            after = ended.lines[ended.lines.index("refused 5 Device") + 1:]
+            self.assertEqual({it for it in after if not it.startswith("refused 2")}, {"refused 9 Failed"})
         else:
             self.assertEqual(-ended.status, signal.SIGXFSZ)
         commands = [line for line in job.lines if is_command(line) and line != "put =c"]

@@ -41,8 +41,7 @@ class MemoryCase(JobCase):
         return read_counts(self.path("counts"))["memory"]
 
     def ended(self, job, **plans):
-        """How the job ends, which is made to read its lines byte by byte, so that it answers
-        each by itself."""
+        """How the job ends. It reads its lines byte by byte, and so answers each by itself."""
         self.put_back(job.before)
         return self.silt(*job.words, text=job.text, env=watching(self, short="read:1+", **plans), limit=20)
 
@@ -145,8 +144,8 @@ class Jobs(MemoryCase):
                 self.judge_lines(job, whole, type(whole)(0, out, ""))
 
 
-# A session of which each put freezes a log, so that both workers have something to do. A log that
-# they have not freed yet may be missing to one.
+# Each put of this session freezes a log, and both workers have something to do. A put finds no room
+# if they have not freed a log yet.
 OF_SERVERS = "2 2 1 6 3 40"
 SESSION = [f"put {KEYS[n % 4]} {n:04x}" for n in range(1, 9)] + ["flush", "get =a", "delete =b", "get =b", "get =d"]
 
@@ -188,7 +187,7 @@ class Servers(MemoryCase):
         return running.returncode, first + second + rest.decode(), err.decode(), replies
 
     def judge_session(self, replies):
-        """Judges the replies to the lines, and gives the maps of which the file may be one."""
+        """Judges the replies to the lines, and returns the maps that the file may be."""
         values, unknown = {}, []
         for line, reply in zip(SESSION, replies):
             if reply is None and is_command(line):

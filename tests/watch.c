@@ -8,17 +8,17 @@
 // of the C library. `CALL:N+` means the N-th call and all later ones. Commas divide several words.
 //
 //     SILT_WATCH_LOG=FILE          records the calls in this file, which watch.py reads
-//     SILT_WATCH_FAIL=CALL:N:ERRNO that call is not made and fails so: EIO, ENOSPC, EINTR, EAGAIN, ..
+//     SILT_WATCH_FAIL=CALL:N:ERRNO that call is not made and fails so: EIO, ENOSPC, EINTR, ..
 //     SILT_WATCH_SHORT=CALL:N      that call moves one byte alone
 //     SILT_WATCH_DROP=CALL[:N]     those calls are not made and report success; no record has them
 //     SILT_WATCH_COUNTS=FILE       at the end, one line `CALL NUMBER` for each name
 //
 // `open` is open and openat. `accept` is accept and accept4. `thread` is pthread_create. `memory`
-// is malloc, calloc, realloc, aligned_alloc, memalign and posix_memalign, also where the C library
+// is malloc, calloc, realloc, aligned_alloc, memalign and posix_memalign, also if the C library
 // calls them. A program with its own allocator, as one with a memory checker, makes none of these.
 //
 // The record's order. Calls that change a file are made one at a time and recorded as they end.
-// Writes to the standard output and to sockets are recorded as they begin. So a sync that stands
+// Writes to the standard output and to sockets are recorded as they begin. So a sync that is
 // before a reply ended before the reply began. Reads are recorded as they end. A call that was made
 // to fail is recorded with its error. Requests for memory are counted and not recorded.
 #define _GNU_SOURCE
@@ -112,7 +112,7 @@ static int error_of(const char *name) {
     return 0;
 }
 
-// One word of a variable: CALL, CALL:N or CALL:N:ERRNO, where N may end in a plus.
+// One word of a variable: CALL, CALL:N or CALL:N:ERRNO. N may end in a plus.
 static void read_plan(enum what what, const char *word) {
     struct plan *plan = &plans[plan_count];
     const char *number = strchr(word, ':');
@@ -136,7 +136,7 @@ static void read_plans(enum what what, const char *name) {
         if (*word) read_plan(what, word);
 }
 
-// The record's file gets a high number, so that the program's own files have the numbers that they
+// The record's file gets a high number, and the program's own files have the numbers that they
 // have without it.
 static void open_log(void) {
     const char *path = getenv("SILT_WATCH_LOG");
@@ -246,7 +246,7 @@ ssize_t pread(int fd, void *buf, size_t len, off_t at) {
     return got;
 }
 
-// A write to a stream or a socket: recorded as it begins, and once more where it does not take all.
+// A write to a stream or a socket: recorded as it begins, and again if it does not take all.
 static ssize_t write_out(enum call call, int fd, const void *buf, size_t len, int flags) {
     need_calls();
     const struct plan *plan = count(call);
@@ -321,7 +321,7 @@ static int open_file(int folder, const char *path, int flags, mode_t mode) {
     return fd;
 }
 
-// The permissions, which stand behind the flags of a call that may make a file.
+// The permissions: the argument after the flags, if the call may make a file.
 #define MODE(flags, mode)                             \
     mode_t mode = 0;                                  \
     if ((flags) & (O_CREAT | __O_TMPFILE)) {          \
@@ -388,31 +388,31 @@ int pthread_create(pthread_t *thread, const pthread_attr_t *how, void *(*run)(vo
 }
 
 // Whether this request for memory is refused.
-static int lacks(void) {
+static int is_refused(void) {
     const struct plan *plan = count(MEMORY);
     if (!is(plan, FAIL)) return 0;
     errno = plan->error;
     return 1;
 }
 
-void *malloc(size_t len) { return lacks() ? NULL : __libc_malloc(len); }
-void *calloc(size_t number, size_t len) { return lacks() ? NULL : __libc_calloc(number, len); }
-void *realloc(void *old, size_t len) { return lacks() ? NULL : __libc_realloc(old, len); }
-void *aligned_alloc(size_t align, size_t len) { return lacks() ? NULL : __libc_memalign(align, len); }
-void *memalign(size_t align, size_t len) { return lacks() ? NULL : __libc_memalign(align, len); }
+void *malloc(size_t len) { return is_refused() ? NULL : __libc_malloc(len); }
+void *calloc(size_t number, size_t len) { return is_refused() ? NULL : __libc_calloc(number, len); }
+void *realloc(void *old, size_t len) { return is_refused() ? NULL : __libc_realloc(old, len); }
+void *aligned_alloc(size_t align, size_t len) { return is_refused() ? NULL : __libc_memalign(align, len); }
+void *memalign(size_t align, size_t len) { return is_refused() ? NULL : __libc_memalign(align, len); }
 
 int posix_memalign(void **made, size_t align, size_t len) {
-    void *got = lacks() ? NULL : __libc_memalign(align, len);
+    void *got = is_refused() ? NULL : __libc_memalign(align, len);
     if (!got) return ENOMEM;
     *made = got;
     return 0;
 }
 
-// Writes the counts, once: where the program returns from main, and where it ends at once.
-__attribute__((destructor)) static void tell(void) {
-    static atomic_int is_told;
+// Writes the counts, once: when the program returns from main, or when it ends at once.
+__attribute__((destructor)) static void write_counts(void) {
+    static atomic_int is_written;
     const char *path = getenv("SILT_WATCH_COUNTS");
-    if (!path || atomic_exchange(&is_told, 1)) return;
+    if (!path || atomic_exchange(&is_written, 1)) return;
     int fd = real_openat(AT_FDCWD, path, O_WRONLY | O_CREAT | O_TRUNC | O_CLOEXEC, 0666);
     for (int i = 0; i < CALLS; i++) dprintf(fd, "%s %ld\n", call_names[i], (long)counts[i]);
     real_close(fd);
@@ -420,7 +420,7 @@ __attribute__((destructor)) static void tell(void) {
 
 void _exit(int status) {
     need_calls();
-    tell();
+    write_counts();
     real_exit(status);
     __builtin_unreachable();
 }

@@ -65,7 +65,7 @@ def read_counts(path):
 
 
 def read_raw(path):
-    """The records as they stand in the file: a name, the numbers and the bytes of each."""
+    """The records in the order of the file: a name, the numbers and the bytes of each."""
     data = pathlib.Path(path).read_bytes()
     names = data[:data.index(b"\n")].decode().split()
     at = data.index(b"\n") + 1
@@ -77,7 +77,7 @@ def read_raw(path):
 
 
 def read_record(path):
-    """The calls in their order. Each names the file that its number stood for when it was made."""
+    """The calls in their order. Each names the file that its number meant when it was made."""
     files, calls, sockets = dict(STREAMS), [], itertools.count(1)
     for name, (fd, error, thread, at, asked, result), data in read_raw(path):
         if name == "result":
@@ -97,8 +97,7 @@ def sent(calls, file):
 
 
 class WatchedCase(Case):
-    """A case whose folder lies in memory where the system has such a place, so that syncs are
-    quick."""
+    """A case whose folder lies in memory, if the system has such a place: syncs are quick there."""
 
     def setUp(self):
         super().setUp()
@@ -112,8 +111,8 @@ class WatchedCase(Case):
         return ended, read_record(self.path("record"))
 
     def record_by_lines(self, lines, name="store", **plans):
-        """A recorded run that reads its lines byte by byte, so that it answers each before it reads
-        the next. The replies, and the calls."""
+        """A recorded run that reads its lines byte by byte: it answers each before it reads the
+        next. The replies, and the calls."""
         text = "".join(line + "\n" for line in lines)
         ended, calls = self.recorded("run", name, text=text, short="read:1+", **plans)
         self.assertEqual((ended.status, len(ended.lines)), (0, len(lines) + 1), ended)
