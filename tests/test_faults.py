@@ -82,6 +82,7 @@ class FaultCase(JobCase):
         """What the standard error says, as a pattern."""
         if call.name in ("read", "write"):
             return f"silt: {re.escape(fault.text)}\n"
+        # A buffered write goes out with a later write or sync, and that one is named.
         where = {"pread": f"a read at {call.at}: ", "pwrite": r"(a sync|a write at \d+): ", "fdatasync": "a sync: "}
         return f"silt: store: {where.get(call.name, '')}{re.escape(fault.text)}\n"
 
