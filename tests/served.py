@@ -79,7 +79,7 @@ class Client:
         return self.replies(len(lines))
 
     def end_input(self):
-        """Ends what the client sends. The server then answers what it has and closes."""
+        """Ends what the client sends. The server replies to all lines and closes."""
         self.socket.shutdown(socket.SHUT_WR)
 
     def rest(self):

@@ -8,11 +8,12 @@ The commands are in the fenced blocks that name no language, or a shell's:
   prints the text of the file beside it.
 - A block without commands is the output of the last such command above it, if that one has none
   and is under the same heading.
-- A block whose first line begins with `./silt ` has commands without output.
+- Without such a line, a block of a shell's language is one command without output. So is each line
+  of a block whose first line begins with `./silt `.
 
-All commands of a document run in one shell, in a folder where `./silt` is the program and examples/
-is there. If a document uses a store that it does not make, the test makes one. Ports are replaced
-by free ones.
+All commands of a document run in one shell. Its folder is like the top of the repository: `./silt`
+is the program, and examples/ and docs/tools/ are there. If a document uses a store that it does not
+make, the test makes one. Ports are replaced by free ones.
 """
 import itertools
 import os
@@ -28,7 +29,8 @@ from dataclasses import dataclass, field
 
 from harness import PROGRAM, TIME_LIMIT, TOP, Case
 
-SHELLS = ("", "sh", "bash", "shell", "console", "text")
+SHELLS = ("sh", "bash", "shell")
+LANGUAGES = ("", "console", "text", *SHELLS)
 # Commands that are not run, and why.
 LEFT_OUT = {
     r"^rt\b|^\./build\b|\brt (check|test|try|ci)\b": "builds and proves, which takes long",
@@ -98,8 +100,8 @@ def blocks_of(document):
 
 def commands_in(block):
     """The commands of one block."""
-    if block.lines and block.lines[0].startswith("./silt "):
-        return [Command(block.place, block.section, line, may_be_shown_below=False) for line in block.lines if line]
+    if not any(line.startswith("$ ") for line in block.lines):
+        return [Command(block.place, block.section, it, may_be_shown_below=False) for it in bare_commands_in(block)]
     commands = []
     for line in block.lines:
         if line.startswith("$ "):
@@ -111,11 +113,20 @@ def commands_in(block):
     return commands
 
 
+def bare_commands_in(block):
+    """The commands of a block that has none with a `$`."""
+    if block.language in SHELLS:
+        return ["\n".join(block.lines)]
+    if block.lines and block.lines[0].startswith("./silt "):
+        return [line for line in block.lines if line]
+    return []
+
+
 def commands_of(document):
     """The commands of a document, in order."""
     commands = []
     for block in blocks_of(document):
-        if block.language not in SHELLS:
+        if block.language not in LANGUAGES:
             continue
         found = commands_in(block)
         if not found and commands and shows_below(commands[-1], block):
@@ -153,7 +164,10 @@ class Shell(Case):
     def setUp(self):
         super().setUp()
         self.path("silt").symlink_to(PROGRAM)
-        shutil.copytree(TOP / "examples", self.path("examples"))
+        self.path("crates/silt/out").mkdir(parents=True)
+        self.path("crates/silt/out/silt").symlink_to(PROGRAM)
+        for folder in ("examples", "docs/tools"):
+            shutil.copytree(TOP / folder, self.path(folder))
         self.path("bin").mkdir()
         self.path("bin/nc").write_text(NETCAT.format(python=sys.executable))
         self.path("bin/nc").chmod(0o755)
@@ -272,6 +286,14 @@ class Parsing(unittest.TestCase):
         commands = commands_in(Block("here", 0, "", lines))
         self.assertEqual([it.text for it in commands], ["one", "two \\\nmore", "three &"])
         self.assertEqual([it.shown for it in commands], [["a", ".."], [], ["b"]])
+
+    def test_blocks_without_a_dollar(self):
+        for language, lines, commands in (
+            ("sh", ["if a; then", "  b", "fi"], ["if a; then\n  b\nfi"]),
+            ("", ["./silt one", "", "./silt two"], ["./silt one", "./silt two"]),
+            ("", ["opened", "./silt two"], []),
+        ):
+            self.assertEqual([it.text for it in commands_in(Block("here", 0, language, lines))], commands)
 
     def test_lines_that_are_left_out(self):
         shown = pattern_of(["a.", "..", "d"])

@@ -72,7 +72,8 @@ class Flushes(ServedCase):
         self.assertEqual({flush for _, flush in replies}, {"refused 9 Failed"})
 
     def test_a_read_that_fails(self):
-        server = self.serve(env=watching(self, fail="pread:5:EIO", counts="counts"))
+        # The opening makes four reads, and the put of the first key none.
+        server = self.serve(env=watching(self, fail="pread:5:EIO"))
         client = self.client(server)
         self.assertEqual(client.ask("put =abc 0102"), ["accepted 1"])
         replies = client.ask(*["get =abc"] * 8)
@@ -88,7 +89,7 @@ class Limits(ServedCase):
         self.store(SMALL)
 
     def limited(self, is_signal_ignored):
-        """A server that may not write to the first log or behind it, and a client."""
+        """A server that may not write where its logs are, and a client."""
         def limit():
             signal.signal(signal.SIGXFSZ, signal.SIG_IGN if is_signal_ignored else signal.SIG_DFL)
             resource.setrlimit(resource.RLIMIT_FSIZE, (16384, 16384))
