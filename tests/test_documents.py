@@ -34,10 +34,10 @@ LANGUAGES = ("", "console", "text", *SHELLS)
 # Commands that are not run, and why.
 LEFT_OUT = {
     r"^rt\b|^\./build\b|\brt (check|test|try|ci)\b": "builds and proves, which takes long",
-    r"^(nice .*)?tests/run\b": "is this suite",
+    r"^(nice .*)?tests/run\b|^\./gate\b": "runs this suite",
     r"\bstrace\b": "needs the system's trace, and the document shortens its lines",
     r"\bbench/run\b|measure_server\.sh": "measures how fast something is",
-    r"try_faults\.py|faults\.(c|so)": "needs the test programs of crates, or takes minutes",
+    r"\bwatch\.(c|so)\b": "needs the test programs of crates",
     r"^git\b": "works on the repository",
 }
 # The status of a command whose pipe was closed by the next one.
