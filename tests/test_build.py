@@ -99,6 +99,22 @@ class Build(Scripts):
         self.assertEqual(self.build().status, 0)
         self.assertEqual(self.noted(), [])
 
+    def test_proves_nothing_again_behind_a_gate(self):
+        self.build()
+        self.notes.unlink()
+        # A gate leaves the libraries and the program, and nothing else.
+        for log in self.top.glob("crates/*/out/build.log"):
+            log.unlink()
+        self.assertEqual(self.build().status, 0)
+        self.assertEqual(self.noted(), [])
+
+    def test_proves_what_was_removed(self):
+        self.build()
+        self.notes.unlink()
+        shutil.rmtree(self.top / "crates/silt_right/out")
+        self.assertEqual(self.build().status, 0)
+        self.assertEqual([it.split()[0] for it in self.noted() if " over " not in it], ["silt_right"])
+
     def test_proves_a_changed_crate_and_those_above_it(self):
         self.build()
         self.notes.unlink()
