@@ -12,8 +12,8 @@ The commands are in the fenced blocks that name no language, or a shell's:
   of a block whose first line begins with `./silt `.
 
 All commands of a document run in one shell. Its folder is like the top of the repository: `./silt`
-is the program, and examples/ and docs/tools/ are there. If a document uses a store that it does not
-make, the test makes one. Ports are replaced by free ones.
+is the program, and examples/, docs/tools/ and tests/ are there. If a document uses a store that it
+does not make, the test makes one. Ports are replaced by free ones.
 """
 import itertools
 import os
@@ -33,11 +33,11 @@ SHELLS = ("sh", "bash", "shell")
 LANGUAGES = ("", "console", "text", *SHELLS)
 # Commands that are not run, and why.
 LEFT_OUT = {
-    r"^rt\b|^\./build\b|\brt (check|test|try|ci)\b": "builds and proves, which takes long",
-    r"^(nice .*)?tests/run\b|^\./gate\b": "runs this suite",
+    r"^rt\b|^\./(build|gate)\b": "builds and proves, which takes long",
+    r"^tests/run\b": "is this suite",
     r"\bstrace\b": "needs the system's trace, and the document shortens its lines",
     r"\bbench/run\b|measure_server\.sh": "measures how fast something is",
-    r"\bwatch\.(c|so)\b": "needs the test programs of crates",
+    r"_tests_tests\b": "needs the test programs of crates",
     r"^git\b": "works on the repository",
 }
 # The status of a command whose pipe was closed by the next one.
@@ -166,7 +166,7 @@ class Shell(Case):
         self.path("silt").symlink_to(PROGRAM)
         self.path("crates/silt/out").mkdir(parents=True)
         self.path("crates/silt/out/silt").symlink_to(PROGRAM)
-        for folder in ("examples", "docs/tools"):
+        for folder in ("examples", "docs/tools", "tests"):
             shutil.copytree(TOP / folder, self.path(folder))
         self.path("bin").mkdir()
         self.path("bin/nc").write_text(NETCAT.format(python=sys.executable))

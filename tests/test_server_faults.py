@@ -215,7 +215,6 @@ class Accepting(ServedCase):
         self.check_whole()
         self.assertEqual(self.found("=abc"), ["value 0102"])
 
-    # The server drops the error of a failed accept.
     def test_the_cause_is_reported(self):
         self.assertIn("Invalid argument (os error 22)", self.gone().err)
 
