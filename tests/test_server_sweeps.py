@@ -18,7 +18,7 @@ LINES = [
     "flush",
     *(f"get {key}" for key in KEYS),
 ]
-# Servers that are tried for each kind of call.
+# How many calls of a kind fail, one in each server.
 MOST = 50
 # The errors that a server may report.
 CALL = r"a (read|write|sync)( at \d+)?: Input/output error \(os error 5\)"
@@ -64,25 +64,28 @@ class Told:
 
 
 class Sweeps(ServedCase):
+    lines = LINES
+    # 7 commands, a flush behind each, the flush, 9 steps of a conversion and 13 of a merge.
+    calls = 7 + 7 + 1 + 9 + 13
+
     def calls_made(self, name):
         """How many calls of this name a server makes for all lines."""
         self.store(SMALL)
         server = self.serve("--sessions", 1, env=watching(self, counts="counts"))
         client = self.client(server)
-        for line in LINES:
+        for line in self.lines:
             client.ask(line)
         client.close()
-        # 7 commands, a flush behind each, the flush, 9 steps of a conversion and 13 of a merge.
-        self.check_calls(server.ended(), 7 + 7 + 1 + 9 + 13)
+        self.check_calls(server.ended(), self.calls)
         return read_counts(self.path("counts"))[name]
 
-    def sweep(self, call, error, refusals):
-        """Each of these calls fails in its turn, or some of them, if there are many."""
+    def sweep(self, call, error, refusals, most=scaled(MOST)):
+        """Each of these calls fails in its turn, or some of them, if there are more."""
         made = self.calls_made(call)
         self.assertGreater(made, 20, call)
         numbers = range(1, made + 1)
-        if made > scaled(MOST):
-            numbers = sorted(self.random.sample(numbers, scaled(MOST)))
+        if made > most:
+            numbers = sorted(self.random.sample(numbers, most))
         for number in numbers:
             fault = f"{call}:{number}:{error}"
             try:
@@ -106,10 +109,12 @@ class Sweeps(ServedCase):
 
     def ask_all(self, server, told, refusals):
         """Sends one line after the other, until the server ends the session."""
-        client = self.client(server)
-        for line in LINES:
-            client.send(line)
-            reply = client.reply()
+        try:
+            client = self.client(server)
+        except ConnectionError:
+            return  # the server has ended
+        for line in self.lines:
+            reply = self.reply_to(client, line)
             if reply is None:
                 self.assertIn("refused 6 NoMemory", refusals, line)
                 if line.startswith(("put", "delete")):
@@ -117,6 +122,14 @@ class Sweeps(ServedCase):
                 break
             told.take(line, reply, refusals)
         client.close()
+
+    def reply_to(self, client, line):
+        """The reply to a line. None if the server has ended the session."""
+        try:
+            client.send(line)
+        except ConnectionError:
+            return None
+        return client.reply()
 
     def connect_again(self, server):
         """Connects once more, since a connection whose thread finds no memory is not counted."""
@@ -149,6 +162,12 @@ class Sweeps(ServedCase):
     @unittest.skipUnless(PROVED, "a build with checks has an allocator of its own")
     def test_memory(self):
         self.sweep("memory", "ENOMEM", {"refused 6 NoMemory"})
+
+    @unittest.skipUnless(PROVED, "a build with checks has an allocator of its own")
+    def test_memory_of_an_idle_session(self):
+        # The first message to a worker is then the one that ends it.
+        self.lines, self.calls = [], 0
+        self.sweep("memory", "ENOMEM", {"refused 6 NoMemory"}, most=1000)
 
 
 if __name__ == "__main__":
