@@ -33,8 +33,8 @@ SHELLS = ("sh", "bash", "shell")
 LANGUAGES = ("", "console", "text", *SHELLS)
 # Commands that are not run, and why.
 LEFT_OUT = {
-    r"^rt\b|^\./(build|gate)\b": "builds and proves, which takes long",
-    r"^tests/run\b": "is this suite",
+    r"^rt\b|^\./build\b|\brt (check|test|try|ci)\b": "builds and proves, which takes long",
+    r"^(nice .*)?tests/run\b|^\./gate\b": "runs this suite",
     r"\bstrace\b": "needs the system's trace, and the document shortens its lines",
     r"\bbench/run\b|measure_server\.sh": "measures how fast something is",
     r"_tests_tests\b": "needs the test programs of crates",

@@ -140,8 +140,8 @@ class Limits(ServedCase):
         self.check_whole()
 
     def crowded(self, places):
-        """A server with descriptors for so many clients, these clients, and one more, which asks for
-        a value and gets no reply for now."""
+        """A server with descriptors for so many clients, these clients, and one more, which gets no
+        reply for now."""
         server = self.serve()
         most = DESCRIPTORS + places
         resource.prlimit(server.process.pid, resource.RLIMIT_NOFILE, (most, 1024))
