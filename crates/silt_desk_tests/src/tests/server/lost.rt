@@ -1,11 +1,11 @@
 // A session whose reply did not come: nothing of it is sent any more, as the command may have been done.
 
 use silt_event::{Event, Reply};
-use silt_server::{AskBy, Client, Outlet};
+use silt_server::{AskBy, Asking, Client, Outlet};
 use silt_wire::{SessionEnd, session};
 use std::alloc::Global;
 use std::io::{self, Read};
-use std::net::{Net, TcpListener, TcpStream};
+use std::net::{Net, Shutdown, TcpListener, TcpStream};
 use std::sync::atomic::AtomicU64;
 use std::test::Fail;
 
@@ -19,32 +19,29 @@ fn both_ends<R: Net<Listener = TcpListener, Stream = TcpStream>>(
     Ok((near, far))
 }
 
-// A session on this end of a connection, whose events are answered so.
-fn end_of<F: Fn(Event) -> Option<Reply<()>> + Drop>(
-    alloc: Global,
-    stream: &TcpStream,
-    ask: F,
-    lines: &[u8],
-) -> SessionEnd
-    requires { F.IsAlwaysCallable ask }
+// A session on this end of a connection, whose events are asked so.
+fn end_of<A: Asking>(alloc: Global, stream: &TcpStream, asking: A, lines: &[u8]) -> SessionEnd
+    requires { A.can_ask asking }
 {
     let cut = AtomicU64::new(0);
-    let mut client = Client::new(2, AskBy { ask }, &cut);
+    let mut client = Client::new(2, asking, &cut);
     let mut outlet = Outlet { stream, cut: &cut };
     let mut reader = lines;
     session(alloc, 2, &mut reader, &mut outlet, &mut client)
 }
 
 // How the session ends, and what the other end of the connection was sent by then.
-fn sent<
-    F: Fn(Event) -> Option<Reply<()>> + Drop,
-    R: Net<Listener = TcpListener, Stream = TcpStream>,
->(rt: &R, alloc: Global, ask: F, lines: &[u8]) -> io::Result<(SessionEnd, Vec<u8>)>
-    requires { F.IsAlwaysCallable ask }
+fn sent<A: Asking, R: Net<Listener = TcpListener, Stream = TcpStream>>(
+    rt: &R,
+    alloc: Global,
+    asking: A,
+    lines: &[u8],
+) -> io::Result<(SessionEnd, Vec<u8>)>
+    requires { A.can_ask asking }
 {
     let (mut near, far) = both_ends(rt)?;
-    let end = end_of(alloc, &far, ask, lines);
-    far.shutdown(std::net::Shutdown::Both)?;
+    let end = end_of(alloc, &far, asking, lines);
+    far.shutdown(Shutdown::Both)?;
     let mut got = Vec::new(alloc);
     near.read_to_end(&mut got)?;
     Ok((end, got))
@@ -53,12 +50,8 @@ fn sent<
 #[test]
 fn sends_nothing_once_a_reply_did_not_come(rt: HostRuntime) -> Result<(), Fail> {
     let lines = b"put =a 0102\nget =a\n".as_slice();
-    let (end, got) = sent(
-        &rt,
-        rt.alloc(),
-        |_event: Event| -> Option<Reply<()>> { None },
-        lines,
-    )?;
+    let ask = |_event: Event| -> Option<Reply<()>> { None };
+    let (end, got) = sent(&rt, rt.alloc(), AskBy { ask }, lines)?;
     assert_eq!(rt; (end == SessionEnd::WriteFault, got.len()), (true, 0));
     Ok(())
 }
@@ -66,8 +59,8 @@ fn sends_nothing_once_a_reply_did_not_come(rt: HostRuntime) -> Result<(), Fail> 
 #[test]
 fn sends_the_replies_that_come(rt: HostRuntime) -> Result<(), Fail> {
     let lines = b"get =a\n".as_slice();
-    let absent = |_event: Event| -> Option<Reply<()>> { Some(Reply::Absent) };
-    let (end, got) = sent(&rt, rt.alloc(), absent, lines)?;
+    let ask = |_event: Event| -> Option<Reply<()>> { Some(Reply::Absent) };
+    let (end, got) = sent(&rt, rt.alloc(), AskBy { ask }, lines)?;
     assert_eq!(rt;
         (end == SessionEnd::End, got.as_slice()),
         (true, b"absent\n".as_slice())
