@@ -1,9 +1,9 @@
 -- A new store on a disk in memory.
 use Rattle.std.proofs.Common.{ℕ, List, length, get_or, IsTrue, ◌∙◌, ap, subst}
 use Rattle.std.specs.FinMap.{empty}
-use Rattle.silt_device.specs.Disk.{Content, LeavesOnly, Stays}
-use Rattle.silt_device.specs.Layout.{Shape}
-use Rattle.silt_device.proofs.Laws.{leaves_weaker}
+use Rattle.silt_disk.specs.Disk.{Content, LeavesOnly, Stays}
+use Rattle.silt_disk.specs.Layout.{Shape}
+use Rattle.silt_disk.proofs.Laws.{leaves_weaker}
 use Rattle.silt_image.specs.Meaning.{StandsFor}
 use Rattle.silt_store_set.specs.CoreInvariant.{IsSafe}
 

@@ -1,8 +1,8 @@
 -- Why a new store on a disk in memory is refused.
 use Rattle.std.proofs.Common.{◌≡◌, ◌∙◌, ℕ, ap, length, replicate}
 use Rattle.std.proofs.lemmas.List.{length-replicate}
-use Rattle.silt_device.specs.Disk.{GaveAny, size}
-use Rattle.silt_device.specs.Layout.{Shape, device_size}
+use Rattle.silt_disk.specs.Disk.{GaveAny, size}
+use Rattle.silt_disk.specs.Layout.{Shape, device_size}
 use Rattle.silt_device.specs.Memory.{memory_content, memory_gave, IsFresh}
 use Rattle.silt_device.specs.declared.memory.MemDisk.{MemDisk}
 use Rattle.silt_device.specs.declared.memory.MemFault.{MemFault}

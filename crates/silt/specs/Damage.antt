@@ -1,10 +1,10 @@
 -- Where the parts of a disk lie.
 use Rattle.std.specs.Prelude.{◌≢◌, ◌+◌, ◌*◌, ℕ, nat_lt, if◌then◌else◌, IsTrue, Option, Some, None, Err}
-use Rattle.silt_device.specs.Disk.{Content, size}
-use Rattle.silt_device.specs.Layout.{Shape, bodies_at, entry_len, hash_at, row_len, slot_at, sorted_at}
+use Rattle.silt_disk.specs.Disk.{Content, size}
+use Rattle.silt_disk.specs.Layout.{Shape, bodies_at, entry_len, hash_at, row_len, slot_at, sorted_at}
 use Rattle.silt_event.specs.declared.place.Place.{Place}
 use Rattle.silt_event.specs.declared.place.Place.TheVariants.{Header, Length, Slot, NoSlot, Log, Hash, Sorted, Charge}
-use Rattle.silt_device.specs.Header.{header_of}
+use Rattle.silt_disk.specs.Header.{header_of}
 use Rattle.silt_image.specs.Stores.{shape_found}
 use Rattle.silt_event.specs.declared.damage.Finding.TheVariants.{NotFormatted}
 

@@ -1,9 +1,9 @@
 -- What the jobs on the disk of a path do.
 use Rattle.std.specs.Prelude.{◌≡◌, ◌⊎◌, ℕ, List, IfSome, Option, Some}
 use Rattle.std.specs.Option.{IsSomeAnd}
-use Rattle.silt_device.specs.Disk.{GaveAny, size}
-use Rattle.silt_device.specs.Layout.{InLimits, Shape, device_size}
-use Rattle.silt_device.specs.declared.disk.Disk.{Ghosts}
+use Rattle.silt_disk.specs.Disk.{GaveAny, size}
+use Rattle.silt_disk.specs.Layout.{InLimits, Shape, device_size}
+use Rattle.silt_disk.specs.declared.disk.Disk.{Ghosts}
 use Rattle.silt_event.specs.declared.refusal.Refusal.{Refusal}
 use Rattle.silt_event.specs.declared.refusal.Refusal.TheVariants.{BadGeometry, Device}
 use Rattle.silt_recovery.specs.Opening.{LeavesNoOther}

@@ -3,9 +3,9 @@ use Rattle.std.specs.Prelude.{◌≡◌, ◌≢◌, ◌⊎◌, ℕ, IsTrue, List
 use Rattle.std.specs.FinMap.{empty}
 use Rattle.std.specs.Fmt.{decimal}
 use Rattle.std.specs.Io.KnownBytes.{Appends}
-use Rattle.silt_device.specs.Disk.{GaveAny, LeavesOnly, size}
-use Rattle.silt_device.specs.Layout.{Shape, device_size}
-use Rattle.silt_device.specs.declared.disk.Disk.{Ghosts}
+use Rattle.silt_disk.specs.Disk.{GaveAny, LeavesOnly, size}
+use Rattle.silt_disk.specs.Layout.{Shape, device_size}
+use Rattle.silt_disk.specs.declared.disk.Disk.{Ghosts}
 use Rattle.silt_event.specs.declared.report.Report.{Report}
 use Rattle.silt_recovery.specs.Format.{FormatCause}
 use Rattle.silt_recovery.specs.Opening.{IsReported}

@@ -1,8 +1,8 @@
 -- New stores on disks in memory.
 use Rattle.std.specs.Prelude.{◌≡◌, List}
 use Rattle.std.specs.FinMap.{empty}
-use Rattle.silt_device.specs.Disk.{GaveAny, LeavesOnly, size}
-use Rattle.silt_device.specs.Layout.{Shape, device_size}
+use Rattle.silt_disk.specs.Disk.{GaveAny, LeavesOnly, size}
+use Rattle.silt_disk.specs.Layout.{Shape, device_size}
 use Rattle.silt_device.specs.Lives.{next_life}
 use Rattle.silt_device.specs.Memory.{memory_content, memory_gave}
 use Rattle.silt_device.specs.declared.life.Stop.{Stop}

@@ -1,5 +1,5 @@
 -- The numbers of a command line.
-use Rattle.silt_device.specs.Layout.{Shape}
+use Rattle.silt_disk.specs.Layout.{Shape}
 use Rattle.silt_words.specs.declared.job.Numbers.{Numbers}
 
 -- the geometry that the numbers ask for

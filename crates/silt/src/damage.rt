@@ -1,12 +1,12 @@
 // Where a damaged part of a disk lies, and whether a disk holds a store.
 ghost use Rattle.std.specs.Prelude.{◌≡◌, ◌+◌, ◌*◌, ◌<◌, ◌≤◌, ◌^◌, ◌⊎◌, true, IsTrue, IfOk, IfSome, IfNone};
-ghost use Rattle.silt_device.specs.Disk.{GaveAny, size};
-ghost use Rattle.silt_device.specs.Layout.{device_size, entry_len, row_len};
-ghost use Rattle.silt_device.specs.Header.{header_of};
+ghost use Rattle.silt_disk.specs.Disk.{GaveAny, size};
+ghost use Rattle.silt_disk.specs.Layout.{device_size, entry_len, row_len};
+ghost use Rattle.silt_disk.specs.Header.{header_of};
 ghost use Rattle.silt_image.specs.Stores.{shape_found};
 ghost use Rattle.silt.specs.Damage.{HoldsStore, part_at, offset_of};
 
-use silt_device::{Disk, Geometry, HEADER_LEN, slot_start};
+use silt_disk::{Disk, Geometry, HEADER_LEN, slot_start};
 use silt_event::{Finding, Place, Refusal};
 use silt_image::read_header;
 use silt_manifest::read_current;

@@ -2,7 +2,7 @@
 ghost use Rattle.std.specs.Prelude.{◌≡◌, Option};
 ghost use Rattle.silt.specs.declared.failure.Failure.{Failure as FailureOf};
 
-use silt_device::{CallAt, Disk};
+use silt_disk::{CallAt, Disk};
 use std::{fmt, io};
 
 /// A call of a disk that failed, and the system's error.

@@ -1,7 +1,7 @@
 // The jobs on the disk of a path.
 ghost use Rattle.std.specs.Prelude.{◌≡◌, ◌≢◌, Ok, true, IfOk, codes};
 ghost use Rattle.std.specs.Io.KnownBytes.{Appends};
-ghost use Rattle.silt_device.specs.Layout.{InLimits};
+ghost use Rattle.silt_disk.specs.Layout.{InLimits};
 ghost use Rattle.silt_server.specs.Serving.{IsStatus};
 ghost use Rattle.silt.specs.Files.{ChecksFile, FormatsFile, RunsFile, TellsCheckFile, TellsFormatFile, TellsRunFile};
 ghost use Rattle.silt.specs.Notes.{NotMadeTold, NotOpenedTold, ToldRefusal, ToldSession};
@@ -14,7 +14,8 @@ use crate::jobs::{check_on, format_on, run_on};
 use crate::notes::{FaultNotes, Notes, SourceNotes};
 use crate::refusal::refuse;
 use crate::streams::KeepsError;
-use silt_device::{Disk, DiskSource};
+use silt_device::DiskSource;
+use silt_disk::Disk;
 use silt_store_set::{Refusal, Served};
 use silt_words::Numbers;
 use std::alloc::Global;

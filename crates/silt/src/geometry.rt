@@ -1,9 +1,9 @@
 // Geometries of six numbers.
 ghost use Rattle.std.specs.Prelude.{◌≡◌, MatchResult};
-ghost use Rattle.silt_device.specs.Layout.{InLimits};
+ghost use Rattle.silt_disk.specs.Layout.{InLimits};
 ghost use Rattle.silt.specs.Numbers.{shape_asked};
 
-use silt_device::{BadGeometry, Geometry};
+use silt_disk::{BadGeometry, Geometry};
 use silt_words::Numbers;
 
 /// The geometry of the numbers, which are refused exactly where one of them is out of its limits.

@@ -1,7 +1,7 @@
 // The jobs on a disk of any kind.
 ghost use Rattle.std.specs.Prelude.{◌≡◌, Ok, IfOk};
 ghost use Rattle.std.specs.Io.KnownBytes.{Appends};
-ghost use Rattle.silt_device.specs.Layout.{device_size};
+ghost use Rattle.silt_disk.specs.Layout.{device_size};
 ghost use Rattle.silt_server.specs.Serving.{IsStatus};
 ghost use Rattle.silt_wire.specs.declared.sessions.SessionEnd.{SessionEnd as SessionEndOf};
 ghost use Rattle.silt_wire.specs.declared.sessions.SessionEnd.TheVariants.{End};
@@ -13,7 +13,7 @@ use crate::failure::Watched;
 use crate::notes::{FaultNotes, Notes, tell_end, tell_failures, tell_refusal};
 use crate::refusal::refuse;
 use crate::streams::KeepsError;
-use silt_device::{Disk, Geometry};
+use silt_disk::{Disk, Geometry};
 use silt_recovery::{check, format};
 use silt_store_set::{Core, OpenFault, Refusal, Served};
 use silt_wire::{SessionEnd, session, write_report};

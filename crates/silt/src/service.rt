@@ -1,6 +1,6 @@
 // The server on the disk of a path.
 ghost use Rattle.std.specs.Prelude.{◌≡◌, Ok, IfOk};
-ghost use Rattle.silt_device.specs.Layout.{Shape};
+ghost use Rattle.silt_disk.specs.Layout.{Shape};
 ghost use Rattle.silt_store_set.specs.CoreInvariant.{LeavesBegun};
 ghost use Rattle.silt_server.specs.Serving.{IsStatus, TellsNotServed};
 ghost use Rattle.silt.specs.Files.{EndsServe, LeavesServed, ServesFile, TellsServe, TellsServeFile};
@@ -12,7 +12,8 @@ use crate::listener::PatientListener;
 use crate::notes::{FaultNotes, Notes, SourceNotes, tell_failures};
 use crate::refusal::refuse;
 use silt_desk::{Gate, Spot};
-use silt_device::{Disk, DiskSource};
+use silt_device::DiskSource;
+use silt_disk::Disk;
 use silt_server::{refuse_network, serve_on};
 use silt_store_set::{Core, Refusal};
 use silt_words::Service;

@@ -1,13 +1,14 @@
 // Files as disks that keep which of their calls failed.
 ghost use Rattle.std.specs.Prelude.{◌≡◌, ◌+◌, ◌%◌, ◌^◌, ◌≤◌, Some, None, IfErr, MatchResult, OnErr, OnOk, length};
-ghost use Rattle.silt_device.specs.Disk.{Settles, Stays, Tears, Writes, size};
-ghost use Rattle.silt_device.specs.declared.disk.Call.TheVariants.{Write, Sync};
+ghost use Rattle.silt_disk.specs.Disk.{Settles, Stays, Tears, Writes, size};
+ghost use Rattle.silt_disk.specs.declared.disk.Call.TheVariants.{Write, Sync};
 
 use crate::failure::{Failure, Watched};
 use crate::note_lines::NoteLines;
 use crate::notes::Notes;
 use crate::progress::Progress;
-use silt_device::{Call, CallAt, Disk, DiskSource, FileDisk};
+use silt_device::{DiskSource, FileDisk};
+use silt_disk::{Call, CallAt, Disk};
 use silt_event::{Event, Reply};
 use silt_store_set::{Core, Served};
 use std::alloc::Global;

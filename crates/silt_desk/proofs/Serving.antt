@@ -1,6 +1,6 @@
 -- A call at a desk, from what the store does and what is noted.
 use Rattle.std.proofs.Common.{◌≡◌, ℕ, ◌+◌, ◌++◌, Bool, true, false, IsTrue, List, length, Ok, Err, Result, refl, ap, sym, ◌∙◌, subst, inr}
-use Rattle.silt_device.specs.declared.disk.Disk.{Ghosts}
+use Rattle.silt_disk.specs.declared.disk.Disk.{Ghosts}
 use Rattle.silt_event.specs.Commands.{Command, Map}
 use Rattle.silt_event.specs.declared.progress.Progress.{Progress as ProgressOf}
 use Rattle.silt_store_set.proofs.Runs.{does_step}

@@ -8,7 +8,7 @@ use denote.Struct.Struct.{Struct}
 use denote.Param.Send.{IsSend, IsSync, part_keyless}
 use Rattle.std.specs.Sync.Ledger.{chain, row, Rule, book_owns, share_owns}
 use Rattle.std.specs.declared.sync.ledger.Ledger.{Ghosts}
-use Rattle.silt_device.specs.declared.disk.Disk as Disk
+use Rattle.silt_disk.specs.declared.disk.Disk as Disk
 use Rattle.silt_desk.specs.declared.trace.Trace as Trace
 use Rattle.silt_desk.specs.declared.seat.Naming as Naming
 use Rattle.silt_desk.specs.contracts.desk.Desk as Desk

@@ -1,6 +1,6 @@
 -- What contracts see of a desk, and what its calls do.
 use Rattle.std.specs.Prelude.{◌≡◌, ◌⊎◌, ℕ, ◌+◌, Bool, MatchBool, Result, Ok, Err}
-use Rattle.silt_device.specs.declared.disk.Disk.{Ghosts}
+use Rattle.silt_disk.specs.declared.disk.Disk.{Ghosts}
 use Rattle.silt_store_set.specs.CoreState.{CoreState, Does}
 use Rattle.silt_event.specs.Events.{plain}
 use Rattle.silt_event.specs.declared.event.Event.{Event}

@@ -1,8 +1,8 @@
 -- What a trace is told of a store: no word of it names the device's type.
 use Rattle.std.specs.Prelude.{◌≡◌, ℕ, ◌+◌, Bool, true, false, IsTrue, List, [], ◌++◌, length}
-use Rattle.silt_device.specs.Disk.{Content, LeavesOnly}
-use Rattle.silt_device.specs.Layout.{Shape}
-use Rattle.silt_device.specs.declared.disk.Disk.{Ghosts}
+use Rattle.silt_disk.specs.Disk.{Content, LeavesOnly}
+use Rattle.silt_disk.specs.Layout.{Shape}
+use Rattle.silt_disk.specs.declared.disk.Disk.{Ghosts}
 use Rattle.silt_event.specs.Commands.{Command, Map, map_after}
 use Rattle.silt_image.specs.Meaning.{StandsFor}
 use Rattle.silt_tiers.specs.Calls.{HasBegun}

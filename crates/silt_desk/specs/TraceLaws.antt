@@ -1,8 +1,8 @@
 -- One call more, in a trace.
 use Rattle.std.proofs.Common.{◌≡◌, ℕ, ◌+◌, ◌%◌, ◌^◌, ◌≤◌, ◌==◌, Bool, true, false, IsTrue, List, [], ◌∷◌, ◌++◌, length, refl, sym, ◌∙◌, ap, subst, arith, length-append, append_assoc}
 use Rattle.std.proofs.lemmas.Bool.{ne_eqb}
-use Rattle.silt_device.specs.Disk.{LeavesOnly}
-use Rattle.silt_device.specs.Layout.{Shape}
+use Rattle.silt_disk.specs.Disk.{LeavesOnly}
+use Rattle.silt_disk.specs.Layout.{Shape}
 use Rattle.silt_event.specs.Commands.{Command, Map, map_after}
 use Rattle.silt_event.specs.Events.{Counts, Legal, PlainReply, Step, accepted_command, acknowledged_after, acknowledged_by}
 use Rattle.silt_event.specs.declared.event.Event.{Event}

@@ -4,8 +4,8 @@ use Rattle.std.specs.BTreeMap.{is_at}
 use Rattle.std.specs.Map.{lookup}
 use Rattle.std.specs.FinMap.{get}
 use Rattle.silt_frame.specs.declared.key.Key.{Key}
-use Rattle.silt_device.specs.Disk.{LeavesOnly}
-use Rattle.silt_device.specs.Layout.{Shape}
+use Rattle.silt_disk.specs.Disk.{LeavesOnly}
+use Rattle.silt_disk.specs.Layout.{Shape}
 use Rattle.silt_event.specs.Commands.{Command, Map, map_after}
 use Rattle.silt_event.specs.Events.{acknowledged_after}
 use Rattle.silt_image.specs.Meaning.{StandsFor}

@@ -9,7 +9,7 @@ ghost use Rattle.silt_desk.specs.Seats.{accepted_of, calls_of, fresh};
 use crate::call::{Note, plain};
 use crate::seat::{Ledgers, MissingSeats, Naming, Seat};
 use crate::trace::{NotPrepared, Trace};
-use silt_device::{Disk, Geometry};
+use silt_disk::{Disk, Geometry};
 use silt_event::{Progress, Refusal};
 use silt_frame::Key;
 use silt_store_set::Core;
@@ -78,7 +78,7 @@ fn refusal<F>(lack: NotPrepared) -> Refusal<F>
 
 impl<D: Disk, T: Trace, N: Naming> Desk<D, T, N> {
     ghost use Rattle.std.specs.Prelude.{IsErrOf};
-    ghost use Rattle.silt_device.specs.Disk.{LeavesOnly};
+    ghost use Rattle.silt_disk.specs.Disk.{LeavesOnly};
     ghost use Rattle.silt_image.specs.Meaning.{StandsFor};
     ghost use Rattle.silt_store_set.specs.CoreInvariant.{LeavesBegun};
     ghost use Rattle.silt_event.specs.Commands.{map_after};

@@ -6,7 +6,7 @@ ghost use Rattle.silt_desk.specs.Traces.{ListsMap, IsHistory};
 
 use crate::call::{Note, RecordedCall};
 use crate::trace::{NotPrepared, Trace};
-use silt_device::Disk;
+use silt_disk::Disk;
 use silt_event::Refusal;
 use silt_frame::{Key, Value};
 use silt_store_set::Core;

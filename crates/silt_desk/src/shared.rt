@@ -5,7 +5,7 @@ ghost use Rattle.silt_desk.specs.Seats.{accepted_of, calls_of};
 use crate::desk::Desk;
 use crate::seat::{MissingSeats, Naming, Seat};
 use crate::trace::Trace;
-use silt_device::Disk;
+use silt_disk::Disk;
 use std::sync::{RwLock, Wait};
 
 /// A desk that threads share. Callers take a guard, and make the desk's own calls: looks under a read guard, side by side, and all

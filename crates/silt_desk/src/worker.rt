@@ -15,7 +15,7 @@ use crate::shared::Shared;
 use crate::trace::Trace;
 use crate::wakes::wake;
 use crossbeam_channel::{Receiver, Sender};
-use silt_device::Disk;
+use silt_disk::Disk;
 use silt_event::{Progress, Refusal};
 use std::alloc::Global;
 use std::sync::Wait;

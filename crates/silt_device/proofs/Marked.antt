@@ -3,10 +3,10 @@ use Rattle.std.proofs.Common.{◌≡◌, ℕ, ◌+◌, ◌-◌, ◌≤◌, ◌<�
 use Rattle.std.proofs.lemmas.Bool.{cases_lt, cases_Bool}
 use Rattle.std.proofs.lemmas.List.Edits.{length-between, get_or-between}
 use Rattle.std.proofs.lemmas.Bool.Decides.{nat_tests}
-use Rattle.silt_device.specs.Disk.{Torn, splice, within}
+use Rattle.silt_disk.specs.Disk.{Torn, splice, within}
 use Rattle.std.proofs.lemmas.List.{ext_get_or}
 use Rattle.silt_device.specs.Marks.{LieWithin}
-use Rattle.silt_device.proofs.Images.{torn_splice, splice_byte}
+use Rattle.silt_disk.proofs.Images.{torn_splice, splice_byte}
 
 -- what is shown is settled at each place that is not marked
 abbrev pub Agrees : List ℕ → List ℕ → List Bool → Type 0

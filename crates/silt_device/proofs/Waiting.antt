@@ -4,13 +4,13 @@ use Rattle.std.proofs.lemmas.List.{ext_get_or, get_or_past, get_or_append_left, 
 use Rattle.std.proofs.lemmas.List.Edits.{length-between, get_or-between}
 use Rattle.std.proofs.lemmas.Bool.{cases_lt, cases_Bool, cond-true, cond-false}
 use Rattle.std.proofs.lemmas.Bool.Decides.{nat_tests}
-use Rattle.silt_device.specs.Disk.{Content, Torn, Tears, Writes, Settles, Stays, Restarts, size, splice, within}
+use Rattle.silt_disk.specs.Disk.{Content, Torn, Tears, Writes, Settles, Stays, Restarts, size, splice, within}
 use Rattle.silt_device.specs.Buffered.{BufferedBytes, BufferedState, buffered_content, takes, grown, emptied, waits, image_over, length-image_over, byte_elsewhere, byte_there, content_over, neither, holds, LaidOver}
 use Rattle.std.specs.Prelude.{Result, Ok, Err, IfOk}
 use Rattle.silt_device.specs.File.{IsOpened, file_content}
 use Rattle.silt_device.specs.declared.file.RandomAccessDisk.{RandomAccessDisk}
 use Rattle.silt_device.specs.declared.system_disk.FileDisk.{FileDisk}
-use Rattle.silt_device.proofs.Images.{torn_splice, splice_byte}
+use Rattle.silt_disk.proofs.Images.{torn_splice, splice_byte}
 
 -- ---- one call after another
 

@@ -5,8 +5,8 @@ use Rattle.std.proofs.Common.{sym, ◌∙◌, inl, inr, arith}
 use Rattle.std.proofs.lemmas.Bool.{cases_lt, cond-true, cond-false}
 use Rattle.std.proofs.lemmas.List.{get_or_past}
 use Rattle.std.proofs.lemmas.List.FromFn.{length-map-range_with_len, get_or-map-range_with_len}
-use Rattle.silt_device.specs.Disk.{Content, GaveAny, size, within}
-use Rattle.silt_device.specs.declared.disk.Call.{Call}
+use Rattle.silt_disk.specs.Disk.{Content, GaveAny, size, within}
+use Rattle.silt_disk.specs.declared.disk.Call.{Call}
 use Rattle.silt_device.specs.declared.buffered_disk.BufferFault.{BufferFault}
 
 -- Adjacent bytes that wait to be written from a place on, and how many there is room for. Where there are none the place says nothing.

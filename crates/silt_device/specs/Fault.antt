@@ -1,9 +1,9 @@
 -- What a disk with a fault stands for.
 use Rattle.std.specs.Prelude.{◌≡◌, ℕ, ◌-◌, Bool, true, false, if◌then◌else◌}
-use Rattle.silt_device.specs.Disk.{Content}
+use Rattle.silt_disk.specs.Disk.{Content}
 use Rattle.silt_device.specs.Memory.{memory_content, memory_gave}
-use Rattle.silt_device.specs.declared.disk.Call.{Call}
-use Rattle.silt_device.specs.declared.disk.Call.TheVariants.{Read, Write, Sync}
+use Rattle.silt_disk.specs.declared.disk.Call.{Call}
+use Rattle.silt_disk.specs.declared.disk.Call.TheVariants.{Read, Write, Sync}
 use Rattle.silt_device.specs.declared.fault.FaultDisk.{FaultDisk}
 use Rattle.silt_device.specs.declared.memory.MemFault.{MemFault}
 

@@ -2,8 +2,8 @@
 use Rattle.std.specs.Prelude.{◌≡◌, ℕ, false, refl, replicate}
 use Rattle.std.specs.Fs.{metadata_len}
 use Rattle.std.specs.declared.fs.attrs.Metadata.{Metadata}
-use Rattle.silt_device.specs.Disk.{Content, size}
-use Rattle.silt_device.specs.declared.disk.Call.{Call}
+use Rattle.silt_disk.specs.Disk.{Content, size}
+use Rattle.silt_disk.specs.declared.disk.Call.{Call}
 use Rattle.silt_device.specs.declared.file.RandomAccessDisk.{RandomAccessDisk}
 use Rattle.silt_device.specs.declared.file.FileFault.{FileFault}
 

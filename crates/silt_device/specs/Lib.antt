@@ -1,11 +1,7 @@
-pub mod Disk
 pub mod Fault
 pub mod File
 pub mod Buffered
-pub mod Header
-pub mod Layout
 pub mod Lives
 pub mod Marks
 pub mod Memory
-pub mod Numbers
 pub mod Source

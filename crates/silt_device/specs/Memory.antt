@@ -1,8 +1,8 @@
 -- What a disk in memory stands for.
 use Rattle.std.specs.Prelude.{◌≡◌, ℕ, List, [], true, false, get_or}
-use Rattle.silt_device.specs.Disk.{Content, Rests}
+use Rattle.silt_disk.specs.Disk.{Content, Rests}
 use Rattle.silt_device.specs.Lives.{filled, next_life}
-use Rattle.silt_device.specs.declared.disk.Call.{Call}
+use Rattle.silt_disk.specs.declared.disk.Call.{Call}
 use Rattle.silt_device.specs.declared.memory.MemDisk.{MemDisk}
 use Rattle.silt_device.specs.declared.memory.MemFault.{MemFault}
 

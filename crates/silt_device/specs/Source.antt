@@ -1,6 +1,6 @@
 -- What a source of disks gives.
 use Rattle.std.specs.Prelude.{◌≡◌, ◌≢◌, ◌⊎◌, ℕ, List, string_bytes}
-use Rattle.silt_device.specs.Disk.{Content, size}
+use Rattle.silt_disk.specs.Disk.{Content, size}
 use Rattle.silt_device.specs.declared.source.NamedDisk.{NamedDisk}
 
 -- the disk is the source's one, and the path its name

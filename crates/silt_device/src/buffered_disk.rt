@@ -1,9 +1,9 @@
 // A disk that buffers adjacent writes for another disk.
 ghost use Rattle.std.specs.Prelude.{◌≡◌, ◌+◌, ◌≤◌, ◌%◌, ◌^◌, ◌==◌, IfOk, OnOk, IfErr, MatchResult, IsTrue, length, []};
-ghost use Rattle.silt_device.specs.Disk.{GaveAny, Stays, Tears, Writes, size};
+ghost use Rattle.silt_disk.specs.Disk.{GaveAny, Stays, Tears, Writes, size};
 
 use crate::write_buffer::WriteBuffer;
-use crate::{Call, Disk, Stoppable};
+use silt_disk::{Call, Disk, Stoppable};
 use std::alloc::{AllocError, Global};
 use std::error::Error;
 use std::fmt;

@@ -2,7 +2,7 @@
 ghost use Rattle.std.specs.Prelude.{◌≡◌, ◌+◌, ◌≤◌, ◌%◌, ◌^◌, ◌↔◌, IsTrue, length};
 
 use crate::memory::{MemDisk, MemFault};
-use crate::{Call, Disk};
+use silt_disk::{Call, Disk};
 use std::sync::atomic::{AtomicU64, Ordering};
 
 /// A disk in memory on which one call fails, given by its kind and its number among the calls of that kind, counted from 1.
@@ -66,8 +66,8 @@ impl FaultDisk {
 
 impl Disk for FaultDisk {
     ghost use Rattle.std.specs.Prelude.{MatchResult, OnOk, OnErr, IsErr, IfErr, slice_range, ◌≢◌};
-    ghost use Rattle.silt_device.specs.declared.disk.Call.TheVariants.{Read, Write, Sync};
-    ghost use Rattle.silt_device.specs.Disk.{Tears, Settles, Stays, splice};
+    ghost use Rattle.silt_disk.specs.declared.disk.Call.TheVariants.{Read, Write, Sync};
+    ghost use Rattle.silt_disk.specs.Disk.{Tears, Settles, Stays, splice};
     ghost use Rattle.silt_device.specs.Lives.{is_stopped, plan_after_call};
     ghost use Rattle.silt_device.specs.Fault.{fault_content, fault_failures, fault_gave, IsNamed, left_after};
 

@@ -2,7 +2,7 @@
 ghost use Rattle.std.specs.Prelude.{◌≡◌, ◌≤◌, ◌^◌, ◌+◌, ◌%◌, IfOk, OnOk, IsErr};
 
 use crate::system::{FileSystem, RandomAccessFile};
-use crate::{Call, CallAt, Disk};
+use silt_disk::{Call, CallAt, Disk};
 use std::error::Error;
 use std::fs::{File, Metadata};
 use std::{fmt, io};
@@ -167,7 +167,7 @@ impl<F: RandomAccessFile> RandomAccessDisk<F> {
 
 impl<F: RandomAccessFile + Send + Sync> Disk for RandomAccessDisk<F> {
     ghost use Rattle.std.specs.Prelude.{OnOk, OnErr, IfErr, MatchResult, length};
-    ghost use Rattle.silt_device.specs.declared.disk.Call.TheVariants.{Read, Write, Sync};
+    ghost use Rattle.silt_disk.specs.declared.disk.Call.TheVariants.{Read, Write, Sync};
     ghost use Rattle.silt_device.specs.File.{file_content, file_gave};
 
     type Fault = FileFault;

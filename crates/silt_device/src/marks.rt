@@ -1,6 +1,6 @@
 // Marks of places, and a range outside of which there is none.
 ghost use Rattle.std.specs.Prelude.{◌≡◌, ◌+◌, ◌-◌, ◌≤◌, ◌||◌, ◌&&◌, not, ℕ, false, length, get_or};
-ghost use Rattle.silt_device.specs.Disk.{within};
+ghost use Rattle.silt_disk.specs.Disk.{within};
 
 use std::alloc::{AllocError, Global};
 use std::marker::Model;
@@ -47,7 +47,7 @@ fn clear_range(marked: &mut [bool], from: usize, to: usize)
 
 impl Marks {
     ghost use Rattle.std.specs.Prelude.{◌≡◌, ◌+◌, ◌≤◌, ◌||◌, ℕ, false, length, get_or, IfOk, replicate};
-    ghost use Rattle.silt_device.specs.Disk.{within};
+    ghost use Rattle.silt_disk.specs.Disk.{within};
     ghost use Rattle.silt_device.specs.Marks.{LieWithin};
 
     /// This many places, none of them marked.

@@ -1,11 +1,11 @@
 // A disk in memory that can stop at a chosen write or sync, and then holds what such a stop could leave.
 ghost use Rattle.std.specs.Prelude.{◌≡◌, ◌+◌, ◌≤◌, ◌%◌, ◌^◌, ◌||◌, ℕ, true, false, length, get_or, slice_range};
-ghost use Rattle.silt_device.specs.Disk.{splice, within};
+ghost use Rattle.silt_disk.specs.Disk.{splice, within};
 ghost use Rattle.silt_device.specs.Lives.{filled};
 
 use crate::life::{Fill, Lives, Stop, filled_byte};
 use crate::marks::Marks;
-use crate::{Call, CallAt, Disk, Stoppable};
+use silt_disk::{Call, CallAt, Disk, Stoppable};
 use std::alloc::{AllocError, Global};
 use std::error::Error;
 use std::fmt;
@@ -89,7 +89,7 @@ fn fill_pending(shown: &mut [u8], settled: &[u8], pending: &[bool], fill: Fill)
 
 impl MemDisk {
     ghost use Rattle.std.specs.Prelude.{IfOk, replicate};
-    ghost use Rattle.silt_device.specs.Disk.{Stays, Restarts, Settles, Tears};
+    ghost use Rattle.silt_disk.specs.Disk.{Stays, Restarts, Settles, Tears};
     ghost use Rattle.silt_device.specs.Memory.{memory_content, memory_gave, IsFresh, IsFilled};
     ghost use Rattle.silt_device.specs.Lives.{next_life, plan_after_call};
 
@@ -211,8 +211,8 @@ impl MemDisk {
 
 impl Disk for MemDisk {
     ghost use Rattle.std.specs.Prelude.{OnOk, OnErr, IfErr, IsErr, IsTrue, MatchResult, slice_range, ◌↔◌};
-    ghost use Rattle.silt_device.specs.declared.disk.Call.TheVariants.{Read, Write, Sync};
-    ghost use Rattle.silt_device.specs.Disk.{Tears, Writes, Settles, Stays};
+    ghost use Rattle.silt_disk.specs.declared.disk.Call.TheVariants.{Read, Write, Sync};
+    ghost use Rattle.silt_disk.specs.Disk.{Tears, Writes, Settles, Stays};
     ghost use Rattle.silt_device.specs.Lives.{is_stopped, plan_after_call};
     ghost use Rattle.silt_device.specs.Memory.{memory_content, memory_gave};
 
@@ -279,7 +279,7 @@ impl Disk for MemDisk {
 }
 
 impl Stoppable for MemDisk {
-    ghost use Rattle.silt_device.specs.Disk.{Restarts};
+    ghost use Rattle.silt_disk.specs.Disk.{Restarts};
     ghost use Rattle.silt_device.specs.Lives.{next_life};
     ghost use Rattle.silt_device.specs.Memory.{memory_content, IsFilled};
 

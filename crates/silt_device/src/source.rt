@@ -1,9 +1,10 @@
 // Where disks come from: a path names a disk, which is opened there or made there.
 ghost use Rattle.std.specs.Prelude.{◌≡◌, ℕ, List, IfOk, IfErr};
-ghost use Rattle.silt_device.specs.Disk.{size};
+ghost use Rattle.silt_disk.specs.Disk.{size};
 
+use crate::FileDisk;
 use crate::system::FileSystem;
-use crate::{Disk, FileDisk};
+use silt_disk::Disk;
 use std::fs::File;
 use std::io;
 use thiserror::Error;

@@ -1,10 +1,10 @@
 // A disk in a file of the system.
 ghost use Rattle.std.specs.Prelude.{⊤, ◌≡◌, ◌≤◌, ◌^◌, IfOk, OnOk, IsErr};
 
-use crate::Disk;
 use crate::buffered_disk::{BufferFault, BufferedDisk};
 use crate::file::{FileFault, RandomAccessDisk};
 use crate::system::FileSystem;
+use silt_disk::Disk;
 use std::fs::File;
 use std::io;
 

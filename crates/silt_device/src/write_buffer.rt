@@ -1,6 +1,6 @@
 // Adjacent bytes that wait to be written.
 ghost use Rattle.std.specs.Prelude.{◌≡◌, ◌≤◌, ◌<◌, ◌+◌, ◌^◌, ◌==◌, ℕ, List, [], length, slice_range, IsTrue, IfOk};
-ghost use Rattle.silt_device.specs.Disk.{splice};
+ghost use Rattle.silt_disk.specs.Disk.{splice};
 ghost use Rattle.silt_device.specs.Buffered.{takes, grown, emptied, holds, LaidOver};
 
 use std::alloc::{AllocError, Global};

@@ -13,7 +13,7 @@ use Rattle.silt_cuckoo.specs.Slots.{Entry, Slots, entry_at}
 use Rattle.silt_cuckoo.proofs.Paths.{entry_inside}
 use Rattle.silt_cuckoo.proofs.Placed.{has_entry}
 use Rattle.silt_cuckoo.proofs.Indexing.{index_law, newest_apart}
-use Rattle.silt_device.specs.Layout.{Shape}
+use Rattle.silt_disk.specs.Layout.{Shape}
 use Rattle.silt_event.proofs.Rows.{changed_get}
 use Rattle.silt_event.specs.Commands.{Map, changed, map_after}
 use Rattle.silt_event.specs.Rows.{value_given, command_of}

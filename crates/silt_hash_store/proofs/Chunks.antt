@@ -2,8 +2,8 @@
 use Rattle.std.proofs.Common.{◌≡◌, ℕ, ◌+◌, ◌*◌, ◌<◌, ◌≤◌, IsTrue, IfErr, Result, Ok, Err, false, List, ◌++◌, length, take, drop, slice_range, sym, subst, ap, ◌∙◌, arith, length-append}
 use Rattle.std.proofs.lemmas.List.{take-append-drop}
 use Rattle.std.proofs.Math.Nat.{mul-le-mul_right}
-use Rattle.silt_device.specs.Disk.{Content}
-use Rattle.silt_device.specs.Layout.{Shape, row_len}
+use Rattle.silt_disk.specs.Disk.{Content}
+use Rattle.silt_disk.specs.Layout.{Shape, row_len}
 use Rattle.silt_frame.specs.Rows.{StoredRow, row_of}
 use Rattle.silt_hash_store.specs.Rebuild.{HasHead, IsFirstUnsound, IsGrown, IsRefusedHash}
 use Rattle.silt_hash_store.specs.Slots.{HeadSays, HoldsSlots, is_sound_slot, slot_row}

@@ -1,8 +1,8 @@
 -- What calls on other parts of the disk leave of a hash store and of a conversion.
 use Rattle.std.proofs.Common.{◌≡◌, ℕ, ◌+◌, ◌*◌, ◌≤◌, ◌<◌, IsTrue, List, filter, length, sym, subst, ap, ◌∙◌, inl, inr, arith}
-use Rattle.silt_device.specs.Disk.{LiesOutside, Torn, size}
-use Rattle.silt_device.specs.Layout.{Shape, device_size, hash_at, row_len, slots_len}
-use Rattle.silt_device.proofs.Images.{torn_slice_after, torn_slice_before}
+use Rattle.silt_disk.specs.Disk.{LiesOutside, Torn, size}
+use Rattle.silt_disk.specs.Layout.{Shape, device_size, hash_at, row_len, slots_len}
+use Rattle.silt_disk.proofs.Images.{torn_slice_after, torn_slice_before}
 use Rattle.silt_hash_store.specs.Findings.{hash_findings}
 use Rattle.silt_frame.specs.Rows.{put_count, has_known_kind, row_of, StoredRow}
 use Rattle.silt_hash_store.specs.Slots.{hash_rows, rows_before, hash_slot_at, slot_row, tag_of}

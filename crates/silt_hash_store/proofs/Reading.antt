@@ -3,9 +3,9 @@ use Rattle.std.proofs.Common.{◌≡◌, ◌≢◌, ℕ, ◌+◌, ◌*◌, ◌�
 use Rattle.std.proofs.lemmas.Bool.{cases_lt}
 use Rattle.std.proofs.lemmas.List.Edits.{get_or-between}
 use Rattle.std.proofs.Math.Nat.{add-mul, mul-le-mul_right}
-use Rattle.silt_device.specs.Disk.{Content, ChangesWithin, Tears, Torn, Writes, size}
-use Rattle.silt_device.specs.Layout.{Shape, hash_at, row_len}
-use Rattle.silt_device.proofs.Images.{splice_slice, torn_slice_after, torn_slice_before, write_within}
+use Rattle.silt_disk.specs.Disk.{Content, ChangesWithin, Tears, Torn, Writes, size}
+use Rattle.silt_disk.specs.Layout.{Shape, hash_at, row_len}
+use Rattle.silt_disk.proofs.Images.{splice_slice, torn_slice_after, torn_slice_before, write_within}
 use Rattle.silt_frame.specs.Rows.{row_of}
 use Rattle.silt_log.proofs.Bodies.{body_before}
 use Rattle.silt_log.proofs.Parts.{drop_front, slice_of_slice, slice_to_end}

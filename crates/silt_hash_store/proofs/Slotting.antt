@@ -7,7 +7,7 @@ use Rattle.std.proofs.lemmas.List.FromFn.{get_or-map-range_with_len, length-map-
 use Rattle.std.proofs.lemmas.Option.{slice_get-get_or}
 use Rattle.silt_cuckoo.specs.Keys.{first_bucket, second_bucket}
 use Rattle.silt_cuckoo.specs.Placing.{other_bucket}
-use Rattle.silt_device.specs.Layout.{Shape, hash_at, row_len}
+use Rattle.silt_disk.specs.Layout.{Shape, hash_at, row_len}
 use Rattle.silt_frame.specs.Frame.{kind_of}
 use Rattle.silt_hash_store.specs.Findings.{holds_key, is_in_bucket, is_sound_hash_slot}
 use Rattle.silt_hash_store.specs.Slots.{hash_rows, is_row_of, rows_before, slot_row, tag_of}

@@ -12,7 +12,7 @@ use Rattle.silt_cuckoo.specs.Pairs.{pair_of}
 use Rattle.silt_cuckoo.specs.Placing.{other_bucket}
 use Rattle.silt_cuckoo.specs.Slots.{Entry, Slots, entry_at, place_at}
 use Rattle.silt_cuckoo.proofs.Indexing.{newest_apart}
-use Rattle.silt_device.specs.Layout.{Shape, row_len}
+use Rattle.silt_disk.specs.Layout.{Shape, row_len}
 use Rattle.silt_hash_store.specs.Findings.{hash_findings, holds_key, is_in_bucket, is_sound_hash_slot}
 use Rattle.silt_frame.specs.Rows.{keys_of, has_known_kind, StoredRow}
 use Rattle.silt_log_store.specs.Parts.{Part}

@@ -4,9 +4,9 @@ use Rattle.std.proofs.lemmas.Bool.{cases_eq}
 use Rattle.std.proofs.lemmas.List.Elements.{filter-append}
 use Rattle.std.proofs.lemmas.List.FromFn.{map-range_with_len_more}
 use Rattle.silt_cuckoo.specs.Slots.{Entry, IsBucketCount, Slots, entry_at}
-use Rattle.silt_device.specs.Disk.{ChangesWithin, Content, LiesOutside, size}
-use Rattle.silt_device.specs.Layout.{Shape, device_size, gates_at, hash_at, log_len, row_len}
-use Rattle.silt_device.proofs.Regions.{regions_apart}
+use Rattle.silt_disk.specs.Disk.{ChangesWithin, Content, LiesOutside, size}
+use Rattle.silt_disk.specs.Layout.{Shape, device_size, gates_at, hash_at, log_len, row_len}
+use Rattle.silt_disk.proofs.Regions.{regions_apart}
 use Rattle.silt_hash_store.specs.Findings.{hash_findings}
 use Rattle.silt_frame.specs.Rows.{put_count, has_known_kind, StoredRow}
 use Rattle.silt_hash_store.specs.Slots.{hash_rows, rows_before, hash_slot_at, slot_row, slot_tag, tag_of}

@@ -2,8 +2,8 @@
 use Rattle.std.specs.Prelude.{◌≡◌, ℕ, ◌+◌, ◌*◌, ◌≤◌, ◌<◌, IsTrue, List, [], ◌∷◌, filter, length, replicate, get_or, map, slice_set, Option, Some, None}
 use Rattle.std.specs.List.{range_with_len}
 use Rattle.silt_cuckoo.specs.Slots.{Entry, Slots, entry_at, place_at}
-use Rattle.silt_device.specs.Disk.{Content}
-use Rattle.silt_device.specs.Layout.{Shape, row_len}
+use Rattle.silt_disk.specs.Disk.{Content}
+use Rattle.silt_disk.specs.Layout.{Shape, row_len}
 use Rattle.silt_frame.specs.Rows.{put_count, has_known_kind, row_of, StoredRow}
 use Rattle.silt_log.specs.State.{all_rows}
 use Rattle.silt_log_store.specs.State.{IsFrozenStore, LogStoreState}

@@ -1,7 +1,7 @@
 -- What is found in the slots of a hash region.
 use Rattle.std.specs.Prelude.{ℕ, ◌==◌, ◌&&◌, not, List, take, ◌/◌, Bool, ◌||◌, flat_map}
 use Rattle.std.specs.List.{enumerate_from, list_any}
-use Rattle.silt_device.specs.Layout.{Shape}
+use Rattle.silt_disk.specs.Layout.{Shape}
 use Rattle.silt_frame.specs.Rows.{StoredRow, has_known_kind}
 use Rattle.silt_event.specs.declared.damage.Finding.{Finding}
 use Rattle.silt_event.specs.declared.damage.Finding.TheVariants.{Damaged}

@@ -3,8 +3,8 @@ use Rattle.std.specs.Prelude.{◌≡◌, ℕ, ◌*◌, ◌≤◌, ◌<◌, true,
 use Rattle.std.specs.List.{list_all}
 use Rattle.silt_cuckoo.specs.Slots.{Slots, IsBucketCount}
 use Rattle.silt_cuckoo.specs.Index.{index_of_keys}
-use Rattle.silt_device.specs.Disk.{ChangesWithin, Content, LiesOutside, size}
-use Rattle.silt_device.specs.Layout.{Shape, device_size, gates_at, hash_at, log_len, slots_len}
+use Rattle.silt_disk.specs.Disk.{ChangesWithin, Content, LiesOutside, size}
+use Rattle.silt_disk.specs.Layout.{Shape, device_size, gates_at, hash_at, log_len, slots_len}
 use Rattle.silt_event.specs.Commands.{Map, map_after}
 use Rattle.silt_event.specs.Rows.{command_of}
 use Rattle.silt_hash_store.specs.Findings.{hash_findings}

@@ -4,7 +4,7 @@ use Rattle.std.specs.List.{range_with_len}
 use Rattle.std.specs.Str.{bytes_eq}
 use Rattle.silt_cuckoo.specs.Keys.{first_bucket, second_bucket}
 use Rattle.silt_cuckoo.specs.Placing.{other_bucket}
-use Rattle.silt_device.specs.Layout.{Shape, hash_at, row_len}
+use Rattle.silt_disk.specs.Layout.{Shape, hash_at, row_len}
 use Rattle.silt_frame.specs.Frame.{kind_of}
 use Rattle.silt_hash_store.specs.declared.region.Head.{Head}
 use Rattle.silt_hash_store.specs.declared.region.Head.TheVariants.{Empty, Unknown, Row}

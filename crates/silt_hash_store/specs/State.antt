@@ -1,7 +1,7 @@
 -- A hash store, and how it stands on a disk.
 use Rattle.std.specs.Prelude.{◌≡◌, ℕ, ◌*◌, ◌<◌, ◌≤◌, true, IsTrue, List, [], length, Option, None}
-use Rattle.silt_device.specs.Disk.{Content}
-use Rattle.silt_device.specs.Layout.{Shape}
+use Rattle.silt_disk.specs.Disk.{Content}
+use Rattle.silt_disk.specs.Layout.{Shape}
 use Rattle.silt_frame.specs.Rows.{put_count}
 use Rattle.silt_hash_store.specs.Findings.{hash_findings}
 use Rattle.silt_log_store.specs.Parts.{known_rows}

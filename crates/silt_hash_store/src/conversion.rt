@@ -1,7 +1,7 @@
 // A log's rows, written into a hash region slot by slot.
 ghost use Rattle.std.specs.Prelude.{◌≡◌, ◌==◌, ◌+◌, ◌*◌, ◌<◌, ◌≤◌, ◌^◌, true, false, [], ◌∷◌, filter, Some, length, replicate, None, IsTrue, IfOk, IfErr, IfSome, OnOk, OnErr, MatchResult};
-ghost use Rattle.silt_device.specs.Disk.{Content, ChangesWithin, CountsFault, GaveAny, size};
-ghost use Rattle.silt_device.specs.Layout.{device_size, row_len};
+ghost use Rattle.silt_disk.specs.Disk.{Content, ChangesWithin, CountsFault, GaveAny, size};
+ghost use Rattle.silt_disk.specs.Layout.{device_size, row_len};
 ghost use Rattle.silt_hash_store.specs.Conversion.{converted_row, converted_rows, with_entry};
 ghost use Rattle.silt_frame.specs.Rows.{put_count, has_known_kind, row_of};
 ghost use Rattle.silt_hash_store.specs.Slots.{hash_rows};
@@ -11,7 +11,7 @@ ghost use Rattle.silt_log_store.specs.State.{IsHeldStore, IsIndexed};
 use crate::hash_store::HashStore;
 use crate::region::HashRegion;
 use crate::tags::Tags;
-use silt_device::Disk;
+use silt_disk::Disk;
 use silt_log_store::LogStore;
 use std::alloc::{AllocError, Global};
 use std::marker::Model;

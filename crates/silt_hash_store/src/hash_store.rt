@@ -1,7 +1,7 @@
 // A hash store and its look-ups.
 ghost use Rattle.std.specs.Prelude.{◌≡◌, ◌+◌, ◌*◌, ◌<◌, ◌≤◌, ℕ, None, drop, length, IsTrue, IfOk, IfErr, IfSome, OnOk};
-ghost use Rattle.silt_device.specs.Disk.{GaveAny, size};
-ghost use Rattle.silt_device.specs.Layout.{device_size, row_len};
+ghost use Rattle.silt_disk.specs.Disk.{GaveAny, size};
+ghost use Rattle.silt_disk.specs.Layout.{device_size, row_len};
 ghost use Rattle.silt_hash_store.specs.Slots.{HoldsSlots, hash_rows};
 ghost use Rattle.silt_log_store.specs.LastRow.{put_place};
 
@@ -10,7 +10,7 @@ use crate::rebuild::{RebuildError, Rebuilt, rebuild_region};
 use crate::region::{HashRegion, Head};
 use crate::tags::Tags;
 use silt_cuckoo::key_buckets;
-use silt_device::{Disk, Geometry};
+use silt_disk::{Disk, Geometry};
 use silt_frame::{HEAD_LEN, Key, Kind, Row};
 use silt_log_store::Found;
 use std::alloc::Global;

@@ -1,7 +1,7 @@
 // Look-ups of a key among the slots of its two buckets.
 ghost use Rattle.std.specs.Prelude.{◌≡◌, ◌+◌, ◌*◌, ◌<◌, ◌≤◌, IsTrue, IfOk, IfErr, IfSome, drop, length};
-ghost use Rattle.silt_device.specs.Disk.{GaveAny, size};
-ghost use Rattle.silt_device.specs.Layout.{device_size, row_len};
+ghost use Rattle.silt_disk.specs.Disk.{GaveAny, size};
+ghost use Rattle.silt_disk.specs.Layout.{device_size, row_len};
 ghost use Rattle.silt_hash_store.specs.Lookup.{FindsIn, MatchesKey, MatchesTag};
 ghost use Rattle.silt_hash_store.specs.Slots.{HeadSays, slot_row, slot_tag};
 ghost use Rattle.silt_frame.specs.Rows.{StoredRow};
@@ -9,7 +9,7 @@ ghost use Rattle.silt_frame.specs.Frame.{head_len};
 
 use crate::region::{HashRegion, Head};
 use crate::tags::Tags;
-use silt_device::Disk;
+use silt_disk::Disk;
 use silt_frame::{Key, Kind};
 use silt_log_store::Found;
 

@@ -1,7 +1,7 @@
 // A hash store from what is on the device.
 ghost use Rattle.std.specs.Prelude.{◌≡◌, ◌+◌, ◌*◌, ◌<◌, ◌≤◌, ◌^◌, false, IsTrue, IfOk, IfErr, IfSome, OnOk, length};
-ghost use Rattle.silt_device.specs.Disk.{GaveAny, size};
-ghost use Rattle.silt_device.specs.Layout.{device_size, row_len};
+ghost use Rattle.silt_disk.specs.Disk.{GaveAny, size};
+ghost use Rattle.silt_disk.specs.Layout.{device_size, row_len};
 ghost use Rattle.silt_hash_store.specs.declared.region.Head.TheVariants as head;
 ghost use Rattle.silt_hash_store.specs.Rebuild.{AddsSound, HasHead, IsFirstUnsound, IsGrown, IsRebuiltHash, IsRefusedHash, TagsKey, TakesAdded};
 ghost use Rattle.silt_hash_store.specs.Slots.{HeadSays, HoldsSlots, is_sound_slot, slot_row};
@@ -11,7 +11,7 @@ use crate::hash_store::HashStore;
 use crate::region::{HashRegion, Head, head_in};
 use crate::tags::Tags;
 use silt_cuckoo::key_buckets;
-use silt_device::Disk;
+use silt_disk::Disk;
 use silt_frame::{HEAD_LEN, Key, Kind};
 use std::alloc::Global;
 

@@ -1,13 +1,13 @@
 // A hash region on a device: where its slots lie, and how one is read or written.
 ghost use Rattle.std.specs.Prelude.{◌≡◌, ◌+◌, ◌*◌, ◌<◌, ◌≤◌, ◌^◌, length, drop, slice_index, IsTrue, IfOk, IfErr, OnOk, MatchResult};
-ghost use Rattle.silt_device.specs.Disk.{ChangesWithin, CountsFault, GaveAny, size};
-ghost use Rattle.silt_device.specs.Layout.{device_size, row_len};
+ghost use Rattle.silt_disk.specs.Disk.{ChangesWithin, CountsFault, GaveAny, size};
+ghost use Rattle.silt_disk.specs.Layout.{device_size, row_len};
 ghost use Rattle.silt_hash_store.specs.Lookup.{IsRowAt};
 ghost use Rattle.silt_hash_store.specs.Slots.{HeadSays, HoldsSlots, hash_slot_at, slot_row};
 ghost use Rattle.silt_frame.specs.Rows.{row_of};
 ghost use Rattle.silt_frame.specs.Frame.{head_len};
 
-use silt_device::{Disk, Geometry};
+use silt_disk::{Disk, Geometry};
 use silt_frame::{HEAD_LEN, Key, Kind, Row, head_of};
 
 /// What the head of a slot says.

@@ -4,10 +4,10 @@ use Rattle.std.specs.List.{list_any, prefix_len, range_with_len}
 use Rattle.std.proofs.lemmas.Bool.{and_parts, or_parts, ltb-true, eq-eqb, eqb-false, ne_eqb, cases_eq, cases_order}
 use Rattle.std.proofs.lemmas.List.{ext_get_or}
 use Rattle.std.proofs.lemmas.List.Edits.{length-between, get_or-between}
-use Rattle.silt_device.specs.Disk.{Torn}
-use Rattle.silt_device.specs.Layout.{Shape, row_len, entry_len, slot_at, log_size, hash_size, sorted_size, gates_at, bodies_at, hash_at, sorted_at, device_size}
-use Rattle.silt_device.proofs.Regions.{next_region, up_least}
-use Rattle.silt_device.proofs.Images.{torn_slice_before}
+use Rattle.silt_disk.specs.Disk.{Torn}
+use Rattle.silt_disk.specs.Layout.{Shape, row_len, entry_len, slot_at, log_size, hash_size, sorted_size, gates_at, bodies_at, hash_at, sorted_at, device_size}
+use Rattle.silt_disk.proofs.Regions.{next_region, up_least}
+use Rattle.silt_disk.proofs.Images.{torn_slice_before}
 use Rattle.silt_frame.specs.Gate.{is_open}
 use Rattle.silt_log.specs.Rows.{body_row, gate_bytes, log_rows, open_count, row_at, rows_from}
 use Rattle.silt_frame.specs.Rows.{row_of, StoredRow, entry_row, put_count}
@@ -19,7 +19,7 @@ use Rattle.silt_manifest.specs.declared.body.Body.{Body}
 use Rattle.silt_manifest.specs.declared.slot.Damage.{Damage}
 use Rattle.silt_manifest.proofs.Laws.{other_regions, same_found}
 use Rattle.silt_manifest.proofs.SoundBodies.{sound_parts}
-use Rattle.silt_device.specs.Header.{header_of}
+use Rattle.silt_disk.specs.Header.{header_of}
 use Rattle.silt_log_store.specs.Parts.{Part, log_part}
 use Rattle.silt_image.specs.Stores.{Stores, image_stores, shape_found, stores_named, stores_ruled, stores_shaped}
 use Rattle.silt_hash_store.specs.Slots.{hash_part, hash_rows}

@@ -3,9 +3,9 @@ use Rattle.std.proofs.Common.{◌≡◌, ℕ, ◌^◌, ◌<◌, ◌≤◌, ◌==
 use Rattle.std.proofs.lemmas.Bool.{and_from, eq-eqb}
 use Rattle.byteorder.specs.Endian.{big_number, big_bytes}
 use Rattle.byteorder.specs.Numbers.{big_number-reads_back}
-use Rattle.silt_device.specs.Layout.{Shape, InLimits, device_size}
-use Rattle.silt_device.proofs.Regions.{bucket_count_most}
-use Rattle.silt_device.specs.Header.{FitsHeader, header_bytes, header_shape, is_formatted, is_in_limits}
+use Rattle.silt_disk.specs.Layout.{Shape, InLimits, device_size}
+use Rattle.silt_disk.proofs.Regions.{bucket_count_most}
+use Rattle.silt_disk.specs.Header.{FitsHeader, header_bytes, header_shape, is_formatted, is_in_limits}
 use Rattle.silt_image.specs.Stores.{shape_found}
 use Rattle.silt_image.specs.Laws.{FormattedLaw, HeaderLaw}
 use Rattle.silt_image.proofs.Named.{limits_law, test_at_most, tested}

@@ -5,14 +5,14 @@ use Rattle.std.proofs.lemmas.Bool.{and_parts, not-true, eqb-true}
 use Rattle.std.proofs.lemmas.Bool.Decides.{nat_tests}
 use Rattle.std.proofs.lemmas.List.Edits.{length-between}
 use Rattle.std.proofs.lemmas.Slice.Eq.{bytes_eq-Decides}
-use Rattle.silt_device.specs.Layout.{Shape, InLimits, device_size, is_bucket_count}
+use Rattle.silt_disk.specs.Layout.{Shape, InLimits, device_size, is_bucket_count}
 use Rattle.silt_manifest.specs.Body.{is_well_formed}
 use Rattle.silt_manifest.specs.Ruling.{manifest_found, body_found, greater_body, is_sound_body, open_body}
 use Rattle.silt_manifest.specs.declared.body.Body.{Body}
 use Rattle.silt_manifest.specs.declared.slot.Damage.{Damage}
 use Rattle.silt_manifest.specs.declared.slot.Damage.TheVariants as damage
 use Rattle.silt_manifest.proofs.SoundBodies.{own_slot}
-use Rattle.silt_device.specs.Header.{IsHeader, header_of, header_shape, is_formatted, is_in_limits, magic}
+use Rattle.silt_disk.specs.Header.{IsHeader, header_of, header_shape, is_formatted, is_in_limits, magic}
 use Rattle.silt_log_store.specs.Parts.{Part, log_part}
 use Rattle.silt_image.specs.Stores.{Stores, image_stores, shape_found, stores_named, stores_ruled, stores_shaped}
 use Rattle.silt_image.specs.Laws.{LimitsLaw, StoresLaw, WholeLaw, HasStores}

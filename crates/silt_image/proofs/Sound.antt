@@ -2,7 +2,7 @@
 use Rattle.std.proofs.Common.{◌≡◌, ℕ, ◌+◌, ◌≤◌, ◌==◌, Bool, true, false, nat_lt, List, [], ◌∷◌, ◌++◌, map, take, drop, flat_map, refl, sym, ap, ◌∙◌, subst, arith, append_assoc, take-append-drop}
 use Rattle.std.proofs.lemmas.Bool.{and_from, ltb-false, le-ltb}
 use Rattle.std.proofs.lemmas.List.Folds.{list_all-append}
-use Rattle.silt_device.specs.Layout.{Shape}
+use Rattle.silt_disk.specs.Layout.{Shape}
 use Rattle.silt_frame.specs.Rows.{has_known_kind, StoredRow, put_count}
 use Rattle.silt_log_store.specs.Parts.{Part, known_rows, oldest_first, part_rows}
 use Rattle.silt_image.specs.Stores.{Stores}

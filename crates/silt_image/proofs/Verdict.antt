@@ -2,7 +2,7 @@
 use Rattle.std.proofs.Common.{◌≡◌, ◌↔◌, ℕ, ◌+◌, ◌-◌, Bool, true, false, not, nat_lt, if◌then◌else◌, List, [], ◌∷◌, ◌++◌, length, take, flat_map, get_or, slice_get, Some, None, is_some, IsSome, IsTrue, Result, Ok, Err, refl, sym, ap, ◌∙◌, arith}
 use Rattle.std.specs.List.{list_all, enumerate_from, range_with_len}
 use Rattle.std.proofs.lemmas.Bool.{and_parts, and_from}
-use Rattle.silt_device.specs.Layout.{Shape}
+use Rattle.silt_disk.specs.Layout.{Shape}
 use Rattle.silt_log.specs.Rows.{log_rows}
 use Rattle.silt_frame.specs.Rows.{has_known_kind, StoredRow, keys_of, put_count}
 use Rattle.silt_manifest.specs.Body.{first_body}

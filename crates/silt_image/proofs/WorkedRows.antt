@@ -1,6 +1,6 @@
 -- Worked images, by computation.
 use Rattle.std.specs.Prelude.{◌≡◌, ℕ, ◌-◌, ◌*◌, List, [], ◌∷◌, ◌++◌, map, replicate, length, take, refl, Option, Some, None, Result, Ok, Err}
-use Rattle.silt_device.specs.Layout.{Shape}
+use Rattle.silt_disk.specs.Layout.{Shape}
 use Rattle.silt_log.specs.Rows.{log_rows, open_count, row_at, rows_from}
 use Rattle.silt_frame.specs.Rows.{StoredRow}
 use Rattle.silt_manifest.specs.Body.{body_bytes, first_body}
@@ -8,7 +8,7 @@ use Rattle.silt_manifest.specs.Ruling.{body_behind, body_found}
 use Rattle.silt_manifest.specs.declared.body.Body.{Body}
 use Rattle.silt_cuckoo.specs.Index.{added, indexed}
 use Rattle.silt_cuckoo.specs.Placing.{free_slot, moved_along, path_for, placed, put_along, shortest_walk, turns, victim}
-use Rattle.silt_device.specs.Header.{header_bytes}
+use Rattle.silt_disk.specs.Header.{header_bytes}
 use Rattle.silt_image.specs.Stores.{Stores, image_stores, shape_found, stores_named}
 use Rattle.silt_hash_store.specs.Slots.{hash_rows}
 use Rattle.silt_sorted_store.specs.State.{sorted_rows}

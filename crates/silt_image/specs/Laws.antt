@@ -2,14 +2,14 @@
 use Rattle.std.specs.Prelude.{◌≡◌, ◌≢◌, ◌≤◌, ◌<◌, ◌↔◌, ℕ, ◌+◌, ◌%◌, ◌==◌, true, false, IsTrue, IsSome, List, [], ◌∷◌, ◌++◌, length, map, take, flat_map, get_or, slice_get, Contains, Some, Ok, Err}
 use Rattle.std.specs.List.{list_any, list_all}
 use Rattle.std.specs.FinMap.{empty}
-use Rattle.silt_device.specs.Disk.{Torn}
-use Rattle.silt_device.specs.Layout.{Shape, InLimits, device_size, slot_at, gates_at, hash_at, sorted_at, log_size, hash_size, sorted_size, sector}
+use Rattle.silt_disk.specs.Disk.{Torn}
+use Rattle.silt_disk.specs.Layout.{Shape, InLimits, device_size, slot_at, gates_at, hash_at, sorted_at, log_size, hash_size, sorted_size, sector}
 use Rattle.silt_log.specs.Rows.{log_rows}
 use Rattle.silt_frame.specs.Rows.{StoredRow, has_known_kind}
 use Rattle.silt_manifest.specs.Body.{first_body, is_well_formed}
 use Rattle.silt_manifest.specs.Ruling.{manifest_found, open_body}
 use Rattle.silt_manifest.specs.declared.body.Body.{Body}
-use Rattle.silt_device.specs.Header.{FitsHeader, IsHeader, header_bytes, header_of, header_shape, is_in_limits, shape_of}
+use Rattle.silt_disk.specs.Header.{FitsHeader, IsHeader, header_bytes, header_of, header_shape, is_in_limits, shape_of}
 use Rattle.silt_log_store.specs.Parts.{Part}
 use Rattle.silt_image.specs.Stores.{Stores, image_stores, shape_found, stores_named}
 use Rattle.silt_image.specs.Meaning.{HasActive, IsGood, IsSound, StandsFor, charge_of, image_charge, image_fits, image_map}

@@ -1,12 +1,12 @@
 -- The stores that an image names, with their rows.
 use Rattle.std.specs.Prelude.{ℕ, ◌==◌, nat_le, ◌&&◌, not, if◌then◌else◌, List, ◌∷◌, length, map, Result, Ok, Err}
-use Rattle.silt_device.specs.Layout.{Shape, device_size}
+use Rattle.silt_disk.specs.Layout.{Shape, device_size}
 use Rattle.silt_frame.specs.Rows.{StoredRow}
 use Rattle.silt_manifest.specs.Ruling.{manifest_found}
 use Rattle.silt_manifest.specs.declared.body.Body.{Body}
 use Rattle.silt_manifest.specs.declared.slot.Damage.{Damage}
 use Rattle.silt_manifest.specs.declared.slot.Damage.TheVariants as damage
-use Rattle.silt_device.specs.Header.{header_of, header_shape, is_formatted, is_in_limits, header_len}
+use Rattle.silt_disk.specs.Header.{header_of, header_shape, is_formatted, is_in_limits, header_len}
 use Rattle.silt_event.specs.declared.damage.Finding.{Finding}
 use Rattle.silt_event.specs.declared.damage.Finding.TheVariants.{NotFormatted, Damaged}
 use Rattle.silt_event.specs.declared.place.Place.TheVariants.{Header, Length, Slot, NoSlot}

@@ -1,9 +1,9 @@
 // What is found in the header of a device.
 ghost use Rattle.std.specs.Prelude.{◌≡◌, Ok, Err, IfOk, IfErr};
-ghost use Rattle.silt_device.specs.Layout.{device_size};
+ghost use Rattle.silt_disk.specs.Layout.{device_size};
 ghost use Rattle.silt_image.specs.Stores.{shape_found};
 
-use silt_device::{Geometry, HEADER_LEN, geometry_of, is_formatted};
+use silt_disk::{Geometry, HEADER_LEN, geometry_of, is_formatted};
 use silt_event::{Finding, Place};
 
 /// The geometry of a device of this many bytes with this header, or what is found in its place: no header, a number out of its

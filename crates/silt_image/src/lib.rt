@@ -6,7 +6,7 @@
 //!
 //! Here are the definitions, in `specs/`, and the laws that the layers above stand on, each as a function whose contract it is:
 //! which bytes count, what a write in a region leaves, when one row more is fine. What the rows of one region are, and what is found in them,
-//! its own crate says: here they are folded. The header's bytes stand beside the layout, in silt_device: here is what is found in them.
+//! its own crate says: here they are folded. The header's bytes stand beside the layout, in silt_disk: here is what is found in them.
 #![tactic(auto)]
 
 mod damage;

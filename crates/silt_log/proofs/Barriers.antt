@@ -1,7 +1,7 @@
 -- A write behind a sync.
 use Rattle.std.proofs.Common.{◌≡◌, ℕ, List, sym, ap, subst, ◌∙◌, inl, inr}
-use Rattle.silt_device.specs.Disk.{Content, Torn, ChangesWithin, Writes, Settles, Stays, splice}
-use Rattle.silt_device.proofs.Images.{shown_left, left_after_sync, left_after_failed_sync, torn_refl}
+use Rattle.silt_disk.specs.Disk.{Content, Torn, ChangesWithin, Writes, Settles, Stays, splice}
+use Rattle.silt_disk.proofs.Images.{shown_left, left_after_sync, left_after_failed_sync, torn_refl}
 use Rattle.silt_log.specs.Calls.{SyncsAndTears}
 
 -- the sync failed

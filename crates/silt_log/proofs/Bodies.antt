@@ -1,9 +1,9 @@
 -- The rows in the bodies of a log.
 use Rattle.std.proofs.Common.{◌≡◌, ℕ, zero, suc, ◌+◌, ◌*◌, ◌≤◌, ◌<◌, List, ◌∷◌, ◌++◌, length, map, slice_range, refl, sym, ap, ◌∙◌, arith}
 use Rattle.std.specs.List.{range_with_len}
-use Rattle.silt_device.specs.Disk.{Torn, splice}
-use Rattle.silt_device.proofs.Images.{torn_slice_before, torn_slice_after, splice_slice}
-use Rattle.silt_device.proofs.Regions.{next_region}
+use Rattle.silt_disk.specs.Disk.{Torn, splice}
+use Rattle.silt_disk.proofs.Images.{torn_slice_before, torn_slice_after, splice_slice}
+use Rattle.silt_disk.proofs.Regions.{next_region}
 use Rattle.silt_log.specs.Rows.{body_row}
 use Rattle.silt_frame.specs.Rows.{row_of}
 

@@ -6,7 +6,7 @@ use Rattle.std.proofs.lemmas.List.{get_or-drop}
 use Rattle.std.proofs.lemmas.List.Edits.{length-between, get_or-between}
 use Rattle.std.proofs.lemmas.List.Folds.{list_any_at}
 use Rattle.std.proofs.lemmas.List.Sums.{prefix_len-le-length, prefix_len_passes, prefix_len_stops}
-use Rattle.silt_device.specs.Disk.{Torn}
+use Rattle.silt_disk.specs.Disk.{Torn}
 use Rattle.silt_frame.specs.Gate.{is_open}
 use Rattle.silt_log.specs.Rows.{GatesAre, gate_bytes}
 

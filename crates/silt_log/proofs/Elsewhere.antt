@@ -1,10 +1,10 @@
 -- For the crates above: what calls on other parts of the disk leave of a log, and how its rows make one list.
 use Rattle.std.proofs.Common.{◌≡◌, ℕ, ◌+◌, ◌-◌, ◌*◌, ◌≤◌, ◌<◌, ◌⊎◌, IsTrue, List, ◌++◌, length, map, get_or, refl, sym, ap, ◌∙◌, subst, inl, inr, arith}
 use Rattle.std.specs.List.{range_with_len, prefix_len}
-use Rattle.silt_device.specs.Disk.{ChangesWithin, Content, LeavesOnly, LiesOutside, Restarts, Settles, Stays, Torn, size}
-use Rattle.silt_device.specs.Layout.{Shape, bodies_at, device_size, gates_at, log_len, log_size, row_len}
-use Rattle.silt_device.proofs.Images.{shown_left, torn_slice_before, within_leaves, within_wider, sync_within, failed_sync_within, torn_slice_after}
-use Rattle.silt_device.proofs.Regions.{up_least}
+use Rattle.silt_disk.specs.Disk.{ChangesWithin, Content, LeavesOnly, LiesOutside, Restarts, Settles, Stays, Torn, size}
+use Rattle.silt_disk.specs.Layout.{Shape, bodies_at, device_size, gates_at, log_len, log_size, row_len}
+use Rattle.silt_disk.proofs.Images.{shown_left, torn_slice_before, within_leaves, within_wider, sync_within, failed_sync_within, torn_slice_after}
+use Rattle.silt_disk.proofs.Regions.{up_least}
 use Rattle.silt_log.specs.Rows.{GatesAre, body_at, body_row, rows_from, row_at, log_rows, open_count, gate_bytes}
 use Rattle.silt_frame.specs.Rows.{row_of, StoredRow}
 use Rattle.silt_log.specs.State.{LogState, IsLog, settled_rows, waiting_rows, all_rows}

@@ -3,10 +3,10 @@ use Rattle.std.proofs.Common.{◌≡◌, ℕ, ◌+◌, ◌-◌, ◌*◌, ◌≤�
 use Rattle.std.specs.List.{range_with_len}
 use Rattle.std.proofs.lemmas.Bool.{false≢true}
 use Rattle.std.proofs.lemmas.List.FromFn.{map-range_with_len_more}
-use Rattle.silt_device.specs.Disk.{Content, LeavesOnly, ChangesWithin, Writes, size}
-use Rattle.silt_device.specs.Layout.{Shape, row_len, gates_at, bodies_at, device_size}
-use Rattle.silt_device.proofs.Images.{shown_left, within_leaves}
-use Rattle.silt_device.proofs.Regions.{regions_apart}
+use Rattle.silt_disk.specs.Disk.{Content, LeavesOnly, ChangesWithin, Writes, size}
+use Rattle.silt_disk.specs.Layout.{Shape, row_len, gates_at, bodies_at, device_size}
+use Rattle.silt_disk.proofs.Images.{shown_left, within_leaves}
+use Rattle.silt_disk.proofs.Regions.{regions_apart}
 use Rattle.silt_log.specs.Rows.{body_row, body_at, row_at, rows_from, log_rows, open_count}
 use Rattle.silt_frame.specs.Rows.{row_of, StoredRow}
 use Rattle.silt_log.specs.State.{LogState, InBounds, IsLog, settled_rows, all_rows}

@@ -4,9 +4,9 @@ use Rattle.std.specs.List.{prefix_len, range_with_len}
 use Rattle.std.proofs.lemmas.Bool.{false≢true}
 use Rattle.std.proofs.lemmas.List.{get_or-replicate, length-replicate, append-nil}
 use Rattle.std.proofs.lemmas.List.FromFn.{take-map-range_with_len, length-map-range_with_len}
-use Rattle.silt_device.specs.Disk.{Content, Torn, LeavesOnly, Writes, Rests, size, splice}
-use Rattle.silt_device.specs.Layout.{row_len, gates_at, bodies_at, device_size}
-use Rattle.silt_device.proofs.Images.{shown_left, rests_leaves, splice_byte}
+use Rattle.silt_disk.specs.Disk.{Content, Torn, LeavesOnly, Writes, Rests, size, splice}
+use Rattle.silt_disk.specs.Layout.{row_len, gates_at, bodies_at, device_size}
+use Rattle.silt_disk.proofs.Images.{shown_left, rests_leaves, splice_byte}
 use Rattle.silt_frame.specs.Gate.{is_open}
 use Rattle.silt_log.specs.Rows.{gate_bytes, body_row, rows_from, first_rows, row_at, log_rows, open_count}
 use Rattle.silt_frame.specs.Rows.{StoredRow}

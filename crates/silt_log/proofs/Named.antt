@@ -1,6 +1,6 @@
 -- The places and counts of a log in memory, of which a proof knows the fields, by the log that they stand for.
 use Rattle.std.proofs.Common.{◌≡◌, ℕ, ◌+◌, ◌-◌, ◌≤◌, List, length, take, ap, ◌∙◌, arith, length-take-le}
-use Rattle.silt_device.specs.Layout.{gates_at}
+use Rattle.silt_disk.specs.Layout.{gates_at}
 use Rattle.silt_log.specs.Rows.{body_at}
 use Rattle.silt_log.specs.State.{LogState, IsHeld}
 

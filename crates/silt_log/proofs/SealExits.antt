@@ -3,9 +3,9 @@ use Rattle.std.proofs.Common.{◌≡◌, ℕ, ◌+◌, ◌-◌, ◌≤◌, ◌<�
 use Rattle.std.specs.List.{prefix_len, range_with_len}
 use Rattle.std.proofs.lemmas.Bool.{cases_lt, false≢true}
 use Rattle.std.proofs.lemmas.List.{get_or-replicate, length-replicate}
-use Rattle.silt_device.specs.Disk.{Content, Torn, LeavesOnly, ChangesWithin, Writes, Rests, size, splice}
-use Rattle.silt_device.specs.Layout.{row_len, gates_at, bodies_at, device_size}
-use Rattle.silt_device.proofs.Images.{rests_leaves, left_at_rest, torn_splice, splice_byte}
+use Rattle.silt_disk.specs.Disk.{Content, Torn, LeavesOnly, ChangesWithin, Writes, Rests, size, splice}
+use Rattle.silt_disk.specs.Layout.{row_len, gates_at, bodies_at, device_size}
+use Rattle.silt_disk.proofs.Images.{rests_leaves, left_at_rest, torn_splice, splice_byte}
 use Rattle.silt_frame.specs.Gate.{is_open}
 use Rattle.silt_log.specs.Rows.{GatesAre, gate_bytes, body_row, rows_from, row_at, log_rows, open_count, has_loose_gate}
 use Rattle.silt_log.specs.State.{LogState, InBounds, IsScanned, settled_rows}

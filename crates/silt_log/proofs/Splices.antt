@@ -2,8 +2,8 @@
 use Rattle.std.proofs.Common.{◌≡◌, ℕ, ◌+◌, ◌-◌, ◌≤◌, List, ◌++◌, length, take, drop, replicate, sym, ap, ◌∙◌, subst, inl, inr, arith}
 use Rattle.std.proofs.lemmas.Bool.{cases_lt}
 use Rattle.std.proofs.lemmas.List.{ext_get_or, append_assoc, length-append, length-take-le, take_at, drop_at, drop-drop}
-use Rattle.silt_device.specs.Disk.{Content, Torn, ChangesWithin, Tears, Writes, size, splice}
-use Rattle.silt_device.proofs.Images.{torn_splice, splice_byte, write_within, within_wider, within_trans}
+use Rattle.silt_disk.specs.Disk.{Content, Torn, ChangesWithin, Tears, Writes, size, splice}
+use Rattle.silt_disk.proofs.Images.{torn_splice, splice_byte, write_within, within_wider, within_trans}
 use Rattle.silt_frame.specs.Frame.{head_bytes, kind_byte}
 use Rattle.silt_frame.specs.declared.key.Key.{Key}
 use Rattle.silt_frame.specs.declared.key.Kind.{Kind}

@@ -3,8 +3,8 @@ use Rattle.std.proofs.Common.{◌≡◌, ℕ, ◌+◌, ◌-◌, ◌*◌, ◌≤�
 use Rattle.std.specs.List.{prefix_len, range_with_len}
 use Rattle.std.proofs.lemmas.Bool.{cases_lt}
 use Rattle.std.proofs.lemmas.List.{get_or-replicate, length-replicate}
-use Rattle.silt_device.specs.Disk.{Torn, splice}
-use Rattle.silt_device.proofs.Images.{torn_splice, splice_byte}
+use Rattle.silt_disk.specs.Disk.{Torn, splice}
+use Rattle.silt_disk.proofs.Images.{torn_splice, splice_byte}
 use Rattle.silt_frame.specs.Gate.{is_open}
 use Rattle.silt_log.specs.Rows.{GatesAre, gate_bytes, body_row}
 use Rattle.silt_frame.specs.Rows.{StoredRow}

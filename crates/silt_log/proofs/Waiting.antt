@@ -1,7 +1,7 @@
 -- For the crates above: the rows that wait after each call.
 use Rattle.std.proofs.Common.{ℕ, length, take, ◌≡◌, ◌-◌, ◌≤◌, IsTrue, List, [], ◌∷◌, ◌++◌, sym, ap, ◌∙◌, arith}
 use Rattle.std.proofs.lemmas.List.{append_assoc, append_cancel_left, append-nil, take_all}
-use Rattle.silt_device.specs.Disk.{Content}
+use Rattle.silt_disk.specs.Disk.{Content}
 use Rattle.silt_log.specs.Rows.{rows_from, log_rows}
 use Rattle.silt_frame.specs.Rows.{StoredRow}
 use Rattle.silt_log.specs.State.{LogState, IsLog, settled_rows, waiting_rows, all_rows}

@@ -1,6 +1,6 @@
 -- What the calls of a log do to it and to the disk.
 use Rattle.std.specs.Prelude.{◌≡◌, ℕ, ◌+◌, ◌≤◌, ◌⊎◌, false, IsTrue, List, [], ◌∷◌, ◌++◌, length, take}
-use Rattle.silt_device.specs.Disk.{Content, Torn, Left, LeavesOnly}
+use Rattle.silt_disk.specs.Disk.{Content, Torn, Left, LeavesOnly}
 use Rattle.silt_log.specs.Rows.{log_rows}
 use Rattle.silt_frame.specs.Rows.{StoredRow}
 use Rattle.silt_log.specs.State.{LogState, IsLog, settled_rows, waiting_rows, all_rows, opened_image}

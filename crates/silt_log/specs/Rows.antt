@@ -2,7 +2,7 @@
 use Rattle.std.specs.Prelude.{◌≡◌, ℕ, ◌+◌, ◌*◌, ◌≤◌, ◌<◌, Bool, true, false, Option, List, length, map, drop, replicate, slice_index, slice_range}
 use Rattle.std.specs.List.{prefix_len, range_with_len, list_any}
 use Rattle.std.specs.Option.{is_some, option_map}
-use Rattle.silt_device.specs.Layout.{Shape, row_len, gates_at, bodies_at}
+use Rattle.silt_disk.specs.Layout.{Shape, row_len, gates_at, bodies_at}
 use Rattle.silt_frame.specs.Gate.{is_open}
 use Rattle.silt_frame.specs.Frame.{kind_byte, kind_of}
 use Rattle.silt_frame.specs.declared.key.Key.{Key}

@@ -1,7 +1,7 @@
 -- A log, and how it stands on a disk.
 use Rattle.std.specs.Prelude.{◌≡◌, ℕ, ◌+◌, ◌-◌, ◌≤◌, ◌<◌, Bool, false, IsTrue, List, replicate}
-use Rattle.silt_device.specs.Disk.{Content, LeavesOnly, splice}
-use Rattle.silt_device.specs.Layout.{Shape, gates_at}
+use Rattle.silt_disk.specs.Disk.{Content, LeavesOnly, splice}
+use Rattle.silt_disk.specs.Layout.{Shape, gates_at}
 use Rattle.silt_frame.specs.Gate.{gate_open}
 use Rattle.silt_log.specs.Rows.{GatesAre, rows_from, first_rows, log_rows, open_count, has_loose_gate}
 use Rattle.silt_frame.specs.Rows.{StoredRow}

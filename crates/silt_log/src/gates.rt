@@ -1,12 +1,12 @@
 // Writes of gates and of rows, at offsets.
 ghost use Rattle.std.specs.Prelude.{◌≡◌, ◌==◌, ◌+◌, ◌<◌, ◌≤◌, ◌++◌, length, drop, replicate, IsTrue, IfOk, IfErr, OnOk, MatchResult};
 ghost use Rattle.std.specs.List.{list_any, prefix_len};
-ghost use Rattle.silt_device.specs.Disk.{ChangesWithin, CountsFault, GaveAny, Rests, Writes, size};
+ghost use Rattle.silt_disk.specs.Disk.{ChangesWithin, CountsFault, GaveAny, Rests, Writes, size};
 ghost use Rattle.silt_frame.specs.Gate.{gate_open, is_open};
 ghost use Rattle.silt_log.specs.Rows.{gate_bytes};
 ghost use Rattle.silt_log.specs.Calls.{SyncsAndTears};
 
-use silt_device::{Disk, write_synced};
+use silt_disk::{Disk, write_synced};
 use silt_frame::GATE_OPEN;
 
 // Writes this byte over the gates from here on, as many as the buffer has bytes, and syncs.

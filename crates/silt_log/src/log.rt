@@ -1,7 +1,7 @@
 // A log region as the store holds it in memory, and the calls that change it.
 ghost use Rattle.std.specs.Prelude.{vec_len, ◌≡◌, ◌==◌, ◌+◌, ◌-◌, ◌<◌, ◌≤◌, ◌++◌, length, drop, replicate, nat_lt, false, IsTrue, IfOk, IfErr, OnOk, OnErr, MatchResult};
-ghost use Rattle.silt_device.specs.Disk.{ChangesWithin, CountsFault, GaveAny, LeavesOnly, Rests, Writes, size};
-ghost use Rattle.silt_device.specs.Layout.{device_size, gates_at, row_len};
+ghost use Rattle.silt_disk.specs.Disk.{ChangesWithin, CountsFault, GaveAny, LeavesOnly, Rests, Writes, size};
+ghost use Rattle.silt_disk.specs.Layout.{device_size, gates_at, row_len};
 ghost use Rattle.silt_frame.specs.Gate.{gate_open};
 ghost use Rattle.silt_frame.specs.Frame.{head_bytes};
 ghost use Rattle.silt_log.specs.Rows.{AreRows, FirstUnknown, IsValueOf, body_at, log_rows, open_count, row_at, row_head};
@@ -10,7 +10,7 @@ ghost use Rattle.silt_log.specs.Scans.{IsScanRefused};
 
 use crate::gates::{open_behind_sync, read_gates, write_gates, write_row};
 use crate::scan::{ScanError, read_rows};
-use silt_device::{Disk, Geometry};
+use silt_disk::{Disk, Geometry};
 use silt_frame::{GATE_CLOSED, HEAD_LEN, KEY_LEN, Key, Kind, Row, head_bytes, head_of};
 use std::alloc::{AllocError, Global};
 use std::marker::Model;

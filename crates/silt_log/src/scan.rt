@@ -1,13 +1,13 @@
 // Reading the rows of a log.
 ghost use Rattle.std.specs.Prelude.{vec_len, ◌≡◌, ◌+◌, ◌*◌, ◌≤◌, ℕ, map, true, false, IsTrue, IfOk, IfErr, MatchResult};
 ghost use Rattle.std.specs.List.{range_with_len};
-ghost use Rattle.silt_device.specs.Disk.{GaveAny, size};
+ghost use Rattle.silt_disk.specs.Disk.{GaveAny, size};
 ghost use Rattle.silt_log.specs.Rows.{AreRows, FirstUnknown, IsRow, body_row};
 ghost use Rattle.silt_frame.specs.Rows.{has_known_kind};
 ghost use Rattle.silt_log.specs.Scans.{IsScanRefused};
 ghost use Rattle.silt_frame.specs.Frame.{head_len};
 
-use silt_device::Disk;
+use silt_disk::Disk;
 use silt_frame::{HEAD_LEN, Row, head_of};
 use std::alloc::Global;
 

@@ -1,7 +1,7 @@
 -- The bucket counts of a geometry are those of a table.
 use Rattle.std.proofs.Common.{◌≡◌, ℕ, Bool, true, false, ◌||◌, IsTrue, eqb, refl, sym, subst, lit≤}
 use Rattle.std.proofs.lemmas.Bool.{eqb-true}
-use Rattle.silt_device.specs.Layout.{is_bucket_count}
+use Rattle.silt_disk.specs.Layout.{is_bucket_count}
 use Rattle.silt_cuckoo.specs.Slots.{IsBucketCount}
 
 -- one of the counts

@@ -1,8 +1,8 @@
 -- For the crates above: what calls on other parts of the disk leave of a log store, and how one store serves as another.
 use Rattle.std.proofs.Common.{◌≡◌, ℕ, ◌≤◌, IsTrue, refl, sym, ap, ◌∙◌, subst, inl, arith}
-use Rattle.silt_device.specs.Disk.{ChangesWithin, Content, LiesOutside, Settles, size}
-use Rattle.silt_device.specs.Layout.{device_size, gates_at, log_len}
-use Rattle.silt_device.proofs.Images.{sync_within}
+use Rattle.silt_disk.specs.Disk.{ChangesWithin, Content, LiesOutside, Settles, size}
+use Rattle.silt_disk.specs.Layout.{device_size, gates_at, log_len}
+use Rattle.silt_disk.proofs.Images.{sync_within}
 use Rattle.silt_log.specs.Rows.{row_at, rows_from, first_rows}
 use Rattle.silt_log.specs.State.{LogState, InBounds, all_rows}
 use Rattle.silt_log.proofs.Elsewhere.{log_elsewhere, log_rows_elsewhere, outside_bodies, rows_elsewhere}

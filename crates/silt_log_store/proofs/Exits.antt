@@ -2,8 +2,8 @@
 use Rattle.std.proofs.Common.{◌≡◌, ◌↔◌, ℕ, ◌+◌, ◌-◌, ◌<◌, ◌≤◌, true, false, List, [], ◌∷◌, ◌++◌, Option, Some, None, IsTrue, IsSome, IfSome, ◌⊎◌, inl, inr, option_map, refl, sym, subst, ap, ◌∙◌, arith}
 use Rattle.std.specs.List.{list_all}
 use Rattle.std.specs.Option.{is_some, option_and_then}
-use Rattle.silt_device.specs.Disk.{Content, ChangesWithin, size}
-use Rattle.silt_device.specs.Layout.{device_size, gates_at}
+use Rattle.silt_disk.specs.Disk.{Content, ChangesWithin, size}
+use Rattle.silt_disk.specs.Layout.{device_size, gates_at}
 use Rattle.silt_frame.specs.declared.key.Key.{Key}
 use Rattle.silt_frame.specs.declared.key.Kind.{Kind}
 use Rattle.silt_cuckoo.specs.Slots.{Entry, Slots, IsBucketCount, IsTable, PlacesBelow, bucket_count, empty_slots, entry_at, place_at}

@@ -4,7 +4,7 @@ use Rattle.std.specs.List.{list_all, enumerate_from}
 use Rattle.std.proofs.lemmas.Bool.{and_parts, and_from}
 use Rattle.std.proofs.lemmas.List.{map-append, take_all}
 use Rattle.std.proofs.lemmas.List.Folds.{list_all-append}
-use Rattle.silt_device.specs.Layout.{Shape}
+use Rattle.silt_disk.specs.Layout.{Shape}
 use Rattle.silt_frame.specs.Rows.{has_known_kind, StoredRow, keys_of}
 use Rattle.silt_cuckoo.specs.Index.{Index, indexed, index_of_keys}
 use Rattle.silt_cuckoo.proofs.KeyIndex.{indexed_append, stays_none, next_index}

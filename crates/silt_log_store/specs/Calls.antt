@@ -1,7 +1,7 @@
 -- What the calls of a log store do to it and to the disk.
 use Rattle.std.specs.Prelude.{◌≡◌, ◌<◌, ℕ, IsTrue, IsSome, List, [], ◌∷◌, ◌++◌}
 use Rattle.silt_cuckoo.specs.Index.{index_of_keys}
-use Rattle.silt_device.specs.Disk.{Content}
+use Rattle.silt_disk.specs.Disk.{Content}
 use Rattle.silt_frame.specs.Rows.{StoredRow, keys_of}
 use Rattle.silt_log.specs.State.{all_rows}
 use Rattle.silt_log.specs.Calls.{Empties, Appends, KeepsRows, OpensGates, OpensSome, Seals}

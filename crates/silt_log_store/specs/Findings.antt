@@ -1,7 +1,7 @@
 -- What is found in the rows of a log.
 use Rattle.std.specs.Prelude.{ℕ, ◌+◌, not, List, take, ◌≡◌, Bool, true, [], ◌++◌, flat_map, is_some, ◌↔◌, IsTrue}
 use Rattle.std.specs.List.{enumerate_from, list_all}
-use Rattle.silt_device.specs.Layout.{Shape}
+use Rattle.silt_disk.specs.Layout.{Shape}
 use Rattle.silt_frame.specs.Rows.{StoredRow, has_known_kind, keys_of}
 use Rattle.silt_event.specs.declared.damage.Finding.{Finding}
 use Rattle.silt_event.specs.declared.damage.Finding.TheVariants.{Damaged, Crowded}

@@ -1,6 +1,6 @@
 -- The rows of one region of a device, and of several.
 use Rattle.std.specs.Prelude.{ℕ, List, ◌∷◌, [], ◌++◌, filter}
-use Rattle.silt_device.specs.Layout.{Shape}
+use Rattle.silt_disk.specs.Layout.{Shape}
 use Rattle.silt_log.specs.Rows.{log_rows}
 use Rattle.silt_frame.specs.Rows.{StoredRow, has_known_kind}
 

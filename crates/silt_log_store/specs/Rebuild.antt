@@ -1,7 +1,7 @@
 -- What a rebuild finds in the rows of a log, the oldest first.
 use Rattle.std.specs.Prelude.{◌≡◌, ℕ, ◌+◌, ◌<◌, Bool, true, false, List, length, map, take, get_or, IsSome, Some, None}
 use Rattle.std.specs.List.{list_all}
-use Rattle.silt_device.specs.Disk.{Content}
+use Rattle.silt_disk.specs.Disk.{Content}
 use Rattle.silt_log.specs.Rows.{log_rows}
 use Rattle.silt_frame.specs.Rows.{has_known_kind, StoredRow, keys_of, put_count}
 use Rattle.silt_log.specs.State.{IsScanned}

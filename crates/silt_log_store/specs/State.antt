@@ -1,7 +1,7 @@
 -- A log with the table of its keys, and how it stands on a disk.
 use Rattle.std.specs.Prelude.{◌≡◌, ℕ, ◌≤◌, true, IsTrue, Some}
 use Rattle.std.specs.List.{list_all}
-use Rattle.silt_device.specs.Disk.{Content, LeavesOnly}
+use Rattle.silt_disk.specs.Disk.{Content, LeavesOnly}
 use Rattle.silt_log.specs.Rows.{log_rows}
 use Rattle.silt_frame.specs.Rows.{has_known_kind, keys_of, put_count}
 use Rattle.silt_log.specs.State.{LogState, InBounds, IsLog, all_rows}

@@ -5,8 +5,8 @@ ghost use Rattle.silt_cuckoo.specs.Index.{candidate_of_key};
 ghost use Rattle.silt_cuckoo.specs.Lookup.{candidates_of};
 ghost use Rattle.silt_cuckoo.specs.Keys.{first_bucket, second_bucket};
 ghost use Rattle.silt_cuckoo.specs.Slots.{PlacesBelow, bucket_count, place_at};
-ghost use Rattle.silt_device.specs.Disk.{GaveAny, size};
-ghost use Rattle.silt_device.specs.Layout.{device_size, row_len};
+ghost use Rattle.silt_disk.specs.Disk.{GaveAny, size};
+ghost use Rattle.silt_disk.specs.Layout.{device_size, row_len};
 ghost use Rattle.silt_log.specs.Rows.{row_at};
 ghost use Rattle.silt_frame.specs.Rows.{has_known_kind};
 ghost use Rattle.silt_log.specs.State.{all_rows};
@@ -15,7 +15,7 @@ ghost use Rattle.silt_log_store.specs.Lookup.{IsFirstMatch, candidate_of, kind_f
 
 use crate::log_store::Found;
 use silt_cuckoo::{Candidate, Table, key_buckets};
-use silt_device::Disk;
+use silt_disk::Disk;
 use silt_frame::{Key, Kind};
 use silt_log::Log;
 

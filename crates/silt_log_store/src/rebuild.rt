@@ -1,8 +1,8 @@
 // A log store from what is on the device.
 ghost use Rattle.std.specs.Prelude.{◌≡◌, ◌+◌, ◌<◌, ◌≤◌, ◌^◌, ℕ, IsTrue, IfOk, IfErr, OnOk, length};
 ghost use Rattle.silt_cuckoo.specs.Slots.{bucket_count};
-ghost use Rattle.silt_device.specs.Disk.{GaveAny, size};
-ghost use Rattle.silt_device.specs.Layout.{device_size};
+ghost use Rattle.silt_disk.specs.Disk.{GaveAny, size};
+ghost use Rattle.silt_disk.specs.Layout.{device_size};
 ghost use Rattle.silt_log.specs.Rows.{first_rows};
 ghost use Rattle.silt_log.specs.State.{InBounds};
 ghost use Rattle.silt_log_store.specs.Growth.{IsKeyIndex, IsOfRows};
@@ -10,7 +10,7 @@ ghost use Rattle.silt_log_store.specs.State.{IsHeldStore};
 ghost use Rattle.silt_log_store.specs.Rebuild.{IsFirstCrowded, IsFirstDamaged, IsRefusedRebuild};
 
 use crate::index::KeyIndex;
-use silt_device::Disk;
+use silt_disk::Disk;
 use silt_log::Log;
 use std::alloc::Global;
 

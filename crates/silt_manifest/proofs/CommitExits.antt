@@ -1,9 +1,9 @@
 -- What stands at each exit of the opening of a next body's gate.
 use Rattle.std.proofs.Common.{◌≡◌, ℕ, ◌+◌, ◌%◌, ◌≤◌, inl, inr, true, false, List, [], ◌∷◌, ◌++◌, length, get_or, slice_range, slice_index, Some, None, sym, ap, ◌∙◌, append-nil, arith}
 use Rattle.std.proofs.lemmas.Bool.{cases_Bool}
-use Rattle.silt_device.specs.Disk.{Content, LeavesOnly, Torn, ChangesWithin, Writes, Rests, size, splice}
-use Rattle.silt_device.specs.Layout.{slot_at}
-use Rattle.silt_device.proofs.Images.{within_leaves, write_shows, rests_leaves, leaves_shows, sized_leaves, sized_shows, torn_splice, torn_slice_after}
+use Rattle.silt_disk.specs.Disk.{Content, LeavesOnly, Torn, ChangesWithin, Writes, Rests, size, splice}
+use Rattle.silt_disk.specs.Layout.{slot_at}
+use Rattle.silt_disk.proofs.Images.{within_leaves, write_shows, rests_leaves, leaves_shows, sized_leaves, sized_shows, torn_splice, torn_slice_after}
 use Rattle.silt_frame.specs.Gate.{is_open}
 use Rattle.silt_manifest.specs.Body.{FitsSlot, body_bytes, body_of, is_well_formed}
 use Rattle.silt_manifest.specs.Ruling.{slot_of, is_slot_open, body_behind, open_body, ruling_manifest}

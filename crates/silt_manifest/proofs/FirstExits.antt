@@ -1,9 +1,9 @@
 -- What stands after the first write of a manifest.
 use Rattle.std.proofs.Common.{◌≡◌, ℕ, ◌+◌, ◌≤◌, true, false, List, [], ◌∷◌, length, slice_range, slice_index, Some, refl, sym, ap, ◌∙◌, arith}
 use Rattle.std.proofs.lemmas.Bool.Decides.{nat_tests}
-use Rattle.silt_device.specs.Disk.{Content, LeavesOnly, Torn, Writes, Rests, size, splice}
-use Rattle.silt_device.specs.Layout.{Shape, InLimits, slot_at}
-use Rattle.silt_device.proofs.Images.{write_shows, rests_leaves, leaves_shows, sized_shows, torn_splice, torn_slice_after, splice_slice}
+use Rattle.silt_disk.specs.Disk.{Content, LeavesOnly, Torn, Writes, Rests, size, splice}
+use Rattle.silt_disk.specs.Layout.{Shape, InLimits, slot_at}
+use Rattle.silt_disk.proofs.Images.{write_shows, rests_leaves, leaves_shows, sized_shows, torn_splice, torn_slice_after, splice_slice}
 use Rattle.silt_frame.specs.Gate.{is_open}
 use Rattle.silt_manifest.specs.Body.{FitsSlot, body_bytes, first_body, is_well_formed}
 use Rattle.silt_manifest.specs.Ruling.{slot_of, is_slot_open, open_body}

@@ -1,9 +1,9 @@
 -- What keeps the body that rules, for a crate above to cite.
 use Rattle.std.proofs.Common.{◌≡◌, ℕ, ◌+◌, ◌<◌, ◌≤◌, false, List, Option, [], ◌∷◌, length, refl, sym, ap, ◌∙◌, inl, inr, arith}
 use Rattle.std.proofs.lemmas.Bool.{cases_eq}
-use Rattle.silt_device.specs.Disk.{ChangesWithin, Content, LeavesOnly, LiesOutside, Restarts, Rests, Shows, Torn, Writes, size}
-use Rattle.silt_device.specs.Layout.{Shape, slot_at}
-use Rattle.silt_device.proofs.Images.{leaves_shows, restart_leaves, rests_leaves, sized_leaves, sized_shows, within_leaves, within_shows, write_shows}
+use Rattle.silt_disk.specs.Disk.{ChangesWithin, Content, LeavesOnly, LiesOutside, Restarts, Rests, Shows, Torn, Writes, size}
+use Rattle.silt_disk.specs.Layout.{Shape, slot_at}
+use Rattle.silt_disk.proofs.Images.{leaves_shows, restart_leaves, rests_leaves, sized_leaves, sized_shows, within_leaves, within_shows, write_shows}
 use Rattle.silt_manifest.specs.Ruling.{ClosedSlotLaw, OtherRegionsLaw, body_behind, body_found, is_slot_open, manifest_found, open_body, ruling_manifest, slot_of, where_found}
 use Rattle.silt_manifest.specs.declared.body.Body.{Body}
 use Rattle.silt_manifest.specs.Standing.{IsFirst, IsRuled, ManifestState, Rules, ruling_slot, spare_slot}

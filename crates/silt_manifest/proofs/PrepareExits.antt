@@ -1,9 +1,9 @@
 -- What stands at each exit of the write of a next body.
 use Rattle.std.proofs.Common.{◌≡◌, ℕ, ◌+◌, ◌≤◌, inl, inr, true, false, not, List, [], ◌∷◌, length, slice_range, slice_index, Some, refl, sym, ap, subst, ◌∙◌, arith}
 use Rattle.std.proofs.lemmas.Bool.{cases_Bool}
-use Rattle.silt_device.specs.Disk.{Content, LeavesOnly, Torn, ChangesWithin, Writes, Rests, size, splice}
-use Rattle.silt_device.specs.Layout.{Shape, slot_at}
-use Rattle.silt_device.proofs.Images.{within_leaves, write_shows, rests_leaves, weaker_leaves, leaves_shows, sized_leaves, sized_shows, torn_splice, splice_slice}
+use Rattle.silt_disk.specs.Disk.{Content, LeavesOnly, Torn, ChangesWithin, Writes, Rests, size, splice}
+use Rattle.silt_disk.specs.Layout.{Shape, slot_at}
+use Rattle.silt_disk.proofs.Images.{within_leaves, write_shows, rests_leaves, weaker_leaves, leaves_shows, sized_leaves, sized_shows, torn_splice, splice_slice}
 use Rattle.silt_frame.specs.Gate.{is_open}
 use Rattle.silt_manifest.specs.Body.{FitsSlot, body_bytes, is_well_formed}
 use Rattle.silt_manifest.specs.Ruling.{slot_of, is_slot_open, body_behind, open_body, ruling_manifest}

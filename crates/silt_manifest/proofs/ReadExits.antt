@@ -3,9 +3,9 @@ use Rattle.std.proofs.Common.{◌≡◌, ℕ, ◌+◌, ◌%◌, Bool, true, fals
 use Rattle.std.specs.Option.{ok_or}
 use Rattle.std.specs.Result.{IfOk, IfErr}
 use Rattle.std.proofs.lemmas.Bool.{cases_Bool}
-use Rattle.silt_device.specs.Disk.{Content, Shows, LeavesOnly, Rests}
-use Rattle.silt_device.specs.Layout.{Shape}
-use Rattle.silt_device.proofs.Images.{weaker_shows, rests_leaves}
+use Rattle.silt_disk.specs.Disk.{Content, Shows, LeavesOnly, Rests}
+use Rattle.silt_disk.specs.Layout.{Shape}
+use Rattle.silt_disk.proofs.Images.{weaker_shows, rests_leaves}
 use Rattle.silt_frame.specs.Gate.{is_open}
 use Rattle.silt_manifest.specs.Body.{body_of}
 use Rattle.silt_manifest.specs.Faults.{IsDamaged, IsNotRead, IsSlotRefused, IsUnsound}

@@ -5,7 +5,7 @@ use Rattle.std.proofs.lemmas.List.{drop_at, take_at, length-replicate}
 use Rattle.std.proofs.lemmas.Bool.{and_parts, ltb-true}
 use Rattle.byteorder.specs.Endian.{big_number, big_bytes}
 use Rattle.byteorder.specs.Numbers.{big_number-reads_back, length-bytes_high_first}
-use Rattle.silt_device.specs.Numbers.{number_at}
+use Rattle.silt_disk.specs.Numbers.{number_at}
 use Rattle.silt_manifest.specs.Numbers.{id_bytes, ids_bytes, ids_at}
 use Rattle.silt_manifest.specs.Body.{BodyLaw, FitsSlot, body_bytes}
 use Rattle.silt_manifest.specs.declared.body.Body.{Body}

@@ -2,7 +2,7 @@
 use Rattle.std.proofs.Common.{◌≡◌, ℕ, ◌+◌, ◌⊎◌, inl, inr, true, false, nat_lt, List, Option, Some, None, Ok, refl, sym, ap, ◌∙◌, arith}
 use Rattle.std.proofs.lemmas.Bool.{cases_eq}
 use Rattle.std.proofs.lemmas.Bool.Decides.{nat_tests}
-use Rattle.silt_device.specs.Layout.{Shape}
+use Rattle.silt_disk.specs.Layout.{Shape}
 use Rattle.silt_manifest.specs.Body.{is_well_formed}
 use Rattle.silt_manifest.specs.Ruling.{body_found, open_body, ruling_manifest, where_found}
 use Rattle.silt_manifest.specs.declared.body.Body.{Body}

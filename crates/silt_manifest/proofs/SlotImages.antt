@@ -3,9 +3,9 @@ use Rattle.std.proofs.Common.{◌≡◌, ℕ, ◌+◌, ◌-◌, ◌<◌, ◌≤�
 use Rattle.std.proofs.lemmas.List.{drop_more}
 use Rattle.std.proofs.lemmas.Bool.{cases_Bool, cases_eq}
 use Rattle.std.proofs.lemmas.Bool.Decides.{nat_tests}
-use Rattle.silt_device.specs.Disk.{Torn, splice}
-use Rattle.silt_device.specs.Layout.{slot_at}
-use Rattle.silt_device.proofs.Images.{torn_slice_before, torn_slice_after, torn_splice, splice_byte}
+use Rattle.silt_disk.specs.Disk.{Torn, splice}
+use Rattle.silt_disk.specs.Layout.{slot_at}
+use Rattle.silt_disk.proofs.Images.{torn_slice_before, torn_slice_after, torn_splice, splice_byte}
 use Rattle.silt_frame.specs.Gate.{is_open}
 use Rattle.silt_manifest.specs.Body.{body_of}
 use Rattle.silt_manifest.specs.Ruling.{slot_of, is_slot_open, body_behind, open_body}

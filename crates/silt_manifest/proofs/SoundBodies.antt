@@ -2,7 +2,7 @@
 use Rattle.std.proofs.Common.{◌≡◌, ℕ, ◌%◌, ◌^◌, ◌<◌, ◌≤◌, ◌⊎◌, ◌==◌, inl, inr, true, false, nat_lt, nat_le, List, [], ◌∷◌, length, refl, ap, ◌∙◌, arith}
 use Rattle.std.proofs.lemmas.Bool.{cases_Bool, and_parts, ltb-true}
 use Rattle.std.proofs.lemmas.Bool.Decides.{nat_tests}
-use Rattle.silt_device.specs.Layout.{Shape, InLimits}
+use Rattle.silt_disk.specs.Layout.{Shape, InLimits}
 use Rattle.silt_manifest.specs.Body.{FitsSlot, all_below, is_well_formed}
 use Rattle.silt_manifest.specs.declared.body.Body.{Body}
 

@@ -2,8 +2,8 @@
 use Rattle.std.specs.Prelude.{◌≡◌, ◌<◌, ◌≤◌, ℕ, ◌%◌, ◌^◌, ◌==◌, nat_le, nat_lt, Bool, true, ◌&&◌, not, List, [], ◌∷◌, ◌++◌, length}
 use Rattle.std.specs.List.{list_any, list_all}
 use Rattle.byteorder.specs.Endian.{big_bytes}
-use Rattle.silt_device.specs.Layout.{Shape}
-use Rattle.silt_device.specs.Numbers.{number_at}
+use Rattle.silt_disk.specs.Layout.{Shape}
+use Rattle.silt_disk.specs.Numbers.{number_at}
 use Rattle.silt_manifest.specs.Numbers.{ids_bytes, ids_at}
 use Rattle.silt_manifest.specs.declared.body.Body.{Body}
 

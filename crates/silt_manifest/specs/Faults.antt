@@ -1,7 +1,7 @@
 -- Why a slot or a manifest was not read, and what a failed write or sync gave.
 use Rattle.std.specs.Prelude.{◌≡◌, ℕ, false, List, Err}
-use Rattle.silt_device.specs.Disk.{Content, Shows}
-use Rattle.silt_device.specs.Layout.{Shape}
+use Rattle.silt_disk.specs.Disk.{Content, Shows}
+use Rattle.silt_disk.specs.Layout.{Shape}
 use Rattle.silt_manifest.specs.Ruling.{open_body, is_sound_body, manifest_found}
 use Rattle.silt_manifest.specs.declared.slot.Damage.{Damage}
 use Rattle.silt_manifest.specs.declared.slot.Damage.TheVariants.{Slot}

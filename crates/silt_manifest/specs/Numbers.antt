@@ -2,7 +2,7 @@
 use Rattle.std.specs.Prelude.{ℕ, ◌+◌, ◌-◌, ◌*◌, List, [], ◌∷◌, ◌++◌, length, map, replicate}
 use Rattle.std.specs.List.{range_with_len}
 use Rattle.byteorder.specs.Endian.{big_bytes}
-use Rattle.silt_device.specs.Numbers.{number_at}
+use Rattle.silt_disk.specs.Numbers.{number_at}
 
 -- numbers of four bytes, one after the other
 abbrev pub id_bytes : List ℕ → List ℕ

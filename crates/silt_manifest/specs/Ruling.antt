@@ -1,7 +1,7 @@
 -- Which body rules, in an image of a device.
 use Rattle.std.specs.Prelude.{◌≡◌, ℕ, ◌+◌, ◌<◌, ◌≤◌, nat_lt, Bool, true, not, if◌then◌else◌, List, length, slice_index, slice_range, Option, Some, None, Result, Ok, Err, ◌*◌}
-use Rattle.silt_device.specs.Disk.{LiesOutside, Torn}
-use Rattle.silt_device.specs.Layout.{Shape, slot_at, sector}
+use Rattle.silt_disk.specs.Disk.{LiesOutside, Torn}
+use Rattle.silt_disk.specs.Layout.{Shape, slot_at, sector}
 use Rattle.silt_frame.specs.Gate.{is_open}
 use Rattle.silt_manifest.specs.Body.{body_of, is_well_formed}
 use Rattle.silt_manifest.specs.declared.body.Body.{Body}

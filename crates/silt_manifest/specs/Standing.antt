@@ -1,8 +1,8 @@
 -- What a manifest in memory says of the images of a disk.
 use Rattle.std.specs.Prelude.{◌≡◌, ◌⊎◌, ℕ, ◌+◌, ◌%◌, Bool, true, false, not, nat_lt, if◌then◌else◌, IsTrue, List, [], ◌∷◌, Option, Some, None, slice_range}
 use Rattle.std.specs.Option.{ForSome}
-use Rattle.silt_device.specs.Disk.{Content, LeavesOnly, splice}
-use Rattle.silt_device.specs.Layout.{Shape, InLimits, slot_at}
+use Rattle.silt_disk.specs.Disk.{Content, LeavesOnly, splice}
+use Rattle.silt_disk.specs.Layout.{Shape, InLimits, slot_at}
 use Rattle.silt_frame.specs.Gate.{gate_open}
 use Rattle.silt_manifest.specs.Body.{FitsSlot, body_bytes, first_body, is_well_formed}
 use Rattle.silt_manifest.specs.Ruling.{is_slot_open, open_body, ruling_manifest, slot_of}

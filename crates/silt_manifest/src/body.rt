@@ -6,7 +6,7 @@ ghost use Rattle.byteorder.specs.Endian.{big_bytes};
 
 use crate::ids::Ids;
 use byteorder::{BigEndian, ByteOrder};
-use silt_device::Geometry;
+use silt_disk::Geometry;
 
 /// The bytes of a body.
 pub(crate) const BODY_LEN: usize = 120;

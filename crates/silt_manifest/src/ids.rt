@@ -1,6 +1,6 @@
 // A short list of region numbers that takes no memory.
 ghost use Rattle.std.specs.Prelude.{◌≡◌, ◌==◌, ◌+◌, ◌*◌, ◌<◌, ◌≤◌, [], ◌∷◌, length, take, IfSome, IfNone};
-ghost use Rattle.silt_device.specs.Numbers.{number_at};
+ghost use Rattle.silt_disk.specs.Numbers.{number_at};
 ghost use Rattle.silt_manifest.specs.Numbers.{ids_at};
 
 use byteorder::{BigEndian, ByteOrder};

@@ -1,7 +1,7 @@
 // The manifest in memory, and the calls that read and write it.
 ghost use Rattle.std.specs.Prelude.{◌≡◌, ◌+◌, ◌<◌, ◌≤◌, ◌↔◌, IsTrue, Some, None, true, false, IfOk, IfErr, OnOk, OnErr, MatchResult};
-ghost use Rattle.silt_device.specs.Disk.{ChangesWithin, CountsFault, GaveAny, LeavesOnly, Rests, Shows, size};
-ghost use Rattle.silt_device.specs.Layout.{slot_at, sector};
+ghost use Rattle.silt_disk.specs.Disk.{ChangesWithin, CountsFault, GaveAny, LeavesOnly, Rests, Shows, size};
+ghost use Rattle.silt_disk.specs.Layout.{slot_at, sector};
 ghost use Rattle.silt_manifest.specs.Body.{is_well_formed};
 ghost use Rattle.silt_manifest.specs.Ruling.{ClosedSlotLaw, OtherRegionsLaw, is_slot_open, is_sound_body, ruling_manifest};
 ghost use Rattle.silt_manifest.specs.Faults.{IsNotRead};
@@ -9,7 +9,7 @@ ghost use Rattle.silt_manifest.specs.Standing.{CanCommit, IsFirst, IsNext, IsRul
 
 use crate::body::Body;
 use crate::slot::{Damage, ReadFault, read_slot, write_body, write_gate};
-use silt_device::{Disk, Geometry, slot_start, write_synced};
+use silt_disk::{Disk, Geometry, slot_start, write_synced};
 use silt_frame::{GATE_CLOSED, GATE_OPEN};
 use std::marker::Model;
 

@@ -1,13 +1,13 @@
 // The two slots of a manifest.
 ghost use Rattle.std.specs.Prelude.{◌≡◌, ◌+◌, ◌<◌, ◌≤◌, true, false, [], ◌∷◌, IfOk, IfErr, OnOk, MatchResult};
-ghost use Rattle.silt_device.specs.Disk.{ChangesWithin, CountsFault, GaveAny, Rests, Shows, Writes, size};
-ghost use Rattle.silt_device.specs.Layout.{slot_at, sector};
+ghost use Rattle.silt_disk.specs.Disk.{ChangesWithin, CountsFault, GaveAny, Rests, Shows, Writes, size};
+ghost use Rattle.silt_disk.specs.Layout.{slot_at, sector};
 ghost use Rattle.silt_manifest.specs.Ruling.{HasSlot, body_behind, is_sound_body};
 ghost use Rattle.silt_manifest.specs.Faults.{IsSlotRefused};
 ghost use Rattle.silt_manifest.specs.declared.slot.Damage.TheVariants.{Slot};
 
 use crate::body::{BODY_LEN, Body, SLOT_LEN};
-use silt_device::{Disk, Geometry, slot_start, write_synced};
+use silt_disk::{Disk, Geometry, slot_start, write_synced};
 use silt_frame::is_open;
 
 /// Where a manifest is damaged.

@@ -4,9 +4,9 @@ use Rattle.std.specs.List.{All, range_with_len}
 use Rattle.std.proofs.lemmas.Bool.{cases_lt, cases_order}
 use Rattle.std.proofs.Math.Seq.{drop-append-add}
 use Rattle.std.proofs.lemmas.List.{get_or-map, length-append, length-drop, length-map, take-map}
-use Rattle.silt_device.specs.Disk.{LiesOutside, Torn, size}
-use Rattle.silt_device.specs.Layout.{Shape, device_size, entries_len, entry_len, hash_at, slots_len, sorted_at}
-use Rattle.silt_device.proofs.Regions.{regions_apart}
+use Rattle.silt_disk.specs.Disk.{LiesOutside, Torn, size}
+use Rattle.silt_disk.specs.Layout.{Shape, device_size, entries_len, entry_len, hash_at, slots_len, sorted_at}
+use Rattle.silt_disk.proofs.Regions.{regions_apart}
 use Rattle.silt_hash_store.proofs.Elsewhere.{slot_outside}
 use Rattle.silt_frame.specs.Frame.{kind_byte}
 use Rattle.silt_hash_store.specs.Slots.{rows_before, slot_row, hash_part}

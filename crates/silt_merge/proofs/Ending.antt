@@ -6,9 +6,9 @@ use Rattle.std.proofs.lemmas.Bool.{and_from, and_parts, cases_lt, cond-true, con
 use Rattle.std.proofs.lemmas.Map.Text.{is_eq-slice_cmp}
 use Rattle.std.proofs.lemmas.List.{take_all}
 use Rattle.std.proofs.lemmas.Option.{slice_get_within}
-use Rattle.silt_device.specs.Disk.{ChangesWithin, Content, Torn, size}
-use Rattle.silt_device.specs.Layout.{Shape, device_size, entry_len, sorted_at}
-use Rattle.silt_device.proofs.Regions.{next_region}
+use Rattle.silt_disk.specs.Disk.{ChangesWithin, Content, Torn, size}
+use Rattle.silt_disk.specs.Layout.{Shape, device_size, entry_len, sorted_at}
+use Rattle.silt_disk.proofs.Regions.{next_region}
 use Rattle.silt_frame.specs.Frame.{is_put, kind_byte}
 use Rattle.silt_frame.specs.declared.key.Key.{Key}
 use Rattle.silt_frame.specs.declared.key.Kind.{Kind}

@@ -1,7 +1,7 @@
 -- Parts of a region that were read together, as parts of the bytes that were read.
 use Rattle.std.proofs.Common.{◌≡◌, ℕ, zero, suc, ◌+◌, ◌-◌, ◌*◌, ◌<◌, ◌≤◌, List, [], ◌∷◌, ◌++◌, length, take, slice_range, refl, sym, subst, ap, ◌∙◌, arith, length-append}
 use Rattle.std.proofs.Math.Seq.{take-append_seam}
-use Rattle.silt_device.specs.Layout.{Shape, row_len}
+use Rattle.silt_disk.specs.Layout.{Shape, row_len}
 use Rattle.silt_frame.specs.Rows.{StoredRow, row_of}
 use Rattle.silt_hash_store.specs.Slots.{HoldsSlots, slot_row}
 use Rattle.silt_log.proofs.Parts.{slice_of_slice}

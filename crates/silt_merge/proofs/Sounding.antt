@@ -1,8 +1,8 @@
 -- Stores that stand on an honest disk are sound.
 use Rattle.std.proofs.Common.{◌≡◌, suc, ◌<◌, IsTrue, List, [], ◌∷◌, flat_map, map, slice_index_or, refl, subst, arith}
 use Rattle.std.specs.List.{All}
-use Rattle.silt_device.specs.Disk.{Content}
-use Rattle.silt_device.specs.Layout.{Shape}
+use Rattle.silt_disk.specs.Disk.{Content}
+use Rattle.silt_disk.specs.Layout.{Shape}
 use Rattle.silt_hash_store.specs.State.{HashState, IsHashStore}
 use Rattle.silt_hash_store.specs.Findings.{hash_findings}
 use Rattle.silt_hash_store.specs.Slots.{hash_part}

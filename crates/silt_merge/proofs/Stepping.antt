@@ -4,8 +4,8 @@ use Rattle.std.specs.Option.{option_or}
 use Rattle.std.specs.Str.{bytes_eq}
 use Rattle.std.proofs.lemmas.Bool.{cases_Bool, cond-true, cond-false, eq-eqb, eqb-true, le-ltb}
 use Rattle.std.proofs.lemmas.List.{take_all}
-use Rattle.silt_device.specs.Disk.{Content}
-use Rattle.silt_device.specs.Layout.{Shape}
+use Rattle.silt_disk.specs.Disk.{Content}
+use Rattle.silt_disk.specs.Layout.{Shape}
 use Rattle.silt_frame.specs.declared.key.Key.{Key}
 use Rattle.silt_frame.specs.declared.key.Row.{Row}
 use Rattle.silt_hash_store.specs.Lookup.{IsRowAt}

@@ -5,7 +5,7 @@ use Rattle.std.specs.Option.{option_or}
 use Rattle.std.specs.Cmp.Lexicographic.{slice_cmp}
 use Rattle.std.specs.Str.{bytes_eq}
 use Rattle.silt_frame.specs.declared.key.Kind.TheVariants.{Put}
-use Rattle.silt_device.specs.Layout.{Shape}
+use Rattle.silt_disk.specs.Layout.{Shape}
 use Rattle.silt_frame.specs.declared.key.Key.{Key}
 use Rattle.std.specs.declared.cmp.Ordering.TheVariants.{Less}
 use Rattle.silt_frame.specs.Frame.{is_put, kind_byte, key_len}

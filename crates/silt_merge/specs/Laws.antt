@@ -2,8 +2,8 @@
 use Rattle.std.specs.Prelude.{◌≡◌, ℕ, ◌≤◌, IsTrue, List, [], ◌++◌, length}
 use Rattle.std.specs.FinMap.{len}
 use Rattle.std.specs.List.{All}
-use Rattle.silt_device.specs.Disk.{ChangesWithin, Content, LiesOutside, size}
-use Rattle.silt_device.specs.Layout.{device_size, entries_len, hash_at, slots_len, sorted_at}
+use Rattle.silt_disk.specs.Disk.{ChangesWithin, Content, LiesOutside, size}
+use Rattle.silt_disk.specs.Layout.{device_size, entries_len, hash_at, slots_len, sorted_at}
 use Rattle.silt_hash_store.specs.State.{HashState, IsHashStore, IsHeldHash}
 use Rattle.silt_event.specs.Rows.{map_of_rows}
 use Rattle.silt_sorted_store.specs.Findings.{sorted_findings}

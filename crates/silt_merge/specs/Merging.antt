@@ -1,8 +1,8 @@
 -- What a merge has gathered and written.
 use Rattle.std.specs.Prelude.{◌≡◌, ◌≢◌, ℕ, ◌≤◌, ◌<◌, nat_lt, cond, IsTrue, List, [], ◌++◌, filter, flat_map, get_or, length, map, take, true, Some, None, option_map}
 use Rattle.std.specs.List.{All}
-use Rattle.silt_device.specs.Disk.{Content}
-use Rattle.silt_device.specs.Layout.{Shape}
+use Rattle.silt_disk.specs.Disk.{Content}
+use Rattle.silt_disk.specs.Layout.{Shape}
 use Rattle.silt_frame.specs.Frame.{kind_byte}
 use Rattle.silt_hash_store.specs.Slots.{rows_before, slot_row, hash_part}
 use Rattle.silt_hash_store.specs.State.{HashState}

@@ -1,6 +1,6 @@
 -- Parts of a region that were read together.
 use Rattle.std.specs.Prelude.{◌≡◌, ℕ, zero, suc, ◌+◌, ◌*◌, ◌<◌, Bool, true, false, List, [], ◌∷◌, drop, slice_range}
-use Rattle.silt_device.specs.Layout.{Shape}
+use Rattle.silt_disk.specs.Layout.{Shape}
 use Rattle.silt_frame.specs.Rows.{StoredRow, row_of}
 use Rattle.silt_hash_store.specs.Slots.{slot_row}
 use Rattle.silt_sorted_store.specs.OnlyRow.{HasEntry}

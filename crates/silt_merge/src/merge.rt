@@ -3,8 +3,8 @@ ghost use Rattle.std.specs.Prelude.{◌≡◌, ◌≢◌, ◌==◌, ◌+◌, ◌
 ghost use Rattle.std.specs.Prelude.{None, cond, length, take, IsTrue, IfOk, IfErr, IfSome, IsSomeAnd, OnOk, OnErr, MatchResult, is_some, nat_lt, slice_index, vec_capacity, vec_len};
 ghost use Rattle.std.specs.List.{All};
 ghost use Rattle.std.specs.Str.{bytes_eq};
-ghost use Rattle.silt_device.specs.Disk.{Content, ChangesWithin, CountsFault, GaveAny, size};
-ghost use Rattle.silt_device.specs.Layout.{Shape, device_size, entry_len, sorted_at, sorted_size};
+ghost use Rattle.silt_disk.specs.Disk.{Content, ChangesWithin, CountsFault, GaveAny, size};
+ghost use Rattle.silt_disk.specs.Layout.{Shape, device_size, entry_len, sorted_at, sorted_size};
 ghost use Rattle.silt_frame.specs.declared.key.Key.{Key};
 ghost use Rattle.silt_hash_store.specs.State.{HashState};
 ghost use Rattle.silt_hash_store.specs.Lookup.{IsRowAt};
@@ -21,7 +21,7 @@ ghost use Rattle.silt_sorted_store.specs.State.{IsHeldSorted, SortedState, entri
 use crate::choice::{Choice, choose, is_behind};
 use crate::piece::Piece;
 use crate::source::{Source, first, keep, remove_waiting};
-use silt_device::Disk;
+use silt_disk::Disk;
 use silt_frame::{KEY_LEN, Key, Row};
 use silt_hash_store::HashStore;
 use silt_sorted_store::{SortedEntries, SortedRegion, SortedStore};
@@ -62,7 +62,7 @@ pub struct Merge {
 
 impl Model for Merge {
     ghost use Rattle.std.specs.Prelude.{◌≡◌, ◌≤◌, vec_capacity, vec_len};
-    ghost use Rattle.silt_device.specs.Layout.{entry_len, row_len};
+    ghost use Rattle.silt_disk.specs.Layout.{entry_len, row_len};
     ghost use Rattle.silt_merge.specs.State.{MergeState, IsHeldMerge};
 
     ghost Value = { MergeState };

@@ -1,7 +1,7 @@
 // A piece of a hash region or of a sorted region, read together and taken part by part.
 ghost use Rattle.std.specs.Prelude.{◌≡◌, ◌+◌, ◌*◌, ◌<◌, ◌≤◌, ℕ, [], true, false, List, length, take, IsTrue, IfOk, IfErr, OnOk, OnErr};
-ghost use Rattle.silt_device.specs.Disk.{GaveAny, size};
-ghost use Rattle.silt_device.specs.Layout.{Shape, device_size, entry_len, row_len};
+ghost use Rattle.silt_disk.specs.Disk.{GaveAny, size};
+ghost use Rattle.silt_disk.specs.Layout.{Shape, device_size, entry_len, row_len};
 ghost use Rattle.silt_frame.specs.Rows.{StoredRow};
 ghost use Rattle.silt_hash_store.specs.Lookup.{IsRowAt};
 ghost use Rattle.silt_hash_store.specs.Slots.{HoldsSlots, slot_row};
@@ -10,7 +10,7 @@ ghost use Rattle.silt_sorted_store.specs.OnlyRow.{HasEntry};
 ghost use Rattle.silt_sorted_store.specs.State.{entries_of};
 ghost use Rattle.silt_merge.specs.Pieces.{AreEntries, AreSlots, parts_after};
 
-use silt_device::Disk;
+use silt_disk::Disk;
 use silt_frame::{Key, Row, entry_of};
 use silt_hash_store::{HashStore, row_in};
 use silt_sorted_store::SortedEntries;

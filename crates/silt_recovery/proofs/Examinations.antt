@@ -5,8 +5,8 @@ use Rattle.std.proofs.lemmas.Bool.{and_parts, ltb-true}
 use Rattle.std.proofs.lemmas.List.{append-nil}
 use Rattle.std.proofs.lemmas.List.Elements.{All-cons, All-nil, All-weaker}
 use Rattle.std.proofs.lemmas.List.Sums.{sum_by-cons}
-use Rattle.silt_device.specs.Disk.{Content, Rests, size}
-use Rattle.silt_device.specs.Layout.{Shape, InLimits, device_size}
+use Rattle.silt_disk.specs.Disk.{Content, Rests, size}
+use Rattle.silt_disk.specs.Layout.{Shape, InLimits, device_size}
 use Rattle.silt_hash_store.specs.State.{HashState, IsHashStore}
 use Rattle.silt_image.specs.Meaning.{IsSound, charge_of}
 use Rattle.silt_frame.specs.Rows.{put_count}

@@ -2,10 +2,10 @@
 use Rattle.std.proofs.Common.{◌≡◌, ◌≤◌, ◌<◌, ℕ, ◌+◌, ◌-◌, IsTrue, List, [], ◌∷◌, ◌++◌, length, take, drop, slice_range, false, Ok, inl, inr, ap, sym, ◌∙◌, subst, arith, take-add}
 use Rattle.std.specs.FinMap.{empty}
 use Rattle.std.proofs.lemmas.List.{drop-drop}
-use Rattle.silt_device.specs.Disk.{Content, Torn, ChangesWithin, Writes, LeavesOnly, Rests, size, splice}
-use Rattle.silt_device.specs.Layout.{Shape, InLimits, device_size, gates_at, slot_at}
-use Rattle.silt_device.proofs.Images.{splice_slice, torn_splice, length-splice, torn_slice_after, left_at_rest, shown_left, rests_leaves}
-use Rattle.silt_device.specs.Header.{header_bytes, header_of}
+use Rattle.silt_disk.specs.Disk.{Content, Torn, ChangesWithin, Writes, LeavesOnly, Rests, size, splice}
+use Rattle.silt_disk.specs.Layout.{Shape, InLimits, device_size, gates_at, slot_at}
+use Rattle.silt_disk.proofs.Images.{splice_slice, torn_splice, length-splice, torn_slice_after, left_at_rest, shown_left, rests_leaves}
+use Rattle.silt_disk.specs.Header.{header_bytes, header_of}
 use Rattle.silt_image.specs.Meaning.{StandsFor}
 use Rattle.silt_image.specs.Stores.{shape_found}
 use Rattle.silt_log.specs.Rows.{log_rows}

@@ -4,13 +4,13 @@ use Rattle.std.specs.Result.{OnErr}
 use Rattle.std.proofs.lemmas.Bool.{cases_Bool, cases_eq}
 use Rattle.std.proofs.lemmas.Bool.Decides.{nat_tests}
 use Rattle.std.proofs.lemmas.List.{get_or-take}
-use Rattle.silt_device.specs.Disk.{Content, Torn, Tears, Writes, ChangesWithin, LeavesOnly, Rests, size}
-use Rattle.silt_device.specs.Layout.{Shape, InLimits, device_size, slot_at}
-use Rattle.silt_device.proofs.Images.{left_at_rest, rests_leaves, sized_leaves, splice_byte, splice_slice, torn_refl, torn_slice_after, within_leaves, write_within}
+use Rattle.silt_disk.specs.Disk.{Content, Torn, Tears, Writes, ChangesWithin, LeavesOnly, Rests, size}
+use Rattle.silt_disk.specs.Layout.{Shape, InLimits, device_size, slot_at}
+use Rattle.silt_disk.proofs.Images.{left_at_rest, rests_leaves, sized_leaves, splice_byte, splice_slice, torn_refl, torn_slice_after, within_leaves, write_within}
 use Rattle.std.specs.Str.{bytes_eq}
 use Rattle.silt_frame.specs.Gate.{is_open}
-use Rattle.silt_device.specs.Header.{header_bytes, header_of, is_formatted, magic}
-use Rattle.silt_device.specs.Numbers.{number_at}
+use Rattle.silt_disk.specs.Header.{header_bytes, header_of, is_formatted, magic}
+use Rattle.silt_disk.specs.Numbers.{number_at}
 use Rattle.silt_image.specs.Meaning.{image_verdict}
 use Rattle.silt_image.specs.Stores.{image_stores, stores_shaped}
 use Rattle.silt_event.specs.declared.damage.Finding.TheVariants.{NotFormatted}

@@ -4,8 +4,8 @@ use Rattle.std.proofs.lemmas.List.{drop_more, map-append, take-append-drop, take
 use Rattle.std.proofs.lemmas.List.Elements.{All-push}
 use Rattle.std.proofs.lemmas.List.Sums.{sum_by-cons, sum_by_push}
 use Rattle.std.proofs.lemmas.Grind.{flat_map-append}
-use Rattle.silt_device.specs.Disk.{Content}
-use Rattle.silt_device.specs.Layout.{Shape}
+use Rattle.silt_disk.specs.Disk.{Content}
+use Rattle.silt_disk.specs.Layout.{Shape}
 use Rattle.silt_hash_store.specs.Rebuild.{IsFirstUnsound}
 use Rattle.silt_hash_store.specs.State.{HashState}
 use Rattle.silt_image.specs.Meaning.{charge_of, image_verdict, rows_of}

@@ -1,7 +1,7 @@
 -- What a read of the manifest says of the stores.
 use Rattle.std.proofs.Common.{◌≡◌, ℕ, List, length, Some, Ok, Err, Result, refl, ap, sym, ◌∙◌}
-use Rattle.silt_device.specs.Layout.{Shape}
-use Rattle.silt_device.specs.Header.{header_of}
+use Rattle.silt_disk.specs.Layout.{Shape}
+use Rattle.silt_disk.specs.Header.{header_of}
 use Rattle.silt_image.specs.Stores.{damage_finding, image_stores, shape_found, stores_named, stores_ruled, stores_shaped}
 use Rattle.silt_image.proofs.Named.{stores_law}
 use Rattle.silt_image.proofs.Verdict.{no_stores_law}

@@ -3,9 +3,9 @@ use Rattle.std.proofs.Common.{◌≡◌, ◌≤◌, ℕ, ◌+◌, IsTrue, List, 
 use Rattle.std.proofs.lemmas.List.{length-map}
 use Rattle.std.proofs.lemmas.List.Elements.{All-head, All-tail, All-weaker}
 use Rattle.std.proofs.lemmas.List.Sums.{sum_by-cons}
-use Rattle.silt_device.specs.Disk.{Content}
-use Rattle.silt_device.specs.Layout.{Shape, InLimits}
-use Rattle.silt_device.proofs.Regions.{bucket_count_most}
+use Rattle.silt_disk.specs.Disk.{Content}
+use Rattle.silt_disk.specs.Layout.{Shape, InLimits}
+use Rattle.silt_disk.proofs.Regions.{bucket_count_most}
 use Rattle.silt_log_store.specs.Parts.{Part, log_part}
 use Rattle.silt_image.specs.Stores.{Stores, stores_named}
 use Rattle.silt_hash_store.specs.Slots.{hash_part}

@@ -6,8 +6,8 @@ use Rattle.std.proofs.lemmas.List.{append-nil, get_or-map, map-append}
 use Rattle.std.proofs.lemmas.List.Sums.{sum_by-cons}
 use Rattle.std.proofs.lemmas.Grind.{flat_map-append}
 use Rattle.std.proofs.lemmas.Option.{slice_get-get_or}
-use Rattle.silt_device.specs.Disk.{Content}
-use Rattle.silt_device.specs.Layout.{Shape}
+use Rattle.silt_disk.specs.Disk.{Content}
+use Rattle.silt_disk.specs.Layout.{Shape}
 use Rattle.silt_cuckoo.specs.Index.{index_of_keys}
 use Rattle.silt_image.specs.Laws.{FirstFinding}
 use Rattle.silt_event.specs.Findings.{finding_if}

@@ -6,15 +6,15 @@ use Rattle.std.proofs.lemmas.List.{append-nil}
 use Rattle.std.proofs.lemmas.List.Elements.{All-cons, All-nil}
 use Rattle.std.proofs.lemmas.List.FromFn.{length-map-range_with_len}
 use Rattle.std.proofs.Math.Nat.{one-le-mul}
-use Rattle.silt_device.specs.Disk.{Content, Left, LeavesOnly, Settles, Stays, ChangesWithin, LiesOutside, Torn, size}
-use Rattle.silt_device.specs.Layout.{Shape, InLimits, device_size, entries_len, gates_at, hash_at, log_size, row_len, slot_at, sorted_at}
-use Rattle.silt_device.proofs.Images.{left_at_rest, left_after_failed_sync, shown_left, within_wider}
-use Rattle.silt_device.proofs.Regions.{next_region, up_least}
+use Rattle.silt_disk.specs.Disk.{Content, Left, LeavesOnly, Settles, Stays, ChangesWithin, LiesOutside, Torn, size}
+use Rattle.silt_disk.specs.Layout.{Shape, InLimits, device_size, entries_len, gates_at, hash_at, log_size, row_len, slot_at, sorted_at}
+use Rattle.silt_disk.proofs.Images.{left_at_rest, left_after_failed_sync, shown_left, within_wider}
+use Rattle.silt_disk.proofs.Regions.{next_region, up_least}
 use Rattle.silt_cuckoo.specs.Index.{index_of_keys}
 use Rattle.silt_hash_store.specs.Conversion.{ConversionState, HasWritten}
 use Rattle.silt_hash_store.specs.State.{HashState, IsHashStore}
 use Rattle.silt_hash_store.proofs.Elsewhere.{hash_elsewhere}
-use Rattle.silt_device.specs.Header.{shape_of}
+use Rattle.silt_disk.specs.Header.{shape_of}
 use Rattle.silt_image.specs.Laws.{IsWhole}
 use Rattle.silt_image.specs.Meaning.{IsGood, IsSound, StandsFor, charge_of, image_map, rows_of, with_log_rows}
 use Rattle.silt_event.specs.Rows.{map_of_rows}

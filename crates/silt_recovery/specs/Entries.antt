@@ -1,6 +1,6 @@
 -- The sorted entries as they are read from a device.
 use Rattle.std.specs.Prelude.{◌≡◌, ℕ, List, [], slice_get, Some}
-use Rattle.silt_device.specs.Layout.{Shape}
+use Rattle.silt_disk.specs.Layout.{Shape}
 use Rattle.silt_sorted_store.specs.Findings.{sorted_findings}
 use Rattle.silt_sorted_store.specs.State.{sorted_rows}
 use Rattle.silt_event.specs.declared.damage.Finding.{Finding}

@@ -1,10 +1,10 @@
 -- What formatting a device leaves.
 use Rattle.std.specs.Prelude.{◌≡◌, ◌≢◌, ◌⊎◌, ℕ, ◌∷◌, List, Some, get_or}
 use Rattle.std.specs.FinMap.{empty}
-use Rattle.silt_device.specs.Disk.{Content, Left, Torn, size}
-use Rattle.silt_device.specs.Layout.{Shape, device_size}
+use Rattle.silt_disk.specs.Disk.{Content, Left, Torn, size}
+use Rattle.silt_disk.specs.Layout.{Shape, device_size}
 use Rattle.silt_frame.specs.Gate.{gate_open}
-use Rattle.silt_device.specs.Header.{header_bytes, header_of}
+use Rattle.silt_disk.specs.Header.{header_bytes, header_of}
 use Rattle.silt_image.specs.Meaning.{StandsFor, image_verdict}
 use Rattle.silt_event.specs.declared.damage.Finding.TheVariants.{NotFormatted}
 use Rattle.silt_recovery.specs.declared.fault.FormatError.{FormatError}

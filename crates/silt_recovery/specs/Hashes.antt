@@ -1,7 +1,7 @@
 -- Hash stores as they are read from a device.
 use Rattle.std.specs.Prelude.{◌≡◌, ℕ, IsTrue, List, [], ◌∷◌, ◌++◌, All, length, map, flat_map, sum_by, slice_get, Some}
-use Rattle.silt_device.specs.Disk.{Content}
-use Rattle.silt_device.specs.Layout.{Shape}
+use Rattle.silt_disk.specs.Disk.{Content}
+use Rattle.silt_disk.specs.Layout.{Shape}
 use Rattle.silt_hash_store.specs.State.{HashState, IsHashStore}
 use Rattle.silt_hash_store.specs.Findings.{hash_findings}
 use Rattle.silt_log_store.specs.Parts.{known_rows}

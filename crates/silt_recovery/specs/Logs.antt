@@ -1,7 +1,7 @@
 -- Logs as they are read from a device.
 use Rattle.std.specs.Prelude.{◌≡◌, ℕ, IsTrue, List, [], ◌∷◌, ◌++◌, All, map, flat_map, sum_by}
-use Rattle.silt_device.specs.Disk.{Content}
-use Rattle.silt_device.specs.Layout.{Shape}
+use Rattle.silt_disk.specs.Disk.{Content}
+use Rattle.silt_disk.specs.Layout.{Shape}
 use Rattle.silt_image.specs.Laws.{FirstFinding}
 use Rattle.silt_log_store.specs.Findings.{log_findings}
 use Rattle.silt_frame.specs.Rows.{put_count, StoredRow}

@@ -1,9 +1,9 @@
 -- What an opening finds on a device, and what it leaves.
 use Rattle.std.specs.Prelude.{◌≡◌, ◌⊎◌, ℕ, IsTrue, List, All, length, sum_by, None, Ok}
-use Rattle.silt_device.specs.Disk.{Content, Left, LeavesOnly, Rests, size}
-use Rattle.silt_device.specs.Layout.{InLimits, device_size}
+use Rattle.silt_disk.specs.Disk.{Content, Left, LeavesOnly, Rests, size}
+use Rattle.silt_disk.specs.Layout.{InLimits, device_size}
 use Rattle.silt_hash_store.specs.State.{IsHashStore}
-use Rattle.silt_device.specs.Header.{shape_of}
+use Rattle.silt_disk.specs.Header.{shape_of}
 use Rattle.silt_image.specs.Meaning.{IsGood, IsSound, StandsFor, charge_of, image_map, report_of}
 use Rattle.silt_log_store.specs.Parts.{known_rows}
 use Rattle.silt_image.specs.Stores.{Stores, image_stores}

@@ -1,15 +1,15 @@
 // The empty store that a device is given.
 ghost use Rattle.std.specs.Prelude.{◌≡◌, ◌≤◌, ◌+◌, false, slice_range, length, IsTrue, OnOk, OnErr, IfErr, MatchResult};
 ghost use Rattle.std.specs.FinMap.{empty};
-ghost use Rattle.silt_device.specs.Disk.{GaveAny, LeavesOnly, size};
-ghost use Rattle.silt_device.specs.Layout.{InLimits, device_size};
+ghost use Rattle.silt_disk.specs.Disk.{GaveAny, LeavesOnly, size};
+ghost use Rattle.silt_disk.specs.Layout.{InLimits, device_size};
 ghost use Rattle.silt_image.specs.Meaning.{StandsFor};
 ghost use Rattle.silt_recovery.specs.Format.{FormatCause, IsHalfFormatted};
 ghost use Rattle.silt_tiers.specs.Calls.{SameDisk};
 
 use crate::fault::{FormatError, FormatFault};
 use crate::header::write_header;
-use silt_device::{Disk, Geometry, slot_start, write_synced};
+use silt_disk::{Disk, Geometry, slot_start, write_synced};
 use silt_frame::GATE_CLOSED;
 use silt_log::Log;
 use silt_manifest::write_first;

@@ -1,13 +1,13 @@
 // Reading the sorted entries that a manifest names.
 ghost use Rattle.std.specs.Prelude.{◌≡◌, ◌<◌, ◌≤◌, IsTrue, IfOk, IfErr, OnOk};
-ghost use Rattle.silt_device.specs.Disk.{GaveAny, size};
-ghost use Rattle.silt_device.specs.Layout.{device_size};
+ghost use Rattle.silt_disk.specs.Disk.{GaveAny, size};
+ghost use Rattle.silt_disk.specs.Layout.{device_size};
 ghost use Rattle.silt_recovery.specs.Entries.{AreSoundEntries, HasFirstEntry};
 ghost use Rattle.silt_recovery.specs.Refusals.{IsRefusedLook};
 ghost use Rattle.silt_sorted_store.specs.Index.{HasIndex};
 
 use crate::fault::OpenError;
-use silt_device::{Disk, Geometry};
+use silt_disk::{Disk, Geometry};
 use silt_event::Place;
 use silt_sorted_store::{RebuildError, SortedStore};
 use std::alloc::Global;

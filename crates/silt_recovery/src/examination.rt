@@ -1,8 +1,8 @@
 // The look at a device: what it holds, or what is found wrong.
 ghost use Rattle.std.specs.Prelude.{◌≡◌, ◌≤◌, IsTrue, IfOk, IfErr, OnOk, None, Ok, vec_capacity};
-ghost use Rattle.silt_device.specs.Disk.{GaveAny, Rests, size};
-ghost use Rattle.silt_device.specs.Layout.{device_size};
-ghost use Rattle.silt_device.specs.Header.{header_of};
+ghost use Rattle.silt_disk.specs.Disk.{GaveAny, Rests, size};
+ghost use Rattle.silt_disk.specs.Layout.{device_size};
+ghost use Rattle.silt_disk.specs.Header.{header_of};
 ghost use Rattle.silt_image.specs.Stores.{image_stores, shape_found, stores_named};
 ghost use Rattle.silt_manifest.specs.Standing.{Rules};
 ghost use Rattle.silt_recovery.specs.Opening.{CountsHashRows, Holds, held_stores};
@@ -13,7 +13,7 @@ use crate::fault::OpenError;
 use crate::hashes::read_hashes;
 use crate::header::read_geometry;
 use crate::logs::{read_frozen, read_log};
-use silt_device::{Disk, Geometry};
+use silt_disk::{Disk, Geometry};
 use silt_event::Place;
 use silt_hash_store::HashStore;
 use silt_image::finding_of;

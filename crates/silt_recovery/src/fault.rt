@@ -3,7 +3,7 @@ ghost use Rattle.std.specs.Prelude.{◌≡◌};
 ghost use Rattle.silt_recovery.specs.Refusals.{refusal_of};
 ghost use Rattle.silt_recovery.specs.Errors.{refusal_of_formatting, refusal_of_opening};
 
-use silt_device::Disk;
+use silt_disk::Disk;
 use silt_event::{Finding, Place, Refusal};
 use std::fmt::Display;
 use thiserror::Error;

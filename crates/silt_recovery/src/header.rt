@@ -1,15 +1,15 @@
 // The header of a device: its gate, and the six numbers behind it.
 ghost use Rattle.std.specs.Prelude.{◌≡◌, ◌∷◌, ◌≤◌, IsTrue, IfOk, IfErr, OnOk, Ok, Err};
-ghost use Rattle.silt_device.specs.Disk.{ChangesWithin, GaveAny, LeavesOnly, Rests, size};
-ghost use Rattle.silt_device.specs.Layout.{device_size};
+ghost use Rattle.silt_disk.specs.Disk.{ChangesWithin, GaveAny, LeavesOnly, Rests, size};
+ghost use Rattle.silt_disk.specs.Layout.{device_size};
 ghost use Rattle.silt_frame.specs.Gate.{gate_open};
-ghost use Rattle.silt_device.specs.Header.{header_bytes, header_of};
+ghost use Rattle.silt_disk.specs.Header.{header_bytes, header_of};
 ghost use Rattle.silt_image.specs.Stores.{shape_found};
 ghost use Rattle.silt_recovery.specs.Format.{HasHeaderOrNone, IsGateClosed};
 ghost use Rattle.silt_recovery.specs.Refusals.{IsRefusedLook};
 
 use crate::fault::OpenError;
-use silt_device::{Disk, Geometry, HEADER_LEN, header_bytes, write_synced};
+use silt_disk::{Disk, Geometry, HEADER_LEN, header_bytes, write_synced};
 use silt_frame::GATE_OPEN;
 use silt_image::read_header;
 

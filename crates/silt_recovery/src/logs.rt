@@ -1,14 +1,14 @@
 // Reading the logs that a manifest names.
 ghost use Rattle.std.specs.Prelude.{◌≡◌, ◌≤◌, ◌<◌, ◌^◌, [], ◌∷◌, All, IsTrue, IfOk, IfErr, OnOk, length, vec_capacity};
-ghost use Rattle.silt_device.specs.Disk.{GaveAny, size};
-ghost use Rattle.silt_device.specs.Layout.{device_size};
+ghost use Rattle.silt_disk.specs.Disk.{GaveAny, size};
+ghost use Rattle.silt_disk.specs.Layout.{device_size};
 ghost use Rattle.silt_frame.specs.Rows.{put_count};
 ghost use Rattle.silt_log.specs.Rows.{log_rows};
 ghost use Rattle.silt_recovery.specs.Logs.{AreReadLogs, AreSoundLogs, HasFirstFinding, IsReadLog};
 ghost use Rattle.silt_recovery.specs.Refusals.{IsRefusedLook};
 
 use crate::fault::OpenError;
-use silt_device::{Disk, Geometry};
+use silt_disk::{Disk, Geometry};
 use silt_event::Place;
 use silt_log_store::{LogStore, RebuildError};
 use std::alloc::Global;

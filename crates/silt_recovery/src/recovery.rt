@@ -1,13 +1,13 @@
 // The recovery of a device that a stop may have left.
 ghost use Rattle.std.specs.Prelude.{◌≡◌, IsTrue, IfOk, IfErr, MatchResult};
-ghost use Rattle.silt_device.specs.Disk.{GaveAny};
+ghost use Rattle.silt_disk.specs.Disk.{GaveAny};
 ghost use Rattle.silt_recovery.specs.Opening.{IsUnwrittenUnlessFailed, LeavesNoOther, TakesUp};
 ghost use Rattle.silt_recovery.specs.Refusals.{IsFound, IsRefusedLook};
 ghost use Rattle.silt_tiers.specs.Calls.{SameDisk};
 
 use crate::examination::examine;
 use crate::fault::{OpenError, OpenFault};
-use silt_device::Disk;
+use silt_disk::Disk;
 use silt_tiers::Tiers;
 use std::alloc::Global;
 

@@ -1,6 +1,6 @@
 // What a store consists of, in numbers.
 ghost use Rattle.std.specs.Prelude.{◌≡◌, ◌≤◌, All, IsTrue, IfOk, IfErr, length, sum_by};
-ghost use Rattle.silt_device.specs.Disk.{GaveAny};
+ghost use Rattle.silt_disk.specs.Disk.{GaveAny};
 ghost use Rattle.silt_image.specs.Meaning.{report_of};
 ghost use Rattle.silt_recovery.specs.Opening.{CountsHashRows, Holds, IsReported, held_stores};
 ghost use Rattle.silt_recovery.specs.Refusals.{IsFound, IsRefusedLook};
@@ -8,7 +8,7 @@ ghost use Rattle.silt_tiers.specs.Standing.{shown_stores};
 
 use crate::examination::{Holding, examine};
 use crate::fault::OpenError;
-use silt_device::Disk;
+use silt_disk::Disk;
 use silt_event::Report;
 use silt_log_store::LogStore;
 use std::alloc::Global;

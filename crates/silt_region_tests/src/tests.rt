@@ -1,6 +1,6 @@
 // What no clause says, of each kind of region. What several of them share stands here: two geometries and a disk for either, and keys whose buckets are known.
 ghost use Rattle.std.specs.Prelude.{◌≡◌, IfOk};
-ghost use Rattle.silt_device.specs.Disk.{size};
+ghost use Rattle.silt_disk.specs.Disk.{size};
 ghost use Rattle.silt_device.specs.Fault.{fault_content};
 ghost use Rattle.silt_device.specs.Memory.{memory_content};
 

@@ -5,7 +5,7 @@ use Rattle.silt_wire.proofs.Streams.{Appends-append}
 use Rattle.silt_server.specs.Serving.{BreaksServing, IsStatus, TellsCalls, TellsServed, head_text, network_text, no_memory_text}
 use Rattle.std.proofs.lemmas.Fmt.{decimal_digit}
 use Rattle.std.specs.Io.KnownBytes.{Appends}
-use Rattle.silt_device.specs.declared.disk.Disk.{Ghosts}
+use Rattle.silt_disk.specs.declared.disk.Disk.{Ghosts}
 use Rattle.silt_frame.specs.declared.key.Key.{Key}
 use Rattle.silt_event.specs.Events.{PlainReply}
 use Rattle.silt_event.specs.declared.event.Event.TheVariants.{Get}

@@ -8,7 +8,7 @@ use crate::job::Job;
 use crate::outlet::Outlet;
 use crate::places::{Place, free_place};
 use silt_desk::{Naming, Shared, Trace};
-use silt_device::Disk;
+use silt_disk::Disk;
 use silt_event::{Event, Reply};
 use silt_inbox::{Inbox, Post};
 use silt_wire::{SessionEnd, session};

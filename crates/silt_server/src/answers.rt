@@ -9,7 +9,7 @@ use crate::job::{Job, Request};
 use crate::places::Place;
 use crossbeam_channel::Receiver;
 use silt_desk::{Desk, Naming, Shared, Trace};
-use silt_device::Disk;
+use silt_disk::Disk;
 use silt_event::{Event, Refusal, Reply};
 use silt_frame::{Key, Value};
 use silt_inbox::{Answered, EventKind, Feeder, Inbox, NotPutReason, Post};

@@ -5,7 +5,7 @@ ghost use Rattle.silt_server.specs.Batches.{Flushes, Performs, PerformsAll, Repl
 
 use crate::job::{Job, Request, reply_after};
 use silt_desk::{Desk, Gate, Naming, Seat, Shared, Spot, Trace};
-use silt_device::Disk;
+use silt_disk::Disk;
 use silt_event::Refusal;
 use std::alloc::Global;
 use std::sync::Wait;

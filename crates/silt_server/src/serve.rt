@@ -1,7 +1,7 @@
 // A server on one listener.
 ghost use Rattle.std.specs.Prelude.{◌≡◌, ◌⊎◌, ◌++◌, Ok, IfOk, IfSome, OnOk, codes};
 ghost use Rattle.std.specs.Io.KnownBytes.{Appends};
-ghost use Rattle.silt_device.specs.Layout.{Shape};
+ghost use Rattle.silt_disk.specs.Layout.{Shape};
 ghost use Rattle.silt_store_set.specs.CoreInvariant.{LeavesBegun};
 ghost use Rattle.silt_store_set.specs.CoreState.{CoreState};
 ghost use Rattle.silt_desk.specs.Seeing.{seen};
@@ -17,7 +17,7 @@ use crate::threads::{beside, write_beside};
 use crate::work::writer;
 use crate::written::{refuse, write_calls, write_listening, write_network_fault, write_opened};
 use silt_desk::{Count, Desk, Gate, Kept, Naming, Seat, Shared, Trace, converter, merger};
-use silt_device::Disk;
+use silt_disk::Disk;
 use silt_event::Refusal;
 use silt_inbox::{Inbox, Post, Taker};
 use silt_store_set::Core;

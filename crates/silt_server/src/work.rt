@@ -6,7 +6,7 @@ ghost use Rattle.silt_server.specs.declared.job.Job.{Job as JobOf};
 use crate::batch::serve_batch;
 use crate::job::Job;
 use silt_desk::{Gate, Naming, Seat, Shared, Trace, Wakes};
-use silt_device::Disk;
+use silt_disk::Disk;
 use silt_inbox::{Inbox, Post, Taker};
 use std::alloc::Global;
 use std::sync::Wait;

@@ -2,7 +2,7 @@
 use Rattle.std.proofs.Common.{◌≡◌, ℕ, ◌+◌, ◌*◌, ◌<◌, ◌≤◌, List, ◌++◌, length, take, drop, slice_range, refl, sym, ap, ◌∙◌, arith, length-append}
 use Rattle.std.proofs.lemmas.List.{take-append-drop}
 use Rattle.std.proofs.Math.Nat.{add-mul, mul-le-mul_right}
-use Rattle.silt_device.specs.Layout.{Shape, device_size, entry_len}
+use Rattle.silt_disk.specs.Layout.{Shape, device_size, entry_len}
 use Rattle.silt_frame.specs.Rows.{StoredRow}
 use Rattle.silt_sorted_store.specs.State.{sorted_rows, sorted_entry_at}
 use Rattle.silt_log.proofs.Parts.{slice_of_slice}

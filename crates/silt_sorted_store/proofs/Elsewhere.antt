@@ -1,10 +1,10 @@
 -- What a change of the disk leaves of the entries of a sorted region.
 use Rattle.std.proofs.Common.{◌≡◌, ℕ, ◌+◌, ◌*◌, ◌<◌, ◌≤◌, IsTrue, List, [], ◌∷◌, ◌++◌, length, slice_range, inl, inr, sym, subst, ap, ◌∙◌, arith}
 use Rattle.std.proofs.lemmas.List.FromFn.{map-range_with_len_more}
-use Rattle.silt_device.specs.Disk.{LiesOutside, Torn}
-use Rattle.silt_device.specs.Layout.{Shape, device_size, entries_len, entry_len, sorted_at}
-use Rattle.silt_device.proofs.Images.{torn_slice_after, torn_slice_before}
-use Rattle.silt_device.proofs.Regions.{next_region, regions_apart}
+use Rattle.silt_disk.specs.Disk.{LiesOutside, Torn}
+use Rattle.silt_disk.specs.Layout.{Shape, device_size, entries_len, entry_len, sorted_at}
+use Rattle.silt_disk.proofs.Images.{torn_slice_after, torn_slice_before}
+use Rattle.silt_disk.proofs.Regions.{next_region, regions_apart}
 use Rattle.silt_sorted_store.specs.State.{sorted_rows, sorted_entry_at}
 use Rattle.silt_frame.specs.Rows.{entry_row}
 use Rattle.silt_log.proofs.Bodies.{map_range_same}

@@ -3,8 +3,8 @@ use Rattle.std.proofs.Common.{◌≡◌, ℕ, ◌+◌, ◌*◌, ◌<◌, ◌≤�
 use Rattle.std.proofs.lemmas.List.{get_or-map}
 use Rattle.std.proofs.lemmas.List.FromFn.{length-map-range_with_len, get_or-map-range_with_len}
 use Rattle.std.proofs.lemmas.Option.{slice_get-get_or, get_or_from_slice_get, slice_get_within}
-use Rattle.silt_device.specs.Layout.{Shape, entry_len}
-use Rattle.silt_device.proofs.Regions.{next_region}
+use Rattle.silt_disk.specs.Layout.{Shape, entry_len}
+use Rattle.silt_disk.proofs.Regions.{next_region}
 use Rattle.silt_frame.specs.Rows.{StoredRow, entry_row, keys_of}
 use Rattle.silt_log.proofs.Parts.{slice_of_slice, slice_to_end}
 use Rattle.silt_sorted_store.specs.State.{sorted_rows, sorted_entry_at}

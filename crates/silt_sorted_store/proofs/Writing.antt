@@ -1,9 +1,9 @@
 -- What the write of an entry leaves.
 use Rattle.std.proofs.Common.{◌≡◌, ℕ, ◌+◌, ◌*◌, ◌<◌, ◌≤◌, Bool, true, false, IsTrue, List, [], ◌∷◌, ◌++◌, length, take, slice_range, sym, subst, ap, ◌∙◌, arith, append-nil}
 use Rattle.std.proofs.lemmas.List.{length-append, take-append-le, take_all}
-use Rattle.silt_device.specs.Disk.{ChangesWithin, Content, Tears, Writes, size, splice}
-use Rattle.silt_device.specs.Layout.{Shape, device_size, entry_len, sorted_at}
-use Rattle.silt_device.proofs.Images.{splice_slice, within_wider, write_within}
+use Rattle.silt_disk.specs.Disk.{ChangesWithin, Content, Tears, Writes, size, splice}
+use Rattle.silt_disk.specs.Layout.{Shape, device_size, entry_len, sorted_at}
+use Rattle.silt_disk.proofs.Images.{splice_slice, within_wider, write_within}
 use Rattle.silt_sorted_store.specs.State.{sorted_rows, sorted_entry_at}
 use Rattle.silt_frame.specs.Rows.{entry_row, StoredRow}
 use Rattle.silt_sorted_store.specs.Region.{due_rows}

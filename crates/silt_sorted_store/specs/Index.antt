@@ -1,6 +1,6 @@
 -- The index of a sorted store: the coded tries of its keys, in memory.
 use Rattle.std.specs.Prelude.{◌≡◌, ℕ, ◌<◌, IsTrue, List, [], length, get_or, Option, Some}
-use Rattle.silt_device.specs.Disk.{Content}
+use Rattle.silt_disk.specs.Disk.{Content}
 use Rattle.silt_frame.specs.Rows.{StoredRow, keys_of}
 use Rattle.silt_sorted_store.specs.State.{SortedState, entries_of}
 use Rattle.silt_trie.specs.Marks.{IsMadeOf, MarkedCode}

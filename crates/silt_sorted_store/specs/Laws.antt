@@ -2,8 +2,8 @@
 use Rattle.std.specs.Prelude.{◌≡◌, ℕ, ◌<◌, ◌≤◌, IsTrue, List, [], length, get_or, slice_get, Some}
 use Rattle.silt_frame.specs.declared.key.Kind.TheVariants.{Put}
 use Rattle.silt_frame.specs.Frame.{kind_byte}
-use Rattle.silt_device.specs.Disk.{ChangesWithin, Content, LiesOutside, size}
-use Rattle.silt_device.specs.Layout.{Shape, device_size, entries_len, sorted_at}
+use Rattle.silt_disk.specs.Disk.{ChangesWithin, Content, LiesOutside, size}
+use Rattle.silt_disk.specs.Layout.{Shape, device_size, entries_len, sorted_at}
 use Rattle.silt_frame.specs.Rows.{StoredRow, keys_of}
 use Rattle.silt_sorted_store.specs.State.{sorted_rows, IsHeldSorted, SortedState, entries_of}
 use Rattle.silt_sorted_store.specs.Findings.{is_key_below, sorted_findings}

@@ -1,7 +1,7 @@
 -- A sorted store, and its entries on a disk.
 use Rattle.std.specs.Prelude.{ℕ, ◌+◌, ◌*◌, ◌<◌, ◌≤◌, List, map, slice_range}
-use Rattle.silt_device.specs.Disk.{Content}
-use Rattle.silt_device.specs.Layout.{Shape, entry_len, sorted_at}
+use Rattle.silt_disk.specs.Disk.{Content}
+use Rattle.silt_disk.specs.Layout.{Shape, entry_len, sorted_at}
 use Rattle.silt_frame.specs.Rows.{StoredRow, entry_row}
 use Rattle.std.specs.List.{range_with_len}
 

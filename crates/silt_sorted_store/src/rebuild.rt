@@ -1,7 +1,7 @@
 // A rebuild of a sorted store's index: a walk over the entries in large reads, which takes up each key where it rises.
 ghost use Rattle.std.specs.Prelude.{◌≡◌, ◌+◌, ◌*◌, ◌<◌, ◌≤◌, ◌^◌, [], None, Ok, List, length, IsTrue, IfSome, IfOk, IfErr, OnOk};
-ghost use Rattle.silt_device.specs.Disk.{GaveAny, size};
-ghost use Rattle.silt_device.specs.Layout.{device_size, entry_len};
+ghost use Rattle.silt_disk.specs.Disk.{GaveAny, size};
+ghost use Rattle.silt_disk.specs.Layout.{device_size, entry_len};
 ghost use Rattle.silt_frame.specs.Rows.{StoredRow};
 ghost use Rattle.silt_sorted_store.specs.Findings.{sorted_findings};
 ghost use Rattle.silt_sorted_store.specs.State.{entries_of};
@@ -12,7 +12,7 @@ ghost use Rattle.silt_trie.specs.Building.{IsBuildingOf};
 ghost use Rattle.silt_frame.specs.Frame.{key_len};
 
 use crate::sorted_entries::SortedEntries;
-use silt_device::Disk;
+use silt_disk::Disk;
 use silt_frame::entry_of;
 use silt_trie::{MarkedTrie, MarkedTrieBuilder};
 use std::alloc::{AllocError, Global};

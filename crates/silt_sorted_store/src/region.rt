@@ -1,11 +1,11 @@
 // A sorted region on a device: where its entries lie, and how one is written.
 ghost use Rattle.std.specs.Prelude.{◌≡◌, ◌+◌, ◌*◌, ◌<◌, ◌≤◌, ◌^◌, ◌++◌, length, take, IsTrue, IfOk, MatchResult};
-ghost use Rattle.silt_device.specs.Disk.{ChangesWithin, CountsFault, size};
-ghost use Rattle.silt_device.specs.Layout.{device_size, entry_len, sorted_at};
+ghost use Rattle.silt_disk.specs.Disk.{ChangesWithin, CountsFault, size};
+ghost use Rattle.silt_disk.specs.Layout.{device_size, entry_len, sorted_at};
 ghost use Rattle.silt_sorted_store.specs.State.{sorted_rows, sorted_entry_at};
 ghost use Rattle.silt_sorted_store.specs.Region.{due_rows};
 
-use silt_device::{Disk, Geometry};
+use silt_disk::{Disk, Geometry};
 
 /// A sorted region, by the geometry of its store and its number.
 #[derive(Clone, Copy)]

@@ -1,11 +1,11 @@
 // The entries of a sorted region, and the calls that read them.
 ghost use Rattle.std.specs.Prelude.{◌≡◌, ◌≢◌, ◌==◌, ◌+◌, ◌*◌, ◌<◌, ◌≤◌, ◌^◌, [], true, false, Ok, IsTrue, IfOk, IfErr, OnOk, get_or, length, take};
-ghost use Rattle.silt_device.specs.Disk.{GaveAny, size};
-ghost use Rattle.silt_device.specs.Layout.{device_size, entry_len};
+ghost use Rattle.silt_disk.specs.Disk.{GaveAny, size};
+ghost use Rattle.silt_disk.specs.Layout.{device_size, entry_len};
 ghost use Rattle.silt_frame.specs.Rows.{keys_of};
 
 use crate::region::SortedRegion;
-use silt_device::{Disk, Geometry};
+use silt_disk::{Disk, Geometry};
 use silt_frame::{KEY_LEN, Key, entry_of};
 use std::marker::Model;
 

@@ -1,7 +1,7 @@
 // The sorted store: entries on a device, and in memory the index that finds their places.
 ghost use Rattle.std.specs.Prelude.{◌≡◌, ◌==◌, ◌<◌, ◌≤◌, [], true, false, Ok, IsTrue, IfSome, IfOk, IfErr, OnOk, List, length};
-ghost use Rattle.silt_device.specs.Disk.{GaveAny, size};
-ghost use Rattle.silt_device.specs.Layout.{device_size};
+ghost use Rattle.silt_disk.specs.Disk.{GaveAny, size};
+ghost use Rattle.silt_disk.specs.Layout.{device_size};
 ghost use Rattle.silt_sorted_store.specs.Findings.{sorted_findings};
 ghost use Rattle.silt_sorted_store.specs.State.{sorted_rows};
 ghost use Rattle.silt_frame.specs.Rows.{StoredRow};
@@ -11,7 +11,7 @@ ghost use Rattle.silt_trie.specs.Marks.{IsMadeOf};
 
 use crate::rebuild::{RebuildError, index_entries};
 use crate::sorted_entries::SortedEntries;
-use silt_device::{Disk, Geometry};
+use silt_disk::{Disk, Geometry};
 use silt_frame::Key;
 use silt_trie::{MarkedTrie, levels_for};
 use std::alloc::{AllocError, Global};

@@ -1,8 +1,8 @@
 -- What the calls of a store do, from what the calls of its stores in memory do.
 use Rattle.std.proofs.Common.{◌≡◌, ◌≤◌, ◌<◌, ℕ, ◌+◌, ◌%◌, ◌^◌, Bool, true, false, IsTrue, List, [], ◌++◌, length, refl, ap, sym, ◌∙◌, subst, arith, length-append}
-use Rattle.silt_device.specs.Disk.{Content, LeavesOnly}
-use Rattle.silt_device.specs.Layout.{device_size}
-use Rattle.silt_device.specs.declared.disk.Disk.{Ghosts}
+use Rattle.silt_disk.specs.Disk.{Content, LeavesOnly}
+use Rattle.silt_disk.specs.Layout.{device_size}
+use Rattle.silt_disk.specs.declared.disk.Disk.{Ghosts}
 use Rattle.silt_event.specs.Commands.{Command, Map, map_after}
 use Rattle.silt_image.specs.Meaning.{image_map, StandsFor}
 use Rattle.silt_tiers.specs.Calls.{Advances, Breaks, HasBegun, SameDisk}

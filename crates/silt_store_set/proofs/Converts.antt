@@ -1,8 +1,8 @@
 -- What a step of conversion does, from what that of the stores in memory does.
 use Rattle.std.proofs.Common.{◌≡◌, ℕ, ◌+◌, ◌*◌, ◌%◌, ◌^◌, inl, inr, false, true, IsTrue, [], length, Option, Some, None, IfSome, refl, ap, sym, ◌∙◌, subst}
 use Rattle.std.proofs.lemmas.List.{length-map}
-use Rattle.silt_device.specs.Disk.{GaveAny}
-use Rattle.silt_device.specs.declared.disk.Disk.{Ghosts}
+use Rattle.silt_disk.specs.Disk.{GaveAny}
+use Rattle.silt_disk.specs.declared.disk.Disk.{Ghosts}
 use Rattle.silt_hash_store.specs.Conversion.{ConversionState}
 use Rattle.silt_hash_store.specs.Slots.{hash_rows}
 use Rattle.silt_tiers.specs.Calls.{Advances, Breaks, IsLastGeneration, Remaps, SameDisk}

@@ -1,8 +1,8 @@
 -- What a get answers.
 use Rattle.std.proofs.Common.{◌≡◌, ℕ, Bool, true, false, IsTrue, List, Option, Some, None, Ok, refl, ap, ◌∙◌}
 use Rattle.std.specs.FinMap.{get}
-use Rattle.silt_device.specs.Disk.{GaveAny}
-use Rattle.silt_device.specs.declared.disk.Disk.{Ghosts}
+use Rattle.silt_disk.specs.Disk.{GaveAny}
+use Rattle.silt_disk.specs.declared.disk.Disk.{Ghosts}
 use Rattle.silt_frame.specs.declared.key.Key.{Key}
 use Rattle.silt_event.specs.Commands.{Map}
 use Rattle.silt_image.specs.Meaning.{image_map}

@@ -1,9 +1,9 @@
 -- Lives, from their openings, runs and stops.
 use Rattle.std.proofs.Common.{◌≡◌, ℕ, ◌+◌, inl, inr, false, IsTrue, List, [], ◌∷◌, ◌++◌, length, Vec, refl, ap, sym, ◌∙◌, subst, arith}
 use Rattle.std.specs.declared.alloc.Global.{Global}
-use Rattle.silt_device.specs.Disk.{Content, Left, LeavesOnly, Restarts}
-use Rattle.silt_device.specs.Layout.{Shape}
-use Rattle.silt_device.proofs.Images.{shown_left, left_at_rest}
+use Rattle.silt_disk.specs.Disk.{Content, Left, LeavesOnly, Restarts}
+use Rattle.silt_disk.specs.Layout.{Shape}
+use Rattle.silt_disk.proofs.Images.{shown_left, left_at_rest}
 use Rattle.silt_event.specs.declared.event.Event.{Event}
 use Rattle.silt_event.specs.declared.reply.LifeReply.{LifeReply}
 use Rattle.silt_event.specs.declared.reply.LifeReply.TheVariants.{NotOpened, Opened}
@@ -14,8 +14,8 @@ use Rattle.silt_event.specs.Commands.{Command, Map, map_after}
 use Rattle.silt_event.specs.Events.{Legal, accepted_commands, LifeHistory, LivesHistory}
 use Rattle.silt_store_set.specs.CoreState.{CoreState, map_of, Runs, Opens}
 use Rattle.silt_store_set.specs.CoreInvariant.{IsSafe}
-use Rattle.silt_device.specs.Header.{shape_of}
-use Rattle.silt_device.specs.declared.disk.Disk.{Ghosts}
+use Rattle.silt_disk.specs.Header.{shape_of}
+use Rattle.silt_disk.specs.declared.disk.Disk.{Ghosts}
 use Rattle.silt_image.specs.Meaning.{StandsFor}
 use Rattle.silt_tiers.specs.Calls.{SameDisk}
 use Rattle.silt_recovery.specs.Opening.{LeavesNoOther}

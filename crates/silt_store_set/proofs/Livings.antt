@@ -1,8 +1,8 @@
 -- What lives do, one after the other.
 use Rattle.std.proofs.Common.{◌≡◌, ◌≢◌, ℕ, inl, inr, List, [], ◌∷◌, ◌++◌, Vec, refl, subst}
 use Rattle.std.specs.declared.alloc.Global.{Global}
-use Rattle.silt_device.specs.Disk.{Restarts}
-use Rattle.silt_device.specs.declared.disk.Disk.{Ghosts}
+use Rattle.silt_disk.specs.Disk.{Restarts}
+use Rattle.silt_disk.specs.declared.disk.Disk.{Ghosts}
 use Rattle.silt_recovery.specs.Opening.{LeavesNoOther}
 use Rattle.silt_tiers.specs.Calls.{SameDisk}
 use Rattle.silt_event.specs.declared.event.Event.{Event}

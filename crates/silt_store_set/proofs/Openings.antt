@@ -1,7 +1,7 @@
 -- What an opening answers, from what recovery finds.
 use Rattle.std.proofs.Common.{◌≡◌, ◌-◌, false, IsTrue, [], Option, Some, None, refl, ap, sym, ◌∙◌, arith}
-use Rattle.silt_device.specs.Disk.{Content, GaveAny}
-use Rattle.silt_device.specs.declared.disk.Disk.{Ghosts}
+use Rattle.silt_disk.specs.Disk.{Content, GaveAny}
+use Rattle.silt_disk.specs.declared.disk.Disk.{Ghosts}
 use Rattle.silt_event.specs.Commands.{map_after}
 use Rattle.silt_image.specs.Meaning.{IsGood}
 use Rattle.silt_log.specs.Rows.{rows_from}

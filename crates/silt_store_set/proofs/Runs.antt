@@ -1,6 +1,6 @@
 -- Runs of events, from what each call does.
 use Rattle.std.proofs.Common.{◌≡◌, Bool, true, false, IsTrue, List, [], ◌∷◌, ◌++◌, refl, ap, sym, subst}
-use Rattle.silt_device.specs.declared.disk.Disk.{Ghosts}
+use Rattle.silt_disk.specs.declared.disk.Disk.{Ghosts}
 use Rattle.silt_event.specs.declared.event.Event.{Event}
 use Rattle.silt_event.specs.declared.refusal.Refusal.TheVariants.{Failed}
 use Rattle.silt_event.specs.declared.reply.Reply.{Reply}

@@ -1,9 +1,9 @@
 -- What is true of each store.
 use Rattle.std.specs.Prelude.{◌≡◌, ◌<◌, ◌≤◌, ◌^◌, ℕ, Bool, true, false, IsTrue, List, length}
-use Rattle.silt_device.specs.Disk.{Content, LeavesOnly, size}
-use Rattle.silt_device.specs.Layout.{Shape, device_size}
+use Rattle.silt_disk.specs.Disk.{Content, LeavesOnly, size}
+use Rattle.silt_disk.specs.Layout.{Shape, device_size}
 use Rattle.silt_event.specs.Commands.{Command, Map}
-use Rattle.silt_device.specs.Header.{shape_of}
+use Rattle.silt_disk.specs.Header.{shape_of}
 use Rattle.silt_image.specs.Meaning.{image_map, IsGood}
 use Rattle.silt_tiers.specs.Calls.{HasBegun}
 use Rattle.silt_tiers.specs.Standing.{Stands, waiting_commands}

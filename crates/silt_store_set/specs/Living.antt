@@ -1,8 +1,8 @@
 -- What lives do: each opens its store, runs its events where it can, and is stopped.
 use Rattle.std.specs.Prelude.{Vec, ◌≡◌, ◌≢◌, ◌⊎◌, ℕ, List, [], ◌∷◌}
 use Rattle.std.specs.declared.alloc.Global.{Global}
-use Rattle.silt_device.specs.Disk.{Restarts}
-use Rattle.silt_device.specs.declared.disk.Disk.{Ghosts}
+use Rattle.silt_disk.specs.Disk.{Restarts}
+use Rattle.silt_disk.specs.declared.disk.Disk.{Ghosts}
 use Rattle.silt_tiers.specs.Calls.{SameDisk}
 use Rattle.silt_recovery.specs.Opening.{LeavesNoOther}
 use Rattle.silt_event.specs.declared.event.Event.{Event}

@@ -1,7 +1,7 @@
 -- Why an opening is refused, and what it leaves.
 use Rattle.std.specs.Prelude.{IsTrue}
-use Rattle.silt_device.specs.Disk.{Content, GaveAny}
-use Rattle.silt_device.specs.declared.disk.Disk.{Ghosts}
+use Rattle.silt_disk.specs.Disk.{Content, GaveAny}
+use Rattle.silt_disk.specs.declared.disk.Disk.{Ghosts}
 use Rattle.silt_event.specs.declared.damage.Finding.{Finding}
 use Rattle.silt_event.specs.declared.damage.Finding.TheVariants as finding
 use Rattle.silt_recovery.specs.Opening.{IsUnwritten}

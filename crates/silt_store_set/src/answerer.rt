@@ -3,7 +3,8 @@ ghost use Rattle.silt_event.specs.Events.{HasValueOf};
 ghost use Rattle.silt_store_set.specs.CoreState.{DoesPlain};
 
 use crate::Core;
-use silt_device::{Disk, FaultDisk, FileDisk, MemDisk};
+use silt_device::{FaultDisk, FileDisk, MemDisk};
+use silt_disk::Disk;
 use silt_event::{Answerer, Event, Reply};
 use std::alloc::Global;
 

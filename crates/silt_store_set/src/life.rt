@@ -1,13 +1,13 @@
 // Lives of a store, each ended by a stop.
 ghost use Rattle.std.specs.Prelude.{◌≡◌, All, IsTrue, IfOk};
-ghost use Rattle.silt_device.specs.Disk.{LeavesOnly, Restarts};
+ghost use Rattle.silt_disk.specs.Disk.{LeavesOnly, Restarts};
 ghost use Rattle.silt_event.specs.Commands.{Map};
 ghost use Rattle.silt_event.specs.Events.{HasValueOf, LifeHistory, LivesHistory};
 ghost use Rattle.silt_store_set.specs.CoreInvariant.{IsSafe};
 ghost use Rattle.silt_store_set.specs.Living.{LifeEnds, LivesRun};
 
 use crate::{Core, Event, LifeReply, OpenFault, Refusal};
-use silt_device::Stoppable;
+use silt_disk::Stoppable;
 use std::alloc::{AllocError, Global};
 
 /// Lives in order: in each the store is opened and does its events, and then its device is stopped.

@@ -1,11 +1,11 @@
 // The store over one device: what it holds in memory, and its calls.
 ghost use Rattle.std.specs.Prelude.{◌≡◌, ◌<◌, ◌≤◌, length, false, Ok, All, IsTrue, IfOk, IfErr, OnErr, MatchResult};
 ghost use Rattle.silt_event.specs.Events.{Legal};
-ghost use Rattle.silt_device.specs.Disk.{LeavesOnly};
+ghost use Rattle.silt_disk.specs.Disk.{LeavesOnly};
 
 use crate::replies::{accepted, copied, is_work, progressed, zeros};
 use crate::{Event, Progress, Refusal, Reply};
-use silt_device::{Disk, Geometry};
+use silt_disk::{Disk, Geometry};
 use silt_frame::{Key, Kind, Value};
 use silt_tiers::{ConvertError, EntriesError, MergeError, Tiers, WriteError};
 use std::alloc::{AllocError, Global};

@@ -1,8 +1,8 @@
 -- A row more in the active log, and none.
 use Rattle.std.proofs.Common.{◌≡◌, ◌≤◌, ◌<◌, ℕ, ◌+◌, true, IsTrue, List, [], ◌∷◌, ◌++◌, map, Some, Ok, is_some, refl, ap, sym, ◌∙◌, subst, arith, append_assoc}
 use Rattle.std.proofs.lemmas.List.{append-nil, map-append}
-use Rattle.silt_device.specs.Disk.{ChangesWithin, Content, LeavesOnly, size}
-use Rattle.silt_device.specs.Layout.{Shape, gates_at, log_size, row_len}
+use Rattle.silt_disk.specs.Disk.{ChangesWithin, Content, LeavesOnly, size}
+use Rattle.silt_disk.specs.Layout.{Shape, gates_at, log_size, row_len}
 use Rattle.silt_frame.specs.declared.key.Key.{Key}
 use Rattle.silt_frame.specs.declared.key.Kind.{Kind}
 use Rattle.silt_frame.specs.declared.key.Kind.TheVariants.{Put, Delete}

@@ -2,9 +2,9 @@
 use Rattle.std.proofs.Common.{inl, ◌≡◌, ◌≤◌, ◌<◌, ℕ, ◌+◌, IsTrue, List, [], ◌∷◌, ◌++◌, length, map, refl, ap, sym, ◌∙◌, subst, arith}
 use Rattle.std.specs.Prelude.{All, IfSome}
 use Rattle.std.proofs.lemmas.List.Elements.{All-cons}
-use Rattle.silt_device.specs.Disk.{Content, LeavesOnly, size}
-use Rattle.silt_device.specs.Layout.{Shape, device_size, slot_at}
-use Rattle.silt_device.proofs.Images.{shown_left}
+use Rattle.silt_disk.specs.Disk.{Content, LeavesOnly, size}
+use Rattle.silt_disk.specs.Layout.{Shape, device_size, slot_at}
+use Rattle.silt_disk.proofs.Images.{shown_left}
 use Rattle.silt_log.specs.Rows.{first_rows, log_rows, rows_from}
 use Rattle.silt_frame.specs.Rows.{StoredRow, put_count}
 use Rattle.silt_log.specs.State.{all_rows, waiting_rows}

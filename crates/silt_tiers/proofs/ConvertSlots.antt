@@ -1,10 +1,10 @@
 -- A slot of a conversion, written, and the slots settled.
 use Rattle.std.proofs.Common.{◌≡◌, ◌≢◌, ◌≤◌, ◌<◌, ℕ, ◌+◌, ◌*◌, false, IsTrue, List, [], Option, Some, None, Ok, inl, inr, refl, ap, sym, ◌∙◌, subst, arith}
 use Rattle.std.specs.Prelude.{IfSome}
-use Rattle.silt_device.specs.Disk.{ChangesWithin, Content, LeavesOnly, LiesOutside, Settles, Stays, Torn, size}
-use Rattle.silt_device.specs.Layout.{Shape, entries_len, gates_at, hash_at, hash_size, log_len, row_len, slots_len, sorted_at}
-use Rattle.silt_device.proofs.Images.{failed_sync_within, left_after_failed_sync, left_after_sync, shown_left, sync_within, torn_wider}
-use Rattle.silt_device.proofs.Regions.{regions_apart, up_least}
+use Rattle.silt_disk.specs.Disk.{ChangesWithin, Content, LeavesOnly, LiesOutside, Settles, Stays, Torn, size}
+use Rattle.silt_disk.specs.Layout.{Shape, entries_len, gates_at, hash_at, hash_size, log_len, row_len, slots_len, sorted_at}
+use Rattle.silt_disk.proofs.Images.{failed_sync_within, left_after_failed_sync, left_after_sync, shown_left, sync_within, torn_wider}
+use Rattle.silt_disk.proofs.Regions.{regions_apart, up_least}
 use Rattle.silt_manifest.proofs.Laws.{rules_elsewhere}
 use Rattle.silt_manifest.specs.declared.body.Body.{Body}
 use Rattle.silt_image.specs.Stores.{Stores, image_stores}

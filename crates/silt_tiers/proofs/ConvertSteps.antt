@@ -3,9 +3,9 @@ use Rattle.std.proofs.Common.{◌≡◌, ◌≤◌, ◌<◌, ℕ, ◌+◌, ◌-�
 use Rattle.std.specs.Prelude.{slice_get}
 use Rattle.std.proofs.lemmas.Bool.{cases_eq, eq-eqb, ne_eqb}
 use Rattle.std.proofs.lemmas.Option.{get_or_from_slice_get, slice_get_within}
-use Rattle.silt_device.specs.Disk.{ChangesWithin, Content, CountsFault, GaveAny, size}
-use Rattle.silt_device.specs.declared.disk.Disk.{Ghosts}
-use Rattle.silt_device.specs.Layout.{InLimits, Shape, row_len}
+use Rattle.silt_disk.specs.Disk.{ChangesWithin, Content, CountsFault, GaveAny, size}
+use Rattle.silt_disk.specs.declared.disk.Disk.{Ghosts}
+use Rattle.silt_disk.specs.Layout.{InLimits, Shape, row_len}
 use Rattle.silt_log_store.specs.State.{IsFrozenStore, LogStoreState}
 use Rattle.silt_log_store.proofs.Buckets.{bucket_count_is}
 use Rattle.silt_manifest.specs.Body.{is_well_formed}

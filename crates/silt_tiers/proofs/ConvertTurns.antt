@@ -5,9 +5,9 @@ use Rattle.std.proofs.lemmas.List.{length-map, take-map}
 use Rattle.std.proofs.lemmas.List.Elements.{All-cons, All-take}
 use Rattle.silt_cuckoo.specs.Index.{index_of_keys}
 use Rattle.silt_cuckoo.specs.Slots.{IsBucketCount}
-use Rattle.silt_device.specs.Disk.{Content, LeavesOnly, Rests, Torn, size}
-use Rattle.silt_device.specs.Layout.{Shape, device_size, slot_at}
-use Rattle.silt_device.proofs.Images.{left_at_rest}
+use Rattle.silt_disk.specs.Disk.{Content, LeavesOnly, Rests, Torn, size}
+use Rattle.silt_disk.specs.Layout.{Shape, device_size, slot_at}
+use Rattle.silt_disk.proofs.Images.{left_at_rest}
 use Rattle.silt_log.specs.Rows.{log_rows}
 use Rattle.silt_frame.specs.Rows.{StoredRow, keys_of, put_count}
 use Rattle.silt_log.specs.State.{all_rows}

@@ -7,9 +7,9 @@ use Rattle.std.proofs.lemmas.List.Elements.{All-drop}
 use Rattle.std.proofs.lemmas.List.Folds.{list_any_at}
 use Rattle.std.proofs.lemmas.List.FromFn.{length-map-range_with_len}
 use Rattle.std.proofs.lemmas.Bool.Decides.{nat_tests}
-use Rattle.silt_device.specs.Disk.{ChangesWithin, Content, LiesOutside, size}
-use Rattle.silt_device.specs.Layout.{Shape, device_size, entries_len, gates_at, hash_at, hash_size, log_len, log_size, row_len, slot_at, slots_len, sorted_at, sorted_size}
-use Rattle.silt_device.proofs.Regions.{next_region, regions_apart, up_least}
+use Rattle.silt_disk.specs.Disk.{ChangesWithin, Content, LiesOutside, size}
+use Rattle.silt_disk.specs.Layout.{Shape, device_size, entries_len, gates_at, hash_at, hash_size, log_len, log_size, row_len, slot_at, slots_len, sorted_at, sorted_size}
+use Rattle.silt_disk.proofs.Regions.{next_region, regions_apart, up_least}
 use Rattle.silt_log.specs.Rows.{first_rows, log_rows, open_count, row_at, rows_from}
 use Rattle.silt_frame.specs.Rows.{has_known_kind, StoredRow, keys_of, put_count}
 use Rattle.silt_log.specs.State.{InBounds, LogState, all_rows}

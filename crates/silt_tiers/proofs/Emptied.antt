@@ -1,7 +1,7 @@
 -- The region of the new log, cleared.
 use Rattle.std.proofs.Common.{◌≡◌, ℕ, false, [], ap, sym, ◌∙◌, subst}
-use Rattle.silt_device.specs.Disk.{ChangesWithin, Content, size}
-use Rattle.silt_device.specs.Layout.{Shape, gates_at}
+use Rattle.silt_disk.specs.Disk.{ChangesWithin, Content, size}
+use Rattle.silt_disk.specs.Layout.{Shape, gates_at}
 use Rattle.silt_log.specs.Rows.{log_rows}
 use Rattle.silt_log.specs.State.{LogState}
 use Rattle.silt_log_store.specs.State.{IsLogStore, LogStoreState}

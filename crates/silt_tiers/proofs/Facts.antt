@@ -1,10 +1,10 @@
 -- What the images of a disk mean on which the stores stand.
 use Rattle.std.proofs.Common.{◌≡◌, ◌≤◌, ◌<◌, ℕ, ◌+◌, ◌-◌, IsTrue, List, ◌++◌, length, map, replicate, Ok, refl, ap, sym, ◌∙◌, subst, arith}
 use Rattle.std.proofs.lemmas.List.{length-replicate}
-use Rattle.silt_device.specs.Disk.{Content, Torn, LeavesOnly, size}
-use Rattle.silt_device.specs.Layout.{Shape, device_size, gates_at, log_size}
-use Rattle.silt_device.proofs.Images.{shown_left, torn_splice, torn_wider}
-use Rattle.silt_device.proofs.Regions.{regions_apart, up_least}
+use Rattle.silt_disk.specs.Disk.{Content, Torn, LeavesOnly, size}
+use Rattle.silt_disk.specs.Layout.{Shape, device_size, gates_at, log_size}
+use Rattle.silt_disk.proofs.Images.{shown_left, torn_splice, torn_wider}
+use Rattle.silt_disk.proofs.Regions.{regions_apart, up_least}
 use Rattle.silt_log.specs.Rows.{log_rows}
 use Rattle.silt_frame.specs.Rows.{StoredRow, put_count}
 use Rattle.silt_log.specs.State.{InBounds, LogState, all_rows, settled_rows, waiting_rows}

@@ -2,8 +2,8 @@
 use Rattle.std.proofs.Common.{◌≡◌, ℕ, ◌+◌, ◌-◌, nat_lt, false, IsTrue, List, [], ◌++◌, map, take, drop, Ok, refl, ap, sym, ◌∙◌, subst, arith}
 use Rattle.std.proofs.lemmas.Bool.{ltb-false}
 use Rattle.std.proofs.lemmas.List.{append-nil, map-append, take-append-drop}
-use Rattle.silt_device.specs.Disk.{ChangesWithin, Content, LeavesOnly, size}
-use Rattle.silt_device.specs.Layout.{Shape, gates_at, log_size}
+use Rattle.silt_disk.specs.Disk.{ChangesWithin, Content, LeavesOnly, size}
+use Rattle.silt_disk.specs.Layout.{Shape, gates_at, log_size}
 use Rattle.silt_log.specs.Rows.{log_rows}
 use Rattle.silt_frame.specs.Rows.{StoredRow, put_count}
 use Rattle.silt_log.specs.State.{LogState, all_rows, settled_rows, waiting_rows}

@@ -10,7 +10,7 @@ use Rattle.std.proofs.lemmas.Cmp.{eq_by_cmp_equiv, nat_list_cmp_total}
 use Rattle.std.proofs.lemmas.List.{drop_more, length-drop, map-append, take_all, take_more}
 use Rattle.std.proofs.lemmas.List.Elements.{filter-append}
 use Rattle.std.proofs.lemmas.Option.{get_or_from_slice_get, slice_get_within}
-use Rattle.silt_device.specs.Layout.{Shape}
+use Rattle.silt_disk.specs.Layout.{Shape}
 use Rattle.silt_frame.specs.declared.key.Key.{Key}
 use Rattle.silt_hash_store.specs.Slots.{rows_before, slot_row, hash_rows}
 use Rattle.silt_hash_store.proofs.Slotting.{all_before, before_more}

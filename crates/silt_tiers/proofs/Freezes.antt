@@ -3,10 +3,10 @@ use Rattle.std.proofs.Common.{◌≡◌, ◌≢◌, ◌<◌, ℕ, ◌+◌, ◌-�
 use Rattle.std.specs.Prelude.{Contains, IfSome}
 use Rattle.std.proofs.lemmas.List.{append-nil, take-append-drop}
 use Rattle.std.proofs.Math.Nat.{mod-lt}
-use Rattle.silt_device.specs.Disk.{ChangesWithin, Content, LeavesOnly, LiesOutside, size}
-use Rattle.silt_device.specs.Layout.{Shape, device_size, entries_len, gates_at, hash_at, log_len, log_size, slot_at, slots_len, sorted_at}
-use Rattle.silt_device.proofs.Images.{within_wider}
-use Rattle.silt_device.proofs.Regions.{up_least}
+use Rattle.silt_disk.specs.Disk.{ChangesWithin, Content, LeavesOnly, LiesOutside, size}
+use Rattle.silt_disk.specs.Layout.{Shape, device_size, entries_len, gates_at, hash_at, log_len, log_size, slot_at, slots_len, sorted_at}
+use Rattle.silt_disk.proofs.Images.{within_wider}
+use Rattle.silt_disk.proofs.Regions.{up_least}
 use Rattle.silt_log.specs.Rows.{log_rows}
 use Rattle.silt_frame.specs.Rows.{StoredRow, put_count}
 use Rattle.silt_log.specs.State.{all_rows}

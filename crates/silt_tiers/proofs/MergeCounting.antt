@@ -3,7 +3,7 @@ use Rattle.std.proofs.Common.{◌≡◌, ◌≤◌, ◌<◌, ℕ, ◌+◌, ◌-�
 use Rattle.std.specs.Prelude.{IfSome}
 use Rattle.std.proofs.lemmas.Bool.{and_from, and_parts, eq-eqb, le-leb, lt-ltb}
 use Rattle.std.proofs.lemmas.List.{length-take}
-use Rattle.silt_device.specs.Layout.{Shape}
+use Rattle.silt_disk.specs.Layout.{Shape}
 use Rattle.silt_manifest.specs.Body.{has_sound_hashes, has_sound_logs, is_well_formed}
 use Rattle.silt_manifest.specs.Standing.{IsNext, ruling_slot, spare_slot}
 use Rattle.silt_manifest.specs.declared.body.Body.{Body}

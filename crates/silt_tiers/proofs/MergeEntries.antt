@@ -1,9 +1,9 @@
 -- An entry of a merge, written into the sorted region that the body does not name.
 use Rattle.std.proofs.Common.{◌≡◌, ◌≢◌, ◌<◌, ℕ, ◌*◌, IsTrue, [], Option, Some, None, Ok, inl, inr, refl, ap, sym, ◌∙◌, subst, arith}
 use Rattle.std.specs.Prelude.{IfSome}
-use Rattle.silt_device.specs.Disk.{ChangesWithin, Content, LeavesOnly, LiesOutside, Torn, size}
-use Rattle.silt_device.specs.Layout.{Shape, entries_len, entry_len, gates_at, hash_at, hash_size, log_len, log_size, row_len, slots_len, sorted_at, sorted_size}
-use Rattle.silt_device.proofs.Regions.{regions_apart, up_least}
+use Rattle.silt_disk.specs.Disk.{ChangesWithin, Content, LeavesOnly, LiesOutside, Torn, size}
+use Rattle.silt_disk.specs.Layout.{Shape, entries_len, entry_len, gates_at, hash_at, hash_size, log_len, log_size, row_len, slots_len, sorted_at, sorted_size}
+use Rattle.silt_disk.proofs.Regions.{regions_apart, up_least}
 use Rattle.silt_manifest.proofs.Laws.{rules_elsewhere}
 use Rattle.silt_manifest.specs.declared.body.Body.{Body}
 use Rattle.silt_hash_store.specs.Conversion.{ConversionState}

@@ -4,9 +4,9 @@ use Rattle.std.specs.Prelude.{All, IfSome}
 use Rattle.std.specs.Option.{option_map}
 use Rattle.std.proofs.lemmas.Bool.{eq-eqb, eqb-false, ne_eqb}
 use Rattle.std.proofs.lemmas.List.Elements.{All-drop}
-use Rattle.silt_device.specs.Disk.{ChangesWithin, Content, CountsFault, GaveAny, size}
-use Rattle.silt_device.specs.declared.disk.Disk.{Ghosts}
-use Rattle.silt_device.specs.Layout.{Shape, sorted_at, sorted_size}
+use Rattle.silt_disk.specs.Disk.{ChangesWithin, Content, CountsFault, GaveAny, size}
+use Rattle.silt_disk.specs.declared.disk.Disk.{Ghosts}
+use Rattle.silt_disk.specs.Layout.{Shape, sorted_at, sorted_size}
 use Rattle.silt_hash_store.specs.State.{HashState}
 use Rattle.silt_merge.specs.Merging.{FailsMerge, HasMerged, IsSameMerge, TakesMemory}
 use Rattle.silt_merge.specs.State.{IsHeldMerge, MergeState, is_done, oldest_stores, steps_of}

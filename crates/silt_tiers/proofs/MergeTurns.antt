@@ -4,9 +4,9 @@ use Rattle.std.specs.Prelude.{All, IfSome}
 use Rattle.std.specs.List.{list_any}
 use Rattle.std.proofs.lemmas.List.{take-map}
 use Rattle.std.proofs.lemmas.List.Elements.{All-take}
-use Rattle.silt_device.specs.Disk.{Content, LeavesOnly, Rests, size}
-use Rattle.silt_device.specs.Layout.{Shape, device_size, slot_at}
-use Rattle.silt_device.proofs.Images.{left_at_rest}
+use Rattle.silt_disk.specs.Disk.{Content, LeavesOnly, Rests, size}
+use Rattle.silt_disk.specs.Layout.{Shape, device_size, slot_at}
+use Rattle.silt_disk.proofs.Images.{left_at_rest}
 use Rattle.silt_frame.specs.Rows.{StoredRow, put_count}
 use Rattle.silt_log.specs.State.{all_rows}
 use Rattle.silt_log.specs.Calls.{KeepsRows}

@@ -1,8 +1,8 @@
 -- Stores that a body names, and the images that have them.
 use Rattle.std.proofs.Common.{◌≡◌, ◌<◌, ℕ, List, [], ◌++◌, map, take, Ok, refl, ap, sym, ◌∙◌, subst}
 use Rattle.std.proofs.lemmas.List.{append-nil}
-use Rattle.silt_device.specs.Disk.{Torn}
-use Rattle.silt_device.specs.Layout.{Shape, gates_at, log_size}
+use Rattle.silt_disk.specs.Disk.{Torn}
+use Rattle.silt_disk.specs.Layout.{Shape, gates_at, log_size}
 use Rattle.silt_log.specs.Rows.{log_rows}
 use Rattle.silt_frame.specs.Rows.{StoredRow}
 use Rattle.silt_manifest.specs.declared.body.Body.{Body}

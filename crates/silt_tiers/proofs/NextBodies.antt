@@ -1,9 +1,9 @@
 -- A change of the manifest: whatever a stop leaves has the stores that were, or those that the next body names.
 use Rattle.std.proofs.Common.{◌≡◌, ◌<◌, ◌⊎◌, ℕ, ◌+◌, true, IsTrue, List, [], Some, None, Ok, inl, inr, refl, ap, sym, ◌∙◌, subst, arith}
 use Rattle.std.proofs.lemmas.List.{append-nil}
-use Rattle.silt_device.specs.Disk.{ChangesWithin, Content, Left, LeavesOnly, Torn, size}
-use Rattle.silt_device.specs.Layout.{Shape, slot_at}
-use Rattle.silt_device.proofs.Images.{shown_left, within_trans, within_wider}
+use Rattle.silt_disk.specs.Disk.{ChangesWithin, Content, Left, LeavesOnly, Torn, size}
+use Rattle.silt_disk.specs.Layout.{Shape, slot_at}
+use Rattle.silt_disk.proofs.Images.{shown_left, within_trans, within_wider}
 use Rattle.silt_manifest.specs.Ruling.{ruling_manifest}
 use Rattle.silt_manifest.specs.Standing.{ManifestState, Rules, RulesOldOrNew, spare_slot}
 use Rattle.silt_manifest.specs.declared.body.Body.{Body}

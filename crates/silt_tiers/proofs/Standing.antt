@@ -1,9 +1,9 @@
 -- When stores stand on a disk, from the stores that its images have.
 use Rattle.std.proofs.Common.{◌≡◌, ℕ, IsTrue, List, [], ◌∷◌, ◌++◌, Option, Some, None, Ok, inr, ap, sym, ◌∙◌, subst, arith}
 use Rattle.std.specs.Prelude.{All, IfSome}
-use Rattle.silt_device.specs.Disk.{ChangesWithin, Content, LeavesOnly, LiesOutside, Torn, size}
-use Rattle.silt_device.specs.Layout.{Shape, device_size, entries_len, gates_at, hash_at, log_size, slots_len, sorted_at}
-use Rattle.silt_device.proofs.Images.{shown_left, torn_trans}
+use Rattle.silt_disk.specs.Disk.{ChangesWithin, Content, LeavesOnly, LiesOutside, Torn, size}
+use Rattle.silt_disk.specs.Layout.{Shape, device_size, entries_len, gates_at, hash_at, log_size, slots_len, sorted_at}
+use Rattle.silt_disk.proofs.Images.{shown_left, torn_trans}
 use Rattle.silt_log.specs.Rows.{log_rows}
 use Rattle.silt_frame.specs.Rows.{StoredRow, put_count}
 use Rattle.silt_log.specs.State.{LogState, all_rows, settled_rows, waiting_rows}

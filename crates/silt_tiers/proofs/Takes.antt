@@ -1,9 +1,9 @@
 -- A row that is taken by the next log.
 use Rattle.std.proofs.Common.{◌≡◌, ℕ, ◌⊎◌, ◌↔◌, length, IsTrue, List, [], ◌∷◌, ◌++◌, Option, Some, None, ap, sym, ◌∙◌, subst}
 use Rattle.std.proofs.lemmas.List.{append_cancel_right}
-use Rattle.silt_device.specs.Disk.{Content}
+use Rattle.silt_disk.specs.Disk.{Content}
 use Rattle.silt_event.specs.Commands.{Command, map_after, WaitsAlone, WaitsBehind}
-use Rattle.silt_device.specs.Layout.{Shape}
+use Rattle.silt_disk.specs.Layout.{Shape}
 use Rattle.silt_cuckoo.specs.Index.{index_of_keys}
 use Rattle.silt_frame.specs.Rows.{StoredRow, keys_of}
 use Rattle.silt_log.specs.State.{all_rows}

@@ -1,7 +1,7 @@
 -- A change of a slot of the manifest, in whose images the body that ruled rules or another one.
 use Rattle.std.proofs.Common.{◌≡◌, ◌<◌, ℕ, IsTrue, List, [], map, Some, Ok, refl, ap, sym, ◌∙◌, subst}
-use Rattle.silt_device.specs.Disk.{ChangesWithin, Content, LiesOutside, Torn, size}
-use Rattle.silt_device.specs.Layout.{Shape, device_size, gates_at, log_len, slot_at}
+use Rattle.silt_disk.specs.Disk.{ChangesWithin, Content, LiesOutside, Torn, size}
+use Rattle.silt_disk.specs.Layout.{Shape, device_size, gates_at, log_len, slot_at}
 use Rattle.silt_frame.specs.Rows.{StoredRow}
 use Rattle.silt_log.specs.Calls.{KeepsRows}
 use Rattle.silt_log.specs.State.{LogState, waiting_rows}

@@ -1,7 +1,7 @@
 -- What the calls that write do, at their exits.
 use Rattle.std.proofs.Common.{◌≡◌, ◌+◌, ◌%◌, ◌^◌, ℕ, List, [], ◌++◌, Result, Ok, refl, ap, ◌∙◌}
-use Rattle.silt_device.specs.Disk.{CountsFault}
-use Rattle.silt_device.specs.declared.disk.Disk.{Ghosts}
+use Rattle.silt_disk.specs.Disk.{CountsFault}
+use Rattle.silt_disk.specs.declared.disk.Disk.{Ghosts}
 use Rattle.silt_event.specs.Commands.{Command}
 use Rattle.silt_tiers.specs.State.{TiersState}
 use Rattle.silt_tiers.specs.Standing.{Stands}

@@ -2,9 +2,9 @@
 use Rattle.std.specs.Prelude.{◌≡◌, ◌+◌, ◌^◌, ◌-◌, ◌⊎◌, ℕ, IsTrue, List, [], ◌∷◌, ◌++◌, length, Some, None, Result, OnOk}
 use Rattle.std.specs.FinMap.{get}
 use Rattle.silt_cuckoo.specs.Index.{index_of_keys}
-use Rattle.silt_device.specs.Disk.{Content, CountsFault, LeavesOnly, size}
-use Rattle.silt_device.specs.Layout.{Shape}
-use Rattle.silt_device.specs.declared.disk.Disk.{Ghosts}
+use Rattle.silt_disk.specs.Disk.{Content, CountsFault, LeavesOnly, size}
+use Rattle.silt_disk.specs.Layout.{Shape}
+use Rattle.silt_disk.specs.declared.disk.Disk.{Ghosts}
 use Rattle.silt_event.specs.Commands.{Command, Map, map_after, Begins}
 use Rattle.silt_image.specs.Meaning.{StandsFor, image_map}
 use Rattle.silt_frame.specs.Rows.{keys_of, StoredRow}

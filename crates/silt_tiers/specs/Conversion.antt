@@ -2,9 +2,9 @@
 use Rattle.std.specs.Prelude.{◌≡◌, ◌<◌, ◌+◌, ◌-◌, ◌*◌, ◌^◌, ◌==◌, ℕ, Bool, true, false, if◌then◌else◌, List, length, take, get_or, ◌∷◌, Option, Some, None, IfSome}
 use Rattle.silt_cuckoo.specs.Index.{index_of_keys}
 use Rattle.silt_cuckoo.specs.Slots.{Slots}
-use Rattle.silt_device.specs.Disk.{Content, GaveAny}
-use Rattle.silt_device.specs.Layout.{Shape}
-use Rattle.silt_device.specs.declared.disk.Disk.{Ghosts}
+use Rattle.silt_disk.specs.Disk.{Content, GaveAny}
+use Rattle.silt_disk.specs.Layout.{Shape}
+use Rattle.silt_disk.specs.declared.disk.Disk.{Ghosts}
 use Rattle.silt_frame.specs.Rows.{StoredRow, keys_of}
 use Rattle.silt_hash_store.specs.Conversion.{ConversionState, converted_rows}
 use Rattle.silt_hash_store.specs.Slots.{hash_rows}

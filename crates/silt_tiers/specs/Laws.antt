@@ -1,7 +1,7 @@
 -- Laws of the stores on a disk, for the layers above.
 use Rattle.std.specs.Prelude.{◌≡◌, ℕ, IsTrue, List, Ok, IfSome}
-use Rattle.silt_device.specs.Disk.{Content, LeavesOnly}
-use Rattle.silt_device.specs.Layout.{Shape}
+use Rattle.silt_disk.specs.Disk.{Content, LeavesOnly}
+use Rattle.silt_disk.specs.Layout.{Shape}
 use Rattle.silt_image.specs.Meaning.{IsGood, StandsFor, image_charge, image_map}
 use Rattle.silt_image.specs.Stores.{image_stores, stores_named}
 use Rattle.silt_log.specs.Rows.{log_rows}

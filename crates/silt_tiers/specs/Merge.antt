@@ -1,8 +1,8 @@
 -- The merge of the oldest hash stores and the sorted store into a new sorted store, step by step.
 use Rattle.std.specs.Prelude.{◌≡◌, ◌≤◌, ◌<◌, ◌+◌, ◌-◌, ◌^◌, ◌==◌, ◌⊎◌, ℕ, Bool, true, if◌then◌else◌, length, take, drop, sum_by, List, Option, Some, None, IfSome}
 use Rattle.std.specs.Option.{option_map}
-use Rattle.silt_device.specs.Disk.{Content, GaveAny}
-use Rattle.silt_device.specs.declared.disk.Disk.{Ghosts}
+use Rattle.silt_disk.specs.Disk.{Content, GaveAny}
+use Rattle.silt_disk.specs.declared.disk.Disk.{Ghosts}
 use Rattle.silt_event.specs.declared.progress.Progress.{Progress}
 use Rattle.silt_event.specs.declared.progress.Progress.TheVariants.{Idle, Waiting, Moved, Finished}
 use Rattle.silt_frame.specs.Rows.{StoredRow}

@@ -2,8 +2,8 @@
 use Rattle.std.specs.Prelude.{◌≡◌, ◌<◌, ◌+◌, ◌-◌, ◌^◌, ◌==◌, ℕ, Bool, true, false, [], ◌∷◌, length}
 use Rattle.std.specs.List.{list_any}
 use Rattle.silt_cuckoo.specs.Slots.{empty_slots}
-use Rattle.silt_device.specs.Disk.{Content, LeavesOnly}
-use Rattle.silt_device.specs.Layout.{Shape}
+use Rattle.silt_disk.specs.Disk.{Content, LeavesOnly}
+use Rattle.silt_disk.specs.Layout.{Shape}
 use Rattle.silt_log.specs.Rows.{log_rows}
 use Rattle.silt_log_store.specs.State.{LogStoreState, IsLogStore}
 use Rattle.silt_manifest.specs.Standing.{ManifestState}

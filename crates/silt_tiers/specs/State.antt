@@ -1,7 +1,7 @@
 -- The stores of a device as they are held in memory.
 use Rattle.std.specs.Prelude.{◌≡◌, ◌≢◌, ◌≤◌, ◌<◌, ◌-◌, ◌*◌, ◌==◌, ℕ, Bool, false, List, All, length, map, get_or, Option, IfSome}
 use Rattle.std.specs.List.{list_any}
-use Rattle.silt_device.specs.Layout.{Shape}
+use Rattle.silt_disk.specs.Layout.{Shape}
 use Rattle.silt_hash_store.specs.Conversion.{ConversionState}
 use Rattle.silt_hash_store.specs.State.{HashState, IsHeldHash}
 use Rattle.silt_log_store.specs.State.{LogStoreState}

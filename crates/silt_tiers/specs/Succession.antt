@@ -1,7 +1,7 @@
 -- The manifest's next body: when it may rule, and what holds once it does.
 use Rattle.std.specs.Prelude.{◌≡◌, ◌⊎◌, true, IsTrue, None}
-use Rattle.silt_device.specs.Disk.{ChangesWithin, Content, LeavesOnly}
-use Rattle.silt_device.specs.Layout.{slot_at, sector}
+use Rattle.silt_disk.specs.Disk.{ChangesWithin, Content, LeavesOnly}
+use Rattle.silt_disk.specs.Layout.{slot_at, sector}
 use Rattle.silt_image.specs.Meaning.{IsSound, rows_of}
 use Rattle.silt_event.specs.Rows.{map_of_rows}
 use Rattle.silt_image.specs.Stores.{Stores, stores_named}

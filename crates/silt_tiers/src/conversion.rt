@@ -1,6 +1,6 @@
 // The conversion of the oldest frozen log into a hash store, one slot a step.
 ghost use Rattle.std.specs.Prelude.{◌≡◌, ◌<◌, ◌*◌, ◌-◌, ◌^◌, [], length, false, true, None, IsSome, IsTrue, IfOk, IfErr, IfSome, IfNone, OnOk};
-ghost use Rattle.silt_device.specs.Disk.{Rests};
+ghost use Rattle.silt_disk.specs.Disk.{Rests};
 ghost use Rattle.silt_tiers.specs.Calls.{BreaksOff, Works};
 ghost use Rattle.silt_tiers.specs.Conversion.{AreAllHashesNamed, ConvertErrorCause, Converts, EndsConversion, Finishes, HasConvertedRows, IsLowestFreeHash};
 ghost use Rattle.silt_tiers.specs.Conversion.{MayReplace, convert_turn, converted_body, is_work, oldest_replaced};
@@ -9,7 +9,7 @@ ghost use Rattle.silt_tiers.specs.State.{AreWhole, names_hash};
 ghost use Rattle.silt_tiers.specs.Standing.{Stands, shown_stores};
 
 use crate::tiers::{LAST_GENERATION, Tiers};
-use silt_device::Disk;
+use silt_disk::Disk;
 use silt_event::Progress;
 use silt_hash_store::{Conversion, StepError};
 use silt_manifest::{Body, Manifest};

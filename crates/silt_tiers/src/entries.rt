@@ -1,7 +1,7 @@
 // All keys with their values, from the entries of the sorted store and the rows of the hash stores and of the logs.
 ghost use Rattle.std.specs.Prelude.{◌≡◌, ◌<◌, ◌≤◌, ◌*◌, [], ◌∷◌, length, filter, IsTrue, IfErr, IfOk, OnOk};
-ghost use Rattle.silt_device.specs.Disk.{GaveAny, size};
-ghost use Rattle.silt_device.specs.Layout.{device_size, entry_len, row_len};
+ghost use Rattle.silt_disk.specs.Disk.{GaveAny, size};
+ghost use Rattle.silt_disk.specs.Layout.{device_size, entry_len, row_len};
 ghost use Rattle.silt_hash_store.specs.Slots.{slot_row, hash_rows};
 ghost use Rattle.silt_frame.specs.Rows.{has_known_kind, row_of, stored_row};
 ghost use Rattle.silt_frame.specs.declared.key.Kind.TheVariants.{Put};
@@ -11,7 +11,7 @@ ghost use Rattle.silt_tiers.specs.Entries.{DoesRows, IsPutOf, hashed_rows};
 ghost use Rattle.silt_tiers.specs.Lookup.{EntriesErrorCause};
 
 use crate::tiers::Tiers;
-use silt_device::Disk;
+use silt_disk::Disk;
 use silt_frame::{HEAD_LEN, KEY_LEN, Key, Kind, Value};
 use silt_hash_store::HashStore;
 use silt_log_store::LogStore;

@@ -1,7 +1,7 @@
 // The lookup of a key: the active log, then the frozen ones, then the hash stores, then the sorted store.
 ghost use Rattle.std.specs.Prelude.{◌≡◌, ◌<◌, ◌≤◌, ◌*◌, ℕ, None, option_map, length, true, false, Ok, IsTrue, IfOk, IfErr, IfSome};
-ghost use Rattle.silt_device.specs.Disk.{GaveAny, size};
-ghost use Rattle.silt_device.specs.Layout.{device_size};
+ghost use Rattle.silt_disk.specs.Disk.{GaveAny, size};
+ghost use Rattle.silt_disk.specs.Layout.{device_size};
 ghost use Rattle.silt_log_store.specs.LastRow.{put_place};
 ghost use Rattle.silt_log_store.specs.declared.log_store.Found.{Found};
 ghost use Rattle.silt_tiers.specs.Calls.{Finds, FindsNone};
@@ -11,7 +11,7 @@ ghost use Rattle.silt_tiers.specs.Lookup.{FindsFrozen, FindsHashed, FindsNewest,
 ghost use Rattle.silt_tiers.specs.Standing.{Stands};
 
 use crate::tiers::Tiers;
-use silt_device::Disk;
+use silt_disk::Disk;
 use silt_frame::Key;
 use silt_log_store::Found;
 

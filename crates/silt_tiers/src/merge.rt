@@ -8,7 +8,7 @@ ghost use Rattle.silt_tiers.specs.State.{AreWhole};
 ghost use Rattle.silt_tiers.specs.Standing.{Stands};
 
 use crate::tiers::{LAST_GENERATION, Tiers};
-use silt_device::Disk;
+use silt_disk::Disk;
 use silt_event::Progress;
 use silt_hash_store::HashStore;
 use silt_manifest::{Body, Manifest};

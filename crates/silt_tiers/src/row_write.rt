@@ -9,7 +9,7 @@ ghost use Rattle.silt_tiers.specs.RowWrite.{NeedsNext, WriteCause, WritesKey, Tu
 
 use crate::next_log::NoNextLog;
 use crate::tiers::Tiers;
-use silt_device::Disk;
+use silt_disk::Disk;
 use silt_frame::{Key, Kind};
 use std::alloc::Global;
 

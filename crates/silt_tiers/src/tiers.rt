@@ -1,8 +1,8 @@
 // The stores of a device in memory, and their calls.
 ghost use Rattle.std.specs.Prelude.{vec_capacity, ◌≡◌, ◌+◌, ◌<◌, ◌≤◌, [], ◌∷◌, ◌++◌, ◌↔◌, ℕ, length, nat_lt, true};
 ghost use Rattle.std.specs.Prelude.{false, None, Some, Ok, IsTrue, IfOk, IfErr, IfSome, IfNone, OnOk, OnErr, if◌then◌else◌};
-ghost use Rattle.silt_device.specs.Disk.{Content, GaveAny, LeavesOnly, size};
-ghost use Rattle.silt_device.specs.Layout.{device_size};
+ghost use Rattle.silt_disk.specs.Disk.{Content, GaveAny, LeavesOnly, size};
+ghost use Rattle.silt_disk.specs.Layout.{device_size};
 ghost use Rattle.silt_frame.specs.declared.key.Kind.{Kind};
 ghost use Rattle.silt_event.specs.Rows.{command_of};
 ghost use Rattle.silt_log.specs.Rows.{IsValueOf};
@@ -10,7 +10,7 @@ ghost use Rattle.silt_frame.specs.Rows.{stored_row, puts_of};
 ghost use Rattle.silt_log.specs.State.{all_rows};
 
 use crate::next_log::{NextLog, NoNextLog, lowest_free, next_body};
-use silt_device::{Disk, Geometry};
+use silt_disk::{Disk, Geometry};
 use silt_frame::{Key, Kind};
 use silt_hash_store::{Conversion, HashStore};
 use silt_log_store::{LogStore, Placing};

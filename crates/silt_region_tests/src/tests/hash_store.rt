@@ -1,7 +1,7 @@
 // A hash region, where no clause says it: worked regions, that the calls which take memory succeed, and how many reads a look-up and a rebuild make.
 ghost use Rattle.std.specs.Prelude.{◌≡◌, ◌+◌, ◌*◌, ◌≤◌, ◌<◌, IfOk, IfSome};
-ghost use Rattle.silt_device.specs.Disk.{size};
-ghost use Rattle.silt_device.specs.Layout.{device_size};
+ghost use Rattle.silt_disk.specs.Disk.{size};
+ghost use Rattle.silt_disk.specs.Layout.{device_size};
 ghost use Rattle.silt_device.specs.Memory.{memory_content};
 
 use crate::tests::{LEN, blank, eight_rows, largest, paired, shows, single, with_fault};

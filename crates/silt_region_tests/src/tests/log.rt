@@ -1,8 +1,8 @@
 // A log, where no clause says it: the worked bytes, how many device calls an operation makes, and that the calls which take memory
 // succeed.
 ghost use Rattle.std.specs.Prelude.{◌≡◌, ◌≤◌, IfOk};
-ghost use Rattle.silt_device.specs.Disk.{size};
-ghost use Rattle.silt_device.specs.Layout.{device_size};
+ghost use Rattle.silt_disk.specs.Disk.{size};
+ghost use Rattle.silt_disk.specs.Layout.{device_size};
 ghost use Rattle.silt_device.specs.Memory.{memory_content};
 
 use crate::tests::{LEN, blank, four_rows, shows};

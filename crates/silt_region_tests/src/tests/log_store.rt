@@ -1,7 +1,7 @@
 // A log with the table of its keys, where no clause says it: the worked sets of keys, that the calls which take memory succeed, and how many reads a look-up makes.
 ghost use Rattle.std.specs.Prelude.{◌≡◌, ◌≤◌, ◌<◌, OnOk, IfOk, IfSome, length};
-ghost use Rattle.silt_device.specs.Disk.{size};
-ghost use Rattle.silt_device.specs.Layout.{device_size};
+ghost use Rattle.silt_disk.specs.Disk.{size};
+ghost use Rattle.silt_disk.specs.Layout.{device_size};
 ghost use Rattle.silt_device.specs.Memory.{memory_content};
 ghost use Rattle.silt_log.specs.Rows.{IsValueOf};
 ghost use Rattle.silt_log_store.specs.State.{IsLogStore};

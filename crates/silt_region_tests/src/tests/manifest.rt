@@ -1,8 +1,8 @@
 // The manifest, where no clause says it: the layout's bytes, the damaged slots, each stop of a write, and the first call of a write.
 ghost use Rattle.std.specs.Prelude.{◌≡◌, ◌+◌, ◌≤◌, ◌<◌, ◌↔◌, IsTrue, OnOk};
-ghost use Rattle.silt_device.specs.Disk.{Rests, size};
+ghost use Rattle.silt_disk.specs.Disk.{Rests, size};
 ghost use Rattle.silt_manifest.specs.Standing.{IsNext, Rules};
-ghost use Rattle.silt_device.specs.Layout.{slot_at};
+ghost use Rattle.silt_disk.specs.Layout.{slot_at};
 
 use crate::tests::shows;
 use silt_device::{Call, Disk, FaultDisk, Fill, Geometry, MemDisk, Stop, Stoppable, write_synced};

@@ -1,8 +1,8 @@
 // A merge, where no clause says it: a worked one, that the calls which take memory succeed, and how many reads and writes the steps make.
 ghost use Rattle.std.specs.Prelude.{◌≡◌, ◌+◌, ◌*◌, ◌≤◌, ◌<◌, length, IfOk};
 ghost use Rattle.std.specs.List.{All};
-ghost use Rattle.silt_device.specs.Disk.{size};
-ghost use Rattle.silt_device.specs.Layout.{device_size};
+ghost use Rattle.silt_disk.specs.Disk.{size};
+ghost use Rattle.silt_disk.specs.Layout.{device_size};
 ghost use Rattle.silt_device.specs.Memory.{memory_content};
 ghost use Rattle.silt_merge.specs.Merging.{IsSameMerge};
 ghost use Rattle.silt_merge.specs.State.{oldest_stores};

@@ -1,7 +1,7 @@
 // A sorted region, where no clause says it: worked entries, and how many reads a call makes.
 ghost use Rattle.std.specs.Prelude.{◌≡◌, ◌≤◌, ◌<◌, IfOk};
-ghost use Rattle.silt_device.specs.Disk.{size};
-ghost use Rattle.silt_device.specs.Layout.{device_size};
+ghost use Rattle.silt_disk.specs.Disk.{size};
+ghost use Rattle.silt_disk.specs.Layout.{device_size};
 ghost use Rattle.silt_device.specs.Memory.{memory_content};
 
 use crate::tests::{LEN, blank, four_rows};

@@ -1,5 +1,5 @@
 use Rattle.std.proofs.Common.{◌∙◌, ap, inl, inr}
-use Rattle.silt_device.specs.Layout.{device_size}
+use Rattle.silt_disk.specs.Layout.{device_size}
 use Rattle.silt_event.specs.declared.refusal.Refusal.TheVariants.{BadGeometry, Device}
 use Rattle.silt.proofs.FileRefusals.{stored_or_fault, told_more, told_refusal}
 use Rattle.silt.proofs.Refusals.{tells_bad_geometry}

@@ -1,5 +1,5 @@
 use Rattle.std.proofs.Common.{ℕ, ap, ◌∙◌, subst}
-use Rattle.silt_device.specs.Layout.{Shape}
+use Rattle.silt_disk.specs.Layout.{Shape}
 use Rattle.silt_wire.specs.Sessions.{Ends}
 use Rattle.silt_store_set.specs.CoreState.{DoesPlain}
 use Rattle.silt_wire.proofs.Streams.{Appends-keeps}

@@ -1,6 +1,6 @@
 use Rattle.std.proofs.Common.{◌∙◌, ℕ, refl, ap, sym, subst, length}
 use Rattle.std.specs.FinMap.{empty}
-use Rattle.silt_device.specs.Disk.{LeavesOnly}
+use Rattle.silt_disk.specs.Disk.{LeavesOnly}
 use Rattle.silt_device.specs.Memory.{memory_content}
 use Rattle.silt_store_set.specs.CoreInvariant.{IsSafe}
 use Rattle.silt_store_set.specs.Living.{LivesRun}

@@ -1,5 +1,5 @@
 use Rattle.std.proofs.Common.{◌≡◌, ℕ, [], ap, ◌∙◌, subst}
-use Rattle.silt_device.specs.Layout.{Shape}
+use Rattle.silt_disk.specs.Layout.{Shape}
 use Rattle.silt_device.specs.declared.memory.MemFault.{MemFault}
 use Rattle.silt_wire.specs.Sessions.{lines_after}
 use Rattle.silt.specs.Numbers.{shape_asked}

@@ -1,6 +1,6 @@
 use Rattle.std.proofs.Common.{◌≡◌, ◌*◌, ℕ, IsTrue, None, replicate, refl, ap, subst, ◌∙◌, arith}
 use Rattle.std.proofs.lemmas.Result.{err_from_is_err_and}
-use Rattle.silt_device.specs.Layout.{Shape}
+use Rattle.silt_disk.specs.Layout.{Shape}
 use Rattle.silt_hash_store.specs.Rebuild.{IsFirstUnsound, IsGrown}
 use Rattle.silt_hash_store.proofs.Chunks.{refused_all}
 use Rattle.silt_hash_store.proofs.Growing.{all_grown, none_grown}

@@ -1,5 +1,5 @@
 use Rattle.std.proofs.Common.{◌≡◌, length, ap, sym, subst, ◌∙◌, arith}
-use Rattle.silt_device.specs.Layout.{Shape}
+use Rattle.silt_disk.specs.Layout.{Shape}
 use Rattle.silt_cuckoo.specs.Slots.{IsBucketCount}
 use Rattle.silt_log_store.specs.Growth.{IsOfRows}
 use Rattle.silt_log_store.proofs.Buckets.{bucket_count_is}

@@ -1,5 +1,5 @@
 use Rattle.std.proofs.Common.{rules}
-use Rattle.silt_device.specs.Disk.{GaveAny, Shows, Rests}
+use Rattle.silt_disk.specs.Disk.{GaveAny, Shows, Rests}
 use Rattle.silt_manifest.specs.Standing.{IsRuled, Rules}
 use Rattle.silt_manifest.specs.Faults.{IsNotRead}
 use Rattle.silt_manifest.proofs.ReadExits.{first_refused, second_refused, none_refused, slots_rule, rest_rules, where_some, where_none}

@@ -1,6 +1,6 @@
 use Rattle.std.proofs.Common.{ap, arith, subst, sym, ◌∙◌}
-use Rattle.silt_device.specs.Layout.{slot_at}
-use Rattle.silt_device.proofs.Laws.{changes_wider, changes_joined}
+use Rattle.silt_disk.specs.Layout.{slot_at}
+use Rattle.silt_disk.proofs.Laws.{changes_wider, changes_joined}
 use Rattle.silt_manifest.specs.Body.{FitsSlot, body_bytes}
 use Rattle.silt_manifest.proofs.FirstExits.{all_first, first_fits}
 use Rattle.silt_manifest.proofs.manifest.write_first.Goals as goal

@@ -1,6 +1,6 @@
 use Rattle.std.proofs.Common.{◌≡◌, ◌∙◌, ℕ, [], ◌∷◌, subst, arith}
-use Rattle.silt_device.specs.Disk.{ChangesWithin, LeavesOnly, Writes}
-use Rattle.silt_device.specs.Layout.{gates_at}
+use Rattle.silt_disk.specs.Disk.{ChangesWithin, LeavesOnly, Writes}
+use Rattle.silt_disk.specs.Layout.{gates_at}
 use Rattle.silt_log.specs.Rows.{log_rows}
 use Rattle.silt_log.specs.State.{LogState}
 use Rattle.silt_recovery.proofs.Formats.{formatted, second_closed}

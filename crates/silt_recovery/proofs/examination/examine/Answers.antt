@@ -1,7 +1,7 @@
 use Rattle.std.proofs.Common.{◌≡◌, IsTrue, Err}
 use Rattle.std.proofs.lemmas.Result.{err_from_is_err_and}
-use Rattle.silt_device.specs.Disk.{GaveAny, size}
-use Rattle.silt_device.specs.Header.{header_of}
+use Rattle.silt_disk.specs.Disk.{GaveAny, size}
+use Rattle.silt_disk.specs.Header.{header_of}
 use Rattle.silt_image.specs.Stores.{shape_found}
 use Rattle.silt_recovery.specs.Refusals.{IsFound}
 use Rattle.silt_recovery.proofs.Manifests.{header_verdict}

@@ -1,5 +1,5 @@
 use Rattle.std.proofs.Common.{IsTrue, sym, ap, ◌∙◌, subst}
-use Rattle.silt_device.specs.Disk.{GaveAny}
+use Rattle.silt_disk.specs.Disk.{GaveAny}
 use Rattle.silt_image.specs.Stores.{damage_finding}
 use Rattle.silt_manifest.specs.Faults.{IsNotRead}
 use Rattle.silt_recovery.specs.Refusals.{IsFound, IsRefusedLook, refusal_of}

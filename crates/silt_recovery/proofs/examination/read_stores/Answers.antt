@@ -1,6 +1,6 @@
 use Rattle.std.proofs.Common.{◌≡◌, ◌<◌, ◌≤◌, ◌+◌, ℕ, IsTrue, List, [], ◌∷◌, All, length, sym, ◌∙◌, subst, arith}
 use Rattle.std.proofs.lemmas.Result.{err_from_is_err_and}
-use Rattle.silt_device.specs.Disk.{GaveAny}
+use Rattle.silt_disk.specs.Disk.{GaveAny}
 use Rattle.silt_manifest.specs.Standing.{ruling_slot}
 use Rattle.silt_recovery.specs.Entries.{HasFirstEntry}
 use Rattle.silt_recovery.specs.Hashes.{HasFirstSlot}

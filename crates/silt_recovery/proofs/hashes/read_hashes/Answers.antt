@@ -1,7 +1,7 @@
 use Rattle.std.proofs.Common.{◌+◌, ℕ, IsTrue, List, [], ◌∷◌, get_or, take, subst, sym, ◌∙◌, arith}
 use Rattle.std.proofs.lemmas.List.{take_all}
 use Rattle.std.proofs.lemmas.Result.{err_from_is_err_and}
-use Rattle.silt_device.specs.Disk.{GaveAny}
+use Rattle.silt_disk.specs.Disk.{GaveAny}
 use Rattle.silt_hash_store.specs.State.{HashState}
 use Rattle.silt_recovery.specs.Hashes.{AreReadHashes, HasFirstSlot}
 use Rattle.silt_recovery.proofs.HashSearches.{next_slot_finding, one_more_hash}

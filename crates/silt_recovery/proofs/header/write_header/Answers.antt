@@ -1,7 +1,7 @@
 use Rattle.std.proofs.Common.{List, ℕ, sym, ◌∙◌, ap, subst, arith}
-use Rattle.silt_device.specs.Disk.{Writes, splice}
-use Rattle.silt_device.proofs.Laws.{changes_joined, changes_wider}
-use Rattle.silt_device.specs.Header.{header_bytes}
+use Rattle.silt_disk.specs.Disk.{Writes, splice}
+use Rattle.silt_disk.proofs.Laws.{changes_joined, changes_wider}
+use Rattle.silt_disk.specs.Header.{header_bytes}
 use Rattle.silt_recovery.proofs.Formats.{gated}
 use Rattle.silt_recovery.proofs.HalfFormats.{header_behind, header_gated}
 use Rattle.silt_recovery.proofs.header.write_header.Goals as goal

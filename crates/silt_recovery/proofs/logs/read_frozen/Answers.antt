@@ -1,7 +1,7 @@
 use Rattle.std.proofs.Common.{◌+◌, ℕ, IsTrue, List, [], ◌∷◌, get_or, take, subst, sym, ◌∙◌, arith}
 use Rattle.std.proofs.lemmas.List.{take_all}
 use Rattle.std.proofs.lemmas.Result.{err_from_is_err_and}
-use Rattle.silt_device.specs.Disk.{GaveAny}
+use Rattle.silt_disk.specs.Disk.{GaveAny}
 use Rattle.silt_log_store.specs.State.{LogStoreState}
 use Rattle.silt_recovery.specs.Logs.{AreReadLogs, HasFirstFinding}
 use Rattle.silt_recovery.proofs.Frozen.{next_finding, one_more_read}

@@ -1,7 +1,7 @@
 // A merge of some hundred keys, whose finished store finds each of them by one read.
 ghost use Rattle.std.specs.Prelude.{◌≡◌, ◌+◌, ◌≤◌, ◌<◌, IfOk};
-ghost use Rattle.silt_device.specs.Disk.{size};
-ghost use Rattle.silt_device.specs.Layout.{device_size};
+ghost use Rattle.silt_disk.specs.Disk.{size};
+ghost use Rattle.silt_disk.specs.Layout.{device_size};
 
 use crate::tests::merge::merge_stores;
 use crate::tests::{blank, with_fault};

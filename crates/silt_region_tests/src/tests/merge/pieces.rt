@@ -1,7 +1,7 @@
 // Slots and entries that are read together: how many reads they take. One read is of at most 64 KiB.
 ghost use Rattle.std.specs.Prelude.{◌≡◌, ◌≤◌, ◌<◌, IfOk};
-ghost use Rattle.silt_device.specs.Disk.{size};
-ghost use Rattle.silt_device.specs.Layout.{device_size};
+ghost use Rattle.silt_disk.specs.Disk.{size};
+ghost use Rattle.silt_disk.specs.Layout.{device_size};
 
 use crate::tests::merge::{Outcome, merge_stores};
 use crate::tests::{blank, single, with_fault};

@@ -1,6 +1,6 @@
 // How many reads a rebuild and a look-up make: the failed read of each number, and whether it is told.
 ghost use Rattle.std.specs.Prelude.{◌≡◌, ◌<◌, ◌≤◌, IfOk};
-ghost use Rattle.silt_device.specs.Disk.{size};
+ghost use Rattle.silt_disk.specs.Disk.{size};
 ghost use Rattle.silt_device.specs.Memory.{memory_content};
 
 use crate::tests::sorted_store::{Outcome, filled, find, find_in, key, rebuild, rebuild_in};

@@ -1,7 +1,7 @@
 // Look-ups among many entries, beside a plain search in memory.
 ghost use Rattle.std.specs.Prelude.{◌≡◌, ◌<◌, ◌≤◌, IfOk, length};
-ghost use Rattle.silt_device.specs.Disk.{size};
-ghost use Rattle.silt_device.specs.Layout.{device_size};
+ghost use Rattle.silt_disk.specs.Disk.{size};
+ghost use Rattle.silt_disk.specs.Layout.{device_size};
 ghost use Rattle.silt_device.specs.Memory.{memory_content};
 
 use crate::tests::{blank, with_fault};

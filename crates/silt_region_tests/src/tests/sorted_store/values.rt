@@ -1,7 +1,7 @@
 // The values of entries: read by their places, and by their keys.
 ghost use Rattle.std.specs.Prelude.{◌≡◌, ◌+◌, ◌≤◌, ◌<◌, IfOk, length};
-ghost use Rattle.silt_device.specs.Disk.{size};
-ghost use Rattle.silt_device.specs.Layout.{device_size};
+ghost use Rattle.silt_disk.specs.Disk.{size};
+ghost use Rattle.silt_disk.specs.Layout.{device_size};
 
 use crate::tests::sorted_store::{filled, key};
 use crate::tests::{blank, four_rows, with_fault};

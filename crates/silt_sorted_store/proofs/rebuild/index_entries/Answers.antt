@@ -1,6 +1,6 @@
 use Rattle.std.proofs.Common.{ℕ, ◌*◌, ◌/◌, ◌<◌, ◌≤◌, ap, ◌∙◌, arith}
 use Rattle.std.proofs.Math.Nat.{le-div_iff_mul-le}
-use Rattle.silt_device.specs.Layout.{entry_len}
+use Rattle.silt_disk.specs.Layout.{entry_len}
 use Rattle.silt_frame.specs.Rows.{keys_of}
 use Rattle.silt_sorted_store.specs.State.{entries_of}
 use Rattle.silt_sorted_store.proofs.Entries.{entry_count}

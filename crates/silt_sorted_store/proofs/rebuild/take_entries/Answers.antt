@@ -1,6 +1,6 @@
 use Rattle.std.proofs.Common.{◌≡◌, ℕ, ◌+◌, ◌*◌, ◌<◌, ◌≤◌, length, Option, Ok, IfSome, refl, sym, subst, ap, ◌∙◌, arith}
 use Rattle.std.proofs.lemmas.List.{length-take-le}
-use Rattle.silt_device.specs.Layout.{entry_len}
+use Rattle.silt_disk.specs.Layout.{entry_len}
 use Rattle.silt_sorted_store.specs.Indexing.{HoldsKeys, IsIndexing, TakesKeys}
 use Rattle.silt_sorted_store.specs.State.{entries_of}
 use Rattle.silt_sorted_store.proofs.Entries.{entry_count}

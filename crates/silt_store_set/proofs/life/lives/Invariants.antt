@@ -1,5 +1,5 @@
 use Rattle.std.proofs.Common.{◌≡◌, IsTrue, take}
-use Rattle.silt_device.specs.Disk.{LeavesOnly}
+use Rattle.silt_disk.specs.Disk.{LeavesOnly}
 use Rattle.silt_event.specs.Commands.{Map}
 use Rattle.silt_event.specs.Events.{LivesHistory}
 use Rattle.silt_store_set.specs.CoreInvariant.{IsSafe}

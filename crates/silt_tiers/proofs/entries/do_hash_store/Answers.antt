@@ -1,5 +1,5 @@
 use Rattle.std.proofs.Common.{ap, arith}
-use Rattle.silt_device.specs.Layout.{Shape}
+use Rattle.silt_disk.specs.Layout.{Shape}
 use Rattle.silt_tiers.proofs.Folds.{does_no_slot, does_slot, does_slots}
 use Rattle.silt_tiers.proofs.entries.do_hash_store.Goals as goal
 

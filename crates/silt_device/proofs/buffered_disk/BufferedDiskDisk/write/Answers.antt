@@ -1,5 +1,5 @@
 use Rattle.std.proofs.Common.{rules, refl, ◌≡◌, ◌+◌, ◌≤◌, IsTrue, length, subst, sym, ◌∙◌}
-use Rattle.silt_device.specs.Disk.{Stays, size}
+use Rattle.silt_disk.specs.Disk.{Stays, size}
 use Rattle.silt_device.specs.Buffered.{content_over, buffered_content, takes}
 use Rattle.silt_device.proofs.Waiting.{fits_inner, grown_places, grown_tears, grown_writes, not_out_at, out_at, stays_tears, stays_writes, tears_over, writes_over}
 use Rattle.silt_device.proofs.buffered_disk.BufferedDiskDisk.write.Goals as goal

@@ -1,7 +1,7 @@
 use Rattle.std.proofs.Common.{◌≡◌, ◌+◌, ℕ, IsTrue, List, [], ◌∷◌, Option, drop, filter, length, ap, sym, ◌∙◌, arith}
 use Rattle.std.proofs.lemmas.List.{take_at}
 use Rattle.silt_cuckoo.specs.Slots.{entry_at}
-use Rattle.silt_device.specs.Layout.{Shape}
+use Rattle.silt_disk.specs.Layout.{Shape}
 use Rattle.silt_frame.specs.Rows.{put_count, has_known_kind, row_of, StoredRow}
 use Rattle.silt_log.specs.State.{all_rows}
 use Rattle.silt_log_store.specs.State.{IsFrozenStore}

@@ -1,5 +1,5 @@
 use Rattle.std.proofs.Common.{Some, refl, ap, subst}
-use Rattle.silt_device.specs.Layout.{Shape}
+use Rattle.silt_disk.specs.Layout.{Shape}
 use Rattle.silt_hash_store.specs.Rebuild.{TagsKey}
 use Rattle.silt_hash_store.specs.State.{HashState}
 use Rattle.silt_hash_store.proofs.Growing.{adds_row, twice_unsound}

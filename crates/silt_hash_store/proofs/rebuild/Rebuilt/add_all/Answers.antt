@@ -1,7 +1,7 @@
 use Rattle.std.proofs.Common.{◌≡◌, ℕ, ◌+◌, ◌*◌, ◌<◌, ◌≤◌, length, refl, sym, subst, ap, ◌∙◌, arith}
 use Rattle.std.proofs.lemmas.List.{length-take-le}
 use Rattle.std.proofs.lemmas.Result.{err_from_is_err_and}
-use Rattle.silt_device.specs.Layout.{Shape, row_len}
+use Rattle.silt_disk.specs.Layout.{Shape, row_len}
 use Rattle.silt_hash_store.specs.Rebuild.{IsGrown}
 use Rattle.silt_hash_store.proofs.Chunks.{chunk_fits, refused_later, written_back}
 use Rattle.silt_hash_store.proofs.rebuild.Rebuilt.add_all.Goals as goal

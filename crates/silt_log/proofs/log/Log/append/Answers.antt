@@ -1,6 +1,6 @@
 use Rattle.std.proofs.Common.{◌≡◌, ◌+◌, ◌++◌, length, length-append, ap, ◌∙◌, arith}
 use Rattle.std.proofs.lemmas.Result.{err_from_is_err_and}
-use Rattle.silt_device.specs.Layout.{row_len}
+use Rattle.silt_disk.specs.Layout.{row_len}
 use Rattle.silt_log.specs.State.{LogState}
 use Rattle.silt_log.proofs.Exits.{append_images, append_failed, append_done, appends_as}
 use Rattle.silt_log.proofs.Named.{body_place}

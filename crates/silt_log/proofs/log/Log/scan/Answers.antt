@@ -1,6 +1,6 @@
 use Rattle.std.proofs.Common.{◌≡◌, ℕ, length, ◌∙◌}
 use Rattle.std.proofs.lemmas.Result.{err_from_is_err_and}
-use Rattle.silt_device.specs.Layout.{Shape}
+use Rattle.silt_disk.specs.Layout.{Shape}
 use Rattle.silt_log.proofs.ScanExits.{mapped_ok, scan_count, scan_loose, scan_rows, scan_refused}
 use Rattle.silt_log.proofs.log.Log.scan.Goals as goal
 

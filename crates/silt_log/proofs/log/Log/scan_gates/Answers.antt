@@ -1,5 +1,5 @@
 use Rattle.std.proofs.Common.{◌≡◌, ℕ, length, refl, ◌∙◌}
-use Rattle.silt_device.specs.Layout.{Shape, row_len, bodies_at}
+use Rattle.silt_disk.specs.Layout.{Shape, row_len, bodies_at}
 use Rattle.silt_log.proofs.ScanExits.{scan_count, scan_loose}
 use Rattle.silt_log.proofs.log.Log.scan_gates.Goals as goal
 

@@ -1,5 +1,5 @@
 use Rattle.std.proofs.Common.{◌<◌, None, refl, ap, ◌∙◌, arith}
-use Rattle.silt_device.specs.Layout.{Shape}
+use Rattle.silt_disk.specs.Layout.{Shape}
 use Rattle.silt_cuckoo.specs.Slots.{bucket_count}
 use Rattle.silt_log_store.proofs.Emptied.{empty_never_gives_up, empty_placing}
 use Rattle.silt_log_store.proofs.Exits.{under_buckets}

@@ -1,5 +1,5 @@
 use Rattle.std.proofs.Common.{◌≡◌, true, false, Some, sym, ap, subst, ◌∙◌}
-use Rattle.silt_device.specs.Layout.{slot_at}
+use Rattle.silt_disk.specs.Layout.{slot_at}
 use Rattle.silt_manifest.specs.Body.{is_well_formed}
 use Rattle.silt_manifest.specs.Standing.{Rules, ruled_by, spare_slot, ruling_slot}
 use Rattle.silt_manifest.proofs.CommitExits.{gate_fails, all_committed}

@@ -1,6 +1,6 @@
 use Rattle.std.proofs.Common.{◌≡◌, ◌+◌, length, true, refl, sym, ap, subst, ◌∙◌, arith}
-use Rattle.silt_device.specs.Layout.{InLimits, slot_at}
-use Rattle.silt_device.proofs.Laws.{changes_wider, changes_joined}
+use Rattle.silt_disk.specs.Layout.{InLimits, slot_at}
+use Rattle.silt_disk.proofs.Laws.{changes_wider, changes_joined}
 use Rattle.silt_manifest.specs.Body.{FitsSlot, is_well_formed}
 use Rattle.silt_manifest.specs.Standing.{spare_slot, ruling_slot}
 use Rattle.silt_manifest.proofs.RoundTrip.{fitting_length}

@@ -1,6 +1,6 @@
 use Rattle.std.proofs.Common.{◌≡◌, ◌+◌, ◌*◌, subst}
-use Rattle.silt_device.specs.Disk.{ChangesWithin}
-use Rattle.silt_device.specs.Layout.{entry_len, sorted_at}
+use Rattle.silt_disk.specs.Disk.{ChangesWithin}
+use Rattle.silt_disk.specs.Layout.{entry_len, sorted_at}
 use Rattle.silt_sorted_store.specs.State.{sorted_entry_at}
 use Rattle.silt_merge.specs.State.{LastRises, MergeState, steps_of}
 use Rattle.silt_merge.proofs.merge.Merge.decide.Goals as goal

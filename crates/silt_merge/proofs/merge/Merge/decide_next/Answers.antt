@@ -1,7 +1,7 @@
 use Rattle.std.proofs.Common.{◌≡◌, ◌++◌, ◌+◌, ◌*◌, ◌<◌, ℕ, nat_lt, IsTrue, List, Some, drop, length, take, inr, ap, sym, subst, ◌∙◌, arith}
 use Rattle.std.specs.List.{All}
 use Rattle.std.proofs.lemmas.List.{take_at}
-use Rattle.silt_device.specs.Layout.{Shape}
+use Rattle.silt_disk.specs.Layout.{Shape}
 use Rattle.silt_hash_store.specs.State.{HashState}
 use Rattle.silt_merge.specs.Pieces.{AreEntries, parts_after}
 use Rattle.silt_sorted_store.specs.State.{sorted_rows, entries_of}

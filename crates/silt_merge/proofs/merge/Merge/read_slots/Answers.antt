@@ -1,5 +1,5 @@
 use Rattle.std.proofs.Common.{◌≡◌, List, ℕ, get_or, sym, subst, ap, ◌∙◌, arith}
-use Rattle.silt_device.specs.Layout.{Shape}
+use Rattle.silt_disk.specs.Layout.{Shape}
 use Rattle.silt_hash_store.specs.State.{HashState}
 use Rattle.silt_merge.specs.Pieces.{AreSlots}
 use Rattle.silt_merge.specs.Rows.{regions_of}

@@ -1,5 +1,5 @@
 use Rattle.std.proofs.Common.{◌≡◌, ◌≤◌}
-use Rattle.silt_device.specs.Disk.{size}
+use Rattle.silt_disk.specs.Disk.{size}
 use Rattle.silt_merge.specs.Merging.{IsSameMerge}
 use Rattle.silt_region_tests.proofs.tests.merge.run_steps.Given as goal
 

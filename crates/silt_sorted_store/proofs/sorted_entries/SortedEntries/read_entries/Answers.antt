@@ -1,5 +1,5 @@
 use Rattle.std.proofs.Common.{length}
-use Rattle.silt_device.specs.Disk.{size}
+use Rattle.silt_disk.specs.Disk.{size}
 use Rattle.silt_sorted_store.proofs.Chunks.{chunk_inside, entries_read, keys_read}
 use Rattle.silt_sorted_store.proofs.sorted_entries.SortedEntries.read_entries.Goals as goal
 

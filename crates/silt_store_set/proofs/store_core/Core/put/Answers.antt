@@ -1,5 +1,5 @@
 use Rattle.std.proofs.Common.{◌≡◌, inl, refl, ap, sym, ◌∙◌, arith}
-use Rattle.silt_device.specs.Layout.{Shape}
+use Rattle.silt_disk.specs.Layout.{Shape}
 use Rattle.silt_event.specs.declared.event.Event.TheVariants.{Put}
 use Rattle.silt_event.specs.declared.refusal.Refusal.TheVariants.{Spent, StoreFull}
 use Rattle.silt_store_set.proofs.Calls.{refused}

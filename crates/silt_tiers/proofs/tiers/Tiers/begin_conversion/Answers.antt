@@ -1,7 +1,7 @@
 use Rattle.std.proofs.Common.{◌≡◌, ◌-◌, List, [], length, None, refl, ap, sym, ◌∙◌, subst, arith}
 use Rattle.std.specs.Prelude.{slice_get}
 use Rattle.std.specs.Option.{option_copied}
-use Rattle.silt_device.specs.Layout.{InLimits, Shape, device_size}
+use Rattle.silt_disk.specs.Layout.{InLimits, Shape, device_size}
 use Rattle.silt_log_store.specs.State.{LogStoreState}
 use Rattle.silt_tiers.specs.State.{TiersState}
 use Rattle.silt_tiers.specs.Standing.{Stands}

@@ -1,7 +1,7 @@
 use Rattle.std.proofs.Common.{◌≡◌, ◌≤◌, ◌<◌, ◌-◌, ℕ, false, List, [], length, None, refl, ap, sym, ◌∙◌, subst, arith}
 use Rattle.std.specs.Prelude.{All}
 use Rattle.std.proofs.lemmas.List.{length-map}
-use Rattle.silt_device.specs.Layout.{Shape}
+use Rattle.silt_disk.specs.Layout.{Shape}
 use Rattle.silt_hash_store.specs.State.{HashState}
 use Rattle.silt_event.specs.declared.progress.Progress.TheVariants.{Finished, Moved}
 use Rattle.silt_merge.specs.State.{is_done, oldest_stores}

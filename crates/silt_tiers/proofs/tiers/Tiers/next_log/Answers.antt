@@ -1,5 +1,5 @@
 use Rattle.std.proofs.Common.{ap, sym, ◌∙◌, subst}
-use Rattle.silt_device.specs.Layout.{Shape}
+use Rattle.silt_disk.specs.Layout.{Shape}
 use Rattle.silt_manifest.specs.declared.body.Body.{Body}
 use Rattle.silt_tiers.specs.declared.next_log.NextLog.{NextLog}
 use Rattle.silt_tiers.specs.State.{TiersState}

@@ -1,5 +1,5 @@
 use Rattle.std.proofs.Common.{◌≡◌}
-use Rattle.silt_device.specs.Disk.{size}
+use Rattle.silt_disk.specs.Disk.{size}
 use Rattle.silt_region_tests.proofs.tests.sorted_store.faults.fill_long.Given as goal
 
 abbrev pub invariant-loop-place : goal.invariant-loop-place

@@ -1,6 +1,6 @@
 // The layout of a device: where each region begins, and how long the device is.
 ghost use Rattle.std.specs.Prelude.{◌≡◌, ◌+◌, ◌*◌, ◌^◌, ◌<◌, ◌≤◌, IsTrue, ◌↔◌, MatchResult};
-ghost use Rattle.silt_device.specs.Layout.{Shape, InLimits, RegionsApart, is_bucket_count, sector, slot_at, up};
+ghost use Rattle.silt_disk.specs.Layout.{Shape, InLimits, RegionsApart, is_bucket_count, sector, slot_at, up};
 
 use silt_frame::{HEAD_LEN, KEY_LEN};
 use std::marker::Model;
@@ -32,7 +32,7 @@ pub struct Geometry {
 }
 
 impl Model for Geometry {
-    ghost use Rattle.silt_device.specs.Layout.{Shape, InLimits};
+    ghost use Rattle.silt_disk.specs.Layout.{Shape, InLimits};
 
     ghost Value = { Shape };
 
@@ -99,7 +99,7 @@ pub fn regions_lie_apart()
 {}
 
 impl Geometry {
-    ghost use Rattle.silt_device.specs.Layout.{row_len, entry_len, slot_at, log_size, hash_size, sorted_size, gates_at, bodies_at, hash_at, sorted_at, device_size};
+    ghost use Rattle.silt_disk.specs.Layout.{row_len, entry_len, slot_at, log_size, hash_size, sorted_size, gates_at, bodies_at, hash_at, sorted_at, device_size};
 
     /// The geometry of these numbers, each within its limits: values of 1 to 4,096 bytes; a power of two of buckets, from 2 to
     /// 32,768; logs of 1 row up to four a bucket; 2 to 8 log regions; 1 to 16 hash regions; 1 to 16,777,216 sorted entries.

@@ -1,8 +1,8 @@
 // A disk as the store sees it: what a read gives, and what a stop may leave.
 ghost use Rattle.std.specs.Prelude.{◌≡◌, ◌+◌, ◌%◌, ◌^◌, ◌≤◌, ◌⊎◌, ℕ, length, slice_range, IfErr, OnOk, OnErr, MatchResult, IsTrue};
-ghost use Rattle.silt_device.specs.declared.disk.Call.{Call};
-ghost use Rattle.silt_device.specs.declared.disk.Call.TheVariants.{Read, Write, Sync};
-ghost use Rattle.silt_device.specs.Disk.{Content, Tears, Writes, Settles, Stays, Rests, Restarts, ChangesWithin, size};
+ghost use Rattle.silt_disk.specs.declared.disk.Call.{Call};
+ghost use Rattle.silt_disk.specs.declared.disk.Call.TheVariants.{Read, Write, Sync};
+ghost use Rattle.silt_disk.specs.Disk.{Content, Tears, Writes, Settles, Stays, Rests, Restarts, ChangesWithin, size};
 
 use std::fmt;
 

@@ -2,9 +2,9 @@
 use Rattle.std.specs.Prelude.{◌≡◌, ◌<◌, ◌*◌, ◌^◌, ℕ, ◌==◌, nat_le, Bool, ◌&&◌, List, ◌++◌, length, slice_index, slice_range, codes}
 use Rattle.std.specs.Str.{bytes_eq}
 use Rattle.byteorder.specs.Endian.{big_bytes}
-use Rattle.silt_device.specs.Layout.{Shape, is_bucket_count, most_sorted_capacity, most_value_len}
+use Rattle.silt_disk.specs.Layout.{Shape, is_bucket_count, most_sorted_capacity, most_value_len}
 use Rattle.silt_frame.specs.Gate.{gate_open, is_open}
-use Rattle.silt_device.specs.Numbers.{number_at}
+use Rattle.silt_disk.specs.Numbers.{number_at}
 
 -- how many bytes of a device count as its header: the gate, the magic bytes, the version and the six numbers
 abbrev pub header_len : ℕ

@@ -1,7 +1,7 @@
 // The header of a device, both ways.
 ghost use Rattle.std.specs.Prelude.{◌≡◌, MatchResult};
-ghost use Rattle.silt_device.specs.Header.{header_bytes, header_shape, is_formatted};
-ghost use Rattle.silt_device.specs.Layout.{InLimits};
+ghost use Rattle.silt_disk.specs.Header.{header_bytes, header_shape, is_formatted};
+ghost use Rattle.silt_disk.specs.Layout.{InLimits};
 
 use crate::{BadGeometry, Geometry};
 use byteorder::{BigEndian, ByteOrder};

@@ -1,9 +1,9 @@
 -- Where the regions of a device lie: apart from each other, and within its length.
 use Rattle.std.proofs.Common.{ℕ, ◌+◌, ◌*◌, ◌^◌, ◌<◌, ◌≤◌, IsTrue, refl, arith}
 use Rattle.std.proofs.Math.Nat.{mul_comm}
-use Rattle.silt_device.specs.Layout.{Shape, InLimits, RegionsApart, up, is_bucket_count, row_len, entry_len, log_size, hash_size, sorted_size, device_size}
+use Rattle.silt_disk.specs.Layout.{Shape, InLimits, RegionsApart, up, is_bucket_count, row_len, entry_len, log_size, hash_size, sorted_size, device_size}
 use Rattle.std.proofs.lemmas.Bool.Decides.{nat_tests}
-use Rattle.silt_device.proofs.Products.{product_below}
+use Rattle.silt_disk.proofs.Products.{product_below}
 
 -- rounding up gives no less
 pub up_least : (n : ℕ) → n ≤ up n

@@ -1,0 +1,4 @@
+pub mod Images
+pub mod Laws
+pub mod Products
+pub mod Regions

@@ -1,0 +1,4 @@
+pub mod Disk
+pub mod Header
+pub mod Layout
+pub mod Numbers
