@@ -1,18 +1,28 @@
--- What calls on other parts of the disk leave of a hash store and of a conversion.
-use Rattle.std.proofs.Common.{◌≡◌, ℕ, ◌+◌, ◌*◌, ◌≤◌, ◌<◌, IsTrue, List, filter, length, sym, subst, ap, ◌∙◌, inl, inr, arith}
+-- What calls on other parts of the disk leave of a hash store.
+use Rattle.std.proofs.Common.{◌≡◌, ℕ, ◌+◌, ◌*◌, ◌≤◌, ◌<◌, IsTrue, List, filter, length, sym, ap, ◌∙◌, inl, inr, arith}
 use Rattle.silt_disk.specs.Disk.{LiesOutside, Torn, size}
-use Rattle.silt_disk.specs.Layout.{Shape, device_size, hash_at, row_len, slots_len}
+use Rattle.silt_disk.specs.Layout.{Shape, device_size, gates_at, hash_at, log_len, row_len, slots_len}
 use Rattle.silt_disk.proofs.Images.{torn_slice_after, torn_slice_before}
+use Rattle.silt_disk.proofs.Regions.{regions_apart}
 use Rattle.silt_hash_store.specs.Findings.{hash_findings}
 use Rattle.silt_frame.specs.Rows.{put_count, has_known_kind, row_of, StoredRow}
 use Rattle.silt_hash_store.specs.Slots.{hash_rows, rows_before, hash_slot_at, slot_row, tag_of}
 use Rattle.silt_log.proofs.Bodies.{map_range_same}
-use Rattle.silt_log_store.proofs.Elsewhere.{rows_outside}
-use Rattle.silt_hash_store.specs.Conversion.{converted_before, converted_row}
-use Rattle.silt_hash_store.specs.Laws.{HashElsewhereLaw, WrittenElsewhereLaw}
+use Rattle.silt_hash_store.specs.Laws.{HashElsewhereLaw}
 use Rattle.silt_hash_store.proofs.Reading.{slot_inside}
 use Rattle.silt_hash_store.proofs.Slotting.{all_before}
-use Rattle.silt_hash_store.proofs.Writing.{slots_inside}
+
+-- the slots of a hash region lie within the device
+pub slots_inside : (s : Shape) (region : ℕ) → region < s.hashes → hash_at s region + 4 * s.buckets * row_len s ≤ device_size s
+slots_inside s region there =
+    let apart = regions_apart s in
+    omega (arith, apart.hashes region s.hashes there, apart.hash_end 2, apart.device)
+
+-- and behind every log
+pub behind_logs : (s : Shape) (log_region region slot : ℕ) → log_region < s.logs → LiesOutside (gates_at s log_region) (log_len s) (hash_slot_at s region slot) (row_len s)
+behind_logs s log_region region slot there =
+    let apart = regions_apart s in
+    inr (omega (arith, apart.bodies log_region s.logs there, apart.logs region))
 
 -- a change outside the slots leaves each row
 pub slot_outside : (s : Shape) (region slot at count : ℕ) (old new : List ℕ) → hash_at s region + 4 * s.buckets * row_len s ≤ length old → slot < 4 * s.buckets → LiesOutside (hash_at s region) (slots_len s) at count
@@ -50,22 +60,4 @@ hash_elsewhere store old new at count held fits outside changes is =
       counted = λ honest.
           let was : IsTrue old.honest = sym changes.honest ∙ honest in
           is.counted was ∙ ap (λ (rows : List StoredRow). put_count (filter has_known_kind rows)) (sym (rows_same store.shape store.region at count old.shown new.shown inside outside (changes.shown was)));
-    }
-
--- a conversion has written what it had
-pub written_elsewhere : WrittenElsewhereLaw
-written_elsewhere log conversion old new at count bounds there most fits log_outside outside changes is =
-    let inside : hash_at conversion.shape conversion.region + 4 * conversion.shape.buckets * row_len conversion.shape ≤ size old = omega (arith, slots_inside conversion.shape conversion.region there, fits) in
-    let log_fits : device_size log.log.shape ≤ size old = subst (λ (s : Shape). device_size s ≤ size old) is.shape fits in record {
-      shape = is.shape;
-      due = λ honest slot low.
-          let was : IsTrue old.honest = sym changes.honest ∙ honest in
-          slot_outside conversion.shape conversion.region slot at count old.shown new.shown inside (omega (arith, low, most)) outside (changes.shown was)
-          ∙ is.due was slot low
-          ∙ ap (λ (rows : List StoredRow). converted_row conversion.shape log.table rows slot) (sym (rows_outside old new log.log at count bounds log_fits log_outside changes was));
-      tagged = is.tagged;
-      charged = λ honest.
-          let was : IsTrue old.honest = sym changes.honest ∙ honest in
-          is.charged was
-          ∙ ap (λ (rows : List StoredRow). put_count (filter has_known_kind (converted_before conversion.shape log.table rows conversion.next))) (sym (rows_outside old new log.log at count bounds log_fits log_outside changes was));
     }

@@ -11,7 +11,7 @@ use Rattle.silt_frame.specs.declared.key.Kind.{Kind}
 use Rattle.silt_hash_store.specs.Findings.{holds_key, is_in_bucket}
 use Rattle.silt_hash_store.specs.Slots.{hash_rows, is_row_of, rows_before, slot_row, slot_tag}
 use Rattle.silt_frame.specs.Rows.{has_known_kind, StoredRow}
-use Rattle.silt_log_store.specs.declared.log_store.Found.{Found}
+use Rattle.silt_log.specs.declared.found.Found.{Found}
 use Rattle.silt_hash_store.specs.Lookup.{FindsIn, FindsRow, MatchesKey, MatchesTag}
 use Rattle.silt_hash_store.specs.State.{HashState, IsTagged}
 use Rattle.silt_hash_store.proofs.Slotting.{before_at, before_count, before_there, sound_parts, tag_known}

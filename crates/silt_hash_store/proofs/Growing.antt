@@ -19,14 +19,14 @@ use Rattle.silt_frame.specs.declared.key.Kind.TheVariants.{Put, Delete}
 use Rattle.silt_event.specs.Findings.{finding_if}
 use Rattle.silt_hash_store.specs.Findings.{hash_findings, holds_key, is_in_bucket, is_sound_hash_slot, slot_findings}
 use Rattle.silt_frame.specs.Rows.{put_count, has_known_kind, StoredRow, puts_of}
-use Rattle.silt_log_store.specs.Parts.{Part}
+use Rattle.silt_log.specs.Parts.{Part}
 use Rattle.silt_hash_store.specs.Slots.{hash_part, hash_rows, is_row_of, is_sound_slot, rows_before, slot_row, slot_tag, tag_of}
 use Rattle.silt_event.specs.declared.damage.Finding.{Finding}
 use Rattle.silt_event.specs.declared.damage.Finding.TheVariants as finding
 use Rattle.silt_event.specs.declared.place.Place.TheVariants.{Hash}
 use Rattle.silt_event.proofs.Findings.{nothing_both, nothing_first, nothing_second, nothing_where_passes, passes_where_nothing}
-use Rattle.silt_log_store.specs.declared.log_store.Found.{Found}
-use Rattle.silt_log_store.proofs.Named.{kind_of_byte}
+use Rattle.silt_log.specs.declared.found.Found.{Found}
+use Rattle.silt_log.proofs.KindBytes.{kind_of_byte}
 use Rattle.silt_hash_store.specs.Lookup.{FindsRow}
 use Rattle.silt_hash_store.specs.Rebuild.{AddsSound, IsFirstUnsound, IsGrown, IsRebuiltHash, IsRefusedHash, TagsKey, TakesAdded}
 use Rattle.silt_hash_store.specs.State.{HashState, IsHashStore, IsHeldHash, IsTagged}

@@ -1,5 +1,3 @@
-pub mod Answering
-pub mod Charging
 pub mod Chunks
 pub mod Elsewhere
 pub mod Finding
@@ -7,5 +5,3 @@ pub mod Growing
 pub mod Marking
 pub mod Reading
 pub mod Slotting
-pub mod Soundness
-pub mod Writing

@@ -8,7 +8,7 @@ use Rattle.silt_event.specs.declared.damage.Finding.TheVariants.{Damaged}
 use Rattle.silt_event.specs.declared.place.Place.TheVariants.{Hash}
 use Rattle.std.specs.Str.{bytes_eq}
 use Rattle.silt_cuckoo.specs.Keys.{first_bucket, second_bucket}
-use Rattle.silt_log_store.specs.Parts.{Part}
+use Rattle.silt_log.specs.Parts.{Part}
 use Rattle.silt_event.specs.Findings.{finding_if}
 
 -- a slot of a table lies in one of the two buckets of a key

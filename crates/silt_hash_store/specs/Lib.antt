@@ -3,5 +3,4 @@ pub mod Slots
 pub mod Lookup
 pub mod State
 pub mod Rebuild
-pub mod Conversion
 pub mod Laws

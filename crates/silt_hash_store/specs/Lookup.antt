@@ -7,7 +7,7 @@ use Rattle.silt_frame.specs.declared.key.Row.{Row}
 use Rattle.silt_hash_store.specs.Findings.{holds_key}
 use Rattle.silt_log.specs.Rows.{IsRow}
 use Rattle.silt_frame.specs.Rows.{has_known_kind, StoredRow}
-use Rattle.silt_log_store.specs.declared.log_store.Found.{Found}
+use Rattle.silt_log.specs.declared.found.Found.{Found}
 use Rattle.silt_hash_store.specs.Slots.{is_row_of, slot_row, slot_tag}
 
 -- what is found among rows is a row of this key, by its kind and its number, and nothing where no row of a known kind has the key

@@ -7,7 +7,7 @@ use Rattle.silt_disk.specs.Layout.{Shape}
 use Rattle.silt_frame.specs.Frame.{kind_of}
 use Rattle.silt_frame.specs.declared.key.Kind.{Kind}
 use Rattle.silt_hash_store.specs.Findings.{hash_findings, is_in_bucket}
-use Rattle.silt_log_store.specs.Parts.{known_rows}
+use Rattle.silt_log.specs.Parts.{known_rows}
 use Rattle.silt_frame.specs.Rows.{put_count, has_known_kind, StoredRow, puts_of}
 use Rattle.silt_hash_store.specs.declared.region.Head.{Head}
 use Rattle.silt_hash_store.specs.Slots.{HeadSays, hash_part, is_sound_slot, rows_before, slot_row, tag_of}

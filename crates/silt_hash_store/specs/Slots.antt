@@ -11,7 +11,7 @@ use Rattle.silt_hash_store.specs.declared.region.Head.TheVariants.{Empty, Unknow
 use Rattle.silt_hash_store.specs.Findings.{is_sound_hash_slot}
 use Rattle.silt_log.specs.Rows.{body_row}
 use Rattle.silt_frame.specs.Rows.{has_known_kind, row_of, StoredRow}
-use Rattle.silt_log_store.specs.Parts.{Part}
+use Rattle.silt_log.specs.Parts.{Part}
 
 -- the rows in the slots of a hash region, in order
 unfoldable pub hash_rows : Shape → ℕ → List ℕ → List StoredRow

@@ -4,7 +4,7 @@ use Rattle.silt_disk.specs.Disk.{Content}
 use Rattle.silt_disk.specs.Layout.{Shape}
 use Rattle.silt_frame.specs.Rows.{put_count}
 use Rattle.silt_hash_store.specs.Findings.{hash_findings}
-use Rattle.silt_log_store.specs.Parts.{known_rows}
+use Rattle.silt_log.specs.Parts.{known_rows}
 use Rattle.silt_hash_store.specs.Slots.{hash_part, is_sound_slot, slot_row, slot_tag, tag_of}
 
 -- a hash store: its region, the tag of each slot, and how many of its rows are puts

@@ -3,7 +3,7 @@ ghost use Rattle.std.specs.Prelude.{◌≡◌, ◌+◌, ◌*◌, ◌<◌, ◌≤
 ghost use Rattle.silt_disk.specs.Disk.{GaveAny, size};
 ghost use Rattle.silt_disk.specs.Layout.{device_size, row_len};
 ghost use Rattle.silt_hash_store.specs.Slots.{HoldsSlots, hash_rows};
-ghost use Rattle.silt_log_store.specs.LastRow.{put_place};
+ghost use Rattle.silt_log.specs.Found.{put_place};
 
 use crate::lookup::find_in;
 use crate::rebuild::{RebuildError, Rebuilt, rebuild_region};
@@ -12,7 +12,7 @@ use crate::tags::Tags;
 use silt_cuckoo::key_buckets;
 use silt_disk::{Disk, Geometry};
 use silt_frame::{HEAD_LEN, Key, Kind, Row};
-use silt_log_store::Found;
+use silt_log::Found;
 use std::alloc::Global;
 use std::marker::Model;
 
@@ -45,6 +45,14 @@ impl HashStore {
     ghost use Rattle.silt_hash_store.specs.Rebuild.{IsFirstUnsound, IsRebuiltHash, IsRefusedHash};
     ghost use Rattle.silt_hash_store.specs.Slots.{rows_before, slot_row};
     ghost use Rattle.silt_frame.specs.Frame.{head_len};
+
+    /// The store of a region whose slots have these tags and whose rows have so many puts.
+    pub fn new(region: HashRegion, tags: Tags, puts: u32) -> Self
+        requires held { IsHeldHash (record { shape = region.geometry; region = region.number; tags = tags; puts = puts }) }
+        ensures { result ≡ record { shape = region.geometry; region = region.number; tags = tags; puts = puts } }
+    {
+        HashStore { region, tags, puts }
+    }
 
     /// The geometry of the store.
     pub fn geometry(&self) -> Geometry

@@ -11,7 +11,7 @@ use crate::region::{HashRegion, Head};
 use crate::tags::Tags;
 use silt_disk::Disk;
 use silt_frame::{Key, Kind};
-use silt_log_store::Found;
+use silt_log::Found;
 
 // The kind of a head, where it is that of a row with the key.
 fn kind_with_key(head: Head, key: &Key) -> Option<Kind>

@@ -20,7 +20,7 @@ use Rattle.silt_manifest.specs.declared.slot.Damage.{Damage}
 use Rattle.silt_manifest.proofs.Laws.{other_regions, same_found}
 use Rattle.silt_manifest.proofs.SoundBodies.{sound_parts}
 use Rattle.silt_disk.specs.Header.{header_of}
-use Rattle.silt_log_store.specs.Parts.{Part, log_part}
+use Rattle.silt_log.specs.Parts.{Part, log_part}
 use Rattle.silt_image.specs.Stores.{Stores, image_stores, shape_found, stores_named, stores_ruled, stores_shaped}
 use Rattle.silt_hash_store.specs.Slots.{hash_part, hash_rows}
 use Rattle.silt_sorted_store.specs.State.{sorted_rows}

@@ -13,7 +13,7 @@ use Rattle.silt_manifest.specs.declared.slot.Damage.{Damage}
 use Rattle.silt_manifest.specs.declared.slot.Damage.TheVariants as damage
 use Rattle.silt_manifest.proofs.SoundBodies.{own_slot}
 use Rattle.silt_disk.specs.Header.{IsHeader, header_of, header_shape, is_formatted, is_in_limits, magic}
-use Rattle.silt_log_store.specs.Parts.{Part, log_part}
+use Rattle.silt_log.specs.Parts.{Part, log_part}
 use Rattle.silt_image.specs.Stores.{Stores, image_stores, shape_found, stores_named, stores_ruled, stores_shaped}
 use Rattle.silt_image.specs.Laws.{LimitsLaw, StoresLaw, WholeLaw, HasStores}
 use Rattle.silt_event.specs.declared.damage.Finding.{Finding}

@@ -3,7 +3,7 @@ use Rattle.std.proofs.Common.{◌≡◌, ℕ, ◌==◌, Bool, true, false, if◌
 use Rattle.std.specs.List.{list_any}
 use Rattle.std.proofs.lemmas.Bool.{or_parts, eq-eqb}
 use Rattle.silt_frame.specs.Rows.{StoredRow}
-use Rattle.silt_log_store.specs.Parts.{Part, known_rows, oldest_first, part_rows}
+use Rattle.silt_log.specs.Parts.{Part, known_rows, oldest_first, part_rows}
 use Rattle.silt_image.specs.Stores.{Stores}
 use Rattle.silt_image.specs.Meaning.{HasActive, rows_of, with_log_rows, with_new_log, with_part_rows}
 use Rattle.silt_image.specs.Laws.{AgainLaw, AppendLaw, NewActiveLaw, NewLogLaw, OwnRowsLaw, UnnamedLaw}

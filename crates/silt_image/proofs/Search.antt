@@ -6,7 +6,7 @@ use Rattle.std.proofs.lemmas.List.{take-take}
 use Rattle.std.proofs.lemmas.Grind.{flat_map-append}
 use Rattle.silt_disk.specs.Layout.{Shape}
 use Rattle.silt_frame.specs.Rows.{has_known_kind, StoredRow}
-use Rattle.silt_log_store.specs.Parts.{Part}
+use Rattle.silt_log.specs.Parts.{Part}
 use Rattle.silt_image.specs.Meaning.{charge_findings, charge_of, store_findings}
 use Rattle.silt_event.specs.Findings.{finding_if}
 use Rattle.silt_log_store.specs.Findings.{fits_table, log_findings, row_findings}

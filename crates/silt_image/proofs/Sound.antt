@@ -4,7 +4,7 @@ use Rattle.std.proofs.lemmas.Bool.{and_from, ltb-false, le-ltb}
 use Rattle.std.proofs.lemmas.List.Folds.{list_all-append}
 use Rattle.silt_disk.specs.Layout.{Shape}
 use Rattle.silt_frame.specs.Rows.{has_known_kind, StoredRow, put_count}
-use Rattle.silt_log_store.specs.Parts.{Part, known_rows, oldest_first, part_rows}
+use Rattle.silt_log.specs.Parts.{Part, known_rows, oldest_first, part_rows}
 use Rattle.silt_image.specs.Stores.{Stores}
 use Rattle.silt_image.specs.Meaning.{IsSound, charge_findings, charge_of, rows_of, store_findings, with_log_rows, with_new_log, with_part_rows}
 use Rattle.silt_event.specs.Findings.{finding_if}

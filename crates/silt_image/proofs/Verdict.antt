@@ -6,7 +6,7 @@ use Rattle.silt_disk.specs.Layout.{Shape}
 use Rattle.silt_log.specs.Rows.{log_rows}
 use Rattle.silt_frame.specs.Rows.{has_known_kind, StoredRow, keys_of, put_count}
 use Rattle.silt_manifest.specs.Body.{first_body}
-use Rattle.silt_log_store.specs.Parts.{Part}
+use Rattle.silt_log.specs.Parts.{Part}
 use Rattle.silt_image.specs.Stores.{Stores, image_stores, stores_named, stores_ruled, stores_shaped}
 use Rattle.silt_sorted_store.specs.State.{sorted_rows}
 use Rattle.silt_image.specs.Meaning.{IsSound, all_logs_fit, charge_findings, charge_of, findings_of, image_fits, image_map, image_rows, image_stands, image_verdict, is_crowding, map_where_sound, rows_found, rows_of, store_findings}

@@ -10,7 +10,7 @@ use Rattle.silt_manifest.specs.Body.{first_body, is_well_formed}
 use Rattle.silt_manifest.specs.Ruling.{manifest_found, open_body}
 use Rattle.silt_manifest.specs.declared.body.Body.{Body}
 use Rattle.silt_disk.specs.Header.{FitsHeader, IsHeader, header_bytes, header_of, header_shape, is_in_limits, shape_of}
-use Rattle.silt_log_store.specs.Parts.{Part}
+use Rattle.silt_log.specs.Parts.{Part}
 use Rattle.silt_image.specs.Stores.{Stores, image_stores, shape_found, stores_named}
 use Rattle.silt_image.specs.Meaning.{HasActive, IsGood, IsSound, StandsFor, charge_of, image_charge, image_fits, image_map}
 use Rattle.silt_image.specs.Meaning.{image_rows, image_stands, image_verdict, names_log, rows_of, with_log_rows, with_new_log}

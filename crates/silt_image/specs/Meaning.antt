@@ -7,7 +7,7 @@ use Rattle.silt_frame.specs.Rows.{StoredRow, put_count}
 use Rattle.silt_manifest.specs.declared.body.Body.{Body}
 use Rattle.silt_event.specs.Commands.{Map}
 use Rattle.silt_disk.specs.Header.{shape_of}
-use Rattle.silt_log_store.specs.Parts.{Part, part_rows, known_rows, oldest_first}
+use Rattle.silt_log.specs.Parts.{Part, part_rows, known_rows, oldest_first}
 use Rattle.silt_image.specs.Stores.{Stores, image_stores}
 use Rattle.silt_event.specs.declared.damage.Finding.{Finding}
 use Rattle.silt_event.specs.declared.damage.Finding.TheVariants.{Damaged, Crowded}

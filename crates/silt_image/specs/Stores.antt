@@ -10,7 +10,7 @@ use Rattle.silt_disk.specs.Header.{header_of, header_shape, is_formatted, is_in_
 use Rattle.silt_event.specs.declared.damage.Finding.{Finding}
 use Rattle.silt_event.specs.declared.damage.Finding.TheVariants.{NotFormatted, Damaged}
 use Rattle.silt_event.specs.declared.place.Place.TheVariants.{Header, Length, Slot, NoSlot}
-use Rattle.silt_log_store.specs.Parts.{Part, log_part}
+use Rattle.silt_log.specs.Parts.{Part, log_part}
 use Rattle.silt_hash_store.specs.Slots.{hash_part}
 use Rattle.silt_sorted_store.specs.State.{sorted_rows}
 

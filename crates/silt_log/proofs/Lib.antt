@@ -5,6 +5,7 @@ pub mod Elsewhere
 pub mod Exits
 pub mod GateExits
 pub mod Heads
+pub mod KindBytes
 pub mod Named
 pub mod Parts
 pub mod ScanExits

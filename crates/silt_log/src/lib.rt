@@ -7,9 +7,11 @@
 //! and a beginning of those that waited.
 #![tactic(auto)]
 
+mod found;
 mod gates;
 mod log;
 mod scan;
 
+pub use found::Found;
 pub use log::Log;
 pub use scan::ScanError;

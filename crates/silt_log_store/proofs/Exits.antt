@@ -28,7 +28,7 @@ use Rattle.silt_log_store.specs.Placement.{HoldsIn, entered, entered_under}
 use Rattle.silt_log_store.specs.declared.placement.Placing.{Placing}
 use Rattle.silt_log_store.specs.declared.placement.Placing.TheVariants.{Standing, New}
 use Rattle.silt_log_store.proofs.Finds.{standing_is, match_is_last, none_is_none, next_table}
-use Rattle.silt_log_store.proofs.Named.{byte_of_kind}
+use Rattle.silt_log.proofs.KindBytes.{byte_of_kind}
 use Rattle.silt_log_store.proofs.Rows.{keys_count, keys_push, known_push, puts_push}
 
 -- the table of no keys

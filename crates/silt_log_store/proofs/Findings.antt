@@ -8,7 +8,7 @@ use Rattle.silt_disk.specs.Layout.{Shape}
 use Rattle.silt_frame.specs.Rows.{has_known_kind, StoredRow, keys_of}
 use Rattle.silt_cuckoo.specs.Index.{Index, indexed, index_of_keys}
 use Rattle.silt_cuckoo.proofs.KeyIndex.{indexed_append, stays_none, next_index}
-use Rattle.silt_log_store.specs.Parts.{Part}
+use Rattle.silt_log.specs.Parts.{Part}
 use Rattle.silt_event.specs.Findings.{finding_if}
 use Rattle.silt_log_store.specs.Findings.{fits_table, log_findings, row_findings, LogSoundLaw}
 use Rattle.silt_event.specs.declared.damage.Finding.TheVariants.{Damaged, Crowded}

@@ -6,7 +6,6 @@ pub mod Exits
 pub mod Finds
 pub mod Growth
 pub mod Matches
-pub mod Named
 pub mod Replacing
 pub mod Rows
 pub mod Searching

@@ -15,7 +15,7 @@ use Rattle.silt_log.specs.State.{LogState, all_rows}
 use Rattle.silt_log_store.specs.Lookup.{IsFirstMatch, kind_with_key, kind_for}
 use Rattle.silt_log_store.proofs.Rows.{row_there, key_there, known_there}
 use Rattle.silt_log_store.proofs.Searching.{find_first, find_nothing, same_default}
-use Rattle.silt_log_store.proofs.Named.{kind_of_byte}
+use Rattle.silt_log.proofs.KindBytes.{kind_of_byte}
 
 -- the kind of a row's head
 pub kind_of_head : (row : StoredRow) (key : List ℕ) → kind_with_key (row_head row) key ≡ kind_for row key

@@ -15,7 +15,7 @@ use Rattle.silt_log.specs.Rows.{row_at, rows_from, first_rows}
 use Rattle.silt_frame.specs.Rows.{has_known_kind, StoredRow, keys_of, put_count, puts_of}
 use Rattle.silt_log.specs.State.{LogState, all_rows}
 use Rattle.silt_log.proofs.Elsewhere.{all_count, row_of_all}
-use Rattle.silt_log_store.proofs.Named.{kind_counts}
+use Rattle.silt_log.proofs.KindBytes.{kind_counts}
 
 -- a row and its key
 pub key_of_row : (rows : List StoredRow) (place : ℕ) (row : StoredRow) → slice_get rows place ≡ Some row → get_or (keys_of rows) place [] ≡ row.key

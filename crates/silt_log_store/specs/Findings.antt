@@ -7,7 +7,7 @@ use Rattle.silt_event.specs.declared.damage.Finding.{Finding}
 use Rattle.silt_event.specs.declared.damage.Finding.TheVariants.{Damaged, Crowded}
 use Rattle.silt_event.specs.declared.place.Place.TheVariants.{Log}
 use Rattle.silt_cuckoo.specs.Index.{index_of_keys}
-use Rattle.silt_log_store.specs.Parts.{Part}
+use Rattle.silt_log.specs.Parts.{Part}
 use Rattle.silt_event.specs.Findings.{finding_if}
 
 -- the keys of the rows of a log, the oldest first, have places in a table

@@ -1,9 +1,8 @@
 -- The last row of a key.
-use Rattle.std.specs.Prelude.{◌≡◌, ◌≢◌, ℕ, ◌<◌, if◌then◌else◌, List, [], length, get_or, slice_get, Option, Some, None}
-use Rattle.std.specs.Option.{option_and_then}
-use Rattle.silt_frame.specs.Frame.{is_put, kind_byte}
+use Rattle.std.specs.Prelude.{◌≡◌, ◌≢◌, ℕ, ◌<◌, List, [], length, get_or, slice_get, Option, Some, None}
+use Rattle.silt_frame.specs.Frame.{kind_byte}
 use Rattle.silt_frame.specs.Rows.{StoredRow, keys_of}
-use Rattle.silt_log_store.specs.declared.log_store.Found.{Found}
+use Rattle.silt_log.specs.declared.found.Found.{Found}
 
 -- the row of this number is this one, it has the key, and no later row has it
 pub record IsLastRow (rows : List StoredRow) (key : List ℕ) (place : ℕ) (row : StoredRow) : Type 0 where
@@ -19,7 +18,3 @@ HasNoRow rows key = (place : ℕ) → place < length rows → get_or (keys_of ro
 abbrev pub FindsLast : List StoredRow → List ℕ → Option Found → Type 0
 FindsLast rows key None = HasNoRow rows key
 FindsLast rows key (Some found) = (row : StoredRow) × IsLastRow rows key found.place row × (kind_byte found.kind ≡ row.kind)
-
--- the place of a row that was found, where it is a put
-abbrev pub put_place : Option Found → Option ℕ
-put_place found = option_and_then (λ (row : Found). if is_put row.kind then Some row.place else None) found

@@ -1,4 +1,3 @@
-pub mod Parts
 pub mod Findings
 pub mod State
 pub mod LastRow

@@ -19,6 +19,7 @@ mod placement;
 mod rebuild;
 
 pub use laws::{entry_law, log_sound_law};
-pub use log_store::{Found, LogStore};
+pub use log_store::LogStore;
 pub use placement::Placing;
 pub use rebuild::RebuildError;
+pub use silt_log::Found;

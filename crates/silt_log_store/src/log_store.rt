@@ -20,19 +20,12 @@ use crate::rebuild::{RebuildError, index_rows};
 use silt_cuckoo::{Table, key_buckets};
 use silt_disk::{Disk, Geometry};
 use silt_frame::{HEAD_LEN, Key, Kind};
-use silt_log::Log;
+use silt_log::{Found, Log};
 use std::alloc::{AllocError, Global};
 use std::marker::Model;
 
 /// How many bytes a row has at most that is read whole for its value.
 const WHOLE_LEN: usize = 512;
-
-/// A key that was found: the kind of its last row, and the row's place.
-#[derive(Clone, Copy, Debug, PartialEq, Eq)]
-pub struct Found {
-    pub kind: Kind,
-    pub place: u32,
-}
 
 /// A log region with the table of its keys, and how many of its rows are puts.
 ///
@@ -59,7 +52,8 @@ impl LogStore {
     ghost use Rattle.silt_log.specs.State.{InBounds};
     ghost use Rattle.silt_log_store.specs.State.{LogStoreState, IsHeldStore, IsIndexed, IsLogStore, IsFrozenStore};
     ghost use Rattle.silt_frame.specs.Rows.{keys_of};
-    ghost use Rattle.silt_log_store.specs.LastRow.{FindsLast, put_place};
+    ghost use Rattle.silt_log_store.specs.LastRow.{FindsLast};
+    ghost use Rattle.silt_log.specs.Found.{put_place};
     ghost use Rattle.silt_log_store.specs.Calls.{IsPlacingFor, EmptiesStore, TakesRow, KeepsStore, OpensStore, OpensSomeOfStore, SealsStore};
     ghost use Rattle.silt_log_store.specs.Rebuild.{IsRebuilt, IsFirstDamaged, IsFirstCrowded, IsRefusedRebuild};
 

@@ -13,11 +13,10 @@ ghost use Rattle.silt_log.specs.State.{all_rows};
 ghost use Rattle.silt_log_store.specs.declared.lookup.Match.{Match};
 ghost use Rattle.silt_log_store.specs.Lookup.{IsFirstMatch, candidate_of, kind_for, kind_with_key};
 
-use crate::log_store::Found;
 use silt_cuckoo::{Candidate, Table, key_buckets};
 use silt_disk::Disk;
 use silt_frame::{Key, Kind};
-use silt_log::Log;
+use silt_log::{Found, Log};
 
 /// A candidate whose row has the key: its slot, and the kind and the place of the row.
 #[derive(Clone, Copy)]

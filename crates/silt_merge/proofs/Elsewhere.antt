@@ -12,10 +12,10 @@ use Rattle.silt_frame.specs.Frame.{kind_byte}
 use Rattle.silt_hash_store.specs.Slots.{rows_before, slot_row, hash_part}
 use Rattle.silt_hash_store.specs.State.{HashState}
 use Rattle.silt_hash_store.proofs.Slotting.{all_before}
-use Rattle.silt_hash_store.proofs.Writing.{slots_inside}
+use Rattle.silt_hash_store.proofs.Elsewhere.{slots_inside}
 use Rattle.silt_event.specs.Rows.{newest_row}
 use Rattle.silt_hash_store.specs.Findings.{hash_findings}
-use Rattle.silt_log_store.specs.Parts.{known_rows, oldest_first, Part}
+use Rattle.silt_log.specs.Parts.{known_rows, oldest_first, Part}
 use Rattle.silt_sorted_store.specs.Findings.{sorted_findings}
 use Rattle.silt_frame.specs.Rows.{StoredRow, has_known_kind, is_put_row, keys_of}
 use Rattle.silt_sorted_store.specs.State.{sorted_rows, IsHeldSorted, SortedState}

@@ -13,7 +13,7 @@ use Rattle.silt_hash_store.proofs.Growing.{all_sound}
 use Rattle.silt_hash_store.proofs.Slotting.{all_before, before_more, before_taken, sound_parts}
 use Rattle.silt_event.specs.Rows.{newest_row}
 use Rattle.silt_hash_store.specs.Findings.{hash_findings, holds_key}
-use Rattle.silt_log_store.specs.Parts.{known_rows, oldest_first}
+use Rattle.silt_log.specs.Parts.{known_rows, oldest_first}
 use Rattle.silt_event.proofs.Findings.{nothing_first, nothing_second}
 use Rattle.silt_frame.specs.Rows.{has_known_kind, StoredRow}
 use Rattle.silt_merge.specs.Choice.{Gathers, own_source}

@@ -6,7 +6,7 @@ use Rattle.std.specs.Cmp.Lexicographic.{slice_cmp}
 use Rattle.std.specs.Str.{bytes_eq}
 use Rattle.silt_disk.specs.Layout.{Shape}
 use Rattle.silt_hash_store.specs.State.{HashState}
-use Rattle.silt_log_store.specs.Parts.{known_rows, oldest_first}
+use Rattle.silt_log.specs.Parts.{known_rows, oldest_first}
 use Rattle.silt_hash_store.specs.Slots.{hash_part}
 use Rattle.silt_sorted_store.specs.State.{sorted_rows, SortedState}
 use Rattle.silt_frame.specs.Rows.{StoredRow, is_put_row}

@@ -10,7 +10,7 @@ use Rattle.silt_hash_store.specs.Rebuild.{IsFirstUnsound}
 use Rattle.silt_hash_store.specs.State.{HashState}
 use Rattle.silt_image.specs.Meaning.{charge_of, image_verdict, rows_of}
 use Rattle.silt_hash_store.specs.Findings.{hash_findings}
-use Rattle.silt_log_store.specs.Parts.{known_rows, oldest_first, part_rows, Part, log_part}
+use Rattle.silt_log.specs.Parts.{known_rows, oldest_first, part_rows, Part, log_part}
 use Rattle.silt_frame.specs.Rows.{put_count, StoredRow}
 use Rattle.silt_hash_store.specs.Slots.{hash_part}
 use Rattle.silt_image.specs.Stores.{image_stores, stores_named}

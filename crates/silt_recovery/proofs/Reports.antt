@@ -6,7 +6,7 @@ use Rattle.std.proofs.lemmas.List.Sums.{sum_by-cons}
 use Rattle.silt_disk.specs.Disk.{Content}
 use Rattle.silt_disk.specs.Layout.{Shape, InLimits}
 use Rattle.silt_disk.proofs.Regions.{bucket_count_most}
-use Rattle.silt_log_store.specs.Parts.{Part, log_part}
+use Rattle.silt_log.specs.Parts.{Part, log_part}
 use Rattle.silt_image.specs.Stores.{Stores, stores_named}
 use Rattle.silt_hash_store.specs.Slots.{hash_part}
 use Rattle.silt_event.specs.declared.report.Report.{Report}

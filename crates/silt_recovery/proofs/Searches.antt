@@ -13,7 +13,7 @@ use Rattle.silt_image.specs.Laws.{FirstFinding}
 use Rattle.silt_event.specs.Findings.{finding_if}
 use Rattle.silt_log_store.specs.Findings.{fits_table, log_findings}
 use Rattle.silt_image.specs.Meaning.{image_verdict}
-use Rattle.silt_log_store.specs.Parts.{oldest_first, part_rows, log_part}
+use Rattle.silt_log.specs.Parts.{oldest_first, part_rows, log_part}
 use Rattle.silt_frame.specs.Rows.{put_count, keys_of, has_known_kind, StoredRow}
 use Rattle.silt_image.specs.Stores.{image_stores, stores_named}
 use Rattle.silt_event.specs.declared.damage.Finding.{Finding}

@@ -11,7 +11,7 @@ use Rattle.silt_disk.specs.Layout.{Shape, InLimits, device_size, entries_len, ga
 use Rattle.silt_disk.proofs.Images.{left_at_rest, left_after_failed_sync, shown_left, within_wider}
 use Rattle.silt_disk.proofs.Regions.{next_region, up_least}
 use Rattle.silt_cuckoo.specs.Index.{index_of_keys}
-use Rattle.silt_hash_store.specs.Conversion.{ConversionState, HasWritten}
+use Rattle.silt_conversion.specs.Conversion.{ConversionState, HasWritten}
 use Rattle.silt_hash_store.specs.State.{HashState, IsHashStore}
 use Rattle.silt_hash_store.proofs.Elsewhere.{hash_elsewhere}
 use Rattle.silt_disk.specs.Header.{shape_of}
@@ -19,7 +19,7 @@ use Rattle.silt_image.specs.Laws.{IsWhole}
 use Rattle.silt_image.specs.Meaning.{IsGood, IsSound, StandsFor, charge_of, image_map, rows_of, with_log_rows}
 use Rattle.silt_event.specs.Rows.{map_of_rows}
 use Rattle.silt_frame.specs.Rows.{has_known_kind, StoredRow, keys_of, put_count}
-use Rattle.silt_log_store.specs.Parts.{Part, log_part}
+use Rattle.silt_log.specs.Parts.{Part, log_part}
 use Rattle.silt_image.specs.Stores.{Stores, image_stores, stores_named}
 use Rattle.silt_image.proofs.Frame.{log_region_law}
 use Rattle.silt_image.proofs.Named.{stores_law, whole_law}

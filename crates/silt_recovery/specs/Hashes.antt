@@ -4,7 +4,7 @@ use Rattle.silt_disk.specs.Disk.{Content}
 use Rattle.silt_disk.specs.Layout.{Shape}
 use Rattle.silt_hash_store.specs.State.{HashState, IsHashStore}
 use Rattle.silt_hash_store.specs.Findings.{hash_findings}
-use Rattle.silt_log_store.specs.Parts.{known_rows}
+use Rattle.silt_log.specs.Parts.{known_rows}
 use Rattle.silt_frame.specs.Rows.{put_count}
 use Rattle.silt_hash_store.specs.Slots.{hash_part}
 use Rattle.silt_event.specs.declared.damage.Finding.{Finding}

@@ -5,7 +5,7 @@ use Rattle.silt_disk.specs.Layout.{Shape}
 use Rattle.silt_image.specs.Laws.{FirstFinding}
 use Rattle.silt_log_store.specs.Findings.{log_findings}
 use Rattle.silt_frame.specs.Rows.{put_count, StoredRow}
-use Rattle.silt_log_store.specs.Parts.{log_part}
+use Rattle.silt_log.specs.Parts.{log_part}
 use Rattle.silt_event.specs.declared.damage.Finding.{Finding}
 use Rattle.silt_log.specs.Rows.{log_rows}
 use Rattle.silt_log.specs.State.{InBounds, IsScanned}

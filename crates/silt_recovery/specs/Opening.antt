@@ -5,7 +5,7 @@ use Rattle.silt_disk.specs.Layout.{InLimits, device_size}
 use Rattle.silt_hash_store.specs.State.{IsHashStore}
 use Rattle.silt_disk.specs.Header.{shape_of}
 use Rattle.silt_image.specs.Meaning.{IsGood, IsSound, StandsFor, charge_of, image_map, report_of}
-use Rattle.silt_log_store.specs.Parts.{known_rows}
+use Rattle.silt_log.specs.Parts.{known_rows}
 use Rattle.silt_image.specs.Stores.{Stores, image_stores}
 use Rattle.silt_event.specs.declared.report.Report.{Report}
 use Rattle.silt_manifest.specs.Standing.{Rules}

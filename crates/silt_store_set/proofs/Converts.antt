@@ -3,7 +3,7 @@ use Rattle.std.proofs.Common.{◌≡◌, ℕ, ◌+◌, ◌*◌, ◌%◌, ◌^◌
 use Rattle.std.proofs.lemmas.List.{length-map}
 use Rattle.silt_disk.specs.Disk.{GaveAny}
 use Rattle.silt_disk.specs.declared.disk.Disk.{Ghosts}
-use Rattle.silt_hash_store.specs.Conversion.{ConversionState}
+use Rattle.silt_conversion.specs.Conversion.{ConversionState}
 use Rattle.silt_hash_store.specs.Slots.{hash_rows}
 use Rattle.silt_tiers.specs.Calls.{Advances, Breaks, IsLastGeneration, Remaps, SameDisk}
 use Rattle.silt_tiers.specs.Conversion.{AreConverted, Converts, Finishes, HasConvertedRows, IsNextStep, MovesOn, convert_turn, is_work, oldest_rows, progress_due, written_by}

@@ -15,7 +15,7 @@ use Rattle.silt_hash_store.proofs.Slotting.{all_before, before_count, before_mor
 use Rattle.silt_image.specs.Meaning.{with_log_rows}
 use Rattle.silt_image.specs.Stores.{Stores, stores_named}
 use Rattle.silt_log.specs.State.{all_rows}
-use Rattle.silt_log_store.specs.Parts.{known_rows, part_rows}
+use Rattle.silt_log.specs.Parts.{known_rows, part_rows}
 use Rattle.silt_manifest.specs.declared.body.Body.{Body}
 use Rattle.silt_merge.specs.Merging.{IsMergedIn, TakesMemory, decided_rows, gathered_rows, source_row}
 use Rattle.silt_merge.specs.Rows.{has_row_with, regions_of, rows_of_hashes}

@@ -15,7 +15,7 @@ use Rattle.silt_image.specs.Stores.{Stores, stores_named}
 use Rattle.silt_log.specs.Rows.{log_rows}
 use Rattle.silt_event.specs.Rows.{newest_row}
 use Rattle.silt_frame.specs.Rows.{StoredRow, has_known_kind}
-use Rattle.silt_log_store.specs.Parts.{part_rows}
+use Rattle.silt_log.specs.Parts.{part_rows}
 use Rattle.silt_manifest.specs.declared.body.Body.{Body}
 use Rattle.silt_merge.specs.Rows.{key_count, merged_rows}
 use Rattle.silt_merge.specs.State.{MergeState, steps_of}
@@ -28,7 +28,7 @@ use Rattle.silt_event.specs.declared.event.Event.{Event}
 use Rattle.silt_event.specs.declared.event.Event.TheVariants.{Put, Delete, Flush, Get, Convert, Merge}
 use Rattle.silt_event.specs.declared.progress.Progress.{Progress as ProgressOf}
 use Rattle.silt_event.specs.declared.progress.Progress.TheVariants.{Idle, Waiting, Moved, Finished}
-use Rattle.silt_hash_store.specs.Conversion.{ConversionState}
+use Rattle.silt_conversion.specs.Conversion.{ConversionState}
 use Rattle.silt_hash_store.specs.Slots.{hash_rows}
 use Rattle.silt_event.specs.declared.refusal.Refusal.{Refusal}
 use Rattle.silt_event.specs.declared.refusal.Refusal.TheVariants.{Device, NoMemory, StoreFull, NoRoom, Failed, Spent}

@@ -11,7 +11,7 @@ use Rattle.silt_log.specs.State.{all_rows, waiting_rows}
 use Rattle.silt_log.proofs.Elsewhere.{all_count}
 use Rattle.silt_log.proofs.Waiting.{none_waiting}
 use Rattle.silt_log_store.specs.State.{IsLogStore, LogStoreState}
-use Rattle.silt_hash_store.specs.Conversion.{HasWritten}
+use Rattle.silt_conversion.specs.Conversion.{HasWritten}
 use Rattle.silt_manifest.specs.Standing.{ManifestState, spare_slot}
 use Rattle.silt_manifest.specs.declared.body.Body.{Body}
 use Rattle.silt_image.specs.Stores.{Stores, stores_named}

@@ -11,19 +11,19 @@ use Rattle.silt_log.specs.State.{all_rows, waiting_rows}
 use Rattle.silt_log_store.specs.State.{IsFrozenStore}
 use Rattle.silt_log_store.proofs.Buckets.{bucket_count_is}
 use Rattle.silt_manifest.specs.declared.body.Body.{Body}
-use Rattle.silt_log_store.specs.Parts.{Part, known_rows}
+use Rattle.silt_log.specs.Parts.{Part, known_rows}
 use Rattle.silt_image.specs.Stores.{Stores, image_stores}
 use Rattle.silt_hash_store.specs.Slots.{hash_rows}
 use Rattle.silt_image.specs.Meaning.{IsSound, rows_of, with_log_rows}
 use Rattle.silt_event.specs.Rows.{map_of_rows}
 use Rattle.silt_image.proofs.Named.{whole_law}
 use Rattle.silt_event.proofs.Rows.{count_law}
-use Rattle.silt_hash_store.specs.Conversion.{ConversionState, HasWritten, converted_rows}
+use Rattle.silt_conversion.specs.Conversion.{ConversionState, HasWritten, converted_rows}
 use Rattle.silt_tiers.specs.Replacements.{HasOldest, ReplacesLog, with_converted}
-use Rattle.silt_hash_store.specs.Laws.{IsTableOf}
-use Rattle.silt_hash_store.proofs.Charging.{converted_charge}
+use Rattle.silt_conversion.specs.Laws.{IsTableOf}
+use Rattle.silt_conversion.proofs.Charging.{converted_charge}
 use Rattle.silt_tiers.proofs.LogReplaced.{converts}
-use Rattle.silt_hash_store.proofs.Writing.{all_charged, all_due}
+use Rattle.silt_conversion.proofs.Writing.{all_charged, all_due}
 use Rattle.silt_tiers.specs.State.{IsUnderWay, TiersState, oldest_log, region_of}
 use Rattle.silt_tiers.specs.Standing.{IsFrozen, Stands, base_map, shown_stores}
 use Rattle.silt_tiers.specs.Conversion.{converted_body}

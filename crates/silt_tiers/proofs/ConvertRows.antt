@@ -5,12 +5,12 @@ use Rattle.std.proofs.Math.Seq.{get_or-append_seam}
 use Rattle.silt_disk.specs.Disk.{Content}
 use Rattle.silt_disk.specs.Layout.{Shape}
 use Rattle.silt_frame.specs.Rows.{StoredRow}
-use Rattle.silt_hash_store.specs.Conversion.{ConversionState}
+use Rattle.silt_conversion.specs.Conversion.{ConversionState}
 use Rattle.silt_hash_store.specs.Slots.{hash_rows}
 use Rattle.silt_image.specs.Meaning.{with_log_rows}
 use Rattle.silt_image.specs.Stores.{Stores, stores_named}
 use Rattle.silt_log.specs.State.{all_rows}
-use Rattle.silt_log_store.specs.Parts.{Part, part_rows}
+use Rattle.silt_log.specs.Parts.{Part, part_rows}
 use Rattle.silt_manifest.specs.declared.body.Body.{Body}
 use Rattle.silt_tiers.specs.Conversion.{converted_body, oldest_rows}
 use Rattle.silt_tiers.specs.Replacements.{HasOldest, with_converted}

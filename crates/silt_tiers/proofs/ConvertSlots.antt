@@ -9,10 +9,10 @@ use Rattle.silt_manifest.proofs.Laws.{rules_elsewhere}
 use Rattle.silt_manifest.specs.declared.body.Body.{Body}
 use Rattle.silt_image.specs.Stores.{Stores, image_stores}
 use Rattle.silt_image.proofs.Frame.{free_hash_law, pieces_apart}
-use Rattle.silt_hash_store.specs.Conversion.{ConversionState, HasWritten}
+use Rattle.silt_conversion.specs.Conversion.{ConversionState, HasWritten}
 use Rattle.silt_hash_store.specs.Slots.{hash_slot_at}
 use Rattle.silt_hash_store.proofs.Reading.{slot_inside}
-use Rattle.silt_hash_store.proofs.Writing.{behind_logs}
+use Rattle.silt_hash_store.proofs.Elsewhere.{behind_logs}
 use Rattle.silt_merge.specs.State.{MergeState}
 use Rattle.silt_tiers.specs.State.{IsUnderWay, TiersState, names_hash, oldest_log}
 use Rattle.silt_tiers.specs.Standing.{Stands, shown_stores}

@@ -11,10 +11,10 @@ use Rattle.silt_log_store.proofs.Buckets.{bucket_count_is}
 use Rattle.silt_manifest.specs.Body.{is_well_formed}
 use Rattle.silt_manifest.specs.Standing.{ruling_slot}
 use Rattle.silt_manifest.specs.declared.body.Body.{Body}
-use Rattle.silt_hash_store.specs.Conversion.{ConversionState, FailsStep, HasWritten, Steps}
+use Rattle.silt_conversion.specs.Conversion.{ConversionState, FailsStep, HasWritten, Steps}
 use Rattle.silt_hash_store.specs.Slots.{hash_slot_at}
-use Rattle.silt_hash_store.specs.declared.conversion.StepError.{StepError}
-use Rattle.silt_hash_store.specs.declared.conversion.StepError.TheVariants as step_error
+use Rattle.silt_conversion.specs.declared.conversion.StepError.{StepError}
+use Rattle.silt_conversion.specs.declared.conversion.StepError.TheVariants as step_error
 use Rattle.silt_event.specs.declared.progress.Progress.{Progress}
 use Rattle.silt_event.specs.declared.progress.Progress.TheVariants.{Finished, Idle, Moved, Waiting}
 use Rattle.silt_tiers.specs.State.{AreWhole, IsUnderWay, TiersState, names_hash, oldest_log}

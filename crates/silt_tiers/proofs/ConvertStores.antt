@@ -6,7 +6,7 @@ use Rattle.silt_disk.specs.Layout.{Shape}
 use Rattle.silt_log.specs.Rows.{log_rows}
 use Rattle.silt_frame.specs.Rows.{StoredRow}
 use Rattle.silt_manifest.specs.declared.body.Body.{Body}
-use Rattle.silt_log_store.specs.Parts.{Part, log_part, part_rows}
+use Rattle.silt_log.specs.Parts.{Part, log_part, part_rows}
 use Rattle.silt_image.specs.Stores.{Stores, stores_named}
 use Rattle.silt_hash_store.specs.Slots.{hash_part, hash_rows}
 use Rattle.silt_sorted_store.specs.State.{sorted_rows}

@@ -13,7 +13,7 @@ use Rattle.silt_frame.specs.Rows.{StoredRow, keys_of, put_count}
 use Rattle.silt_log.specs.State.{all_rows}
 use Rattle.silt_log.specs.Calls.{KeepsRows}
 use Rattle.silt_log.proofs.Elsewhere.{log_rows_elsewhere}
-use Rattle.silt_log_store.specs.Parts.{part_rows}
+use Rattle.silt_log.specs.Parts.{part_rows}
 use Rattle.silt_log_store.specs.State.{IsFrozenStore}
 use Rattle.silt_log_store.proofs.Buckets.{bucket_count_is}
 use Rattle.silt_manifest.specs.Standing.{ManifestState, spare_slot}
@@ -22,10 +22,10 @@ use Rattle.silt_image.specs.Stores.{Stores, stores_named}
 use Rattle.silt_image.specs.Meaning.{IsSound, rows_of, with_log_rows}
 use Rattle.silt_event.specs.Rows.{command_of}
 use Rattle.silt_image.proofs.Named.{whole_law}
-use Rattle.silt_hash_store.specs.Conversion.{ConversionState, HasWritten, converted_rows}
+use Rattle.silt_conversion.specs.Conversion.{ConversionState, HasWritten, converted_rows}
 use Rattle.silt_hash_store.specs.Slots.{hash_rows}
 use Rattle.silt_hash_store.specs.State.{IsHashStore, IsHeldHash, HashState}
-use Rattle.silt_hash_store.proofs.Writing.{store_stands}
+use Rattle.silt_conversion.proofs.Writing.{store_stands}
 use Rattle.silt_merge.specs.State.{MergeState}
 use Rattle.silt_merge.specs.Merging.{HasMerged}
 use Rattle.silt_merge.proofs.Elsewhere.{oldest_stores_law}

@@ -18,9 +18,10 @@ use Rattle.silt_log.proofs.Exits.{log_inside}
 use Rattle.silt_log.proofs.Elsewhere.{log_rows_elsewhere}
 use Rattle.silt_log_store.specs.State.{IsIndexed, LogStoreState}
 use Rattle.silt_cuckoo.specs.Index.{index_of_keys}
-use Rattle.silt_hash_store.specs.Conversion.{ConversionState, HasWritten}
+use Rattle.silt_conversion.specs.Conversion.{ConversionState, HasWritten}
 use Rattle.silt_hash_store.specs.State.{HashState, IsHashStore}
-use Rattle.silt_hash_store.proofs.Elsewhere.{hash_elsewhere, written_elsewhere}
+use Rattle.silt_hash_store.proofs.Elsewhere.{hash_elsewhere}
+use Rattle.silt_conversion.proofs.Elsewhere.{written_elsewhere}
 use Rattle.silt_image.specs.Laws.{IsWhole}
 use Rattle.silt_image.proofs.Frame.{names_regions, pieces_apart}
 use Rattle.silt_image.proofs.Named.{apart_of, whole_law}

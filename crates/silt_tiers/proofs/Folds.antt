@@ -16,7 +16,7 @@ use Rattle.silt_hash_store.specs.Slots.{rows_before, slot_row, hash_rows}
 use Rattle.silt_hash_store.proofs.Slotting.{all_before, before_more}
 use Rattle.silt_event.specs.Commands.{Command, Map, changed, delete, map_after, put}
 use Rattle.silt_event.specs.Rows.{command_of}
-use Rattle.silt_log_store.specs.Parts.{oldest_first}
+use Rattle.silt_log.specs.Parts.{oldest_first}
 use Rattle.silt_event.proofs.Rows.{map_after-append}
 use Rattle.silt_sorted_store.specs.OnlyRow.{HasEntry}
 use Rattle.silt_frame.specs.Rows.{entry_row, has_known_kind, StoredRow, key_cmp, stored_row}

@@ -14,7 +14,7 @@ use Rattle.silt_log.specs.Calls.{KeepsRows}
 use Rattle.silt_log.proofs.Elsewhere.{log_elsewhere}
 use Rattle.silt_log.proofs.Waiting.{waiting_kept}
 use Rattle.silt_log_store.specs.State.{IsLogStore, LogStoreState}
-use Rattle.silt_hash_store.specs.Conversion.{ConversionState, HasWritten}
+use Rattle.silt_conversion.specs.Conversion.{ConversionState, HasWritten}
 use Rattle.silt_manifest.specs.Ruling.{where_found}
 use Rattle.silt_manifest.specs.Standing.{ManifestState, Rules}
 use Rattle.silt_manifest.specs.declared.body.Body.{Body}

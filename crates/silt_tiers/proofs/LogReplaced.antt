@@ -9,7 +9,7 @@ use Rattle.silt_image.specs.Laws.{FindsNothing}
 use Rattle.silt_image.specs.Meaning.{IsSound, charge_of, rows_of}
 use Rattle.silt_event.specs.Rows.{command_of, map_of_rows}
 use Rattle.silt_hash_store.specs.Findings.{hash_findings}
-use Rattle.silt_log_store.specs.Parts.{known_rows, oldest_first, part_rows, Part}
+use Rattle.silt_log.specs.Parts.{known_rows, oldest_first, part_rows, Part}
 use Rattle.silt_log_store.specs.Findings.{log_findings}
 use Rattle.silt_frame.specs.Rows.{put_count, StoredRow}
 use Rattle.silt_image.specs.Stores.{Stores}
@@ -17,12 +17,12 @@ use Rattle.silt_event.proofs.Rows.{count_law, map_after-append, map_law}
 use Rattle.silt_image.proofs.Sound.{finds_nothing, is_sound}
 use Rattle.silt_event.proofs.Findings.{nothing_both, nothing_first}
 use Rattle.silt_manifest.specs.declared.body.Body.{Body}
-use Rattle.silt_hash_store.specs.Conversion.{converted_rows}
+use Rattle.silt_conversion.specs.Conversion.{converted_rows}
 use Rattle.silt_tiers.specs.Replacements.{ConvertsLaw, HasOldest, with_converted}
-use Rattle.silt_hash_store.specs.Laws.{IsTableOf}
-use Rattle.silt_hash_store.proofs.Answering.{converted_map}
-use Rattle.silt_hash_store.proofs.Charging.{converted_charge}
-use Rattle.silt_hash_store.proofs.Soundness.{converted_sound}
+use Rattle.silt_conversion.specs.Laws.{IsTableOf}
+use Rattle.silt_conversion.proofs.Answering.{converted_map}
+use Rattle.silt_conversion.proofs.Charging.{converted_charge}
+use Rattle.silt_conversion.proofs.Soundness.{converted_sound}
 
 -- the rows of the oldest store come first
 oldest_last : (newer : List (List StoredRow)) (oldest : List StoredRow) → oldest_first (newer ++ oldest ∷ []) ≡ oldest ++ oldest_first newer

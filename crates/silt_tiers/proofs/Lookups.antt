@@ -26,10 +26,10 @@ use Rattle.silt_log.specs.State.{all_rows, settled_rows, waiting_rows}
 use Rattle.silt_log.proofs.Elsewhere.{row_of_all, all_count}
 use Rattle.silt_log_store.specs.State.{LogStoreState}
 use Rattle.silt_log_store.specs.LastRow.{FindsLast, HasNoRow, IsLastRow}
-use Rattle.silt_log_store.specs.declared.log_store.Found.{Found}
+use Rattle.silt_log.specs.declared.found.Found.{Found}
 use Rattle.silt_manifest.specs.declared.body.Body.{Body}
 use Rattle.silt_event.specs.Commands.{Map, map_after}
-use Rattle.silt_log_store.specs.Parts.{log_part, known_rows, oldest_first, part_rows}
+use Rattle.silt_log.specs.Parts.{log_part, known_rows, oldest_first, part_rows}
 use Rattle.silt_sorted_store.specs.State.{sorted_rows, entries_of}
 use Rattle.silt_image.specs.Stores.{stores_named}
 use Rattle.silt_hash_store.specs.Findings.{hash_findings, holds_key}

@@ -8,7 +8,7 @@ use Rattle.silt_disk.specs.Layout.{Shape}
 use Rattle.silt_frame.specs.Rows.{StoredRow, put_count}
 use Rattle.silt_hash_store.specs.State.{HashState, IsHashStore, IsHeldHash}
 use Rattle.silt_image.specs.Meaning.{IsSound, charge_of, rows_of, with_log_rows}
-use Rattle.silt_log_store.specs.Parts.{known_rows, oldest_first, part_rows, Part}
+use Rattle.silt_log.specs.Parts.{known_rows, oldest_first, part_rows, Part}
 use Rattle.silt_event.specs.Rows.{map_of_rows}
 use Rattle.silt_sorted_store.specs.Findings.{sorted_findings}
 use Rattle.silt_image.specs.Stores.{Stores, stores_named}

@@ -6,7 +6,7 @@ use Rattle.silt_disk.specs.Layout.{Shape, entries_len, entry_len, gates_at, hash
 use Rattle.silt_disk.proofs.Regions.{regions_apart, up_least}
 use Rattle.silt_manifest.proofs.Laws.{rules_elsewhere}
 use Rattle.silt_manifest.specs.declared.body.Body.{Body}
-use Rattle.silt_hash_store.specs.Conversion.{ConversionState}
+use Rattle.silt_conversion.specs.Conversion.{ConversionState}
 use Rattle.silt_image.specs.Stores.{Stores, image_stores}
 use Rattle.silt_image.proofs.Frame.{free_sorted_law, pieces_apart}
 use Rattle.silt_merge.specs.State.{MergeState}

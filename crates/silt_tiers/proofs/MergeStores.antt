@@ -8,7 +8,7 @@ use Rattle.silt_disk.specs.Layout.{Shape}
 use Rattle.silt_frame.specs.Rows.{StoredRow, entry_row, put_count}
 use Rattle.silt_hash_store.specs.State.{HashState, IsHashStore}
 use Rattle.silt_image.specs.Meaning.{IsSound, with_log_rows}
-use Rattle.silt_log_store.specs.Parts.{known_rows, oldest_first, Part, log_part}
+use Rattle.silt_log.specs.Parts.{known_rows, oldest_first, Part, log_part}
 use Rattle.silt_image.specs.Stores.{Stores, stores_named}
 use Rattle.silt_hash_store.specs.Slots.{hash_part}
 use Rattle.silt_sorted_store.specs.State.{sorted_rows, SortedState}

@@ -15,7 +15,7 @@ use Rattle.silt_manifest.specs.declared.body.Body.{Body}
 use Rattle.silt_image.specs.Stores.{Stores, stores_named}
 use Rattle.silt_image.specs.Meaning.{IsSound, rows_of, with_log_rows}
 use Rattle.silt_event.specs.Rows.{command_of}
-use Rattle.silt_hash_store.specs.Conversion.{ConversionState}
+use Rattle.silt_conversion.specs.Conversion.{ConversionState}
 use Rattle.silt_hash_store.specs.State.{IsHashStore}
 use Rattle.silt_merge.specs.Rows.{merged_rows}
 use Rattle.silt_merge.specs.State.{MergeState}

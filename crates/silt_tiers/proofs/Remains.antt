@@ -3,7 +3,7 @@ use Rattle.std.proofs.Common.{◌≡◌, ◌<◌, ◌+◌, IsTrue}
 use Rattle.std.specs.Prelude.{All, IfSome}
 use Rattle.silt_disk.specs.Disk.{ChangesWithin, Content, size}
 use Rattle.silt_disk.specs.Layout.{slot_at}
-use Rattle.silt_hash_store.specs.Conversion.{HasWritten}
+use Rattle.silt_conversion.specs.Conversion.{HasWritten}
 use Rattle.silt_hash_store.specs.State.{IsHashStore}
 use Rattle.silt_log.specs.Calls.{KeepsRows}
 use Rattle.silt_log.specs.State.{waiting_rows}

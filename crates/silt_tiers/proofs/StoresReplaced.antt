@@ -7,7 +7,7 @@ use Rattle.silt_image.specs.Laws.{FindsNothing}
 use Rattle.silt_image.specs.Meaning.{IsSound, charge_of, rows_of}
 use Rattle.silt_event.specs.Rows.{command_of, map_of_rows}
 use Rattle.silt_hash_store.specs.Findings.{hash_findings}
-use Rattle.silt_log_store.specs.Parts.{known_rows, oldest_first, part_rows, Part}
+use Rattle.silt_log.specs.Parts.{known_rows, oldest_first, part_rows, Part}
 use Rattle.silt_frame.specs.Rows.{put_count, StoredRow}
 use Rattle.silt_image.specs.Stores.{Stores}
 use Rattle.silt_event.proofs.Rows.{count_law, map_law}

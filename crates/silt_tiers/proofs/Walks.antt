@@ -16,8 +16,9 @@ use Rattle.silt_sorted_store.specs.Findings.{sorted_findings}
 use Rattle.silt_log.specs.Rows.{row_at}
 use Rattle.silt_log.specs.State.{all_rows}
 use Rattle.silt_log_store.specs.State.{IsIndexed, LogStoreState}
-use Rattle.silt_log_store.specs.LastRow.{FindsLast, HasNoRow, put_place}
-use Rattle.silt_log_store.specs.declared.log_store.Found.{Found}
+use Rattle.silt_log_store.specs.LastRow.{FindsLast, HasNoRow}
+use Rattle.silt_log.specs.Found.{put_place}
+use Rattle.silt_log.specs.declared.found.Found.{Found}
 use Rattle.silt_frame.specs.Rows.{StoredRow}
 use Rattle.silt_sorted_store.specs.Index.{IsIndexOf}
 use Rattle.silt_sorted_store.specs.OnlyRow.{HasNoEntry, HasOnlyValue}

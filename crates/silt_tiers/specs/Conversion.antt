@@ -6,11 +6,11 @@ use Rattle.silt_disk.specs.Disk.{Content, GaveAny}
 use Rattle.silt_disk.specs.Layout.{Shape}
 use Rattle.silt_disk.specs.declared.disk.Disk.{Ghosts}
 use Rattle.silt_frame.specs.Rows.{StoredRow, keys_of}
-use Rattle.silt_hash_store.specs.Conversion.{ConversionState, converted_rows}
+use Rattle.silt_conversion.specs.Conversion.{ConversionState, converted_rows}
 use Rattle.silt_hash_store.specs.Slots.{hash_rows}
 use Rattle.silt_hash_store.specs.State.{HashState, IsHeldHash}
-use Rattle.silt_hash_store.specs.declared.conversion.StepError.{StepError}
-use Rattle.silt_hash_store.specs.declared.conversion.StepError.TheVariants as step_error
+use Rattle.silt_conversion.specs.declared.conversion.StepError.{StepError}
+use Rattle.silt_conversion.specs.declared.conversion.StepError.TheVariants as step_error
 use Rattle.silt_log.specs.Rows.{log_rows}
 use Rattle.silt_manifest.specs.Standing.{ManifestState}
 use Rattle.silt_manifest.specs.declared.body.Body.{Body}

@@ -7,7 +7,7 @@ use Rattle.silt_frame.specs.declared.key.Key.{Key}
 use Rattle.silt_event.specs.Commands.{Map, map_after}
 use Rattle.silt_disk.specs.Disk.{Content}
 use Rattle.silt_event.specs.Rows.{command_of}
-use Rattle.silt_log_store.specs.Parts.{oldest_first}
+use Rattle.silt_log.specs.Parts.{oldest_first}
 use Rattle.silt_frame.specs.Rows.{has_known_kind, StoredRow}
 use Rattle.silt_tiers.specs.Lookup.{AreEntriesOf, hash_rows_of}
 use Rattle.silt_tiers.specs.State.{TiersState}

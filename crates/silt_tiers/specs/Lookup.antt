@@ -16,7 +16,7 @@ use Rattle.silt_hash_store.specs.Findings.{holds_key}
 use Rattle.silt_log.specs.Rows.{row_at}
 use Rattle.silt_frame.specs.Rows.{StoredRow, key_cmp}
 use Rattle.silt_log.specs.State.{all_rows}
-use Rattle.silt_log_store.specs.declared.log_store.Found.{Found}
+use Rattle.silt_log.specs.declared.found.Found.{Found}
 use Rattle.silt_log_store.specs.LastRow.{FindsLast, HasNoRow}
 use Rattle.silt_log_store.specs.State.{LogStoreState}
 use Rattle.silt_tiers.specs.declared.lookup.Holder.{Holder}

@@ -3,13 +3,13 @@ use Rattle.std.specs.Prelude.{◌≡◌, ℕ, ◌+◌, ◌-◌, List, [], ◌∷
 use Rattle.silt_cuckoo.specs.Slots.{Slots}
 use Rattle.silt_image.specs.Meaning.{IsSound, charge_of, rows_of}
 use Rattle.silt_event.specs.Rows.{map_of_rows}
-use Rattle.silt_log_store.specs.Parts.{known_rows, Part, oldest_first}
+use Rattle.silt_log.specs.Parts.{known_rows, Part, oldest_first}
 use Rattle.silt_frame.specs.Rows.{put_count, StoredRow}
 use Rattle.silt_image.specs.Stores.{Stores}
 use Rattle.silt_manifest.specs.declared.body.Body.{Body}
-use Rattle.silt_hash_store.specs.Conversion.{converted_rows}
+use Rattle.silt_conversion.specs.Conversion.{converted_rows}
 use Rattle.silt_merge.specs.Merging.{IsMergeOf}
-use Rattle.silt_hash_store.specs.Laws.{IsTableOf}
+use Rattle.silt_conversion.specs.Laws.{IsTableOf}
 
 -- ---- a conversion that is finished
 

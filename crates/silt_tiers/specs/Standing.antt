@@ -2,7 +2,7 @@
 use Rattle.std.specs.Prelude.{◌≡◌, ℕ, IsTrue, List, ◌++◌, All, map, IfSome, None, Ok}
 use Rattle.silt_disk.specs.Disk.{Content, LeavesOnly, size}
 use Rattle.silt_disk.specs.Layout.{device_size}
-use Rattle.silt_hash_store.specs.Conversion.{HasWritten}
+use Rattle.silt_conversion.specs.Conversion.{HasWritten}
 use Rattle.silt_hash_store.specs.State.{IsHashStore}
 use Rattle.silt_event.specs.Commands.{Command, Map, map_after}
 use Rattle.silt_image.specs.Stores.{Stores, image_stores, stores_named}

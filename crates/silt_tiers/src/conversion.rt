@@ -9,9 +9,9 @@ ghost use Rattle.silt_tiers.specs.State.{AreWhole, names_hash};
 ghost use Rattle.silt_tiers.specs.Standing.{Stands, shown_stores};
 
 use crate::tiers::{LAST_GENERATION, Tiers};
+use silt_conversion::{Conversion, StepError};
 use silt_disk::Disk;
 use silt_event::Progress;
-use silt_hash_store::{Conversion, StepError};
 use silt_manifest::{Body, Manifest};
 use std::alloc::Global;
 

@@ -2,8 +2,8 @@
 ghost use Rattle.std.specs.Prelude.{◌≡◌, ◌<◌, ◌≤◌, ◌*◌, ℕ, None, option_map, length, true, false, Ok, IsTrue, IfOk, IfErr, IfSome};
 ghost use Rattle.silt_disk.specs.Disk.{GaveAny, size};
 ghost use Rattle.silt_disk.specs.Layout.{device_size};
-ghost use Rattle.silt_log_store.specs.LastRow.{put_place};
-ghost use Rattle.silt_log_store.specs.declared.log_store.Found.{Found};
+ghost use Rattle.silt_log.specs.Found.{put_place};
+ghost use Rattle.silt_log.specs.declared.found.Found.{Found};
 ghost use Rattle.silt_tiers.specs.Calls.{Finds, FindsNone};
 ghost use Rattle.silt_tiers.specs.declared.lookup.Holder.{Holder};
 ghost use Rattle.silt_tiers.specs.declared.lookup.Holder.TheVariants.{Frozen, Hashed};

@@ -10,9 +10,10 @@ ghost use Rattle.silt_frame.specs.Rows.{stored_row, puts_of};
 ghost use Rattle.silt_log.specs.State.{all_rows};
 
 use crate::next_log::{NextLog, NoNextLog, lowest_free, next_body};
+use silt_conversion::Conversion;
 use silt_disk::{Disk, Geometry};
 use silt_frame::{Key, Kind};
-use silt_hash_store::{Conversion, HashStore};
+use silt_hash_store::HashStore;
 use silt_log_store::{LogStore, Placing};
 use silt_manifest::{Body, Manifest};
 use silt_merge::Merge;

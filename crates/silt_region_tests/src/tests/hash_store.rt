@@ -5,9 +5,10 @@ ghost use Rattle.silt_disk.specs.Layout.{device_size};
 ghost use Rattle.silt_device.specs.Memory.{memory_content};
 
 use crate::tests::{LEN, blank, eight_rows, largest, paired, shows, single, with_fault};
+use silt_conversion::{Conversion, StepError};
 use silt_device::{Call, Disk, Geometry, MemDisk};
 use silt_frame::{Key, Kind, Row};
-use silt_hash_store::{Conversion, Found, HashStore, RebuildError, StepError};
+use silt_hash_store::{Found, HashStore, RebuildError};
 use silt_log_store::LogStore;
 use std::alloc::Global;
 use std::test::Fail;

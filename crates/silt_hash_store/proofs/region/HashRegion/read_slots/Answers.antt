@@ -1,7 +1,7 @@
 use Rattle.std.proofs.Common.{◌<◌, length, arith}
 use Rattle.silt_disk.specs.Disk.{size}
 use Rattle.silt_hash_store.proofs.Reading.{slots_read, slots_within}
-use Rattle.silt_hash_store.proofs.Writing.{slots_inside}
+use Rattle.silt_hash_store.proofs.Elsewhere.{slots_inside}
 use Rattle.silt_hash_store.proofs.region.HashRegion.read_slots.Goals as goal
 
 pub read-requires : goal.read-requires

@@ -1,6 +1,6 @@
 use Rattle.std.proofs.Common.{◌≡◌, [], Option, Ok, subst}
 use Rattle.std.specs.Prelude.{IfSome, ⊤}
-use Rattle.silt_hash_store.specs.Conversion.{ConversionState}
+use Rattle.silt_conversion.specs.Conversion.{ConversionState}
 use Rattle.silt_tiers.specs.Conversion.{oldest_replaced}
 use Rattle.silt_tiers.proofs.Chains.{honest_after}
 use Rattle.silt_tiers.proofs.Exits.{on_error}

@@ -1,6 +1,6 @@
 use Rattle.std.proofs.Common.{◌≡◌, ◌-◌, ◌++◌, ℕ, List, drop, map, sym, subst, arith}
 use Rattle.silt_event.specs.Commands.{Map}
-use Rattle.silt_log_store.specs.Parts.{oldest_first}
+use Rattle.silt_log.specs.Parts.{oldest_first}
 use Rattle.silt_frame.specs.Rows.{StoredRow}
 use Rattle.silt_log.specs.State.{all_rows}
 use Rattle.silt_sorted_store.specs.State.{SortedState, entries_of}

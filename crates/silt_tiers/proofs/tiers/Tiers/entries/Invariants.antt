@@ -1,5 +1,5 @@
 use Rattle.std.proofs.Common.{IsTrue, drop, map}
-use Rattle.silt_log_store.specs.Parts.{oldest_first}
+use Rattle.silt_log.specs.Parts.{oldest_first}
 use Rattle.silt_tiers.specs.Entries.{DoesRows}
 use Rattle.silt_tiers.proofs.Lookups.{rows_in}
 use Rattle.silt_tiers.proofs.tiers.Tiers.entries.Given as goal

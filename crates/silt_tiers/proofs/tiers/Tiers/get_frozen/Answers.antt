@@ -1,6 +1,6 @@
 use Rattle.std.proofs.Common.{ap, ◌∙◌}
 use Rattle.silt_tiers.specs.State.{TiersState}
-use Rattle.silt_log_store.specs.LastRow.{put_place}
+use Rattle.silt_log.specs.Found.{put_place}
 use Rattle.silt_tiers.proofs.Walks.{found_here, frozen_value, log_passed, none_of}
 use Rattle.silt_tiers.proofs.tiers.Tiers.get_frozen.Goals as goal
 

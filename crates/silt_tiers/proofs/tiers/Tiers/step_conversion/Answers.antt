@@ -2,7 +2,7 @@ use Rattle.std.proofs.Common.{◌≡◌, ◌-◌, List, [], length, Option, Some
 use Rattle.std.specs.Prelude.{slice_get}
 use Rattle.std.specs.Option.{option_copied}
 use Rattle.silt_log_store.specs.State.{LogStoreState}
-use Rattle.silt_hash_store.specs.Conversion.{ConversionState}
+use Rattle.silt_conversion.specs.Conversion.{ConversionState}
 use Rattle.silt_tiers.specs.State.{AreWhole, TiersState}
 use Rattle.silt_tiers.specs.Standing.{Stands}
 use Rattle.silt_tiers.specs.Conversion.{convert_turn, refusal_of_step}

@@ -5,8 +5,7 @@ use Rattle.std.proofs.lemmas.List.Elements.{filter-append}
 use Rattle.std.proofs.lemmas.List.FromFn.{map-range_with_len_more}
 use Rattle.silt_cuckoo.specs.Slots.{Entry, IsBucketCount, Slots, entry_at}
 use Rattle.silt_disk.specs.Disk.{ChangesWithin, Content, LiesOutside, size}
-use Rattle.silt_disk.specs.Layout.{Shape, device_size, gates_at, hash_at, log_len, row_len}
-use Rattle.silt_disk.proofs.Regions.{regions_apart}
+use Rattle.silt_disk.specs.Layout.{Shape, device_size, gates_at, log_len, row_len}
 use Rattle.silt_hash_store.specs.Findings.{hash_findings}
 use Rattle.silt_frame.specs.Rows.{put_count, has_known_kind, StoredRow}
 use Rattle.silt_hash_store.specs.Slots.{hash_rows, rows_before, hash_slot_at, slot_row, slot_tag, tag_of}
@@ -18,12 +17,13 @@ use Rattle.silt_log.proofs.Elsewhere.{row_of_all}
 use Rattle.silt_log_store.specs.State.{IsFrozenStore, IsIndexed, LogStoreState}
 use Rattle.silt_log_store.proofs.Elsewhere.{frozen_elsewhere, rows_outside}
 use Rattle.silt_log_store.proofs.Rows.{known_there}
-use Rattle.silt_hash_store.specs.Conversion.{ConversionState, HasWritten, IsHeldConversion, Steps, converted_before, converted_row, converted_rows, empty_row, row_for, tag_of_entry, with_entry}
-use Rattle.silt_hash_store.specs.Laws.{IsTableOf}
+use Rattle.silt_conversion.specs.Conversion.{ConversionState, HasWritten, IsHeldConversion, Steps, converted_before, converted_row, converted_rows, empty_row, row_for, tag_of_entry, with_entry}
+use Rattle.silt_conversion.specs.Laws.{IsTableOf}
 use Rattle.silt_hash_store.specs.State.{IsHashStore}
+use Rattle.silt_hash_store.proofs.Elsewhere.{behind_logs, slots_inside}
 use Rattle.silt_hash_store.proofs.Reading.{slot_elsewhere}
 use Rattle.silt_hash_store.proofs.Slotting.{all_before}
-use Rattle.silt_hash_store.proofs.Soundness.{converted_sound, converted_tag}
+use Rattle.silt_conversion.proofs.Soundness.{converted_sound, converted_tag}
 
 -- the row of an entry of a log
 pub due_is : (content : Content) (log : LogStoreState) (slot tag place : ℕ) → entry_at log.table slot ≡ Some (tag, place) → place < log.log.used
@@ -92,18 +92,6 @@ held_as conversion tags len puts entry held below few same =
     subst (λ (t : List (Option ℕ)). IsHeldConversion (record conversion { next = conversion.next + 1; tags = t; puts = conversion.puts + puts }) len) (sym same) (held_step conversion len puts entry held below few)
 
 -- ---- a slot that is written
-
--- the slots of a hash region lie within the device
-pub slots_inside : (s : Shape) (region : ℕ) → region < s.hashes → hash_at s region + 4 * s.buckets * row_len s ≤ device_size s
-slots_inside s region there =
-    let apart = regions_apart s in
-    omega (arith, apart.hashes region s.hashes there, apart.hash_end 2, apart.device)
-
--- and behind every log
-pub behind_logs : (s : Shape) (log_region region slot : ℕ) → log_region < s.logs → LiesOutside (gates_at s log_region) (log_len s) (hash_slot_at s region slot) (row_len s)
-behind_logs s log_region region slot there =
-    let apart = regions_apart s in
-    inr (omega (arith, apart.bodies log_region s.logs there, apart.logs region))
 
 module _ (old new : Content) (log : LogStoreState) (conversion : ConversionState) (bounds : InBounds log.log) (same : conversion.shape ≡ log.log.shape)
     (fits : device_size conversion.shape ≤ size old) (changes : ChangesWithin (hash_slot_at conversion.shape conversion.region conversion.next) (row_len conversion.shape) old new) where

@@ -5,9 +5,9 @@ use Rattle.silt_disk.specs.Layout.{Shape}
 use Rattle.silt_frame.specs.Rows.{put_count, has_known_kind, row_of, StoredRow}
 use Rattle.silt_log.specs.State.{all_rows}
 use Rattle.silt_log_store.specs.State.{IsFrozenStore}
-use Rattle.silt_hash_store.specs.Conversion.{ConversionState, Steps, converted_row, with_entry}
-use Rattle.silt_hash_store.proofs.Writing.{frozen_kept, held_as, written_kept, written_step}
-use Rattle.silt_hash_store.proofs.conversion.Conversion.step.Goals as goal
+use Rattle.silt_conversion.specs.Conversion.{ConversionState, Steps, converted_row, with_entry}
+use Rattle.silt_conversion.proofs.Writing.{frozen_kept, held_as, written_kept, written_step}
+use Rattle.silt_conversion.proofs.conversion.Conversion.step.Goals as goal
 
 pub returns-in-Err-write_slot-clause-written : goal.returns-in-Err-write_slot-clause-written
 returns-in-Err-write_slot-clause-written g c =

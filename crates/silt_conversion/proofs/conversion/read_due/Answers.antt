@@ -2,8 +2,8 @@ use Rattle.std.proofs.Common.{◌≡◌, ◌<◌, true, Some, option_map, sym, a
 use Rattle.silt_cuckoo.specs.Slots.{Entry, entry_at}
 use Rattle.silt_log.specs.Rows.{row_at}
 use Rattle.silt_frame.specs.Rows.{has_known_kind, row_of}
-use Rattle.silt_hash_store.proofs.Writing.{due_is, due_known}
-use Rattle.silt_hash_store.proofs.conversion.read_due.Goals as goal
+use Rattle.silt_conversion.proofs.Writing.{due_is, due_known}
+use Rattle.silt_conversion.proofs.conversion.read_due.Goals as goal
 
 pub read_row-requires-clause-place : goal.read_row-requires-clause-place
 read_row-requires-clause-place g c =

@@ -2,16 +2,14 @@
 ghost use Rattle.std.specs.Prelude.{◌≡◌, ◌==◌, ◌+◌, ◌*◌, ◌<◌, ◌≤◌, ◌^◌, true, false, [], ◌∷◌, filter, Some, length, replicate, None, IsTrue, IfOk, IfErr, IfSome, OnOk, OnErr, MatchResult};
 ghost use Rattle.silt_disk.specs.Disk.{Content, ChangesWithin, CountsFault, GaveAny, size};
 ghost use Rattle.silt_disk.specs.Layout.{device_size, row_len};
-ghost use Rattle.silt_hash_store.specs.Conversion.{converted_row, converted_rows, with_entry};
+ghost use Rattle.silt_conversion.specs.Conversion.{converted_row, converted_rows, with_entry};
 ghost use Rattle.silt_frame.specs.Rows.{put_count, has_known_kind, row_of};
 ghost use Rattle.silt_hash_store.specs.Slots.{hash_rows};
 ghost use Rattle.silt_log.specs.State.{all_rows};
 ghost use Rattle.silt_log_store.specs.State.{IsHeldStore, IsIndexed};
 
-use crate::hash_store::HashStore;
-use crate::region::HashRegion;
-use crate::tags::Tags;
 use silt_disk::Disk;
+use silt_hash_store::{HashRegion, HashStore, Tags};
 use silt_log_store::LogStore;
 use std::alloc::{AllocError, Global};
 use std::marker::Model;
@@ -40,7 +38,7 @@ pub struct Conversion {
 
 impl Model for Conversion {
     ghost use Rattle.std.specs.Prelude.{vec_len};
-    ghost use Rattle.silt_hash_store.specs.Conversion.{ConversionState, IsHeldConversion};
+    ghost use Rattle.silt_conversion.specs.Conversion.{ConversionState, IsHeldConversion};
 
     ghost Value = { ConversionState };
 
@@ -104,7 +102,7 @@ fn note_entry(tags: &mut Tags, slot: u32, entry: Option<(u32, u32)>)
 
 impl Conversion {
     ghost use Rattle.silt_log_store.specs.State.{LogStoreState, IsFrozenStore};
-    ghost use Rattle.silt_hash_store.specs.Conversion.{ConversionState, FailsStep, HasWritten, IsHeldConversion, Steps};
+    ghost use Rattle.silt_conversion.specs.Conversion.{ConversionState, FailsStep, HasWritten, IsHeldConversion, Steps};
     ghost use Rattle.silt_hash_store.specs.Slots.{hash_slot_at};
     ghost use Rattle.silt_hash_store.specs.State.{IsHashStore, IsHeldHash};
 
@@ -208,6 +206,6 @@ impl Conversion {
             puts,
             row: _,
         } = self;
-        HashStore { region, tags, puts }
+        HashStore::new(region, tags, puts)
     }
 }

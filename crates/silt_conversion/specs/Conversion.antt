@@ -8,8 +8,8 @@ use Rattle.silt_frame.specs.Rows.{put_count, has_known_kind, row_of, StoredRow}
 use Rattle.silt_log.specs.State.{all_rows}
 use Rattle.silt_log_store.specs.State.{IsFrozenStore, LogStoreState}
 use Rattle.silt_hash_store.specs.Slots.{slot_row, slot_tag}
-use Rattle.silt_hash_store.specs.declared.conversion.StepError.{StepError}
-use Rattle.silt_hash_store.specs.declared.conversion.StepError.TheVariants.{Read, Write}
+use Rattle.silt_conversion.specs.declared.conversion.StepError.{StepError}
+use Rattle.silt_conversion.specs.declared.conversion.StepError.TheVariants.{Read, Write}
 
 -- a conversion: the region that is written, the tags of the slots that were written, the next slot, and how many puts were written
 pub record ConversionState : Type 0 where

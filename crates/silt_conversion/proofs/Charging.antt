@@ -10,9 +10,9 @@ use Rattle.silt_cuckoo.specs.Slots.{Entry, entry_at, place_at}
 use Rattle.silt_frame.specs.Frame.{kind_of}
 use Rattle.silt_frame.specs.Rows.{put_count, keys_of, has_known_kind, StoredRow}
 use Rattle.silt_log_store.proofs.Entries.{entry_law}
-use Rattle.silt_hash_store.specs.Conversion.{converted_before, converted_row, converted_rows, empty_row}
-use Rattle.silt_hash_store.specs.Laws.{ConvertedChargeLaw}
-use Rattle.silt_hash_store.proofs.Soundness.{empty_kind, place_inside, row_of_entry, row_of_none}
+use Rattle.silt_conversion.specs.Conversion.{converted_before, converted_row, converted_rows, empty_row}
+use Rattle.silt_conversion.specs.Laws.{ConvertedChargeLaw}
+use Rattle.silt_conversion.proofs.Soundness.{empty_kind, place_inside, row_of_entry, row_of_none}
 
 -- how many puts a row is
 abbrev weight : StoredRow → ℕ

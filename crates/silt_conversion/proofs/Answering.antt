@@ -20,11 +20,11 @@ use Rattle.silt_event.specs.Rows.{value_given, command_of}
 use Rattle.silt_frame.specs.Rows.{keys_of, has_known_kind, StoredRow}
 use Rattle.silt_log_store.proofs.Entries.{entry_law}
 use Rattle.silt_log_store.proofs.Rows.{key_of_row, keys_count}
-use Rattle.silt_hash_store.specs.Conversion.{converted_before, converted_row, converted_rows, empty_row}
-use Rattle.silt_hash_store.specs.Laws.{ConvertedMapLaw, IsTableOf}
+use Rattle.silt_conversion.specs.Conversion.{converted_before, converted_row, converted_rows, empty_row}
+use Rattle.silt_conversion.specs.Laws.{ConvertedMapLaw, IsTableOf}
 use Rattle.silt_hash_store.specs.Slots.{is_row_of}
 use Rattle.silt_hash_store.proofs.Slotting.{empty_not_known}
-use Rattle.silt_hash_store.proofs.Soundness.{empty_kind, entry_known, place_inside, row_of_entry, row_of_none}
+use Rattle.silt_conversion.proofs.Soundness.{empty_kind, entry_known, place_inside, row_of_entry, row_of_none}
 
 -- a row of the key sets its value, and another row leaves what there is
 set_by : (m : Map) (row : StoredRow) (key : List ℕ) → bytes_eq row.key key ≡ true → get (changed m (command_of row)) key ≡ value_given row

@@ -15,12 +15,12 @@ use Rattle.silt_cuckoo.proofs.Indexing.{newest_apart}
 use Rattle.silt_disk.specs.Layout.{Shape, row_len}
 use Rattle.silt_hash_store.specs.Findings.{hash_findings, holds_key, is_in_bucket, is_sound_hash_slot}
 use Rattle.silt_frame.specs.Rows.{keys_of, has_known_kind, StoredRow}
-use Rattle.silt_log_store.specs.Parts.{Part}
+use Rattle.silt_log.specs.Parts.{Part}
 use Rattle.silt_log_store.specs.Laws.{HasEntries}
 use Rattle.silt_log_store.proofs.Entries.{entry_law}
 use Rattle.silt_log_store.proofs.Rows.{key_of_row, keys_count, passes_at}
-use Rattle.silt_hash_store.specs.Conversion.{converted_before, converted_row, converted_rows, empty_row, row_for, tag_of_entry}
-use Rattle.silt_hash_store.specs.Laws.{ConvertedSoundLaw, IsTableOf}
+use Rattle.silt_conversion.specs.Conversion.{converted_before, converted_row, converted_rows, empty_row, row_for, tag_of_entry}
+use Rattle.silt_conversion.specs.Laws.{ConvertedSoundLaw, IsTableOf}
 use Rattle.silt_hash_store.specs.Slots.{is_row_of, tag_of}
 use Rattle.silt_hash_store.proofs.Finding.{holds_none}
 use Rattle.silt_hash_store.proofs.Growing.{nothing_from}

@@ -1,0 +1,5 @@
+pub mod Answering
+pub mod Charging
+pub mod Elsewhere
+pub mod Soundness
+pub mod Writing

@@ -1,5 +1,0 @@
-use Rattle.silt_hash_store.proofs.Charging.{converted_charge}
-use Rattle.silt_hash_store.proofs.laws.converted_charge_law.Goals as goal
-
-pub returns : goal.returns
-returns c = converted_charge
