@@ -6,7 +6,7 @@ use Rattle.silt_disk.specs.Layout.{Shape, device_size}
 use Rattle.silt_device.specs.Memory.{memory_content, memory_gave, IsFresh}
 use Rattle.silt_device.specs.declared.memory.MemDisk.{MemDisk}
 use Rattle.silt_device.specs.declared.memory.MemFault.{MemFault}
-use Rattle.silt_tiers.specs.Calls.{SameDisk}
+use Rattle.silt_standing.specs.Standing.{SameDisk}
 use Rattle.silt_recovery.specs.Format.{FormatCause}
 use Rattle.silt_recovery.specs.declared.fault.FormatError.{FormatError}
 use Rattle.silt_recovery.specs.declared.fault.FormatError.TheVariants.{BadGeometry, Device, NoMemory}

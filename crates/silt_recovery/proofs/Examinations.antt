@@ -25,7 +25,7 @@ use Rattle.silt_manifest.proofs.SoundBodies.{sound_parts}
 use Rattle.silt_sorted_store.specs.Index.{HasIndex}
 use Rattle.silt_sorted_store.specs.State.{IsHeldSorted, SortedState}
 use Rattle.silt_trie.specs.Marks.{MarkedCode}
-use Rattle.silt_tiers.specs.State.{IsHashOf, IsSettled, sorted_named}
+use Rattle.silt_standing.specs.State.{IsHashOf, IsSettled, sorted_named}
 use Rattle.silt_recovery.specs.Entries.{AreSoundEntries, HasFirstEntry}
 use Rattle.silt_recovery.specs.Hashes.{AreReadHashes, AreSoundHashes, HasFirstSlot, IsReadHash, region_puts, region_rows}
 use Rattle.silt_recovery.specs.Logs.{AreReadLogs, AreSoundLogs, HasFirstFinding, IsReadLog, put_rows}

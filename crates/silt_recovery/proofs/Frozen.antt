@@ -9,7 +9,7 @@ use Rattle.silt_frame.specs.Rows.{put_count}
 use Rattle.silt_event.specs.declared.damage.Finding.{Finding}
 use Rattle.silt_log.specs.Rows.{log_rows}
 use Rattle.silt_log_store.specs.State.{LogStoreState}
-use Rattle.silt_tiers.specs.State.{region_of}
+use Rattle.silt_standing.specs.State.{region_of}
 use Rattle.silt_recovery.specs.Logs.{AreReadLogs, AreSoundLogs, HasFirstFinding, IsReadLog, put_rows}
 use Rattle.silt_recovery.proofs.Searches.{found_within, sound_both}
 

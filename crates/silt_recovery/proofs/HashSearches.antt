@@ -21,7 +21,7 @@ use Rattle.silt_event.specs.declared.place.Place.TheVariants.{Hash}
 use Rattle.silt_event.proofs.Rows.{count_law}
 use Rattle.silt_image.proofs.Search.{first_slot_law}
 use Rattle.silt_manifest.specs.declared.body.Body.{Body}
-use Rattle.silt_tiers.specs.State.{hash_region_of}
+use Rattle.silt_standing.specs.State.{hash_region_of}
 use Rattle.silt_recovery.specs.Hashes.{AreReadHashes, AreSoundHashes, HasFirstSlot, IsReadHash, region_puts, region_rows}
 use Rattle.silt_recovery.specs.Logs.{AreSoundLogs, put_rows}
 use Rattle.silt_recovery.proofs.EntrySearches.{charge_of_entries}

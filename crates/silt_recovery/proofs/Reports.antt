@@ -15,8 +15,8 @@ use Rattle.silt_log.specs.Rows.{log_rows}
 use Rattle.silt_log_store.specs.State.{LogStoreState}
 use Rattle.silt_manifest.specs.Body.{is_well_formed}
 use Rattle.silt_manifest.specs.declared.body.Body.{Body}
-use Rattle.silt_tiers.specs.Standing.{shown_stores}
-use Rattle.silt_tiers.specs.State.{TiersState, region_of}
+use Rattle.silt_standing.specs.Standing.{shown_stores}
+use Rattle.silt_standing.specs.State.{TiersState, region_of}
 use Rattle.silt_recovery.specs.Logs.{IsReadLog}
 use Rattle.silt_recovery.specs.Opening.{CountsHashRows, Holds, IsReported}
 use Rattle.silt_recovery.proofs.Examinations.{HasRegions, named_regions}

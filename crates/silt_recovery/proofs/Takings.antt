@@ -32,11 +32,11 @@ use Rattle.silt_log_store.specs.Calls.{SealsStore}
 use Rattle.silt_log_store.specs.State.{LogStoreState}
 use Rattle.silt_manifest.proofs.Laws.{rules_elsewhere}
 use Rattle.silt_merge.specs.State.{MergeState}
-use Rattle.silt_tiers.specs.Standing.{HasGathered, IsFrozen, IsLocated, Stands, base_map, shown_stores}
+use Rattle.silt_standing.specs.Standing.{HasGathered, IsFrozen, IsLocated, Stands, base_map, shown_stores}
 use Rattle.silt_sorted_store.specs.State.{SortedState}
 use Rattle.silt_sorted_store.proofs.Elsewhere.{indexed_elsewhere}
-use Rattle.silt_tiers.proofs.Elsewhere.{entries_behind_log}
-use Rattle.silt_tiers.specs.State.{AreWhole, IsHashOf, IsMerging, IsUnderWay, TiersState, oldest_log, region_of}
+use Rattle.silt_standing.proofs.Places.{entries_behind_log}
+use Rattle.silt_standing.specs.State.{AreWhole, IsHashOf, IsMerging, IsUnderWay, TiersState, oldest_log, region_of}
 use Rattle.silt_recovery.specs.Logs.{IsReadLog}
 use Rattle.silt_recovery.specs.Opening.{Holds, IsUnwritten, IsUnwrittenUnlessFailed, LeavesNoOther, TakesUp}
 use Rattle.silt_recovery.specs.Refusals.{IsFound, IsRefusedLook}

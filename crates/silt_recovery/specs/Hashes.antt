@@ -8,7 +8,7 @@ use Rattle.silt_log.specs.Parts.{known_rows}
 use Rattle.silt_frame.specs.Rows.{put_count}
 use Rattle.silt_hash_store.specs.Slots.{hash_part}
 use Rattle.silt_event.specs.declared.damage.Finding.{Finding}
-use Rattle.silt_tiers.specs.State.{IsHashOf, hash_region_of}
+use Rattle.silt_standing.specs.State.{IsHashOf, hash_region_of}
 
 -- nothing is found in these hash stores of an image
 abbrev pub AreSoundHashes : Shape → List ℕ → List ℕ → Type 0

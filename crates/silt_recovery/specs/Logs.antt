@@ -10,7 +10,7 @@ use Rattle.silt_event.specs.declared.damage.Finding.{Finding}
 use Rattle.silt_log.specs.Rows.{log_rows}
 use Rattle.silt_log.specs.State.{InBounds, IsScanned}
 use Rattle.silt_log_store.specs.State.{LogStoreState, IsIndexed}
-use Rattle.silt_tiers.specs.State.{region_of}
+use Rattle.silt_standing.specs.State.{region_of}
 
 -- nothing is found in these logs of an image
 abbrev pub AreSoundLogs : Shape → List ℕ → List ℕ → Type 0

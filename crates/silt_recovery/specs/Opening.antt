@@ -9,9 +9,9 @@ use Rattle.silt_log.specs.Parts.{known_rows}
 use Rattle.silt_image.specs.Stores.{Stores, image_stores}
 use Rattle.silt_event.specs.declared.report.Report.{Report}
 use Rattle.silt_manifest.specs.Standing.{Rules}
-use Rattle.silt_tiers.specs.Calls.{IsQuiet, SameDisk}
-use Rattle.silt_tiers.specs.Standing.{IsLocated, Stands, base_map, shown_stores}
-use Rattle.silt_tiers.specs.State.{TiersState, AreWhole}
+use Rattle.silt_standing.specs.Standing.{IsQuiet, SameDisk}
+use Rattle.silt_standing.specs.Standing.{IsLocated, Stands, base_map, shown_stores}
+use Rattle.silt_standing.specs.State.{TiersState, AreWhole}
 use Rattle.silt_recovery.specs.Logs.{IsReadLog}
 use Rattle.silt_recovery.specs.declared.examination.Holding.{Holding}
 use Rattle.silt_recovery.specs.declared.fault.OpenError.{OpenError}

@@ -5,7 +5,7 @@ ghost use Rattle.silt_disk.specs.Disk.{GaveAny, LeavesOnly, size};
 ghost use Rattle.silt_disk.specs.Layout.{InLimits, device_size};
 ghost use Rattle.silt_image.specs.Meaning.{StandsFor};
 ghost use Rattle.silt_recovery.specs.Format.{FormatCause, IsHalfFormatted};
-ghost use Rattle.silt_tiers.specs.Calls.{SameDisk};
+ghost use Rattle.silt_standing.specs.Standing.{SameDisk};
 
 use crate::fault::{FormatError, FormatFault};
 use crate::header::write_header;

@@ -3,7 +3,7 @@ ghost use Rattle.std.specs.Prelude.{◌≡◌, IsTrue, IfOk, IfErr, MatchResult}
 ghost use Rattle.silt_disk.specs.Disk.{GaveAny};
 ghost use Rattle.silt_recovery.specs.Opening.{IsUnwrittenUnlessFailed, LeavesNoOther, TakesUp};
 ghost use Rattle.silt_recovery.specs.Refusals.{IsFound, IsRefusedLook};
-ghost use Rattle.silt_tiers.specs.Calls.{SameDisk};
+ghost use Rattle.silt_standing.specs.Standing.{SameDisk};
 
 use crate::examination::examine;
 use crate::fault::{OpenError, OpenFault};

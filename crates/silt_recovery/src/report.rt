@@ -4,7 +4,7 @@ ghost use Rattle.silt_disk.specs.Disk.{GaveAny};
 ghost use Rattle.silt_image.specs.Meaning.{report_of};
 ghost use Rattle.silt_recovery.specs.Opening.{CountsHashRows, Holds, IsReported, held_stores};
 ghost use Rattle.silt_recovery.specs.Refusals.{IsFound, IsRefusedLook};
-ghost use Rattle.silt_tiers.specs.Standing.{shown_stores};
+ghost use Rattle.silt_standing.specs.Standing.{shown_stores};
 
 use crate::examination::{Holding, examine};
 use crate::fault::OpenError;

@@ -5,10 +5,11 @@ use Rattle.silt_disk.specs.Layout.{device_size}
 use Rattle.silt_disk.specs.declared.disk.Disk.{Ghosts}
 use Rattle.silt_event.specs.Commands.{Command, Map, map_after}
 use Rattle.silt_image.specs.Meaning.{image_map, StandsFor}
-use Rattle.silt_tiers.specs.Calls.{Advances, Breaks, HasBegun, SameDisk}
+use Rattle.silt_tiers.specs.Calls.{Advances, Breaks, HasBegun}
+use Rattle.silt_standing.specs.Standing.{SameDisk}
 use Rattle.silt_tiers.specs.Laws.{IsGoodWith}
-use Rattle.silt_tiers.specs.Standing.{Stands, base_map, full_image, waiting_commands}
-use Rattle.silt_tiers.specs.State.{TiersState}
+use Rattle.silt_standing.specs.Standing.{Stands, base_map, full_image, waiting_commands}
+use Rattle.silt_standing.specs.State.{TiersState}
 use Rattle.silt_tiers.proofs.Meaning.{meaning}
 use Rattle.silt_event.specs.declared.event.Event.{Event}
 use Rattle.silt_event.specs.declared.event.Event.TheVariants.{Put, Delete, Flush, Get, Convert, Merge}

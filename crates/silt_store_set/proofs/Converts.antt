@@ -5,10 +5,11 @@ use Rattle.silt_disk.specs.Disk.{GaveAny}
 use Rattle.silt_disk.specs.declared.disk.Disk.{Ghosts}
 use Rattle.silt_conversion.specs.Conversion.{ConversionState}
 use Rattle.silt_hash_store.specs.Slots.{hash_rows}
-use Rattle.silt_tiers.specs.Calls.{Advances, Breaks, IsLastGeneration, Remaps, SameDisk}
+use Rattle.silt_tiers.specs.Calls.{Advances, Breaks, IsLastGeneration, Remaps}
+use Rattle.silt_standing.specs.Standing.{SameDisk}
 use Rattle.silt_tiers.specs.Conversion.{AreConverted, Converts, Finishes, HasConvertedRows, IsNextStep, MovesOn, convert_turn, is_work, oldest_rows, progress_due, written_by}
-use Rattle.silt_tiers.specs.Standing.{Stands, full_image}
-use Rattle.silt_tiers.specs.State.{TiersState, hash_region_of, region_of}
+use Rattle.silt_standing.specs.Standing.{Stands, full_image}
+use Rattle.silt_standing.specs.State.{TiersState, hash_region_of, region_of}
 use Rattle.silt_event.specs.declared.progress.Progress.{Progress as ProgressOf}
 use Rattle.silt_event.specs.declared.progress.Progress.TheVariants.{Idle, Waiting, Moved, Finished}
 use Rattle.silt_event.specs.declared.event.Event.TheVariants.{Convert}

@@ -8,9 +8,10 @@ use Rattle.silt_disk.specs.declared.disk.Disk.{Ghosts}
 use Rattle.silt_event.specs.Rows.{command_of}
 use Rattle.silt_log.specs.Rows.{row_at, rows_from}
 use Rattle.silt_log.specs.State.{LogState, waiting_rows}
-use Rattle.silt_tiers.specs.Calls.{Advances, Breaks, IsQuiet, Remaps, SameDisk}
-use Rattle.silt_tiers.specs.Standing.{Stands}
-use Rattle.silt_tiers.specs.State.{TiersState}
+use Rattle.silt_tiers.specs.Calls.{Advances, Breaks, Remaps}
+use Rattle.silt_standing.specs.Standing.{IsQuiet, SameDisk}
+use Rattle.silt_standing.specs.Standing.{Stands}
+use Rattle.silt_standing.specs.State.{TiersState}
 use Rattle.silt_event.specs.declared.event.Event.TheVariants.{Flush}
 use Rattle.silt_event.specs.declared.refusal.Refusal.TheVariants.{Device}
 use Rattle.silt_event.specs.declared.reply.Reply.TheVariants.{Acknowledged, Refused}

@@ -22,8 +22,8 @@ use Rattle.silt_merge.specs.Rows.{has_row_with, regions_of, rows_of_hashes}
 use Rattle.silt_merge.specs.State.{MergeState, oldest_stores, source_at, steps_of}
 use Rattle.silt_merge.proofs.Newest.{newest_append}
 use Rattle.silt_tiers.specs.Merge.{full_stores}
-use Rattle.silt_tiers.specs.Standing.{HasGathered, Stands}
-use Rattle.silt_tiers.specs.State.{IsMerging, TiersState}
+use Rattle.silt_standing.specs.Standing.{HasGathered, Stands}
+use Rattle.silt_standing.specs.State.{IsMerging, TiersState}
 use Rattle.silt_tiers.proofs.MergeDone.{full_is, sorted_shape, taken_sound}
 use Rattle.silt_tiers.proofs.MergeStores.{taken_named}
 use Rattle.silt_store_set.specs.CoreState.{HasNewKey}

@@ -6,8 +6,8 @@ use Rattle.silt_disk.specs.declared.disk.Disk.{Ghosts}
 use Rattle.silt_frame.specs.declared.key.Key.{Key}
 use Rattle.silt_event.specs.Commands.{Map}
 use Rattle.silt_image.specs.Meaning.{image_map}
-use Rattle.silt_tiers.specs.Standing.{Stands, current_map, full_image}
-use Rattle.silt_tiers.specs.State.{TiersState}
+use Rattle.silt_standing.specs.Standing.{Stands, current_map, full_image}
+use Rattle.silt_standing.specs.State.{TiersState}
 use Rattle.silt_tiers.proofs.Meaning.{meaning}
 use Rattle.silt_event.specs.declared.event.Event.TheVariants.{Get}
 use Rattle.silt_event.specs.declared.refusal.Refusal.{Refusal}

@@ -17,7 +17,7 @@ use Rattle.silt_store_set.specs.CoreInvariant.{IsSafe}
 use Rattle.silt_disk.specs.Header.{shape_of}
 use Rattle.silt_disk.specs.declared.disk.Disk.{Ghosts}
 use Rattle.silt_image.specs.Meaning.{StandsFor}
-use Rattle.silt_tiers.specs.Calls.{SameDisk}
+use Rattle.silt_standing.specs.Standing.{SameDisk}
 use Rattle.silt_recovery.specs.Opening.{LeavesNoOther}
 use Rattle.silt_store_set.specs.Opening.{OpeningCause}
 use Rattle.silt_store_set.proofs.Keeps.{keeps_runs, nines}

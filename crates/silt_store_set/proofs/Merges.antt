@@ -16,11 +16,12 @@ use Rattle.silt_event.specs.declared.reply.Reply.TheVariants.{Progress, Refused}
 use Rattle.silt_merge.specs.Merging.{TakesMemory}
 use Rattle.silt_merge.specs.Rows.{key_count, merged_rows}
 use Rattle.silt_merge.specs.State.{MergeState, is_done, oldest_stores, steps_of}
-use Rattle.silt_tiers.specs.Calls.{Advances, Breaks, IsLastGeneration, Remaps, SameDisk}
+use Rattle.silt_tiers.specs.Calls.{Advances, Breaks, IsLastGeneration, Remaps}
+use Rattle.silt_standing.specs.Standing.{SameDisk}
 use Rattle.silt_tiers.specs.Conversion.{is_work}
 use Rattle.silt_tiers.specs.Merge.{EndsMerged, HasMergedEntries, IsDoneBySteps, IsNextMerge, MayLackMemory, Merges, MergesOn, full_stores, merge_progress, merge_sources, merge_turn, merged_body}
-use Rattle.silt_tiers.specs.Standing.{HasGathered, Stands}
-use Rattle.silt_tiers.specs.State.{IsMerging, TiersState, hash_region_of}
+use Rattle.silt_standing.specs.Standing.{HasGathered, Stands}
+use Rattle.silt_standing.specs.State.{IsMerging, TiersState, hash_region_of}
 use Rattle.silt_tiers.proofs.Meaning.{meaning}
 use Rattle.silt_store_set.specs.CoreState.{CoreState, Does, GathersNewKey, GathersNext, IsMergeDue, MergeGoesOn, MergeLacksMemory, has_decided, merge_due, merge_work}
 use Rattle.silt_store_set.proofs.Calls.{seen, advanced, answered, broke, refused}

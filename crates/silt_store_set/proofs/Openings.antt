@@ -10,8 +10,8 @@ use Rattle.silt_recovery.specs.Opening.{IsUnwrittenUnlessFailed, TakesUp}
 use Rattle.silt_recovery.specs.Refusals.{IsFound, IsRefusedLook}
 use Rattle.silt_recovery.specs.declared.fault.OpenError.{OpenError}
 use Rattle.silt_recovery.specs.declared.fault.OpenError.TheVariants.{NotFormatted, Damaged, Crowded, Device, NoMemory}
-use Rattle.silt_tiers.specs.Standing.{waiting_commands}
-use Rattle.silt_tiers.specs.State.{TiersState}
+use Rattle.silt_standing.specs.Standing.{waiting_commands}
+use Rattle.silt_standing.specs.State.{TiersState}
 use Rattle.silt_tiers.proofs.Meaning.{meaning}
 use Rattle.silt_store_set.specs.CoreState.{Opens, convert_work, merge_work}
 use Rattle.silt_event.specs.Events.{IsOpeningRefusal}

@@ -12,10 +12,11 @@ use Rattle.silt_log.specs.Rows.{log_rows}
 use Rattle.silt_frame.specs.Rows.{stored_row, StoredRow}
 use Rattle.silt_log.specs.State.{all_rows}
 use Rattle.silt_manifest.specs.declared.body.Body.{Body}
-use Rattle.silt_tiers.specs.Calls.{Advances, HasNoFreeLog as AllInUse, Breaks, CannotTake, IsLastGeneration, Remaps, SameDisk}
+use Rattle.silt_tiers.specs.Calls.{Advances, HasNoFreeLog as AllInUse, Breaks, CannotTake, IsLastGeneration, Remaps}
+use Rattle.silt_standing.specs.Standing.{SameDisk}
 use Rattle.silt_tiers.specs.NextLog.{IsLowestFree, next_body}
-use Rattle.silt_tiers.specs.Standing.{Stands, full_image, waiting_commands}
-use Rattle.silt_tiers.specs.State.{TiersState, region_of}
+use Rattle.silt_standing.specs.Standing.{Stands, full_image, waiting_commands}
+use Rattle.silt_standing.specs.State.{TiersState, region_of}
 use Rattle.silt_tiers.specs.RowWrite.{NeedsNext, WritesKey}
 use Rattle.silt_tiers.proofs.Meaning.{meaning}
 use Rattle.silt_event.specs.declared.event.Event.TheVariants.{Put, Delete}

@@ -6,8 +6,8 @@ use Rattle.silt_event.specs.Commands.{Command, Map}
 use Rattle.silt_disk.specs.Header.{shape_of}
 use Rattle.silt_image.specs.Meaning.{image_map, IsGood}
 use Rattle.silt_tiers.specs.Calls.{HasBegun}
-use Rattle.silt_tiers.specs.Standing.{Stands, waiting_commands}
-use Rattle.silt_tiers.specs.State.{TiersState}
+use Rattle.silt_standing.specs.Standing.{Stands, waiting_commands}
+use Rattle.silt_standing.specs.State.{TiersState}
 
 -- There are a map and a list of commands such that each image that a stop may leave stands for the map after a beginning of the list.
 pub record LeavesBegun (content : Content) (shape : Shape) : Type 0 where

@@ -3,7 +3,7 @@ use Rattle.std.specs.Prelude.{Vec, ◌≡◌, ◌≢◌, ◌⊎◌, ℕ, List, [
 use Rattle.std.specs.declared.alloc.Global.{Global}
 use Rattle.silt_disk.specs.Disk.{Restarts}
 use Rattle.silt_disk.specs.declared.disk.Disk.{Ghosts}
-use Rattle.silt_tiers.specs.Calls.{SameDisk}
+use Rattle.silt_standing.specs.Standing.{SameDisk}
 use Rattle.silt_recovery.specs.Opening.{LeavesNoOther}
 use Rattle.silt_event.specs.declared.event.Event.{Event}
 use Rattle.silt_event.specs.declared.reply.LifeReply.{LifeReply}

@@ -39,7 +39,7 @@ impl<D: Disk> Model for Core<D> {
     ghost use Rattle.std.specs.Coded.{codes};
     ghost use Rattle.silt_event.specs.Commands.{map_code};
     ghost use Rattle.silt_image.specs.Meaning.{image_map};
-    ghost use Rattle.silt_tiers.specs.Standing.{full_image, waiting_commands};
+    ghost use Rattle.silt_standing.specs.Standing.{full_image, waiting_commands};
     ghost use Rattle.silt_store_set.specs.CoreState.{CoreState, convert_work, merge_work};
     ghost use Rattle.silt_store_set.specs.CoreInvariant.{IsCore};
 
@@ -73,7 +73,7 @@ impl<D: Disk> Core<D> {
     ghost use Rattle.silt_recovery.specs.Opening.{LeavesNoOther};
     ghost use Rattle.silt_event.specs.Commands.{map_after};
     ghost use Rattle.silt_image.specs.Meaning.{StandsFor};
-    ghost use Rattle.silt_tiers.specs.Calls.{SameDisk};
+    ghost use Rattle.silt_standing.specs.Standing.{SameDisk};
     ghost use Rattle.silt_store_set.specs.CoreInvariant.{LeavesBegun};
     ghost use Rattle.silt_frame.specs.Rows.{key_cmp};
     ghost use Rattle.silt_store_set.specs.CoreState.{CoreState, Does, Runs, Opens, EntriesCause, StandsKept, map_of, MayWrite, row_event, wants_convert, wants_merge};

@@ -20,9 +20,10 @@ use Rattle.silt_event.specs.Rows.{command_of, map_of_rows}
 use Rattle.silt_log_store.specs.Findings.{fits_table}
 use Rattle.silt_event.proofs.Rows.{count_law}
 use Rattle.silt_image.proofs.Sound.{taken_law}
-use Rattle.silt_tiers.specs.State.{AreWhole, TiersState}
-use Rattle.silt_tiers.specs.Standing.{Stands, shown_stores, waiting_commands}
-use Rattle.silt_tiers.specs.Calls.{Advances, SameDisk}
+use Rattle.silt_standing.specs.State.{AreWhole, TiersState}
+use Rattle.silt_standing.specs.Standing.{Stands, shown_stores, waiting_commands}
+use Rattle.silt_tiers.specs.Calls.{Advances}
+use Rattle.silt_standing.specs.Standing.{SameDisk}
 use Rattle.silt_tiers.proofs.Named.{named_body, named_shape, own_rows, rows_with_more}
 use Rattle.silt_tiers.proofs.Facts.{active_is, base_is, has_active, rows_split}
 use Rattle.silt_tiers.proofs.Standing.{Fits, after_same, fits_stand, frozen_stay, hashed_stay, located_stays, merged_stays, named_with, rules_stay, shown_are, written_stays}

@@ -6,9 +6,10 @@ use Rattle.silt_disk.specs.Layout.{Shape}
 use Rattle.silt_event.specs.Commands.{Command, Map, map_after}
 use Rattle.silt_image.specs.Meaning.{StandsFor, image_map}
 use Rattle.silt_event.proofs.Rows.{map_after-append}
-use Rattle.silt_tiers.specs.State.{TiersState}
-use Rattle.silt_tiers.specs.Standing.{Stands, base_map, full_image, waiting_commands}
-use Rattle.silt_tiers.specs.Calls.{Advances, Breaks, HasBegun, MovesIntoBase, Remaps, SameDisk}
+use Rattle.silt_standing.specs.State.{TiersState}
+use Rattle.silt_standing.specs.Standing.{Stands, base_map, full_image, waiting_commands}
+use Rattle.silt_tiers.specs.Calls.{Advances, Breaks, HasBegun, MovesIntoBase, Remaps}
+use Rattle.silt_standing.specs.Standing.{SameDisk}
 use Rattle.silt_tiers.proofs.Facts.{base_safe, full_map}
 
 -- the disk after two calls

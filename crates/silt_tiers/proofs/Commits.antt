@@ -24,9 +24,10 @@ use Rattle.silt_image.proofs.Rows.{new_active_law, new_log_law}
 use Rattle.silt_image.proofs.Sound.{frozen_law}
 use Rattle.silt_tiers.specs.declared.next_log.NextLog.{NextLog}
 use Rattle.silt_sorted_store.specs.State.{SortedState}
-use Rattle.silt_tiers.specs.State.{AreWhole, IsHashOf, IsSettled, TiersState, oldest_log, region_of, sorted_named}
-use Rattle.silt_tiers.specs.Standing.{IsFrozen, Stands, shown_stores}
-use Rattle.silt_tiers.specs.Calls.{Advances, IsQuiet}
+use Rattle.silt_standing.specs.State.{AreWhole, IsHashOf, IsSettled, TiersState, oldest_log, region_of, sorted_named}
+use Rattle.silt_standing.specs.Standing.{IsFrozen, Stands, shown_stores}
+use Rattle.silt_tiers.specs.Calls.{Advances}
+use Rattle.silt_standing.specs.Standing.{IsQuiet}
 use Rattle.silt_tiers.specs.NextLog.{HasFrozen, IsEmptied, active_replaced, names_region}
 use Rattle.silt_tiers.specs.Succession.{MayRule, NowRules}
 use Rattle.silt_tiers.proofs.Named.{named_body, named_shape, own_rows}

@@ -11,7 +11,7 @@ use Rattle.silt_manifest.specs.Body.{all_below, has_sound_hashes, has_sound_logs
 use Rattle.silt_manifest.specs.Standing.{IsNext, ruling_slot, spare_slot}
 use Rattle.silt_manifest.specs.declared.body.Body.{Body}
 use Rattle.silt_manifest.proofs.SoundBodies.{sound_parts}
-use Rattle.silt_tiers.specs.State.{AreWhole, IsUnderWay, TiersState, hash_region_of, names_hash}
+use Rattle.silt_standing.specs.State.{AreWhole, IsUnderWay, TiersState, hash_region_of, names_hash}
 use Rattle.silt_conversion.specs.Conversion.{ConversionState}
 use Rattle.silt_tiers.specs.Conversion.{AreAllHashesNamed, EndsConversion, converted_body}
 use Rattle.silt_tiers.proofs.Counting.{all_among, at_most}

@@ -24,8 +24,8 @@ use Rattle.silt_conversion.specs.Laws.{IsTableOf}
 use Rattle.silt_conversion.proofs.Charging.{converted_charge}
 use Rattle.silt_tiers.proofs.LogReplaced.{converts}
 use Rattle.silt_conversion.proofs.Writing.{all_charged, all_due}
-use Rattle.silt_tiers.specs.State.{IsUnderWay, TiersState, oldest_log, region_of}
-use Rattle.silt_tiers.specs.Standing.{IsFrozen, Stands, base_map, shown_stores}
+use Rattle.silt_standing.specs.State.{IsUnderWay, TiersState, oldest_log, region_of}
+use Rattle.silt_standing.specs.Standing.{IsFrozen, Stands, base_map, shown_stores}
 use Rattle.silt_tiers.specs.Conversion.{converted_body}
 use Rattle.silt_tiers.proofs.Named.{named_body, named_here, named_shape, with_shape}
 use Rattle.silt_tiers.proofs.Facts.{base_is, shown_named, shown_sound}

@@ -14,8 +14,8 @@ use Rattle.silt_log.specs.Parts.{Part, part_rows}
 use Rattle.silt_manifest.specs.declared.body.Body.{Body}
 use Rattle.silt_tiers.specs.Conversion.{converted_body, oldest_rows}
 use Rattle.silt_tiers.specs.Replacements.{HasOldest, with_converted}
-use Rattle.silt_tiers.specs.Standing.{Stands, full_image, shown_stores}
-use Rattle.silt_tiers.specs.State.{TiersState, oldest_log}
+use Rattle.silt_standing.specs.Standing.{Stands, full_image, shown_stores}
+use Rattle.silt_standing.specs.State.{TiersState, oldest_log}
 use Rattle.silt_tiers.proofs.ConvertDone.{oldest, oldest_full, some_ids, way}
 use Rattle.silt_tiers.proofs.ConvertStores.{oldest_named}
 use Rattle.silt_tiers.proofs.MergeDone.{full_is}

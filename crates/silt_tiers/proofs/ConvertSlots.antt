@@ -14,9 +14,10 @@ use Rattle.silt_hash_store.specs.Slots.{hash_slot_at}
 use Rattle.silt_hash_store.proofs.Reading.{slot_inside}
 use Rattle.silt_hash_store.proofs.Elsewhere.{behind_logs}
 use Rattle.silt_merge.specs.State.{MergeState}
-use Rattle.silt_tiers.specs.State.{IsUnderWay, TiersState, names_hash, oldest_log}
-use Rattle.silt_tiers.specs.Standing.{Stands, shown_stores}
-use Rattle.silt_tiers.specs.Calls.{Advances, Breaks, Remaps, SameDisk}
+use Rattle.silt_standing.specs.State.{IsUnderWay, TiersState, names_hash, oldest_log}
+use Rattle.silt_standing.specs.Standing.{Stands, shown_stores}
+use Rattle.silt_tiers.specs.Calls.{Advances, Breaks, Remaps}
+use Rattle.silt_standing.specs.Standing.{SameDisk}
 use Rattle.silt_tiers.proofs.Named.{named_body, named_shape}
 use Rattle.silt_tiers.proofs.Facts.{active_below}
 use Rattle.silt_tiers.proofs.Elsewhere.{named_below, not_among}

@@ -17,8 +17,8 @@ use Rattle.silt_conversion.specs.declared.conversion.StepError.{StepError}
 use Rattle.silt_conversion.specs.declared.conversion.StepError.TheVariants as step_error
 use Rattle.silt_event.specs.declared.progress.Progress.{Progress}
 use Rattle.silt_event.specs.declared.progress.Progress.TheVariants.{Finished, Idle, Moved, Waiting}
-use Rattle.silt_tiers.specs.State.{AreWhole, IsUnderWay, TiersState, names_hash, oldest_log}
-use Rattle.silt_tiers.specs.Standing.{Stands}
+use Rattle.silt_standing.specs.State.{AreWhole, IsUnderWay, TiersState, names_hash, oldest_log}
+use Rattle.silt_standing.specs.Standing.{Stands}
 use Rattle.silt_tiers.specs.Calls.{Advances, Breaks, Remaps}
 use Rattle.silt_tiers.specs.Conversion.{AreAllHashesNamed, ConvertErrorCause, Converts, IsLowestFreeHash, IsNextStep, convert_turn, is_work, progress_due, refusal_of_step, written_by}
 use Rattle.silt_tiers.proofs.ConvertCounting.{hash_free, no_hash_free}

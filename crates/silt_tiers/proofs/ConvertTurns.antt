@@ -30,8 +30,8 @@ use Rattle.silt_merge.specs.State.{MergeState}
 use Rattle.silt_merge.specs.Merging.{HasMerged}
 use Rattle.silt_merge.proofs.Elsewhere.{oldest_stores_law}
 use Rattle.silt_sorted_store.specs.State.{SortedState}
-use Rattle.silt_tiers.specs.State.{AreWhole, IsHashOf, IsMerging, IsSettled, IsUnderWay, TiersState, oldest_log, region_of, sorted_named}
-use Rattle.silt_tiers.specs.Standing.{HasGathered, IsFrozen, Stands, full_image, shown_stores}
+use Rattle.silt_standing.specs.State.{AreWhole, IsHashOf, IsMerging, IsSettled, IsUnderWay, TiersState, oldest_log, region_of, sorted_named}
+use Rattle.silt_standing.specs.Standing.{HasGathered, IsFrozen, Stands, full_image, shown_stores}
 use Rattle.silt_tiers.specs.Calls.{Advances}
 use Rattle.silt_tiers.specs.Succession.{MayRule, NowRules}
 use Rattle.silt_tiers.specs.Conversion.{AreConverted, EndsConversion, HasConvertedRows, MayReplace, converted_body, oldest_replaced, oldest_rows, store_of}

@@ -8,7 +8,7 @@ use Rattle.std.proofs.lemmas.List.Folds.{list_any_at}
 use Rattle.std.proofs.lemmas.List.FromFn.{length-map-range_with_len}
 use Rattle.std.proofs.lemmas.Bool.Decides.{nat_tests}
 use Rattle.silt_disk.specs.Disk.{ChangesWithin, Content, LiesOutside, size}
-use Rattle.silt_disk.specs.Layout.{Shape, device_size, entries_len, gates_at, hash_at, hash_size, log_len, log_size, row_len, slot_at, slots_len, sorted_at, sorted_size}
+use Rattle.silt_disk.specs.Layout.{Shape, device_size, entries_len, gates_at, hash_at, hash_size, log_len, log_size, row_len, slot_at, slots_len, sorted_at}
 use Rattle.silt_disk.proofs.Regions.{next_region, regions_apart, up_least}
 use Rattle.silt_log.specs.Rows.{first_rows, log_rows, open_count, row_at, rows_from}
 use Rattle.silt_frame.specs.Rows.{has_known_kind, StoredRow, keys_of, put_count}
@@ -31,8 +31,8 @@ use Rattle.silt_merge.specs.State.{MergeState, oldest_stores}
 use Rattle.silt_merge.proofs.Elsewhere.{merged_elsewhere}
 use Rattle.silt_sorted_store.specs.State.{SortedState}
 use Rattle.silt_sorted_store.proofs.Elsewhere.{indexed_elsewhere}
-use Rattle.silt_tiers.specs.State.{IsHashOf, IsMerging, IsUnderWay, TiersState, hash_region_of, oldest_log, region_of}
-use Rattle.silt_tiers.specs.Standing.{HasGathered, IsFrozen, IsLocated, Stands, shown_stores}
+use Rattle.silt_standing.specs.State.{IsHashOf, IsMerging, IsUnderWay, TiersState, hash_region_of, oldest_log, region_of}
+use Rattle.silt_standing.specs.Standing.{HasGathered, IsFrozen, IsLocated, Stands, shown_stores}
 use Rattle.silt_tiers.proofs.Facts.{shown_named}
 use Rattle.silt_tiers.proofs.Named.{named_body, named_shape}
 
@@ -62,14 +62,7 @@ slots_behind_log shape region hash below = inl (log_ends (log_size shape) shape.
 pub slots_behind_manifest : (shape : Shape) (hash slot : ℕ) → slot < 2 → LiesOutside (hash_at shape hash) (slots_len shape) (slot_at slot) 4096
 slots_behind_manifest shape hash slot below = inl (omega (arith, below))
 
--- the entries of each sorted region lie behind the logs
-pub log_ends_before : (size logs region hashes rest : ℕ) → region < logs → 12288 + region * size + size ≤ 12288 + logs * size + hashes + rest
-log_ends_before size logs region hashes rest below = omega (arith, next_region region logs size below)
-
-pub entries_behind_log : (shape : Shape) (region sorted : ℕ) → region < shape.logs → LiesOutside (sorted_at shape sorted) (entries_len shape) (gates_at shape region) (log_size shape)
-entries_behind_log shape region sorted below = inl (log_ends_before (log_size shape) shape.logs region (shape.hashes * hash_size shape) (sorted * sorted_size shape) below)
-
--- and behind the manifest
+-- entries lie behind the manifest
 pub entries_behind_manifest : (shape : Shape) (sorted slot : ℕ) → slot < 2 → LiesOutside (sorted_at shape sorted) (entries_len shape) (slot_at slot) 4096
 entries_behind_manifest shape sorted slot below = inl (omega (arith, below))
 

@@ -7,8 +7,8 @@ use Rattle.silt_log.specs.State.{LogState}
 use Rattle.silt_log_store.specs.State.{IsLogStore, LogStoreState}
 use Rattle.silt_log_store.specs.Calls.{EmptiesStore}
 use Rattle.silt_tiers.specs.declared.next_log.NextLog.{NextLog}
-use Rattle.silt_tiers.specs.State.{TiersState}
-use Rattle.silt_tiers.specs.Standing.{Stands}
+use Rattle.silt_standing.specs.State.{TiersState}
+use Rattle.silt_standing.specs.Standing.{Stands}
 use Rattle.silt_tiers.specs.Calls.{Advances}
 use Rattle.silt_tiers.specs.NextLog.{IsEmptied, IsNextLog}
 use Rattle.silt_tiers.proofs.Freezes.{cleared}

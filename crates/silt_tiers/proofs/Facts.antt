@@ -16,8 +16,8 @@ use Rattle.silt_image.specs.Stores.{Stores, image_stores}
 use Rattle.silt_image.specs.Meaning.{HasActive, IsSound, StandsFor, image_charge, image_map, rows_of, with_log_rows}
 use Rattle.silt_event.specs.Rows.{command_of, map_of_rows}
 use Rattle.silt_image.proofs.Verdict.{rows_law, stands_law}
-use Rattle.silt_tiers.specs.State.{TiersState}
-use Rattle.silt_tiers.specs.Standing.{Stands, base_map, current_map, full_image, shown_stores}
+use Rattle.silt_standing.specs.State.{TiersState}
+use Rattle.silt_standing.specs.Standing.{Stands, base_map, current_map, full_image, shown_stores}
 use Rattle.silt_tiers.specs.Laws.{IsGoodWith}
 use Rattle.silt_tiers.proofs.Named.{active_named, map_with_more, named_body, named_here, named_shape, region_torn, rows_with_more, sound_settled, stands_for, stores_map, with_body, with_shape}
 

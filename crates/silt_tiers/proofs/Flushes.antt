@@ -17,9 +17,10 @@ use Rattle.silt_image.specs.Stores.{Stores, image_stores}
 use Rattle.silt_image.specs.Meaning.{IsSound, image_map, rows_of, with_log_rows}
 use Rattle.silt_event.specs.Rows.{command_of, map_of_rows}
 use Rattle.silt_image.proofs.Rows.{again_law}
-use Rattle.silt_tiers.specs.State.{TiersState}
-use Rattle.silt_tiers.specs.Standing.{Stands, full_image, shown_stores, waiting_commands}
-use Rattle.silt_tiers.specs.Calls.{Advances, Breaks, IsQuiet, Remaps, SameDisk}
+use Rattle.silt_standing.specs.State.{TiersState}
+use Rattle.silt_standing.specs.Standing.{Stands, full_image, shown_stores, waiting_commands}
+use Rattle.silt_tiers.specs.Calls.{Advances, Breaks, Remaps}
+use Rattle.silt_standing.specs.Standing.{IsQuiet, SameDisk}
 use Rattle.silt_tiers.proofs.Named.{map_with_more, named_body, named_shape, rows_with_more, sound_some, with_body, with_shape}
 use Rattle.silt_tiers.proofs.Facts.{active_is, all_sound, base_is, full_map, has_active, map_with_rows, rows_split, stands_with_rows, torn_active}
 use Rattle.silt_tiers.proofs.Standing.{Fits, fits_stand, frozen_stay, full_with, hashed_stay, located_stays, merged_stays, named_with, rules_stay, shown_are, written_stays}

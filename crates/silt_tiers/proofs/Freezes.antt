@@ -27,13 +27,15 @@ use Rattle.silt_event.specs.Rows.{command_of, map_of_rows}
 use Rattle.silt_image.proofs.Named.{whole_law}
 use Rattle.silt_image.proofs.Rows.{unnamed_law}
 use Rattle.silt_merge.specs.State.{MergeState}
-use Rattle.silt_tiers.specs.State.{IsMerging, IsUnderWay, TiersState, oldest_log}
-use Rattle.silt_tiers.specs.Standing.{HasGathered, Stands, base_map, current_map, full_image, shown_stores, waiting_commands}
-use Rattle.silt_tiers.specs.Calls.{Advances, IsQuiet, SameDisk}
+use Rattle.silt_standing.specs.State.{IsMerging, IsUnderWay, TiersState, oldest_log}
+use Rattle.silt_standing.specs.Standing.{HasGathered, Stands, base_map, current_map, full_image, shown_stores, waiting_commands}
+use Rattle.silt_tiers.specs.Calls.{Advances}
+use Rattle.silt_standing.specs.Standing.{IsQuiet, SameDisk}
 use Rattle.silt_tiers.specs.NextLog.{names_region}
 use Rattle.silt_tiers.proofs.Named.{named_body, named_shape, region_torn}
 use Rattle.silt_tiers.proofs.Facts.{active_size, base_is, shown_named}
-use Rattle.silt_tiers.proofs.Elsewhere.{all_frozen_elsewhere, all_hashed_elsewhere, entries_behind_log, entries_behind_manifest, indexed_same, located_elsewhere, merged_all_elsewhere, not_among, outside_other, outside_slot, slots_behind_log, slots_behind_manifest, written_all_elsewhere}
+use Rattle.silt_tiers.proofs.Elsewhere.{all_frozen_elsewhere, all_hashed_elsewhere, entries_behind_manifest, indexed_same, located_elsewhere, merged_all_elsewhere, not_among, outside_other, outside_slot, slots_behind_log, slots_behind_manifest, written_all_elsewhere}
+use Rattle.silt_standing.proofs.Places.{entries_behind_log}
 use Rattle.silt_tiers.proofs.Standing.{Fits, fits_stand, shown_are}
 use Rattle.silt_tiers.proofs.Wholes.{whole_with}
 

@@ -6,7 +6,7 @@ use Rattle.silt_manifest.specs.Body.{is_well_formed}
 use Rattle.silt_manifest.specs.Standing.{IsNext, ruling_slot, spare_slot}
 use Rattle.silt_manifest.specs.declared.body.Body.{Body}
 use Rattle.silt_tiers.specs.declared.next_log.NextLog.{NextLog}
-use Rattle.silt_tiers.specs.State.{AreWhole, TiersState, region_of}
+use Rattle.silt_standing.specs.State.{AreWhole, TiersState, region_of}
 use Rattle.silt_tiers.specs.NextLog.{AreAllNamed, IsLowestFree, IsNextLog, empty_store, next_body}
 use Rattle.silt_tiers.specs.Calls.{HasNoFreeLog}
 use Rattle.silt_tiers.proofs.Counting.{all_in_use, next_sound, one_to_spare, sound_logs}

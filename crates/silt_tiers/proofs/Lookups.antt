@@ -42,8 +42,8 @@ use Rattle.silt_sorted_store.specs.OnlyRow.{HasNoEntry, HasOnlyValue, IsOnlyRow}
 use Rattle.silt_sorted_store.proofs.Entries.{entries_law}
 use Rattle.silt_tiers.specs.declared.lookup.Holder.{Holder}
 use Rattle.silt_tiers.specs.declared.lookup.Holder.TheVariants.{Active, Frozen, Hashed}
-use Rattle.silt_tiers.specs.State.{TiersState, hash_region_of, region_of}
-use Rattle.silt_tiers.specs.Standing.{Stands, current_map, shown_stores, waiting_commands}
+use Rattle.silt_standing.specs.State.{TiersState, hash_region_of, region_of}
+use Rattle.silt_standing.specs.Standing.{Stands, current_map, shown_stores, waiting_commands}
 use Rattle.silt_tiers.specs.Entries.{hashed_rows}
 use Rattle.silt_tiers.specs.Lookup.{FindsFrozen, FindsHashed, FindsNewest, frozen_at, hash_store_at, hash_rows_of, row_in, value_found}
 use Rattle.silt_tiers.proofs.Facts.{active_rows, base_is, rows_split, shown_sound}

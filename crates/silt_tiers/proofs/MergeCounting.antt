@@ -10,7 +10,7 @@ use Rattle.silt_manifest.specs.declared.body.Body.{Body}
 use Rattle.silt_merge.specs.State.{MergeState}
 use Rattle.silt_sorted_store.specs.Index.{IndexedState}
 use Rattle.silt_tiers.specs.Merge.{EndsMerge, merged_body}
-use Rattle.silt_tiers.specs.State.{AreWhole, IsMerging, TiersState}
+use Rattle.silt_standing.specs.State.{AreWhole, IsMerging, TiersState}
 use Rattle.silt_tiers.proofs.ConvertCounting.{below_first, distinct_first, hash_count, sound_hashes}
 
 -- the body with other entries, and without the oldest hash stores, is well formed

@@ -29,8 +29,8 @@ use Rattle.silt_sorted_store.specs.Index.{IndexedState, IsIndexOf}
 use Rattle.silt_sorted_store.proofs.Entries.{entry_count}
 use Rattle.silt_tiers.specs.Merge.{EndsMerge, IsDoneBySteps, charge_without, merge_sources, merged_body, puts_in}
 use Rattle.silt_tiers.specs.Merge as spec
-use Rattle.silt_tiers.specs.State.{IsMerging, TiersState}
-use Rattle.silt_tiers.specs.Standing.{HasGathered, Stands, base_map, full_image, shown_stores}
+use Rattle.silt_standing.specs.State.{IsMerging, TiersState}
+use Rattle.silt_standing.specs.Standing.{HasGathered, Stands, base_map, full_image, shown_stores}
 use Rattle.silt_tiers.proofs.Facts.{base_is, full_stores, shown_sound}
 use Rattle.silt_tiers.proofs.MergeStores.{sound_with, sources_named, sources_puts, sources_with}
 use Rattle.silt_tiers.proofs.Named.{named_body, named_here, named_shape, with_body, with_shape}

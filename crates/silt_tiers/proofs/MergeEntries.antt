@@ -11,12 +11,14 @@ use Rattle.silt_image.specs.Stores.{Stores, image_stores}
 use Rattle.silt_image.proofs.Frame.{free_sorted_law, pieces_apart}
 use Rattle.silt_merge.specs.State.{MergeState}
 use Rattle.silt_sorted_store.specs.State.{SortedState}
-use Rattle.silt_tiers.specs.State.{IsMerging, IsUnderWay, TiersState}
-use Rattle.silt_tiers.specs.Standing.{HasGathered, Stands, shown_stores}
-use Rattle.silt_tiers.specs.Calls.{Advances, Breaks, Remaps, SameDisk}
+use Rattle.silt_standing.specs.State.{IsMerging, IsUnderWay, TiersState}
+use Rattle.silt_standing.specs.Standing.{HasGathered, Stands, shown_stores}
+use Rattle.silt_tiers.specs.Calls.{Advances, Breaks, Remaps}
+use Rattle.silt_standing.specs.Standing.{SameDisk}
 use Rattle.silt_tiers.proofs.Named.{named_body, named_shape}
 use Rattle.silt_tiers.proofs.Facts.{active_below}
-use Rattle.silt_tiers.proofs.Elsewhere.{hash_below, log_ends_before, named_below, written_all_elsewhere}
+use Rattle.silt_tiers.proofs.Elsewhere.{hash_below, named_below, written_all_elsewhere}
+use Rattle.silt_standing.proofs.Places.{log_ends_before}
 use Rattle.silt_tiers.proofs.Chains.{advances_break, advances_remap}
 use Rattle.silt_tiers.proofs.Freezes.{IsApart, IsOutsideConversion, stays_with}
 

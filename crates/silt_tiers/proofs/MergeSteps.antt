@@ -15,8 +15,8 @@ use Rattle.silt_merge.specs.declared.merge.StepError.TheVariants as step_error
 use Rattle.silt_sorted_store.specs.State.{SortedState}
 use Rattle.silt_event.specs.declared.progress.Progress.{Progress}
 use Rattle.silt_event.specs.declared.progress.Progress.TheVariants.{Finished, Idle, Moved}
-use Rattle.silt_tiers.specs.State.{AreWhole, IsHashOf, IsMerging, TiersState}
-use Rattle.silt_tiers.specs.Standing.{HasGathered, Stands}
+use Rattle.silt_standing.specs.State.{AreWhole, IsHashOf, IsMerging, TiersState}
+use Rattle.silt_standing.specs.Standing.{HasGathered, Stands}
 use Rattle.silt_tiers.specs.Calls.{Advances, Breaks, Remaps}
 use Rattle.silt_tiers.specs.Conversion.{is_work}
 use Rattle.silt_tiers.specs.Merge.{IsNextMerge, MayLackMemory, MergeErrorCause, Merges, merge_progress, merge_turn, refusal_of_step}

@@ -21,7 +21,7 @@ use Rattle.silt_merge.specs.State.{oldest_stores}
 use Rattle.silt_tiers.proofs.StoresReplaced.{merges}
 use Rattle.silt_sorted_store.proofs.Elsewhere.{entry_bytes, entry_more}
 use Rattle.silt_tiers.specs.Merge.{merge_sources, merged_body, puts_in}
-use Rattle.silt_tiers.specs.State.{hash_region_of, sorted_named}
+use Rattle.silt_standing.specs.State.{hash_region_of, sorted_named}
 
 -- the oldest of the hash regions that a body names are those of the oldest hash stores
 pub taken_named : (shape : Shape) (image ids : List ℕ) (stores : List HashState) (count : ℕ) → map hash_region_of stores ≡ ids

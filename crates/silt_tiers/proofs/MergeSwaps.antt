@@ -5,7 +5,7 @@ use Rattle.silt_hash_store.specs.State.{HashState}
 use Rattle.silt_manifest.specs.Standing.{ManifestState}
 use Rattle.silt_merge.specs.State.{MergeState, oldest_stores}
 use Rattle.silt_sorted_store.specs.Index.{IndexedState}
-use Rattle.silt_tiers.specs.State.{AreWhole, TiersState}
+use Rattle.silt_standing.specs.State.{AreWhole, TiersState}
 use Rattle.silt_tiers.specs.Merge.{MayStandFor, charge_without, puts_in, sorted_replaced}
 
 -- a merge that is under way is the one that was

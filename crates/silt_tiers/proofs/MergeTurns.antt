@@ -22,8 +22,8 @@ use Rattle.silt_merge.specs.State.{MergeState}
 use Rattle.silt_sorted_store.specs.Index.{IndexedState}
 use Rattle.silt_sorted_store.specs.State.{IsHeldSorted, SortedState}
 use Rattle.silt_sorted_store.proofs.Elsewhere.{indexed_elsewhere}
-use Rattle.silt_tiers.specs.State.{AreWhole, IsHashOf, IsMerging, IsSettled, IsUnderWay, TiersState, hash_region_of, sorted_named}
-use Rattle.silt_tiers.specs.Standing.{IsLocated, Stands, shown_stores}
+use Rattle.silt_standing.specs.State.{AreWhole, IsHashOf, IsMerging, IsSettled, IsUnderWay, TiersState, hash_region_of, sorted_named}
+use Rattle.silt_standing.specs.Standing.{IsLocated, Stands, shown_stores}
 use Rattle.silt_tiers.specs.Calls.{Advances}
 use Rattle.silt_tiers.specs.Succession.{MayRule, NowRules}
 use Rattle.silt_tiers.specs.Merge.{EndsMerge, EndsMerged, HasMergedEntries, MayStandFor, charge_without, merge_sources, merged_body, sorted_replaced}

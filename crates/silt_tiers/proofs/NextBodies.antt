@@ -10,8 +10,8 @@ use Rattle.silt_manifest.specs.declared.body.Body.{Body}
 use Rattle.silt_image.specs.Meaning.{StandsFor, image_map, rows_of}
 use Rattle.silt_event.specs.Rows.{map_of_rows}
 use Rattle.silt_image.specs.Stores.{Stores, image_stores}
-use Rattle.silt_tiers.specs.State.{TiersState}
-use Rattle.silt_tiers.specs.Standing.{Stands, base_map, shown_stores, waiting_commands}
+use Rattle.silt_standing.specs.State.{TiersState}
+use Rattle.silt_standing.specs.Standing.{Stands, base_map, shown_stores, waiting_commands}
 use Rattle.silt_tiers.specs.Calls.{Advances, Breaks, Remaps}
 use Rattle.silt_tiers.specs.Succession.{MayRule, NowRules}
 use Rattle.silt_tiers.proofs.Facts.{active_is, base_is, base_stands}

@@ -9,8 +9,8 @@ use Rattle.silt_log.specs.Calls.{KeepsRows}
 use Rattle.silt_log.specs.State.{waiting_rows}
 use Rattle.silt_log.proofs.Waiting.{waiting_kept}
 use Rattle.silt_manifest.specs.Standing.{spare_slot}
-use Rattle.silt_tiers.specs.State.{TiersState, oldest_log}
-use Rattle.silt_tiers.specs.Standing.{HasGathered, IsFrozen, IsLocated, Stands}
+use Rattle.silt_standing.specs.State.{TiersState, oldest_log}
+use Rattle.silt_standing.specs.Standing.{HasGathered, IsFrozen, IsLocated, Stands}
 use Rattle.silt_tiers.proofs.Elsewhere.{all_frozen_elsewhere, all_hashed_elsewhere, located_elsewhere, merged_all_elsewhere, written_all_elsewhere}
 use Rattle.silt_tiers.proofs.Freezes.{IsApart, below_two, slot_apart, slot_before_conversion, slot_before_merge}
 use Rattle.silt_tiers.proofs.Turns.{active_kept}

@@ -15,12 +15,13 @@ use Rattle.silt_image.specs.Stores.{Stores, image_stores}
 use Rattle.silt_image.specs.Meaning.{IsSound, rows_of, with_log_rows}
 use Rattle.silt_manifest.specs.Standing.{Rules}
 use Rattle.silt_manifest.proofs.Laws.{rules_elsewhere}
-use Rattle.silt_tiers.specs.State.{AreWhole, TiersState, oldest_log}
+use Rattle.silt_standing.specs.State.{AreWhole, TiersState, oldest_log}
 use Rattle.silt_merge.specs.State.{MergeState}
-use Rattle.silt_tiers.specs.Standing.{HasGathered, IsFrozen, IsLocated, Stands, shown_stores}
+use Rattle.silt_standing.specs.Standing.{HasGathered, IsFrozen, IsLocated, Stands, shown_stores}
 use Rattle.silt_tiers.proofs.Named.{named_here}
 use Rattle.silt_tiers.proofs.Facts.{active_below, full_torn, torn_active}
-use Rattle.silt_tiers.proofs.Elsewhere.{all_frozen_elsewhere, all_hashed_elsewhere, entries_behind_log, located_elsewhere, merged_all_elsewhere, not_active, outside_other, slots_behind_log, written_all_elsewhere}
+use Rattle.silt_tiers.proofs.Elsewhere.{all_frozen_elsewhere, all_hashed_elsewhere, located_elsewhere, merged_all_elsewhere, not_active, outside_other, slots_behind_log, written_all_elsewhere}
+use Rattle.silt_standing.proofs.Places.{entries_behind_log}
 
 -- the stores that are shown are those that all images have
 pub shown_are : (content : Content) (s : TiersState) (t : Stores) → t.shape ≡ s.manifest.shape → t.body ≡ s.manifest.ruling → LeavesOnly content (λ image. image_stores image ≡ Ok t) → IsTrue content.honest → shown_stores content s ≡ t

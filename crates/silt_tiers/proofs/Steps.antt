@@ -4,7 +4,7 @@ use Rattle.silt_disk.specs.Disk.{Content}
 use Rattle.silt_log_store.specs.State.{LogStoreState}
 use Rattle.silt_manifest.specs.Standing.{ManifestState}
 use Rattle.silt_tiers.specs.declared.next_log.NextLog.{NextLog}
-use Rattle.silt_tiers.specs.State.{TiersState}
+use Rattle.silt_standing.specs.State.{TiersState}
 use Rattle.silt_tiers.specs.Calls.{StaysBehind}
 use Rattle.silt_tiers.specs.NextLog.{HasFrozen, IsLowestFree, IsNextLog, empty_store, next_body}
 

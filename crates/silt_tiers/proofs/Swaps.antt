@@ -7,7 +7,7 @@ use Rattle.silt_log_store.specs.State.{LogStoreState}
 use Rattle.silt_conversion.specs.Conversion.{ConversionState}
 use Rattle.silt_hash_store.specs.State.{HashState, IsHeldHash}
 use Rattle.silt_manifest.specs.Standing.{ManifestState}
-use Rattle.silt_tiers.specs.State.{AreWhole, TiersState, oldest_log}
+use Rattle.silt_standing.specs.State.{AreWhole, TiersState, oldest_log}
 use Rattle.silt_tiers.specs.Conversion.{MayReplace, oldest_replaced, store_of}
 
 -- a list with an element put in front

@@ -9,9 +9,10 @@ use Rattle.silt_frame.specs.Rows.{StoredRow, keys_of}
 use Rattle.silt_log.specs.State.{all_rows}
 use Rattle.silt_log.proofs.Elsewhere.{all_count}
 use Rattle.silt_tiers.specs.declared.next_log.NextLog.{NextLog}
-use Rattle.silt_tiers.specs.State.{TiersState}
-use Rattle.silt_tiers.specs.Standing.{Stands, base_map, waiting_commands}
-use Rattle.silt_tiers.specs.Calls.{Advances, CannotTake, MovesIntoBase, SameDisk}
+use Rattle.silt_standing.specs.State.{TiersState}
+use Rattle.silt_standing.specs.Standing.{Stands, base_map, waiting_commands}
+use Rattle.silt_tiers.specs.Calls.{Advances, CannotTake, MovesIntoBase}
+use Rattle.silt_standing.specs.Standing.{SameDisk}
 use Rattle.silt_tiers.specs.NextLog.{HasFrozen, IsNextLog}
 use Rattle.silt_tiers.specs.RowWrite.{HasPlace, NeedsNext, TurnsFor}
 use Rattle.silt_tiers.proofs.Chains.{honest_after}

@@ -14,9 +14,10 @@ use Rattle.silt_event.specs.Commands.{Map, map_after}
 use Rattle.silt_image.specs.Meaning.{StandsFor, image_map, rows_of}
 use Rattle.silt_event.specs.Rows.{command_of, map_of_rows}
 use Rattle.silt_image.proofs.Frame.{manifest_law}
-use Rattle.silt_tiers.specs.State.{TiersState}
-use Rattle.silt_tiers.specs.Standing.{Stands, base_map, full_image, shown_stores, waiting_commands}
-use Rattle.silt_tiers.specs.Calls.{HasBegun, IsQuiet}
+use Rattle.silt_standing.specs.State.{TiersState}
+use Rattle.silt_standing.specs.Standing.{Stands, base_map, full_image, shown_stores, waiting_commands}
+use Rattle.silt_tiers.specs.Calls.{HasBegun}
+use Rattle.silt_standing.specs.Standing.{IsQuiet}
 use Rattle.silt_tiers.proofs.Named.{named_body, named_here, named_shape}
 use Rattle.silt_tiers.proofs.Facts.{full_map, opened_map}
 use Rattle.silt_tiers.proofs.Elsewhere.{outside_slot}

@@ -1,5 +1,5 @@
 -- The stores as their record.
-use Rattle.silt_tiers.specs.State.{TiersState}
+use Rattle.silt_standing.specs.State.{TiersState}
 use Rattle.silt_tiers.specs.declared.tiers.Tiers.TheInside.{Inside}
 
 -- what the stores are seen as

@@ -25,8 +25,8 @@ use Rattle.silt_sorted_store.specs.OnlyRow.{HasNoEntry, HasOnlyValue}
 use Rattle.silt_sorted_store.specs.State.{entries_of}
 use Rattle.silt_tiers.specs.declared.lookup.Holder.{Holder}
 use Rattle.silt_tiers.specs.declared.lookup.Holder.TheVariants.{Active, Frozen, Hashed}
-use Rattle.silt_tiers.specs.State.{TiersState}
-use Rattle.silt_tiers.specs.Standing.{Stands, current_map}
+use Rattle.silt_standing.specs.State.{TiersState}
+use Rattle.silt_standing.specs.Standing.{Stands, current_map}
 use Rattle.silt_tiers.specs.Lookup.{FindsFrozen, FindsHashed, FindsNewest, IsItsValue, frozen_at, hash_store_at, hash_rows_of, row_in}
 use Rattle.silt_tiers.proofs.Lookups.{entries_sound, found_active, found_frozen, found_hashed, found_nowhere, found_value, past_hashed}
 

@@ -10,7 +10,7 @@ use Rattle.silt_merge.specs.State.{MergeState}
 use Rattle.silt_log_store.specs.State.{LogStoreState}
 use Rattle.silt_manifest.specs.Standing.{ManifestState}
 use Rattle.silt_manifest.specs.declared.body.Body.{Body}
-use Rattle.silt_tiers.specs.State.{AreWhole, IsHashOf, IsMerging, IsSettled, IsUnderWay, TiersState, oldest_log, sorted_named}
+use Rattle.silt_standing.specs.State.{AreWhole, IsHashOf, IsMerging, IsSettled, IsUnderWay, TiersState, oldest_log, sorted_named}
 
 -- ---- the oldest log
 

@@ -3,9 +3,10 @@ use Rattle.std.proofs.Common.{◌≡◌, ◌+◌, ◌%◌, ◌^◌, ℕ, List, [
 use Rattle.silt_disk.specs.Disk.{CountsFault}
 use Rattle.silt_disk.specs.declared.disk.Disk.{Ghosts}
 use Rattle.silt_event.specs.Commands.{Command}
-use Rattle.silt_tiers.specs.State.{TiersState}
-use Rattle.silt_tiers.specs.Standing.{Stands}
-use Rattle.silt_tiers.specs.Calls.{Advances, BreaksOff, SameDisk, Works}
+use Rattle.silt_standing.specs.State.{TiersState}
+use Rattle.silt_standing.specs.Standing.{Stands}
+use Rattle.silt_tiers.specs.Calls.{Advances, BreaksOff, Works}
+use Rattle.silt_standing.specs.Standing.{SameDisk}
 use Rattle.silt_tiers.proofs.Chains.{advances_break, advances_remap, advances_trans, breaks_after, remaps_trans, same_trans, stays_still}
 use Rattle.silt_tiers.proofs.Exits.{on_ok}
 

@@ -2,19 +2,14 @@
 use Rattle.std.specs.Prelude.{◌≡◌, ◌+◌, ◌^◌, ◌-◌, ◌⊎◌, ℕ, IsTrue, List, [], ◌∷◌, ◌++◌, length, Some, None, Result, OnOk}
 use Rattle.std.specs.FinMap.{get}
 use Rattle.silt_cuckoo.specs.Index.{index_of_keys}
-use Rattle.silt_disk.specs.Disk.{Content, CountsFault, LeavesOnly, size}
+use Rattle.silt_disk.specs.Disk.{Content, CountsFault, LeavesOnly}
 use Rattle.silt_disk.specs.Layout.{Shape}
 use Rattle.silt_disk.specs.declared.disk.Disk.{Ghosts}
 use Rattle.silt_event.specs.Commands.{Command, Map, map_after, Begins}
 use Rattle.silt_image.specs.Meaning.{StandsFor, image_map}
 use Rattle.silt_frame.specs.Rows.{keys_of, StoredRow}
-use Rattle.silt_tiers.specs.State.{TiersState}
-use Rattle.silt_tiers.specs.Standing.{Stands, base_map, current_map, full_image, waiting_commands}
-
--- the disk is as long and as honest as before
-pub record SameDisk (old new : Content) : Type 0 where
-  pub size : size new ≡ size old
-  pub honest : new.honest ≡ old.honest
+use Rattle.silt_standing.specs.State.{TiersState}
+use Rattle.silt_standing.specs.Standing.{SameDisk, Stands, base_map, current_map, full_image, waiting_commands}
 
 -- but for the active log and the charge all is as it was in memory
 pub record StaysBehind (before after : TiersState) : Type 0 where
@@ -74,11 +69,6 @@ pub record BreaksOff {D F : Type 0} (facts : Ghosts D F) (old new : D) (before a
   pub breaks : Breaks (facts.content old) (facts.content new) before
   -- the full image stands for its map of before
   pub map : Remaps [] (facts.content old) (facts.content new) before after
-
--- no command waits
-pub record IsQuiet (content : Content) (s : TiersState) : Type 0 where
-  pub settled : s.active.log.settled ≡ s.active.log.used
-  pub none_wait : waiting_commands content s ≡ []
 
 -- a lookup of a key: its value, or none
 abbrev pub Finds : Content → TiersState → List ℕ → List ℕ → Type 0

@@ -18,9 +18,9 @@ use Rattle.silt_tiers.specs.declared.conversion.ConvertError.{ConvertError}
 use Rattle.silt_tiers.specs.declared.conversion.ConvertError.TheVariants.{Spent, NoMemory, Read, Write}
 use Rattle.silt_event.specs.declared.progress.Progress.{Progress}
 use Rattle.silt_event.specs.declared.progress.Progress.TheVariants.{Idle, Waiting, Moved, Finished}
-use Rattle.silt_tiers.specs.State.{AreWhole, TiersState, names_hash, oldest_log}
+use Rattle.silt_standing.specs.State.{AreWhole, TiersState, names_hash, oldest_log}
 use Rattle.silt_tiers.specs.Calls.{BreaksOff, IsLastGeneration}
-use Rattle.silt_tiers.specs.Standing.{full_image}
+use Rattle.silt_standing.specs.Standing.{full_image}
 
 -- the next progress, with so many frozen logs, hash stores and hash regions, where so many of all slots are written: none where no
 -- conversion is under way

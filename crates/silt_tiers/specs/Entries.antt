@@ -10,7 +10,7 @@ use Rattle.silt_event.specs.Rows.{command_of}
 use Rattle.silt_log.specs.Parts.{oldest_first}
 use Rattle.silt_frame.specs.Rows.{has_known_kind, StoredRow}
 use Rattle.silt_tiers.specs.Lookup.{AreEntriesOf, hash_rows_of}
-use Rattle.silt_tiers.specs.State.{TiersState}
+use Rattle.silt_standing.specs.State.{TiersState}
 
 -- entries that were those of a map are those of the map after these rows
 abbrev pub DoesRows : List StoredRow → BTreeMap Key (List ℕ) → BTreeMap Key (List ℕ) → Type 0

@@ -8,8 +8,8 @@ use Rattle.silt_log.specs.Rows.{log_rows}
 use Rattle.silt_log.specs.State.{all_rows}
 use Rattle.silt_manifest.specs.declared.body.Body.{Body}
 use Rattle.silt_tiers.specs.Merge.{IsDoneBySteps}
-use Rattle.silt_tiers.specs.State.{TiersState}
-use Rattle.silt_tiers.specs.Standing.{Stands, base_map, current_map, full_image}
+use Rattle.silt_standing.specs.State.{TiersState}
+use Rattle.silt_standing.specs.Standing.{Stands, base_map, current_map, full_image}
 
 -- a good image of this shape, in which this body rules, with so many puts
 pub record IsGoodWith (shape : Shape) (body : Body) (charge : ℕ) (image : List ℕ) : Type 0 where

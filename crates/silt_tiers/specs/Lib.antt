@@ -1,6 +1,4 @@
 pub mod Replacements
-pub mod State
-pub mod Standing
 pub mod Calls
 pub mod Lookup
 pub mod Entries

@@ -24,8 +24,8 @@ use Rattle.silt_tiers.specs.declared.lookup.Holder.TheVariants.{Active, Frozen, 
 use Rattle.silt_tiers.specs.declared.entries.EntriesError.{EntriesError}
 use Rattle.silt_tiers.specs.declared.entries.EntriesError.TheVariants.{Device, NoMemory}
 use Rattle.silt_sorted_store.specs.State.{entries_of}
-use Rattle.silt_tiers.specs.State.{TiersState}
-use Rattle.silt_tiers.specs.Standing.{current_map}
+use Rattle.silt_standing.specs.State.{TiersState}
+use Rattle.silt_standing.specs.Standing.{current_map}
 
 -- the frozen log of this number, the newest first
 abbrev pub frozen_at : TiersState → ℕ → LogStoreState

@@ -20,9 +20,9 @@ use Rattle.silt_tiers.specs.declared.merge.MergeError.{MergeError}
 use Rattle.silt_tiers.specs.declared.merge.MergeError.TheVariants.{Spent, NoMemory, Read, Write}
 use Rattle.silt_tiers.specs.Calls.{BreaksOff, IsLastGeneration}
 use Rattle.silt_tiers.specs.Conversion.{is_work}
-use Rattle.silt_tiers.specs.Standing.{Stands, full_image}
+use Rattle.silt_standing.specs.Standing.{Stands, full_image}
 use Rattle.silt_sorted_store.specs.Index.{HasIndex, IndexedState}
-use Rattle.silt_tiers.specs.State.{AreWhole, TiersState}
+use Rattle.silt_standing.specs.State.{AreWhole, TiersState}
 
 -- the next progress, with so many hash stores, where a merge under way has decided all keys or not: none where no merge is under way
 abbrev pub merge_progress : ℕ → Option Bool → Progress

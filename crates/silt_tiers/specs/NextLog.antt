@@ -11,8 +11,9 @@ use Rattle.silt_manifest.specs.declared.body.Body.{Body}
 use Rattle.silt_tiers.specs.declared.next_log.NextLog.{NextLog}
 use Rattle.silt_tiers.specs.declared.next_log.NoNextLog.{NoNextLog}
 use Rattle.silt_tiers.specs.declared.next_log.NoNextLog.TheVariants.{NoRoom, Spent, NoMemory}
-use Rattle.silt_tiers.specs.State.{TiersState}
-use Rattle.silt_tiers.specs.Calls.{HasNoFreeLog, IsLastGeneration, IsQuiet}
+use Rattle.silt_standing.specs.State.{TiersState}
+use Rattle.silt_tiers.specs.Calls.{HasNoFreeLog, IsLastGeneration}
+use Rattle.silt_standing.specs.Standing.{IsQuiet}
 
 -- a log of the body has this region
 abbrev pub names_region : Body → ℕ → Bool

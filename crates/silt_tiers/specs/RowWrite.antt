@@ -6,8 +6,8 @@ use Rattle.silt_event.specs.Commands.{Command, WaitsAlone, WaitsBehind}
 use Rattle.silt_log.specs.State.{all_rows}
 use Rattle.silt_tiers.specs.declared.row_write.WriteError.{WriteError}
 use Rattle.silt_tiers.specs.declared.row_write.WriteError.TheVariants.{Read, Write, NoRoom, Spent, NoMemory}
-use Rattle.silt_tiers.specs.State.{TiersState}
-use Rattle.silt_tiers.specs.Standing.{base_map, waiting_commands}
+use Rattle.silt_standing.specs.State.{TiersState}
+use Rattle.silt_standing.specs.Standing.{base_map, waiting_commands}
 use Rattle.silt_tiers.specs.Calls.{BreaksOff, CannotTake, HasNoFreeLog, IsLastGeneration}
 use Rattle.silt_tiers.specs.NextLog.{IsLowestFree, next_body}
 

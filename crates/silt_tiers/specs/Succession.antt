@@ -8,9 +8,9 @@ use Rattle.silt_image.specs.Stores.{Stores, stores_named}
 use Rattle.silt_manifest.specs.Body.{is_well_formed}
 use Rattle.silt_manifest.specs.Standing.{IsNext, ManifestState, Rules, ruling_slot, spare_slot}
 use Rattle.silt_manifest.specs.declared.body.Body.{Body}
-use Rattle.silt_tiers.specs.State.{TiersState}
-use Rattle.silt_tiers.specs.Standing.{base_map}
-use Rattle.silt_tiers.specs.Calls.{IsQuiet}
+use Rattle.silt_standing.specs.State.{TiersState}
+use Rattle.silt_standing.specs.Standing.{base_map}
+use Rattle.silt_standing.specs.Standing.{IsQuiet}
 
 -- The body follows the one that rules, which is well formed. In whatever a stop leaves it names these stores: nothing is found in
 -- them, and their map is the base. No row waits, or the same log is active.

@@ -5,8 +5,8 @@ ghost use Rattle.silt_tiers.specs.Calls.{BreaksOff, Works};
 ghost use Rattle.silt_tiers.specs.Conversion.{AreAllHashesNamed, ConvertErrorCause, Converts, EndsConversion, Finishes, HasConvertedRows, IsLowestFreeHash};
 ghost use Rattle.silt_tiers.specs.Conversion.{MayReplace, convert_turn, converted_body, is_work, oldest_replaced};
 ghost use Rattle.silt_event.specs.declared.progress.Progress.TheVariants.{Finished, Moved};
-ghost use Rattle.silt_tiers.specs.State.{AreWhole, names_hash};
-ghost use Rattle.silt_tiers.specs.Standing.{Stands, shown_stores};
+ghost use Rattle.silt_standing.specs.State.{AreWhole, names_hash};
+ghost use Rattle.silt_standing.specs.Standing.{Stands, shown_stores};
 
 use crate::tiers::{LAST_GENERATION, Tiers};
 use silt_conversion::{Conversion, StepError};

@@ -218,7 +218,7 @@ pub fn do_sorted_store<D: Disk>(
 
 impl Tiers {
     ghost use Rattle.silt_tiers.specs.Lookup.{AreEntriesOf};
-    ghost use Rattle.silt_tiers.specs.Standing.{Stands, current_map};
+    ghost use Rattle.silt_standing.specs.Standing.{Stands, current_map};
 
     // Does all rows of the hash stores, the oldest store first.
     fn do_hash_stores<D: Disk>(

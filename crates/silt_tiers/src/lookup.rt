@@ -8,7 +8,7 @@ ghost use Rattle.silt_tiers.specs.Calls.{Finds, FindsNone};
 ghost use Rattle.silt_tiers.specs.declared.lookup.Holder.{Holder};
 ghost use Rattle.silt_tiers.specs.declared.lookup.Holder.TheVariants.{Frozen, Hashed};
 ghost use Rattle.silt_tiers.specs.Lookup.{FindsFrozen, FindsHashed, FindsNewest, IsItsValue, frozen_at};
-ghost use Rattle.silt_tiers.specs.Standing.{Stands};
+ghost use Rattle.silt_standing.specs.Standing.{Stands};
 
 use crate::tiers::Tiers;
 use silt_disk::Disk;

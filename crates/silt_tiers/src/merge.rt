@@ -4,8 +4,8 @@ ghost use Rattle.silt_event.specs.declared.progress.Progress.TheVariants.{Finish
 ghost use Rattle.silt_tiers.specs.Calls.{BreaksOff, Works};
 ghost use Rattle.silt_tiers.specs.Conversion.{is_work};
 ghost use Rattle.silt_tiers.specs.Merge.{EndsMerge, EndsMerged, HasMergedEntries, MayStandFor, MergeErrorCause, Merges, merge_turn, merged_body, puts_in, sorted_replaced};
-ghost use Rattle.silt_tiers.specs.State.{AreWhole};
-ghost use Rattle.silt_tiers.specs.Standing.{Stands};
+ghost use Rattle.silt_standing.specs.State.{AreWhole};
+ghost use Rattle.silt_standing.specs.Standing.{Stands};
 
 use crate::tiers::{LAST_GENERATION, Tiers};
 use silt_disk::Disk;

@@ -3,7 +3,7 @@ ghost use Rattle.std.specs.Prelude.{◌≡◌, ◌+◌, ◌≤◌, [], ◌∷◌
 ghost use Rattle.silt_event.specs.Rows.{command_of};
 ghost use Rattle.silt_log.specs.Rows.{IsValueOf};
 ghost use Rattle.silt_frame.specs.Rows.{stored_row, puts_of};
-ghost use Rattle.silt_tiers.specs.Standing.{Stands};
+ghost use Rattle.silt_standing.specs.Standing.{Stands};
 ghost use Rattle.silt_tiers.specs.Calls.{Works};
 ghost use Rattle.silt_tiers.specs.RowWrite.{NeedsNext, WriteCause, WritesKey, TurnsFor};
 

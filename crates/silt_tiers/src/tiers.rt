@@ -46,7 +46,7 @@ pub struct Tiers {
 
 impl Model for Tiers {
     ghost use Rattle.std.specs.Prelude.{vec_capacity};
-    ghost use Rattle.silt_tiers.specs.State.{TiersState, AreHeld};
+    ghost use Rattle.silt_standing.specs.State.{TiersState, AreHeld};
 
     ghost Value = { TiersState };
 
@@ -78,9 +78,10 @@ impl Model for Tiers {
 impl Tiers {
     ghost use Rattle.silt_cuckoo.specs.Slots.{empty_slots};
     ghost use Rattle.silt_log_store.specs.Calls.{IsPlacingFor};
-    ghost use Rattle.silt_tiers.specs.State.{TiersState, AreHeld, AreWhole};
-    ghost use Rattle.silt_tiers.specs.Standing.{Stands, waiting_commands};
-    ghost use Rattle.silt_tiers.specs.Calls.{BreaksOff, CannotTake, IsQuiet, Remaps, SameDisk, StaysBehind, Works};
+    ghost use Rattle.silt_standing.specs.State.{TiersState, AreHeld, AreWhole};
+    ghost use Rattle.silt_standing.specs.Standing.{Stands, waiting_commands};
+    ghost use Rattle.silt_tiers.specs.Calls.{BreaksOff, CannotTake, Remaps, StaysBehind, Works};
+    ghost use Rattle.silt_standing.specs.Standing.{IsQuiet, SameDisk};
     ghost use Rattle.silt_tiers.specs.NextLog.{HasFrozen, IsEmptied, IsNextLog, NoNextCause, active_replaced, empty_store};
     ghost use Rattle.silt_tiers.specs.Succession.{MayRule, NowRules};
 

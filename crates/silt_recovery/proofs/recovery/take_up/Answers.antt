@@ -1,6 +1,6 @@
 use Rattle.std.proofs.Common.{subst, sym}
 use Rattle.silt_disk.specs.Disk.{GaveAny}
-use Rattle.silt_tiers.specs.State.{TiersState}
+use Rattle.silt_standing.specs.State.{TiersState}
 use Rattle.silt_recovery.specs.Opening.{TakesUp, held_stores}
 use Rattle.silt_recovery.proofs.Takings.{looked_up, parts_whole, sealed_images, settled_image, taken_up, unsettled, unwritten}
 use Rattle.silt_recovery.proofs.recovery.take_up.Goals as goal

@@ -1,7 +1,7 @@
 use Rattle.std.proofs.Common.{◌≤◌, List, All, length, sum_by, sym, ap, ◌∙◌, subst}
 use Rattle.silt_log_store.specs.State.{LogStoreState}
 use Rattle.silt_manifest.specs.Standing.{ruling_slot}
-use Rattle.silt_tiers.specs.State.{TiersState}
+use Rattle.silt_standing.specs.State.{TiersState}
 use Rattle.silt_recovery.specs.Opening.{held_stores}
 use Rattle.silt_recovery.proofs.Reports.{few_frozen, few_rows, reported_so, used_rows}
 use Rattle.silt_recovery.proofs.report.report_of.Goals as goal

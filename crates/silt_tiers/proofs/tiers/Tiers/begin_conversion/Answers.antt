@@ -3,8 +3,8 @@ use Rattle.std.specs.Prelude.{slice_get}
 use Rattle.std.specs.Option.{option_copied}
 use Rattle.silt_disk.specs.Layout.{InLimits, Shape, device_size}
 use Rattle.silt_log_store.specs.State.{LogStoreState}
-use Rattle.silt_tiers.specs.State.{TiersState}
-use Rattle.silt_tiers.specs.Standing.{Stands}
+use Rattle.silt_standing.specs.State.{TiersState}
+use Rattle.silt_standing.specs.Standing.{Stands}
 use Rattle.silt_tiers.specs.Conversion.{convert_turn, refusal_of_step}
 use Rattle.silt_event.specs.declared.progress.Progress.TheVariants.{Finished, Moved}
 use Rattle.silt_tiers.proofs.ConvertSteps.{begin_converts, begin_turn, begin_waits, first_advances, first_failed_breaks, first_failed_map, started_shape, step_cause}

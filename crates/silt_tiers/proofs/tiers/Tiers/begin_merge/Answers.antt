@@ -6,8 +6,8 @@ use Rattle.silt_hash_store.specs.State.{HashState}
 use Rattle.silt_event.specs.declared.progress.Progress.TheVariants.{Finished, Moved}
 use Rattle.silt_merge.specs.State.{is_done, oldest_stores}
 use Rattle.silt_sorted_store.specs.State.{SortedState}
-use Rattle.silt_tiers.specs.State.{TiersState, hash_region_of}
-use Rattle.silt_tiers.specs.Standing.{Stands}
+use Rattle.silt_standing.specs.State.{TiersState, hash_region_of}
+use Rattle.silt_standing.specs.Standing.{Stands}
 use Rattle.silt_tiers.specs.Merge.{refusal_of_step}
 use Rattle.silt_tiers.proofs.ConvertCounting.{sound_hashes}
 use Rattle.silt_tiers.proofs.MergeSteps.{begin_merges, begun, failed_breaks, failed_map, first_lacks, first_turn, kept_by_step, some_stores, started_not_done, started_way, step_advances, step_cause, taken_shapes}

@@ -6,7 +6,7 @@ use Rattle.silt_log.specs.State.{all_rows}
 use Rattle.silt_sorted_store.specs.State.{SortedState, entries_of}
 use Rattle.silt_tiers.specs.Entries.{DoesRows, hashed_rows}
 use Rattle.silt_tiers.specs.Lookup.{AreEntriesOf}
-use Rattle.silt_tiers.specs.State.{TiersState}
+use Rattle.silt_standing.specs.State.{TiersState}
 use Rattle.silt_tiers.proofs.Folds.{does_all, does_log, does_more}
 use Rattle.silt_tiers.proofs.Lookups.{current_is, rows_in}
 use Rattle.silt_tiers.proofs.Viewing.{state_of}

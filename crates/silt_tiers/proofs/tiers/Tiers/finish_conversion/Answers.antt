@@ -4,7 +4,7 @@ use Rattle.std.proofs.lemmas.List.{length-map}
 use Rattle.silt_disk.specs.Layout.{Shape}
 use Rattle.silt_conversion.specs.Conversion.{ConversionState}
 use Rattle.silt_manifest.specs.declared.body.Body.{Body}
-use Rattle.silt_tiers.specs.State.{IsUnderWay, TiersState, region_of}
+use Rattle.silt_standing.specs.State.{IsUnderWay, TiersState, region_of}
 use Rattle.silt_tiers.proofs.ConvertCounting.{room_for_hash}
 use Rattle.silt_tiers.proofs.Viewing.{state_of}
 use Rattle.silt_tiers.proofs.tiers.Tiers.finish_conversion.Goals as goal

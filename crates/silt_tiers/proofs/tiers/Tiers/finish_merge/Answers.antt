@@ -3,7 +3,7 @@ use Rattle.std.proofs.lemmas.List.{length-map}
 use Rattle.silt_event.specs.declared.progress.Progress.TheVariants.{Finished}
 use Rattle.silt_manifest.specs.declared.body.Body.{Body}
 use Rattle.silt_tiers.specs.Merge.{merge_turn, merged_body}
-use Rattle.silt_tiers.specs.State.{TiersState, hash_region_of}
+use Rattle.silt_standing.specs.State.{TiersState, hash_region_of}
 use Rattle.silt_tiers.proofs.Holdings.{before_last}
 use Rattle.silt_tiers.proofs.MergeDone.{may_end}
 use Rattle.silt_tiers.proofs.MergeSteps.{is_finished, merging_of}

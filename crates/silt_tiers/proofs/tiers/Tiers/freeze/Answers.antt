@@ -1,7 +1,7 @@
 use Rattle.std.proofs.Common.{[], Ok, sym, subst}
 use Rattle.std.specs.Prelude.{⊤}
 use Rattle.silt_tiers.specs.declared.next_log.NextLog.{NextLog}
-use Rattle.silt_tiers.specs.State.{TiersState}
+use Rattle.silt_standing.specs.State.{TiersState}
 use Rattle.silt_tiers.specs.Calls.{Advances}
 use Rattle.silt_tiers.specs.NextLog.{HasFrozen}
 use Rattle.silt_tiers.proofs.Exits.{on_error}

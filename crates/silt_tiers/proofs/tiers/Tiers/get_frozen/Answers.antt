@@ -1,5 +1,5 @@
 use Rattle.std.proofs.Common.{ap, ◌∙◌}
-use Rattle.silt_tiers.specs.State.{TiersState}
+use Rattle.silt_standing.specs.State.{TiersState}
 use Rattle.silt_log.specs.Found.{put_place}
 use Rattle.silt_tiers.proofs.Walks.{found_here, frozen_value, log_passed, none_of}
 use Rattle.silt_tiers.proofs.tiers.Tiers.get_frozen.Goals as goal

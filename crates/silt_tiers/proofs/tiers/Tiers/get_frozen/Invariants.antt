@@ -1,7 +1,7 @@
 use Rattle.std.proofs.Common.{◌≡◌, ◌<◌, ℕ, IsTrue}
 use Rattle.silt_log.specs.State.{all_rows}
 use Rattle.silt_log_store.specs.LastRow.{HasNoRow}
-use Rattle.silt_tiers.specs.Standing.{Stands}
+use Rattle.silt_standing.specs.Standing.{Stands}
 use Rattle.silt_tiers.specs.Lookup.{frozen_at}
 use Rattle.silt_tiers.proofs.tiers.Tiers.get_frozen.Given as goal
 

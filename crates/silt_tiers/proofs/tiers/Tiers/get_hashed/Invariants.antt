@@ -1,6 +1,6 @@
 use Rattle.std.proofs.Common.{◌≡◌, ◌<◌, ℕ, false, IsTrue}
 use Rattle.silt_hash_store.specs.Findings.{holds_key}
-use Rattle.silt_tiers.specs.Standing.{Stands}
+use Rattle.silt_standing.specs.Standing.{Stands}
 use Rattle.silt_tiers.specs.Lookup.{hash_store_at, hash_rows_of}
 use Rattle.silt_tiers.proofs.tiers.Tiers.get_hashed.Given as goal
 

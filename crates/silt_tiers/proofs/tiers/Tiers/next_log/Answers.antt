@@ -2,7 +2,7 @@ use Rattle.std.proofs.Common.{ap, sym, ◌∙◌, subst}
 use Rattle.silt_disk.specs.Layout.{Shape}
 use Rattle.silt_manifest.specs.declared.body.Body.{Body}
 use Rattle.silt_tiers.specs.declared.next_log.NextLog.{NextLog}
-use Rattle.silt_tiers.specs.State.{TiersState}
+use Rattle.silt_standing.specs.State.{TiersState}
 use Rattle.silt_tiers.specs.NextLog.{AreAllNamed, IsLowestFree, empty_store, next_body}
 use Rattle.silt_tiers.proofs.Holdings.{has_room, is_next, no_room, not_all}
 use Rattle.silt_tiers.proofs.Viewing.{state_of}

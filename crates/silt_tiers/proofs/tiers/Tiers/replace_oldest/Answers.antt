@@ -1,5 +1,5 @@
 use Rattle.std.proofs.Common.{sym, subst, arith}
-use Rattle.silt_tiers.specs.State.{TiersState}
+use Rattle.silt_standing.specs.State.{TiersState}
 use Rattle.silt_tiers.specs.Conversion.{MayReplace}
 use Rattle.silt_tiers.proofs.Swaps.{replaced_whole}
 use Rattle.silt_tiers.proofs.tiers.Tiers.replace_oldest.Goals as goal

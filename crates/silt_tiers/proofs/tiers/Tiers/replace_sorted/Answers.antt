@@ -1,5 +1,5 @@
 use Rattle.std.proofs.Common.{◌-◌, ℕ, drop, refl, ap, sym, ◌∙◌, subst, arith}
-use Rattle.silt_tiers.specs.State.{TiersState}
+use Rattle.silt_standing.specs.State.{TiersState}
 use Rattle.silt_tiers.specs.Merge.{MayStandFor}
 use Rattle.silt_tiers.proofs.MergeSwaps.{from_on, sorted_whole}
 use Rattle.silt_tiers.proofs.Viewing.{state_of}

@@ -3,8 +3,8 @@ use Rattle.std.specs.Prelude.{slice_get}
 use Rattle.std.specs.Option.{option_copied}
 use Rattle.silt_log_store.specs.State.{LogStoreState}
 use Rattle.silt_conversion.specs.Conversion.{ConversionState}
-use Rattle.silt_tiers.specs.State.{AreWhole, TiersState}
-use Rattle.silt_tiers.specs.Standing.{Stands}
+use Rattle.silt_standing.specs.State.{AreWhole, TiersState}
+use Rattle.silt_standing.specs.Standing.{Stands}
 use Rattle.silt_tiers.specs.Conversion.{convert_turn, refusal_of_step}
 use Rattle.silt_event.specs.declared.progress.Progress.TheVariants.{Moved}
 use Rattle.silt_tiers.proofs.ConvertDone.{way}

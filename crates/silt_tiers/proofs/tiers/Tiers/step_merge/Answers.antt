@@ -3,8 +3,8 @@ use Rattle.std.specs.Prelude.{All, IfSome}
 use Rattle.silt_hash_store.specs.State.{HashState}
 use Rattle.silt_merge.specs.Merging.{TakesMemory}
 use Rattle.silt_merge.specs.State.{MergeState, oldest_stores}
-use Rattle.silt_tiers.specs.State.{TiersState}
-use Rattle.silt_tiers.specs.Standing.{Stands}
+use Rattle.silt_standing.specs.State.{TiersState}
+use Rattle.silt_standing.specs.Standing.{Stands}
 use Rattle.silt_tiers.specs.Merge.{merge_turn, refusal_of_step}
 use Rattle.silt_event.specs.declared.progress.Progress.TheVariants.{Moved}
 use Rattle.silt_tiers.proofs.MergeSteps.{failed_breaks, failed_map, gathered_of, kept_by_step, merging_of, step_advances, step_cause, taken_shapes}

@@ -1,6 +1,6 @@
 use Rattle.std.proofs.Common.{◌<◌, ◌≤◌, ◌+◌, ℕ, ap, sym, subst}
-use Rattle.silt_tiers.specs.State.{TiersState}
-use Rattle.silt_tiers.specs.Standing.{Stands}
+use Rattle.silt_standing.specs.State.{TiersState}
+use Rattle.silt_standing.specs.Standing.{Stands}
 use Rattle.silt_frame.specs.Rows.{puts_of}
 use Rattle.silt_tiers.proofs.Appends.{appended, appended_waits, not_appended}
 use Rattle.silt_tiers.proofs.Exits.{on_error}

@@ -1,5 +1,5 @@
 -- How the stores in memory stand on a disk.
-use Rattle.std.specs.Prelude.{◌≡◌, ℕ, IsTrue, List, ◌++◌, All, map, IfSome, None, Ok}
+use Rattle.std.specs.Prelude.{◌≡◌, ℕ, IsTrue, List, [], ◌++◌, All, map, IfSome, None, Ok}
 use Rattle.silt_disk.specs.Disk.{Content, LeavesOnly, size}
 use Rattle.silt_disk.specs.Layout.{device_size}
 use Rattle.silt_conversion.specs.Conversion.{HasWritten}
@@ -17,7 +17,14 @@ use Rattle.silt_manifest.specs.Standing.{Rules}
 use Rattle.silt_merge.specs.Merging.{HasMerged}
 use Rattle.silt_merge.specs.State.{MergeState, oldest_stores}
 use Rattle.silt_sorted_store.specs.Index.{HasIndex}
-use Rattle.silt_tiers.specs.State.{TiersState, AreWhole, oldest_log}
+use Rattle.silt_standing.specs.State.{TiersState, AreWhole, oldest_log}
+
+-- ---- the disk
+
+-- the disk is as long and as honest as before
+pub record SameDisk (old new : Content) : Type 0 where
+  pub size : size new ≡ size old
+  pub honest : new.honest ≡ old.honest
 
 -- ---- what they mean
 
@@ -74,3 +81,8 @@ pub record Stands (content : Content) (s : TiersState) : Type 0 where
   pub named : LeavesOnly content (λ image. image_stores image ≡ Ok (shown_stores content s))
   pub sound : IsTrue content.honest → IsSound (with_log_rows s.active.log.region (all_rows content s.active.log) (shown_stores content s))
   pub counted : IsTrue content.honest → s.charge ≡ put_count (rows_of (shown_stores content s) ++ waiting_rows content s.active.log)
+
+-- no command waits
+pub record IsQuiet (content : Content) (s : TiersState) : Type 0 where
+  pub settled : s.active.log.settled ≡ s.active.log.used
+  pub none_wait : waiting_commands content s ≡ []
