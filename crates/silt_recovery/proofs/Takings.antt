@@ -320,7 +320,3 @@ module _ (old between new : Content) (s : TiersState) (settles : Settles old bet
       has_map = λ o.
           ap (λ (x : Stores). map_of_rows (rows_of x)) (shown_same (here o)) ∙ ap map_of_rows (sym (rows_law between.shown (shown_stores between s) (holds.named (here o)))) ∙ ap image_map (settles.shown o);
     }
-
-    -- the parts are those of stores
-    pub parts_whole : AreWhole (record s { active = after })
-    parts_whole = stands.whole

@@ -22,7 +22,8 @@ use silt_manifest::{Manifest, ReadFault, read_current};
 use silt_sorted_store::SortedStore;
 use std::alloc::Global;
 
-/// What is held in memory of a device in which nothing was found.
+/// What is held in memory of a device in which nothing was found: the manifest, the stores that it names, the newest first, and how
+/// many of their rows are puts. The lists have room for as many frozen logs and hash stores as a device can have.
 #[derive(Drop)]
 pub struct Holding {
     pub manifest: Manifest,

@@ -1,21 +1,20 @@
 // The recovery of a device that a stop may have left.
-ghost use Rattle.std.specs.Prelude.{◌≡◌, IsTrue, IfOk, IfErr, MatchResult};
+ghost use Rattle.std.specs.Prelude.{◌≡◌, ◌≤◌, vec_capacity, IsTrue, IfOk, IfErr, MatchResult};
 ghost use Rattle.silt_disk.specs.Disk.{GaveAny};
-ghost use Rattle.silt_recovery.specs.Opening.{IsUnwrittenUnlessFailed, LeavesNoOther, TakesUp};
+ghost use Rattle.silt_recovery.specs.Opening.{IsUnwrittenUnlessFailed, LeavesNoOther, TakesUp, held_stores};
 ghost use Rattle.silt_recovery.specs.Refusals.{IsFound, IsRefusedLook};
 ghost use Rattle.silt_standing.specs.Standing.{SameDisk};
 
-use crate::examination::examine;
+use crate::examination::{Holding, examine};
 use crate::fault::{OpenError, OpenFault};
 use silt_disk::Disk;
-use silt_tiers::Tiers;
 use std::alloc::Global;
 
-/// A device that was opened, and its stores in memory.
+/// A device that was opened, and what is held of it in memory.
 #[derive(Drop)]
 pub struct Opened<D: Disk> {
     pub disk: D,
-    pub tiers: Tiers,
+    pub held: Holding,
 }
 
 /// Takes up a device: settles what it shows, looks at it, and closes the gates of the active log past its first closed one, where one
@@ -27,7 +26,8 @@ pub struct Opened<D: Disk> {
 /// was written. `Device` with the fault of a read, a write or a sync: whatever a stop leaves then might have been left before, or
 /// stands for the same map.
 pub fn open<D: Disk>(alloc: Global, mut disk: D) -> Result<Opened<D>, OpenFault<D>>
-    ensures ok { IfOk result (λ opened. TakesUp (D.content disk) (D.content opened.disk) opened.tiers) }
+    ensures ok { IfOk result (λ opened. TakesUp (D.content disk) (D.content opened.disk) (held_stores opened.held)) }
+    ensures room { IfOk result (λ opened. (7 ≤ vec_capacity opened.held.frozen) × (16 ≤ vec_capacity opened.held.hashes)) }
     ensures same { MatchResult result (λ opened. SameDisk (D.content disk) (D.content opened.disk)) (λ fault. SameDisk (D.content disk) (D.content fault.disk)) }
     ensures cause { IfErr result (λ fault. IsRefusedLook
         (λ finding. IsTrue (D.content disk).honest → IsFound (D.content disk).shown finding)
@@ -36,14 +36,15 @@ pub fn open<D: Disk>(alloc: Global, mut disk: D) -> Result<Opened<D>, OpenFault<
     ensures images { MatchResult result (λ opened. LeavesNoOther (D.content disk) (D.content opened.disk)) (λ fault. LeavesNoOther (D.content disk) (D.content fault.disk)) }
 {
     match take_up(alloc, &mut disk) {
-        Ok(tiers) => Ok(Opened { disk, tiers }),
+        Ok(held) => Ok(Opened { disk, held }),
         Err(error) => Err(OpenFault { disk, error }),
     }
 }
 
 // Settles what the device shows, reads what it holds, and seals its active log.
-fn take_up<D: Disk>(alloc: Global, disk: &mut D) -> Result<Tiers, OpenError<D::Fault>>
-    ensures ok { IfOk result (λ tiers. TakesUp (D.content disk.old) (D.content disk.new) tiers) }
+fn take_up<D: Disk>(alloc: Global, disk: &mut D) -> Result<Holding, OpenError<D::Fault>>
+    ensures ok { IfOk result (λ held. TakesUp (D.content disk.old) (D.content disk.new) (held_stores held)) }
+    ensures room { IfOk result (λ held. (7 ≤ vec_capacity held.frozen) × (16 ≤ vec_capacity held.hashes)) }
     ensures same { SameDisk (D.content disk.old) (D.content disk.new) }
     ensures cause { IfErr result (IsRefusedLook
         (λ finding. IsTrue (D.content disk.old).honest → IsFound (D.content disk.old).shown finding)
@@ -59,14 +60,7 @@ fn take_up<D: Disk>(alloc: Global, disk: &mut D) -> Result<Tiers, OpenError<D::F
         Err(error) => return Err(error),
     };
     match held.active.seal(disk) {
-        Ok(()) => Ok(Tiers::new(
-            held.manifest,
-            held.active,
-            held.frozen,
-            held.hashes,
-            held.sorted,
-            held.charge,
-        )),
+        Ok(()) => Ok(held),
         Err(fault) => Err(OpenError::Device(fault)),
     }
 }

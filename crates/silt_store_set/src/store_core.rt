@@ -95,12 +95,22 @@ impl<D: Disk> Core<D> {
         ensures images { MatchResult result (λ core. LeavesNoOther (D.content disk) (D.content core.disk)) (λ fault. LeavesNoOther (D.content disk) (D.content fault.disk)) }
     {
         match silt_recovery::open(alloc, disk) {
-            Ok(opened) => Ok(Core {
-                disk: opened.disk,
-                tiers: opened.tiers,
-                count: 0,
-                failed: false,
-            }),
+            Ok(opened) => {
+                let held = opened.held;
+                Ok(Core {
+                    disk: opened.disk,
+                    tiers: Tiers::new(
+                        held.manifest,
+                        held.active,
+                        held.frozen,
+                        held.hashes,
+                        held.sorted,
+                        held.charge,
+                    ),
+                    count: 0,
+                    failed: false,
+                })
+            }
             Err(fault) => Err(OpenFault {
                 disk: fault.disk,
                 refusal: Refusal::from(fault.error),

@@ -6,6 +6,7 @@ use silt_event::Finding;
 use silt_fixtures::{FILLS, SMALL_LEN, changed, key, small};
 use silt_frame::Key;
 use silt_recovery::{FormatError, FormatFault, OpenError, OpenFault, check, format, open};
+use silt_store_set::Core;
 use std::alloc::Global;
 use std::process::Abort;
 use std::test::Fail;
@@ -184,12 +185,12 @@ fn got(
     key: Key,
 ) -> Result<(Option<bool>, [u8; 2]), Fail> {
     let disk = FaultDisk::new(MemDisk::with_bytes(alloc, bytes)?, Call::Read, number);
-    let opened = open(alloc, disk).ok().ok_or("opens")?;
-    if opened.tiers.geometry().value_len() != 2 {
+    let core = Core::open(alloc, disk).ok().ok_or("opens")?;
+    if core.geometry().value_len() != 2 {
         return Err("values of two bytes".into());
     }
     let mut value = [0; 2];
-    let answer = opened.tiers.get(&opened.disk, &key, &mut value);
+    let answer = core.get(&key, &mut value);
     Ok((answer.ok(), value))
 }
 

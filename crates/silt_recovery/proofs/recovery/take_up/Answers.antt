@@ -1,8 +1,7 @@
-use Rattle.std.proofs.Common.{subst, sym}
 use Rattle.silt_disk.specs.Disk.{GaveAny}
 use Rattle.silt_standing.specs.State.{TiersState}
-use Rattle.silt_recovery.specs.Opening.{TakesUp, held_stores}
-use Rattle.silt_recovery.proofs.Takings.{looked_up, parts_whole, sealed_images, settled_image, taken_up, unsettled, unwritten}
+use Rattle.silt_recovery.specs.Opening.{held_stores}
+use Rattle.silt_recovery.proofs.Takings.{looked_up, sealed_images, settled_image, taken_up, unsettled, unwritten}
 use Rattle.silt_recovery.proofs.recovery.take_up.Goals as goal
 
 pub returns-in-Err-clause-images : goal.returns-in-Err-clause-images
@@ -18,18 +17,11 @@ returns-in-Err-examine-clause-unwritten g c = unwritten (g.D.Disk.content c.args
 pub returns-in-Err-examine-clause-images : goal.returns-in-Err-examine-clause-images
 returns-in-Err-examine-clause-images g c = settled_image (g.D.Disk.content c.args.disk.now) (g.D.Disk.content c.sync.new.self) c.in_default.ensures.settled
 
-pub new-requires-clause-whole : goal.new-requires-clause-whole
-new-requires-clause-whole g c =
-    let held : TiersState = held_stores c.in-Ok.held in
-    parts_whole (g.D.Disk.content c.args.disk.now) (g.D.Disk.content c.sync.new.self) (g.D.Disk.content c.seal.new.disk) held c.in_default.ensures.settled c.in-Ok.ensures.holds c.seal.ensures.changes c.seal.ensures.images
-    c.seal.new.self c.seal.ensures.size c.sync.ensures.size c.in-Ok-seal.ensures.ok
-
 pub returns-in-Ok-seal-clause-ok : goal.returns-in-Ok-seal-clause-ok
 returns-in-Ok-seal-clause-ok g c =
     let held : TiersState = held_stores c.in-Ok.held in
-    subst (TakesUp (g.D.Disk.content c.args.disk.now) (g.D.Disk.content c.seal.new.disk)) (sym c.new.ensures)
-    (taken_up (g.D.Disk.content c.args.disk.now) (g.D.Disk.content c.sync.new.self) (g.D.Disk.content c.seal.new.disk) held c.in_default.ensures.settled c.in-Ok.ensures.holds c.seal.ensures.changes c.seal.ensures.images
-    c.seal.new.self c.seal.ensures.size c.sync.ensures.size c.in-Ok-seal.ensures.ok)
+    taken_up (g.D.Disk.content c.args.disk.now) (g.D.Disk.content c.sync.new.self) (g.D.Disk.content c.seal.new.disk) held c.in_default.ensures.settled c.in-Ok.ensures.holds c.seal.ensures.changes c.seal.ensures.images
+    c.seal.new.self c.seal.ensures.size c.sync.ensures.size c.in-Ok-seal.ensures.ok
 
 pub returns-in-Ok-seal-clause-images : goal.returns-in-Ok-seal-clause-images
 returns-in-Ok-seal-clause-images g c =
