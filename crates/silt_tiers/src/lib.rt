@@ -35,5 +35,4 @@ pub use conversion::ConvertError;
 pub use entries::EntriesError;
 pub use laws::{converts_law, merges_law, standing_law};
 pub use merge::MergeError;
-pub use next_log::{NextLog, NoNextLog};
 pub use row_write::WriteError;

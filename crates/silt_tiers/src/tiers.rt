@@ -155,12 +155,8 @@ impl Tiers {
         self.active.has_waiting()
     }
 
-    /// Where a row of this key goes in the table of the active log, none where that log cannot take it.
-    ///
-    /// # Errors
-    ///
-    /// The fault of a read.
-    pub fn placing<D: Disk>(&self, disk: &D, key: &Key) -> Result<Option<Placing>, D::Fault>
+    // Where a row of this key goes in the table of the active log, none where that log cannot take it.
+    pub(crate) fn placing<D: Disk>(&self, disk: &D, key: &Key) -> Result<Option<Placing>, D::Fault>
         requires size { device_size self.now.manifest.shape ≤ size (D.content disk.now) }
         ensures none { Stands (D.content disk.now) self.now → IsTrue (D.content disk.now).honest
             → IfOk result (λ placing. (placing ≡ None) ↔ CannotTake self.now.manifest.shape (all_rows (D.content disk.now) self.now.active.log) key.now.0) }
@@ -170,8 +166,8 @@ impl Tiers {
         self.active.placing(disk, key)
     }
 
-    /// Where a row of this key goes in the table of an active log that has no rows.
-    pub fn placing_in_empty(&self, key: &Key) -> Placing
+    // Where a row of this key goes in the table of an active log that has no rows.
+    pub(crate) fn placing_in_empty(&self, key: &Key) -> Placing
         requires used { self.now.active.log.used ≡ 0 }
         requires table { self.now.active.table ≡ empty_slots self.now.active.log.shape.buckets }
         ensures { (content : Content) → IsPlacingFor content self.now.active key.now.0 result }
@@ -179,12 +175,8 @@ impl Tiers {
         self.active.placing_in_empty(key)
     }
 
-    /// Writes a row behind the others of the active log. It waits there for a flush.
-    ///
-    /// # Errors
-    ///
-    /// The fault of a write.
-    pub fn write_active<D: Disk>(
+    // Writes a row behind the others of the active log. It waits there for a flush.
+    pub(crate) fn write_active<D: Disk>(
         &mut self,
         disk: &mut D,
         kind: Kind,
@@ -229,12 +221,9 @@ impl Tiers {
         Ok(())
     }
 
-    /// A new log in memory, in the lowest log region that is free, with the body that names it. It makes no device call.
-    ///
-    /// # Errors
-    ///
-    /// It is decided in this order: `NoRoom`, `Spent`, `NoMemory`.
-    pub fn next_log(&self, alloc: Global) -> Result<NextLog, NoNextLog>
+    // A new log in memory, in the lowest log region that is free, with the body that names it. It makes no device call.
+    // What refuses one is decided in this order: `NoRoom`, `Spent`, `NoMemory`.
+    pub(crate) fn next_log(&self, alloc: Global) -> Result<NextLog, NoNextLog>
         ensures ok { IfOk result (IsNextLog self.now) }
         ensures err { IfErr result (NoNextCause self.now) }
     {
@@ -319,13 +308,13 @@ impl Tiers {
         };
     }
 
-    /// Freezes the active log: settles what waits, closes the gates of the new log's region, and writes the manifest's next body,
-    /// which names the new log first. Then that is the active log.
-    ///
-    /// # Errors
-    ///
-    /// The fault of a write or of a sync.
-    pub fn freeze<D: Disk>(&mut self, disk: &mut D, mut next: NextLog) -> Result<(), D::Fault>
+    // Freezes the active log: settles what waits, closes the gates of the new log's region, and writes the manifest's next body,
+    // which names the new log first. Then that is the active log.
+    pub(crate) fn freeze<D: Disk>(
+        &mut self,
+        disk: &mut D,
+        mut next: NextLog,
+    ) -> Result<(), D::Fault>
         requires stands { Stands (D.content disk.old) self.old }
         requires next { IsNextLog self.old next }
         ensures works { Works D.Disk [] disk.old disk.new self.old self.new result }
