@@ -28,10 +28,11 @@ use Rattle.silt_event.proofs.Findings.{nothing_both, nothing_first, nothing_seco
 use Rattle.silt_log.specs.declared.found.Found.{Found}
 use Rattle.silt_log.proofs.KindBytes.{kind_of_byte}
 use Rattle.silt_hash_store.specs.Lookup.{FindsRow}
-use Rattle.silt_hash_store.specs.Rebuild.{AddsSound, IsFirstUnsound, IsGrown, IsRebuiltHash, IsRefusedHash, TagsKey, TakesAdded}
+use Rattle.silt_hash_store.specs.Rebuild.{AddsSound, IsFirstUnsound, IsGrown, IsRebuiltHash, TagsKey, TakesAdded}
+use Rattle.silt_log.specs.Scans.{IsScanRefused}
 use Rattle.silt_hash_store.specs.State.{HashState, IsHashStore, IsHeldHash, IsTagged}
-use Rattle.silt_hash_store.specs.declared.rebuild.RebuildError.{RebuildError}
-use Rattle.silt_hash_store.specs.declared.rebuild.RebuildError.TheVariants.{Damaged, Device, NoMemory}
+use Rattle.silt_log.specs.declared.scan.ScanError.{ScanError}
+use Rattle.silt_log.specs.declared.scan.ScanError.TheVariants.{Damaged, Device, NoMemory}
 use Rattle.silt_hash_store.specs.declared.rebuild.Rebuilt.{Rebuilt}
 use Rattle.silt_hash_store.proofs.Slotting.{all_before, before_count, before_more, before_taken, before_there, empty_not_known, sound_empty, sound_known, tag_empty, tag_known, unsound_bucket, unsound_kind, unsound_twice}
 
@@ -304,10 +305,10 @@ all_grown content rebuilt honest is = record {
 }
 
 -- a rebuild that was refused at a slot
-pub refused_at : {F : Type 0} (content : Content) (rebuilt : Rebuilt) (s : Shape) (region slot : ℕ) (given : F → Type 0) (error : RebuildError F) → rebuilt.store.shape ≡ s → rebuilt.store.region ≡ region → slot < 4 * s.buckets
+pub refused_at : {F : Type 0} (content : Content) (rebuilt : Rebuilt) (s : Shape) (region slot : ℕ) (given : F → Type 0) (error : ScanError F) → rebuilt.store.shape ≡ s → rebuilt.store.region ≡ region → slot < 4 * s.buckets
     → (IsTrue content.honest → IsGrown rebuilt content.shown slot)
-    → IsRefusedHash (λ at. (at ≡ slot) × (IsTrue content.honest → IsGrown rebuilt content.shown slot → is_sound_slot rebuilt.store.shape rebuilt.store.region content.shown slot ≡ false)) given error
-    → IsRefusedHash (λ at. IsTrue content.honest → IsFirstUnsound content s region at) given error
+    → IsScanRefused (λ at. (at ≡ slot) × (IsTrue content.honest → IsGrown rebuilt content.shown slot → is_sound_slot rebuilt.store.shape rebuilt.store.region content.shown slot ≡ false)) given error
+    → IsScanRefused (λ at. IsTrue content.honest → IsFirstUnsound content s region at) given error
 refused_at content rebuilt s region slot given (Damaged at) shape number below is refused = λ honest.
     let grown = is honest in
     let unsound : is_sound_slot s region content.shown slot ≡ false = ap (λ n. is_sound_slot s n content.shown slot) (sym number) ∙ ap (λ (t : Shape). is_sound_slot t rebuilt.store.region content.shown slot) (sym shape) ∙ refused.1 honest grown in

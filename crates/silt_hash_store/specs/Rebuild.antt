@@ -15,8 +15,6 @@ use Rattle.silt_event.specs.declared.damage.Finding.TheVariants as finding
 use Rattle.silt_event.specs.declared.place.Place.TheVariants.{Hash}
 use Rattle.silt_hash_store.specs.State.{HashState, IsHashStore, IsTagged}
 use Rattle.silt_hash_store.specs.declared.rebuild.Rebuilt.{Rebuilt}
-use Rattle.silt_hash_store.specs.declared.rebuild.RebuildError.{RebuildError}
-use Rattle.silt_hash_store.specs.declared.rebuild.RebuildError.TheVariants.{Damaged, Device, NoMemory}
 
 -- a store that was rebuilt from what is shown, with the number of its rows of known kinds
 pub record IsRebuiltHash (content : Content) (rebuilt : Rebuilt) : Type 0 where
@@ -57,9 +55,3 @@ pub record IsGrown (rebuilt : Rebuilt) (image : List ℕ) (count : ℕ) : Type 0
   pub tagged : IsTagged rebuilt.store image count
   pub charged : rebuilt.store.puts ≡ put_count (filter has_known_kind (rows_before rebuilt.store.shape rebuilt.store.region image count))
   pub counted : rebuilt.rows ≡ length (filter has_known_kind (rows_before rebuilt.store.shape rebuilt.store.region image count))
-
--- why a rebuild was refused: by the number of a slot, or by the fault of a read; want of memory says nothing
-abbrev pub IsRefusedHash : {F : Type 0} → (ℕ → Type 0) → (F → Type 0) → RebuildError F → Type 0
-IsRefusedHash IsDamaged WasGiven (Damaged slot) = IsDamaged slot
-IsRefusedHash IsDamaged WasGiven (Device fault) = WasGiven fault
-IsRefusedHash IsDamaged WasGiven NoMemory = Unit {0}

@@ -6,13 +6,13 @@ ghost use Rattle.silt_hash_store.specs.Slots.{HoldsSlots, hash_rows};
 ghost use Rattle.silt_log.specs.Found.{put_place};
 
 use crate::lookup::find_in;
-use crate::rebuild::{RebuildError, Rebuilt, rebuild_region};
+use crate::rebuild::{Rebuilt, rebuild_region};
 use crate::region::{HashRegion, Head};
 use crate::tags::Tags;
 use silt_cuckoo::key_buckets;
 use silt_disk::{Disk, Geometry};
 use silt_frame::{HEAD_LEN, Key, Kind, Row};
-use silt_log::Found;
+use silt_log::{Found, ScanError};
 use std::alloc::Global;
 use std::marker::Model;
 
@@ -42,7 +42,8 @@ impl Model for HashStore {
 impl HashStore {
     ghost use Rattle.silt_hash_store.specs.State.{HashState, IsHeldHash, IsHashStore, IsTagged};
     ghost use Rattle.silt_hash_store.specs.Lookup.{FindsRow, IsRowAt};
-    ghost use Rattle.silt_hash_store.specs.Rebuild.{IsFirstUnsound, IsRebuiltHash, IsRefusedHash};
+    ghost use Rattle.silt_hash_store.specs.Rebuild.{IsFirstUnsound, IsRebuiltHash};
+    ghost use Rattle.silt_log.specs.Scans.{IsScanRefused};
     ghost use Rattle.silt_hash_store.specs.Slots.{rows_before, slot_row};
     ghost use Rattle.silt_frame.specs.Frame.{head_len};
 
@@ -290,13 +291,13 @@ impl HashStore {
         disk: &D,
         geometry: Geometry,
         region: u32,
-    ) -> Result<Rebuilt, RebuildError<D::Fault>>
+    ) -> Result<Rebuilt, ScanError<D::Fault>>
         requires region { region < geometry.hashes }
         requires size { device_size geometry ≤ size (D.content disk.now) }
         ensures region { IfOk result (λ rebuilt. (rebuilt.store.shape ≡ geometry) × (rebuilt.store.region ≡ region)) }
         ensures rebuilt { IsTrue (D.content disk.now).honest → IfOk result (IsRebuiltHash (D.content disk.now)) }
         ensures most { IfOk result (λ rebuilt. (rebuilt.store.puts ≤ rebuilt.rows) × (rebuilt.rows ≤ 4 * geometry.buckets)) }
-        ensures err { IfErr result (IsRefusedHash (λ slot. IsTrue (D.content disk.now).honest → IsFirstUnsound (D.content disk.now) geometry region slot) (GaveAny D.gave disk.now)) }
+        ensures err { IfErr result (IsScanRefused (λ slot. IsTrue (D.content disk.now).honest → IsFirstUnsound (D.content disk.now) geometry region slot) (GaveAny D.gave disk.now)) }
     {
         rebuild_region(
             alloc,

@@ -18,7 +18,7 @@ mod tags;
 
 pub use hash_store::HashStore;
 pub use laws::hash_elsewhere_law;
-pub use rebuild::{RebuildError, Rebuilt};
+pub use rebuild::Rebuilt;
 pub use region::{HashRegion, row_in};
-pub use silt_log::Found;
+pub use silt_log::{Found, ScanError};
 pub use tags::Tags;

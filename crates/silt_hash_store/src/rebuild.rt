@@ -3,7 +3,8 @@ ghost use Rattle.std.specs.Prelude.{◌≡◌, ◌+◌, ◌*◌, ◌<◌, ◌≤
 ghost use Rattle.silt_disk.specs.Disk.{GaveAny, size};
 ghost use Rattle.silt_disk.specs.Layout.{device_size, row_len};
 ghost use Rattle.silt_hash_store.specs.declared.region.Head.TheVariants as head;
-ghost use Rattle.silt_hash_store.specs.Rebuild.{AddsSound, HasHead, IsFirstUnsound, IsGrown, IsRebuiltHash, IsRefusedHash, TagsKey, TakesAdded};
+ghost use Rattle.silt_hash_store.specs.Rebuild.{AddsSound, HasHead, IsFirstUnsound, IsGrown, IsRebuiltHash, TagsKey, TakesAdded};
+ghost use Rattle.silt_log.specs.Scans.{IsScanRefused};
 ghost use Rattle.silt_hash_store.specs.Slots.{HeadSays, HoldsSlots, is_sound_slot, slot_row};
 ghost use Rattle.silt_hash_store.specs.State.{IsHeldHash, IsTagged};
 
@@ -13,21 +14,11 @@ use crate::tags::Tags;
 use silt_cuckoo::key_buckets;
 use silt_disk::Disk;
 use silt_frame::{HEAD_LEN, Key, Kind};
+use silt_log::ScanError;
 use std::alloc::Global;
 
 /// How many bytes one read of a rebuild has at most.
 const READ_LEN: usize = 65_536;
-
-/// Why a hash store was not rebuilt.
-#[derive(Debug, Drop)]
-pub enum RebuildError<F> {
-    /// The slot of this number is the first in which something is wrong.
-    Damaged(u32),
-    /// A read failed with this fault.
-    Device(F),
-    /// The tags, or what is read, found no memory.
-    NoMemory,
-}
 
 /// A hash store that was rebuilt, and how many rows of known kinds it has.
 #[derive(Drop)]
@@ -61,25 +52,25 @@ impl HashStore {
         slot: u32,
         kind: Kind,
         key: &Key,
-    ) -> Result<Option<(Kind, u32)>, RebuildError<D::Fault>>
+    ) -> Result<Option<(Kind, u32)>, ScanError<D::Fault>>
         requires slot { slot < 4 * self.now.shape.buckets }
         requires size { device_size self.now.shape ≤ size (D.content disk.now) }
         ensures ok { IsTrue (D.content disk.now).honest → HeadSays (slot_row self.now.shape self.now.region (D.content disk.now).shown slot).kind
             (slot_row self.now.shape self.now.region (D.content disk.now).shown slot).key (head.Row kind key.now)
             → IsTagged self.now (D.content disk.now).shown slot → IfOk result (AddsSound self.now (D.content disk.now).shown slot) }
         ensures below { IfOk result (λ added. IfSome added (λ a. a.1 < 2 ^ 15)) }
-        ensures err { IfErr result (IsRefusedHash (λ at. (at ≡ slot) × (IsTrue (D.content disk.now).honest
+        ensures err { IfErr result (IsScanRefused (λ at. (at ≡ slot) × (IsTrue (D.content disk.now).honest
             → HeadSays (slot_row self.now.shape self.now.region (D.content disk.now).shown slot).kind
             (slot_row self.now.shape self.now.region (D.content disk.now).shown slot).key (head.Row kind key.now)
             → IsTagged self.now (D.content disk.now).shown slot → is_sound_slot self.now.shape self.now.region (D.content disk.now).shown slot ≡ false)) (GaveAny D.gave disk.now)) }
     {
         let Some(tag) = tag_for(&self.region, slot, key) else {
-            return Err(RebuildError::Damaged(slot));
+            return Err(ScanError::Damaged(slot));
         };
         match self.look_up(disk, key, &mut [0; HEAD_LEN]) {
             Ok(None) => Ok(Some((kind, tag))),
-            Ok(Some(_)) => Err(RebuildError::Damaged(slot)),
-            Err(fault) => Err(RebuildError::Device(fault)),
+            Ok(Some(_)) => Err(ScanError::Damaged(slot)),
+            Err(fault) => Err(ScanError::Device(fault)),
         }
     }
 
@@ -89,13 +80,13 @@ impl HashStore {
         disk: &D,
         slot: u32,
         head: Head,
-    ) -> Result<Option<(Kind, u32)>, RebuildError<D::Fault>>
+    ) -> Result<Option<(Kind, u32)>, ScanError<D::Fault>>
         requires slot { slot < 4 * self.now.shape.buckets }
         requires size { device_size self.now.shape ≤ size (D.content disk.now) }
         ensures ok { IsTrue (D.content disk.now).honest → HasHead self.now (D.content disk.now).shown slot head
             → IsTagged self.now (D.content disk.now).shown slot → IfOk result (AddsSound self.now (D.content disk.now).shown slot) }
         ensures below { IfOk result (λ added. IfSome added (λ a. a.1 < 2 ^ 15)) }
-        ensures err { IfErr result (IsRefusedHash (λ at. (at ≡ slot) × (IsTrue (D.content disk.now).honest → HasHead self.now (D.content disk.now).shown slot head
+        ensures err { IfErr result (IsScanRefused (λ at. (at ≡ slot) × (IsTrue (D.content disk.now).honest → HasHead self.now (D.content disk.now).shown slot head
             → IsTagged self.now (D.content disk.now).shown slot
             → is_sound_slot self.now.shape self.now.region (D.content disk.now).shown slot ≡ false)) (GaveAny D.gave disk.now)) }
         ensures held { IsHeldHash self.now }
@@ -103,7 +94,7 @@ impl HashStore {
         let _ = &self.region; // so that what the store holds is known
         match head {
             Head::Empty => Ok(None),
-            Head::Unknown => Err(RebuildError::Damaged(slot)),
+            Head::Unknown => Err(ScanError::Damaged(slot)),
             Head::Row(kind, key) => self.examine_row(disk, slot, kind, &key),
         }
     }
@@ -131,7 +122,7 @@ impl Rebuilt {
         disk: &D,
         slot: u32,
         head: Head,
-    ) -> Result<(), RebuildError<D::Fault>>
+    ) -> Result<(), ScanError<D::Fault>>
         requires slot { slot < 4 * self.old.store.shape.buckets }
         requires small { slot < 2 ^ 17 }
         requires counts { (self.old.store.puts ≤ self.old.rows) × (self.old.rows ≤ slot) }
@@ -140,7 +131,7 @@ impl Rebuilt {
         ensures counts { (self.new.store.puts ≤ self.new.rows) × (self.new.rows ≤ slot + 1) }
         ensures ok { IsTrue (D.content disk.now).honest → HasHead self.old.store (D.content disk.now).shown slot head
             → IsGrown self.old (D.content disk.now).shown slot → OnOk result (IsGrown self.new (D.content disk.now).shown (slot + 1)) }
-        ensures err { IfErr result (IsRefusedHash (λ at. (at ≡ slot) × (IsTrue (D.content disk.now).honest → HasHead self.old.store (D.content disk.now).shown slot head
+        ensures err { IfErr result (IsScanRefused (λ at. (at ≡ slot) × (IsTrue (D.content disk.now).honest → HasHead self.old.store (D.content disk.now).shown slot head
             → IsGrown self.old (D.content disk.now).shown slot
             → is_sound_slot self.old.store.shape self.old.store.region (D.content disk.now).shown slot ≡ false)) (GaveAny D.gave disk.now)) }
     {
@@ -157,7 +148,7 @@ impl Rebuilt {
         count: u32,
         len: usize,
         bytes: &[u8],
-    ) -> Result<(), RebuildError<D::Fault>>
+    ) -> Result<(), ScanError<D::Fault>>
         requires within { first + count ≤ 4 * self.old.store.shape.buckets }
         requires small { first + count ≤ 2 ^ 17 }
         requires len { len ≡ row_len self.old.store.shape }
@@ -168,7 +159,7 @@ impl Rebuilt {
         ensures counts { (self.new.store.puts ≤ self.new.rows) × (self.new.rows ≤ first + count) }
         ensures ok { IsTrue (D.content disk.now).honest → HoldsSlots self.old.store.shape self.old.store.region (D.content disk.now).shown first count bytes.now
             → IsGrown self.old (D.content disk.now).shown first → OnOk result (IsGrown self.new (D.content disk.now).shown (first + count)) }
-        ensures err { IfErr result (IsRefusedHash (λ at. IsTrue (D.content disk.now).honest
+        ensures err { IfErr result (IsScanRefused (λ at. IsTrue (D.content disk.now).honest
             → HoldsSlots self.old.store.shape self.old.store.region (D.content disk.now).shown first count bytes.now → IsGrown self.old (D.content disk.now).shown first
             → IsFirstUnsound (D.content disk.now) self.old.store.shape self.old.store.region at) (GaveAny D.gave disk.now)) }
     {
@@ -188,7 +179,7 @@ impl Rebuilt {
         count: u32,
         len: usize,
         buffer: &mut [u8],
-    ) -> Result<(), RebuildError<D::Fault>>
+    ) -> Result<(), ScanError<D::Fault>>
         requires some { 0 < count }
         requires within { first + count ≤ 4 * self.old.store.shape.buckets }
         requires small { first + count ≤ 2 ^ 17 }
@@ -199,11 +190,11 @@ impl Rebuilt {
         ensures region { (self.new.store.shape ≡ self.old.store.shape) × (self.new.store.region ≡ self.old.store.region) }
         ensures counts { (self.new.store.puts ≤ self.new.rows) × (self.new.rows ≤ first + count) }
         ensures ok { IsTrue (D.content disk.now).honest → IsGrown self.old (D.content disk.now).shown first → OnOk result (IsGrown self.new (D.content disk.now).shown (first + count)) }
-        ensures err { IfErr result (IsRefusedHash (λ at. IsTrue (D.content disk.now).honest → IsGrown self.old (D.content disk.now).shown first
+        ensures err { IfErr result (IsScanRefused (λ at. IsTrue (D.content disk.now).honest → IsGrown self.old (D.content disk.now).shown first
             → IsFirstUnsound (D.content disk.now) self.old.store.shape self.old.store.region at) (GaveAny D.gave disk.now)) }
     {
         if let Err(fault) = self.store.read_slots(disk, first, count, buffer) {
-            return Err(RebuildError::Device(fault));
+            return Err(ScanError::Device(fault));
         }
         self.add_slots(disk, first, count, len, buffer)
     }
@@ -216,7 +207,7 @@ impl Rebuilt {
         len: usize,
         buffer: &mut [u8],
         most: u32,
-    ) -> Result<(), RebuildError<D::Fault>>
+    ) -> Result<(), ScanError<D::Fault>>
         requires all { count ≡ 4 * self.old.store.shape.buckets }
         requires small { count ≤ 2 ^ 17 }
         requires len { len ≡ row_len self.old.store.shape }
@@ -227,7 +218,7 @@ impl Rebuilt {
         ensures region { (self.new.store.shape ≡ self.old.store.shape) × (self.new.store.region ≡ self.old.store.region) }
         ensures counts { (self.new.store.puts ≤ self.new.rows) × (self.new.rows ≤ count) }
         ensures ok { IsTrue (D.content disk.now).honest → IsGrown self.old (D.content disk.now).shown 0 → OnOk result (IsGrown self.new (D.content disk.now).shown count) }
-        ensures err { IfErr result (IsRefusedHash (λ at. IsTrue (D.content disk.now).honest → IsGrown self.old (D.content disk.now).shown 0
+        ensures err { IfErr result (IsScanRefused (λ at. IsTrue (D.content disk.now).honest → IsGrown self.old (D.content disk.now).shown 0
             → IsFirstUnsound (D.content disk.now) self.old.store.shape self.old.store.region at) (GaveAny D.gave disk.now)) }
     {
         let mut slot = 0;
@@ -245,17 +236,17 @@ pub fn rebuild_region<D: Disk>(
     alloc: Global,
     disk: &D,
     region: HashRegion,
-) -> Result<Rebuilt, RebuildError<D::Fault>>
+) -> Result<Rebuilt, ScanError<D::Fault>>
     requires size { device_size region.geometry ≤ size (D.content disk.now) }
     ensures region { IfOk result (λ rebuilt. (rebuilt.store.shape ≡ region.geometry) × (rebuilt.store.region ≡ region.number)) }
     ensures rebuilt { IsTrue (D.content disk.now).honest → IfOk result (IsRebuiltHash (D.content disk.now)) }
     ensures most { IfOk result (λ rebuilt. (rebuilt.store.puts ≤ rebuilt.rows) × (rebuilt.rows ≤ 4 * region.geometry.buckets)) }
-    ensures err { IfErr result (IsRefusedHash (λ slot. IsTrue (D.content disk.now).honest → IsFirstUnsound (D.content disk.now) region.geometry region.number slot) (GaveAny D.gave disk.now)) }
+    ensures err { IfErr result (IsScanRefused (λ slot. IsTrue (D.content disk.now).honest → IsFirstUnsound (D.content disk.now) region.geometry region.number slot) (GaveAny D.gave disk.now)) }
 {
     let count = region.slot_count();
     let tags = match Tags::new(alloc, count) {
         Ok(tags) => tags,
-        Err(_) => return Err(RebuildError::NoMemory),
+        Err(_) => return Err(ScanError::NoMemory),
     };
     let mut rebuilt = Rebuilt {
         store: HashStore {
@@ -268,7 +259,7 @@ pub fn rebuild_region<D: Disk>(
     let len = region.geometry.row_len();
     let most = count.min((READ_LEN / len) as u32);
     let Ok(mut buffer) = vec![in alloc; 0u8; most as usize * len] else {
-        return Err(RebuildError::NoMemory);
+        return Err(ScanError::NoMemory);
     };
     rebuilt.add_all(disk, count, len, &mut buffer, most)?;
     Ok(rebuilt)

@@ -1,4 +1,4 @@
--- Why a scan was refused.
+-- Why the reading of a region was refused.
 use Rattle.std.specs.Prelude.{ℕ}
 use Rattle.silt_log.specs.declared.scan.ScanError.{ScanError}
 use Rattle.silt_log.specs.declared.scan.ScanError.TheVariants.{Damaged, Device, NoMemory}

@@ -11,14 +11,14 @@ use silt_disk::Disk;
 use silt_frame::{HEAD_LEN, Row, head_of};
 use std::alloc::Global;
 
-/// Why a log was not scanned.
+/// Why a region was not read: a log, or the slots or the entries that a store is rebuilt from.
 #[derive(Debug, Drop)]
 pub enum ScanError<F> {
-    /// The row of this number is the first with a kind byte other than 1 and 2.
+    /// The row of this number is the first in which something is wrong: in a log, a kind byte other than 1 and 2.
     Damaged(u32),
     /// A read failed with this fault.
     Device(F),
-    /// The list of the rows found no memory.
+    /// What is made of the rows, or what is read, found no memory.
     NoMemory,
 }
 

@@ -9,7 +9,7 @@ ghost use Rattle.silt_sorted_store.specs.Index.{HasIndex};
 use crate::fault::OpenError;
 use silt_disk::{Disk, Geometry};
 use silt_event::Place;
-use silt_sorted_store::{RebuildError, SortedStore};
+use silt_sorted_store::{ScanError, SortedStore};
 use std::alloc::Global;
 
 /// Reads the first `count` entries of a sorted region once, and makes the index of their keys.
@@ -37,8 +37,8 @@ pub fn read_entries<D: Disk>(
 {
     match SortedStore::rebuild(alloc, disk, geometry, region, count) {
         Ok(store) => Ok(store),
-        Err(RebuildError::Damaged(place)) => Err(OpenError::Damaged(Place::Sorted(place))),
-        Err(RebuildError::Device(fault)) => Err(OpenError::Device(fault)),
-        Err(RebuildError::NoMemory) => Err(OpenError::NoMemory),
+        Err(ScanError::Damaged(place)) => Err(OpenError::Damaged(Place::Sorted(place))),
+        Err(ScanError::Device(fault)) => Err(OpenError::Device(fault)),
+        Err(ScanError::NoMemory) => Err(OpenError::NoMemory),
     }
 }

@@ -8,7 +8,7 @@ ghost use Rattle.silt_recovery.specs.Refusals.{IsRefusedLook};
 use crate::fault::OpenError;
 use silt_disk::{Disk, Geometry};
 use silt_event::Place;
-use silt_hash_store::{HashStore, RebuildError, Rebuilt};
+use silt_hash_store::{HashStore, Rebuilt, ScanError};
 use std::alloc::Global;
 
 // As many hash stores as a device can have.
@@ -51,9 +51,9 @@ pub fn read_hash<D: Disk>(
             let _region = rebuilt.store.region(); // one that the device has
             Ok(rebuilt)
         }
-        Err(RebuildError::Damaged(slot)) => Err(OpenError::Damaged(Place::Hash { region, slot })),
-        Err(RebuildError::Device(fault)) => Err(OpenError::Device(fault)),
-        Err(RebuildError::NoMemory) => Err(OpenError::NoMemory),
+        Err(ScanError::Damaged(slot)) => Err(OpenError::Damaged(Place::Hash { region, slot })),
+        Err(ScanError::Device(fault)) => Err(OpenError::Device(fault)),
+        Err(ScanError::NoMemory) => Err(OpenError::NoMemory),
     }
 }
 

@@ -12,7 +12,7 @@ mod sorted_entries;
 mod sorted_store;
 
 pub use laws::{entries_elsewhere_law, entries_law, indexed_elsewhere_law, rising_law};
-pub use rebuild::RebuildError;
 pub use region::SortedRegion;
+pub use silt_log::ScanError;
 pub use sorted_entries::SortedEntries;
 pub use sorted_store::SortedStore;

@@ -7,29 +7,20 @@ ghost use Rattle.silt_sorted_store.specs.Findings.{sorted_findings};
 ghost use Rattle.silt_sorted_store.specs.State.{entries_of};
 ghost use Rattle.silt_sorted_store.specs.Index.{IsIndexOf};
 ghost use Rattle.silt_sorted_store.specs.Indexing.{HoldsKeys, IsIndexing, TakesKeys};
-ghost use Rattle.silt_sorted_store.specs.Rebuild.{IsFirstOutOfOrder, IsRefusedSorted};
+ghost use Rattle.silt_sorted_store.specs.Rebuild.{IsFirstOutOfOrder};
+ghost use Rattle.silt_log.specs.Scans.{IsScanRefused};
 ghost use Rattle.silt_trie.specs.Building.{IsBuildingOf};
 ghost use Rattle.silt_frame.specs.Frame.{key_len};
 
 use crate::sorted_entries::SortedEntries;
 use silt_disk::Disk;
 use silt_frame::entry_of;
+use silt_log::ScanError;
 use silt_trie::{MarkedTrie, MarkedTrieBuilder};
 use std::alloc::{AllocError, Global};
 
 /// How many bytes one read of a rebuild has at most.
 const READ_LEN: usize = 65_536;
-
-/// Why a sorted store was not rebuilt.
-#[derive(Debug, Drop)]
-pub enum RebuildError<F> {
-    /// The entry at this place is the first that is not above the one before it.
-    Damaged(u32),
-    /// A read failed with this fault.
-    Device(F),
-    /// What the store keeps in memory found none.
-    NoMemory,
-}
 
 // Gives a builder the keys of some entries that stand from a place on, each `len` bytes long. The place of the first that is not
 // above the one before it: those before it were taken up.
@@ -66,7 +57,7 @@ fn take_entries<D: Disk>(
     entries: &SortedEntries,
     buffer: &mut [u8],
     most: u32,
-) -> Result<(), RebuildError<D::Fault>>
+) -> Result<(), ScanError<D::Fault>>
     requires some { 0 < entries.now.count → 0 < most }
     requires buffer { most * entry_len entries.now.shape ≤ length buffer.old }
     requires empty { IsBuildingOf [] builder.old }
@@ -74,7 +65,7 @@ fn take_entries<D: Disk>(
     requires counted { builder.old.count ≡ 0 }
     requires size { device_size entries.now.shape ≤ size (D.content disk.now) }
     ensures taken { IsTrue (D.content disk.now).honest → OnOk result (IsIndexing (entries_of (D.content disk.now) entries.now) entries.now.count builder.new) }
-    ensures err { IfErr result (IsRefusedSorted
+    ensures err { IfErr result (IsScanRefused
         (λ place. (place < entries.now.count) × (IsTrue (D.content disk.now).honest → IsFirstOutOfOrder (entries_of (D.content disk.now) entries.now) place))
         (GaveAny D.gave disk.now)) }
 {
@@ -85,12 +76,12 @@ fn take_entries<D: Disk>(
         let next = most.min(count - place);
         let chunk = &mut buffer[..next as usize * len];
         if let Err(fault) = entries.read_entries(disk, place, next, chunk) {
-            return Err(RebuildError::Device(fault));
+            return Err(ScanError::Device(fault));
         }
         match take_keys(builder, chunk, len, next, place) {
             Ok(None) => place += next,
-            Ok(Some(damaged)) => return Err(RebuildError::Damaged(damaged)),
-            Err(_) => return Err(RebuildError::NoMemory),
+            Ok(Some(damaged)) => return Err(ScanError::Damaged(damaged)),
+            Err(_) => return Err(ScanError::NoMemory),
         }
     }
     Ok(())
@@ -101,23 +92,23 @@ pub fn index_entries<D: Disk>(
     alloc: Global,
     disk: &D,
     entries: &SortedEntries,
-) -> Result<MarkedTrie, RebuildError<D::Fault>>
+) -> Result<MarkedTrie, ScanError<D::Fault>>
     requires size { device_size entries.now.shape ≤ size (D.content disk.now) }
     ensures index { IsTrue (D.content disk.now).honest → IfOk result (IsIndexOf (entries_of (D.content disk.now) entries.now)) }
     ensures rising { IsTrue (D.content disk.now).honest → OnOk result (sorted_findings (entries_of (D.content disk.now) entries.now) ≡ []) }
-    ensures err { IfErr result (IsRefusedSorted
+    ensures err { IfErr result (IsScanRefused
         (λ place. (place < entries.now.count) × (IsTrue (D.content disk.now).honest → IsFirstOutOfOrder (entries_of (D.content disk.now) entries.now) place))
         (GaveAny D.gave disk.now)) }
 {
     let len = entries.geometry().entry_len();
     let most = entries.len().min((READ_LEN / len) as u32);
     let Ok(mut buffer) = vec![in alloc; 0u8; most as usize * len] else {
-        return Err(RebuildError::NoMemory);
+        return Err(ScanError::NoMemory);
     };
     let mut builder = MarkedTrieBuilder::new(alloc, entries.len() as usize);
     take_entries(&mut builder, disk, entries, &mut buffer, most)?;
     match builder.finish() {
         Ok(index) => Ok(index),
-        Err(_) => Err(RebuildError::NoMemory),
+        Err(_) => Err(ScanError::NoMemory),
     }
 }

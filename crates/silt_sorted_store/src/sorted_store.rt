@@ -9,10 +9,11 @@ ghost use Rattle.silt_trie.specs.Code.{IsCodable};
 ghost use Rattle.silt_trie.specs.Coded.{bytes_of};
 ghost use Rattle.silt_trie.specs.Marks.{IsMadeOf};
 
-use crate::rebuild::{RebuildError, index_entries};
+use crate::rebuild::index_entries;
 use crate::sorted_entries::SortedEntries;
 use silt_disk::{Disk, Geometry};
 use silt_frame::Key;
+use silt_log::ScanError;
 use silt_trie::{MarkedTrie, levels_for};
 use std::alloc::{AllocError, Global};
 use std::marker::Model;
@@ -42,7 +43,8 @@ impl SortedStore {
     ghost use Rattle.silt_sorted_store.specs.State.{IsHeldSorted, entries_of};
     ghost use Rattle.silt_sorted_store.specs.Index.{IsIndexOf, HasIndex, IsPlaceOfKey};
     ghost use Rattle.silt_sorted_store.specs.OnlyRow.{FindsEntry, HasNoEntry, HasOnlyValue, HasValue};
-    ghost use Rattle.silt_sorted_store.specs.Rebuild.{IsFirstOutOfOrder, IsRefusedSorted};
+    ghost use Rattle.silt_sorted_store.specs.Rebuild.{IsFirstOutOfOrder};
+    ghost use Rattle.silt_log.specs.Scans.{IsScanRefused};
 
     /// The store of these entries, whose keys these are, with no look at the device.
     pub fn encode(alloc: Global, entries: SortedEntries, keys: &[Key]) -> Result<Self, AllocError>
@@ -179,14 +181,14 @@ impl SortedStore {
         geometry: Geometry,
         region: u32,
         count: u32,
-    ) -> Result<Self, RebuildError<D::Fault>>
+    ) -> Result<Self, ScanError<D::Fault>>
         requires region { region < 2 }
         requires count { count ≤ geometry.sorted_capacity }
         requires size { device_size geometry ≤ size (D.content disk.now) }
         ensures store { IfOk result (λ store. store.sorted ≡ record { shape = geometry; region = region; count = count }) }
         ensures indexed { IfOk result (λ store. HasIndex (D.content disk.now) store.sorted store.index) }
         ensures rising { IsTrue (D.content disk.now).honest → OnOk result (sorted_findings (sorted_rows geometry region count (D.content disk.now).shown) ≡ []) }
-        ensures err { IfErr result (IsRefusedSorted
+        ensures err { IfErr result (IsScanRefused
             (λ place. (place < count) × (IsTrue (D.content disk.now).honest → IsFirstOutOfOrder (sorted_rows geometry region count (D.content disk.now).shown) place))
             (GaveAny D.gave disk.now)) }
     {

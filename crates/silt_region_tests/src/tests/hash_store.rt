@@ -8,7 +8,7 @@ use crate::tests::{LEN, blank, eight_rows, largest, paired, shows, single, with_
 use silt_conversion::{Conversion, StepError};
 use silt_device::{Call, Disk, Geometry, MemDisk};
 use silt_frame::{Key, Kind, Row};
-use silt_hash_store::{Found, HashStore, RebuildError};
+use silt_hash_store::{Found, HashStore, ScanError};
 use silt_log_store::LogStore;
 use std::alloc::Global;
 use std::test::Fail;
@@ -66,9 +66,9 @@ fn rebuild_in<D: Disk>(alloc: Global, disk: &D, geometry: Geometry) -> Outcome
 {
     match HashStore::rebuild(alloc, disk, geometry, 0) {
         Ok(rebuilt) => Outcome::Rebuilt(rebuilt.rows, rebuilt.store.puts()),
-        Err(RebuildError::Damaged(slot)) => Outcome::Damaged(slot),
-        Err(RebuildError::Device(_)) => Outcome::Failed,
-        Err(RebuildError::NoMemory) => Outcome::NoMemory,
+        Err(ScanError::Damaged(slot)) => Outcome::Damaged(slot),
+        Err(ScanError::Device(_)) => Outcome::Failed,
+        Err(ScanError::NoMemory) => Outcome::NoMemory,
     }
 }
 

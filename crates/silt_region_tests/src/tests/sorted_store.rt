@@ -7,7 +7,7 @@ ghost use Rattle.silt_device.specs.Memory.{memory_content};
 use crate::tests::{LEN, blank, four_rows};
 use silt_device::{Disk, Geometry, MemDisk};
 use silt_frame::Key;
-use silt_sorted_store::{RebuildError, SortedEntries, SortedStore};
+use silt_sorted_store::{ScanError, SortedEntries, SortedStore};
 use std::alloc::Global;
 use std::test::Fail;
 
@@ -70,9 +70,9 @@ fn rebuild_in<D: Disk>(
 {
     match SortedStore::rebuild(alloc, disk, geometry, region, count) {
         Ok(store) => Outcome::Rebuilt(store.len()),
-        Err(RebuildError::Damaged(place)) => Outcome::Damaged(place),
-        Err(RebuildError::Device(_)) => Outcome::Failed,
-        Err(RebuildError::NoMemory) => Outcome::NoMemory,
+        Err(ScanError::Damaged(place)) => Outcome::Damaged(place),
+        Err(ScanError::Device(_)) => Outcome::Failed,
+        Err(ScanError::NoMemory) => Outcome::NoMemory,
     }
 }
 
