@@ -1,3 +1,4 @@
+mod Files
 mod Marked
 mod ToCome
 mod Waiting

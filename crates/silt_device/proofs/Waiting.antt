@@ -7,8 +7,8 @@ use Rattle.std.proofs.lemmas.Bool.Decides.{nat_tests}
 use Rattle.silt_disk.specs.Disk.{Content, Torn, Tears, Writes, Settles, Stays, Restarts, size, splice, within}
 use Rattle.silt_device.specs.Buffered.{BufferedBytes, BufferedState, buffered_content, takes, grown, emptied, waits, image_over, length-image_over, byte_elsewhere, byte_there, content_over, neither, holds, LaidOver}
 use Rattle.std.specs.Prelude.{Result, Ok, Err, IfOk}
-use Rattle.silt_device.specs.File.{IsOpened, file_content}
-use Rattle.silt_device.specs.declared.file.RandomAccessDisk.{RandomAccessDisk}
+use Rattle.silt_device.specs.File.{FileState, IsOpened, file_content, random_access_content}
+use Rattle.silt_assumption.specs.Files.{system_content}
 use Rattle.silt_device.specs.declared.system_disk.FileDisk.{FileDisk}
 use Rattle.silt_disk.proofs.Images.{torn_splice, splice_byte}
 
@@ -403,10 +403,10 @@ not_out_at g at bytes old new same_at same_bytes tears =
 -- ---- a disk in a file
 
 -- the length of a disk that was opened or made is that of the disk that buffers for it
-opened_size : {F : Type 0} (len : ℕ) (disk : BufferedState (RandomAccessDisk F)) → IsOpened len disk.inner → size (buffered_content file_content disk) ≡ len
-opened_size len disk opened = size_over disk.buffer (file_content disk.inner) ∙ opened.bytes
+opened_size : {F : Type 0} (content : F → Content) (len : ℕ) (disk : BufferedState (FileState F)) → IsOpened content len disk.inner → size (buffered_content (random_access_content content) disk) ≡ len
+opened_size content len disk opened = size_over disk.buffer (random_access_content content disk.inner) ∙ opened.bytes
 
 -- where there is one
-pub opened_sizes : {E : Type 0} (len : ℕ) (answer : Result FileDisk E) → IfOk answer (λ disk. IsOpened len disk.inner.inner) → IfOk answer (λ disk. size (buffered_content file_content disk.inner) ≡ len)
-opened_sizes len (Ok disk) opened = opened_size len disk.inner opened
+pub opened_sizes : {E : Type 0} (len : ℕ) (answer : Result FileDisk E) → IfOk answer (λ disk. IsOpened system_content len disk.inner.inner) → IfOk answer (λ disk. size (buffered_content file_content disk.inner) ≡ len)
+opened_sizes len (Ok disk) opened = opened_size system_content len disk.inner opened
 opened_sizes len (Err error) opened = opened

@@ -1,59 +1,80 @@
 -- What a disk in a file stands for.
-use Rattle.std.specs.Prelude.{◌≡◌, ℕ, false, refl, replicate}
+use Rattle.std.specs.Prelude.{◌≡◌, ℕ, IsTrue, cond}
 use Rattle.std.specs.Fs.{metadata_len}
 use Rattle.std.specs.declared.fs.attrs.Metadata.{Metadata}
-use Rattle.silt_disk.specs.Disk.{Content, size}
+use Rattle.silt_disk.specs.Disk.{Content, Settles, size}
 use Rattle.silt_disk.specs.declared.disk.Call.{Call}
-use Rattle.silt_device.specs.declared.file.RandomAccessDisk.{RandomAccessDisk}
+use Rattle.std.specs.declared.fs.File.{File}
+use Rattle.silt_assumption.specs.Files.{system_content, unpromised}
+use Rattle.silt_device.specs.System.{Resizes}
 use Rattle.silt_device.specs.declared.file.FileFault.{FileFault}
 
--- A disk in a file is not honest, so that nothing is said of its bytes: the zeros stand for its length alone.
-abbrev pub file_content : {F : Type 0} → RandomAccessDisk F → Content
-file_content disk = record {
-  honest = false;
-  shown = replicate disk.len 0;
-  settled = replicate disk.len 0;
-  pending = λ _. false;
-  sizes = refl;
-  agrees = λ _ _. refl;
-}
+-- an open file, the length of the disk in it, and how many of the disk's writes and syncs have failed
+pub record FileState (F : Type 0) : Type 0 where
+  pub file : F
+  pub len : ℕ
+  pub failures : ℕ
+
+-- the content of a file, where the file behaves; else one of this length that promises nothing
+abbrev pub kept_content : Content → ℕ → Content
+kept_content file len = cond file.honest file (unpromised len)
+
+-- the content of a disk in a file, by that of the file
+abbrev pub random_access_content : {F : Type 0} → (F → Content) → FileState F → Content
+random_access_content content disk = kept_content (content disk.file) disk.len
+
+-- the content of a disk in a file of the system: nothing shows whether that behaves
+abbrev pub file_content : FileState File → Content
+file_content = random_access_content system_content
+
+-- a file that behaves has this length
+abbrev pub HasLength : Content → ℕ → Type 0
+HasLength file len = IsTrue file.honest → size file ≡ len
 
 -- the fault carries its call, its range and the number of failures that the disk then had
-abbrev pub file_gave : {F : Type 0} → RandomAccessDisk F → FileFault → Call → ℕ → ℕ → Type 0
+abbrev pub file_gave : {F : Type 0} → FileState F → FileFault → Call → ℕ → ℕ → Type 0
 file_gave disk fault call at count = (fault.call ≡ call) × (fault.at ≡ at) × (fault.count ≡ count) × (fault.failures ≡ disk.failures)
 
--- a disk of this length, of whose bytes nothing is said, and on which no call has failed
-pub record IsOpened {F : Type 0} (count : ℕ) (disk : RandomAccessDisk F) : Type 0 where
-  pub bytes : size (file_content disk) ≡ count
-  pub honest : (file_content disk).honest ≡ false
+-- a disk of this length, which stands for what its file does if that behaves, and on which no call has failed
+pub record IsOpened {F : Type 0} (content : F → Content) (count : ℕ) (disk : FileState F) : Type 0 where
+  pub bytes : size (random_access_content content disk) ≡ count
+  pub same : IsTrue (content disk.file).honest → random_access_content content disk ≡ content disk.file
   pub failures : disk.failures ≡ 0
 
--- a disk in a file that was found, then locked, then synced, of the length that the system told of it
-pub record IsOpenedFile {F : Type 0} (found : F → Type 0) (locked : F → F → Type 0) (measured : F → Metadata → Type 0) (synced : F → Type 0)
-    (disk : RandomAccessDisk F) : Type 0 where
+-- a disk in a file that was found, then locked, then synced, of the length that the system told of it: what the file held is settled
+pub record IsOpenedFile {F : Type 0} (content : F → Content) (found : F → Type 0) (locked : F → F → Type 0) (measured : F → Metadata → Type 0) (synced : F → F → Type 0)
+    (disk : FileState F) : Type 0 where
   pub first : F
+  pub second : F
   pub there : found first
-  pub owned : locked first disk.file
-  pub settled : synced disk.file
+  pub owned : locked first second
+  pub settled : synced second disk.file
+  pub holds : Settles (content first) (content disk.file)
   pub metadata : Metadata
   pub told : measured disk.file metadata
-  pub opened : IsOpened (metadata_len metadata) disk
+  pub opened : IsOpened content (metadata_len metadata) disk
 
--- a disk in a file that was found, and then locked beside others, of the length that the system told of it
-pub record IsSharedFile {F : Type 0} (found : F → Type 0) (shared : F → F → Type 0) (measured : F → Metadata → Type 0)
-    (disk : RandomAccessDisk F) : Type 0 where
+-- a disk in a file that was found, and then locked beside others, of the length that the system told of it: it has what the file held
+pub record IsSharedFile {F : Type 0} (content : F → Content) (found : F → Type 0) (shared : F → F → Type 0) (measured : F → Metadata → Type 0)
+    (disk : FileState F) : Type 0 where
   pub first : F
   pub there : found first
   pub held : shared first disk.file
+  pub holds : content disk.file ≡ content first
   pub metadata : Metadata
   pub told : measured disk.file metadata
-  pub opened : IsOpened (metadata_len metadata) disk
+  pub opened : IsOpened content (metadata_len metadata) disk
 
--- a file that was made, then locked, then given this length, and then synced
-pub record IsMadeFile {F : Type 0} (made : F → Type 0) (locked : F → F → Type 0) (resized : F → ℕ → F → Type 0) (synced : F → Type 0) (len : ℕ) (file : F) : Type 0 where
+-- a file that was made, then locked, then given this length, and then synced: what it held up to this length is settled, with zeros behind it
+pub record IsMadeFile {F : Type 0} (content : F → Content) (made : F → Type 0) (locked : F → F → Type 0) (resized : F → ℕ → F → Type 0) (synced : F → F → Type 0)
+    (len : ℕ) (file : F) : Type 0 where
   pub first : F
   pub second : F
+  pub third : F
   pub opened : made first
   pub owned : locked first second
-  pub sized : resized second len file
-  pub settled : synced file
+  pub sized : resized second len third
+  pub settled : synced third file
+  pub same : content second ≡ content first
+  pub cut : Resizes len (content second) (content third)
+  pub holds : Settles (content third) (content file)

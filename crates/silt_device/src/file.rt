@@ -5,6 +5,7 @@ use crate::system::{FileSystem, RandomAccessFile};
 use silt_disk::{Call, CallAt, Disk};
 use std::error::Error;
 use std::fs::{File, Metadata};
+use std::marker::Model;
 use std::{fmt, io};
 
 /// The fault of one device call: the call, its range, how many calls had failed then, and the error that the system gave. Only a
@@ -43,20 +44,31 @@ impl Error for FileFault {}
 
 /// A disk in a file, whose length never changes.
 ///
-/// It is proved that the length stays, which calls of the system were made, at which places and with which bytes, that failed writes
-/// and syncs are counted, and that each fault is this disk's own, for the call that failed. That the file behaves as the crash premise says is assumed: no clause speaks of what the file holds. It is
+/// It is as honest as its file behaves: where the file behaves, its content is the file's, and each clause of `Disk` follows. Whatever the
+/// file does, the length stays, the clauses name the calls of the system that were made, with their places and bytes, failed writes and
+/// syncs are counted, and each fault is this disk's own, for the call that failed. That a file of the system behaves is an assumption. It is
 /// not so where the system, after a failed sync, goes on to show bytes that it will never write. The lock is an advisory one: it keeps
 /// out whoever asks for it, as each disk here does, and nobody else.
 #[derive(Drop)]
-pub struct RandomAccessDisk<F = File> {
+pub struct RandomAccessDisk<F: RandomAccessFile = File> {
     file: F,
     len: u64,
     failures: u64,
 }
 
+impl<F: RandomAccessFile> Model for RandomAccessDisk<F> {
+    ghost use Rattle.silt_device.specs.File.{FileState, HasLength};
+
+    ghost Value = { FileState F };
+
+    ghost view = { λ a. record { file = a.file; len = a.len; failures = a.failures } };
+
+    ghost invariant = { λ a. HasLength (F.content a.file) a.len };
+}
+
 impl<F: RandomAccessFile> RandomAccessDisk<F> {
     ghost use Rattle.std.specs.Fs.{metadata_len};
-    ghost use Rattle.silt_device.specs.File.{file_gave, IsOpened, IsOpenedFile, IsMadeFile, IsSharedFile};
+    ghost use Rattle.silt_device.specs.File.{file_gave, HasLength, IsOpened, IsOpenedFile, IsMadeFile, IsSharedFile};
 
     /// Makes the file, or takes the one that is there, locks it, gives it exactly this length in bytes, and syncs it and the folder
     /// that it is in. What a file that is there held up to this length stays, and what is new are zeros. Where the path is a link,
@@ -73,12 +85,12 @@ impl<F: RandomAccessFile> RandomAccessDisk<F> {
         path: &str,
         len: u64,
     ) -> io::Result<RandomAccessDisk<F>>
-        ensures opened { IfOk result (IsOpened len) }
-        ensures made { IfOk result (λ disk. IsMadeFile (R.made system.now path.now) (R.locked system.now) F.resized F.synced len disk.file) }
+        ensures opened { IfOk result (IsOpened F.content len) }
+        ensures made { IfOk result (λ disk. IsMadeFile F.content (R.made system.now path.now) (R.locked system.now) F.resized F.synced len disk.file) }
         ensures folder { OnOk result (R.folder_synced system.now path.now) }
         ensures too_long { 2 ^ 63 ≤ len → IsErr result }
     {
-        let file = system.lock_file(system.make_file_at(path)?)?.resize(len)?;
+        let mut file = system.lock_file(system.make_file_at(path)?)?.resize(len)?;
         file.settle()?;
         system.sync_folder_of(path)?;
         Ok(RandomAccessDisk::of_len(file, len))
@@ -92,9 +104,9 @@ impl<F: RandomAccessFile> RandomAccessDisk<F> {
     /// The error of the system, where the file is not there, another open of it has a lock, or it cannot be read, written, measured
     /// or synced.
     pub fn open<R: FileSystem<File = F>>(system: &R, path: &str) -> io::Result<RandomAccessDisk<F>>
-        ensures opened { IfOk result (IsOpenedFile (R.opened system.now path.now) (R.locked system.now) F.measured F.synced) }
+        ensures opened { IfOk result (IsOpenedFile F.content (R.opened system.now path.now) (R.locked system.now) F.measured F.synced) }
     {
-        let found = system.lock_file(system.open_file_at(path)?)?;
+        let mut found = system.lock_file(system.open_file_at(path)?)?;
         found.settle()?;
         let metadata = found.measure()?;
         Ok(RandomAccessDisk::measured(found, &metadata))
@@ -111,7 +123,7 @@ impl<F: RandomAccessFile> RandomAccessDisk<F> {
         system: &R,
         path: &str,
     ) -> io::Result<RandomAccessDisk<F>>
-        ensures opened { IfOk result (IsSharedFile (R.opened_to_read system.now path.now) (R.shared system.now) F.measured) }
+        ensures opened { IfOk result (IsSharedFile F.content (R.opened_to_read system.now path.now) (R.shared system.now) F.measured) }
     {
         let found = system.share_file(system.open_file_to_read_at(path)?)?;
         let metadata = found.measure()?;
@@ -120,15 +132,18 @@ impl<F: RandomAccessFile> RandomAccessDisk<F> {
 
     // The disk in an open file, of the length that the system tells.
     fn measured(file: F, metadata: &Metadata) -> RandomAccessDisk<F>
-        ensures len { IsOpened (metadata_len metadata.now) result }
+        requires { HasLength (F.content file) (metadata_len metadata.now) }
+        ensures len { IsOpened F.content (metadata_len metadata.now) result }
         ensures file { result.file ≡ file }
     {
         RandomAccessDisk::of_len(file, metadata.len())
     }
 
     // The disk in an open file, of this length.
-    pub(crate) fn of_len(file: F, len: u64) -> RandomAccessDisk<F>
-        ensures len { IsOpened len result }
+    #[tactic(auto, using(crate::proofs::Files::kept_size, crate::proofs::Files::kept_same))]
+    fn of_len(file: F, len: u64) -> RandomAccessDisk<F>
+        requires { HasLength (F.content file) len }
+        ensures len { IsOpened F.content len result }
         ensures file { result.file ≡ file }
     {
         RandomAccessDisk {
@@ -136,6 +151,13 @@ impl<F: RandomAccessFile> RandomAccessDisk<F> {
             len,
             failures: 0,
         }
+    }
+
+    /// The file, as it stands.
+    pub fn into_file(self) -> F
+        ensures { result ≡ self.file }
+    {
+        self.file
     }
 
     // The fault of a call of the disk as it stands.
@@ -166,13 +188,14 @@ impl<F: RandomAccessFile> RandomAccessDisk<F> {
 }
 
 impl<F: RandomAccessFile + Send + Sync> Disk for RandomAccessDisk<F> {
-    ghost use Rattle.std.specs.Prelude.{OnOk, OnErr, IfErr, MatchResult, length};
+    ghost use Rattle.std.specs.Prelude.{OnOk, OnErr, IfErr, IsTrue, MatchResult, length, slice_range};
     ghost use Rattle.silt_disk.specs.declared.disk.Call.TheVariants.{Read, Write, Sync};
-    ghost use Rattle.silt_device.specs.File.{file_content, file_gave};
+    ghost use Rattle.silt_disk.specs.Disk.{Tears, Writes, Settles, Stays, size};
+    ghost use Rattle.silt_device.specs.File.{random_access_content, file_gave};
 
     type Fault = FileFault;
 
-    ghost content = { file_content };
+    ghost content = { random_access_content F.content };
 
     ghost failures = { λ disk. disk.failures };
 
@@ -184,6 +207,8 @@ impl<F: RandomAccessFile + Send + Sync> Disk for RandomAccessDisk<F> {
 
     // It takes no lock, so that several threads may read at once.
     fn read(&self, at: u64, buf: &mut [u8]) -> Result<(), FileFault>
+        ensures bytes { IsTrue (random_access_content F.content self.now).honest →
+            OnOk result (buf.new ≡ slice_range (random_access_content F.content self.now).shown at (at + length buf.old)) }
         ensures read { OnOk result (F.read_from self.now.file at buf.new) }
         ensures fault { IfErr result (λ fault. file_gave self.now fault Read at (length buf.old)) }
     {
@@ -195,8 +220,13 @@ impl<F: RandomAccessFile + Send + Sync> Disk for RandomAccessDisk<F> {
     }
 
     fn write(&mut self, at: u64, buf: &[u8]) -> Result<(), FileFault>
-        ensures kept { (self.new.file ≡ self.old.file) × (self.new.len ≡ self.old.len) }
-        ensures written { OnOk result (F.written_at self.new.file at buf.now) }
+        requires { at + length buf.now ≤ size (random_access_content F.content self.old) }
+        ensures len { self.new.len ≡ self.old.len }
+        ensures size { size (random_access_content F.content self.new) ≡ size (random_access_content F.content self.old) }
+        ensures torn { Tears at (length buf.now) (random_access_content F.content self.old) (random_access_content F.content self.new) }
+        ensures written { OnOk result (Writes at buf.now (random_access_content F.content self.old) (random_access_content F.content self.new)) }
+        ensures wrote { OnOk result (F.written_at self.old.file at buf.now self.new.file) }
+        ensures not_wrote { OnErr result (F.not_written_at self.old.file at buf.now self.new.file) }
         ensures failures { MatchResult result (λ _. self.new.failures ≡ self.old.failures)
             (λ fault. (self.new.failures ≡ (self.old.failures + 1) % 2 ^ 64)
             × file_gave self.new fault Write at (length buf.now)) }
@@ -208,11 +238,16 @@ impl<F: RandomAccessFile + Send + Sync> Disk for RandomAccessDisk<F> {
     }
 
     fn sync(&mut self) -> Result<(), FileFault>
-        ensures kept { (self.new.file ≡ self.old.file) × (self.new.len ≡ self.old.len) }
-        ensures settled { OnOk result (F.data_synced self.new.file) }
+        ensures len { self.new.len ≡ self.old.len }
+        ensures size { size (random_access_content F.content self.new) ≡ size (random_access_content F.content self.old) }
+        ensures all { size (random_access_content F.content self.new) ≡ self.new.len }
+        ensures settled { OnOk result (Settles (random_access_content F.content self.old) (random_access_content F.content self.new)) }
+        ensures unchanged { OnErr result (Stays (random_access_content F.content self.old) (random_access_content F.content self.new)) }
+        ensures synced { OnOk result (F.data_synced self.old.file self.new.file) }
+        ensures not_synced { OnErr result (F.not_data_synced self.old.file self.new.file) }
         ensures failures { MatchResult result (λ _. self.new.failures ≡ self.old.failures)
             (λ fault. (self.new.failures ≡ (self.old.failures + 1) % 2 ^ 64)
-            × file_gave self.new fault Sync 0 self.new.len) }
+            × file_gave self.new fault Sync 0 (size (random_access_content F.content self.new))) }
     {
         match self.file.settle_data() {
             Ok(()) => Ok(()),

@@ -7,8 +7,9 @@
 //!
 //! What a disk promises, and the layout of a device, stand in `silt_disk`, on which the stores stand; its names are here too.
 //!
-//! **Honesty.** The disks in memory are honest. That a real file is honest is an assumption, which nothing here shows: of a disk
-//! in a file no clause says what its bytes are.
+//! **Honesty.** The disks in memory are honest. A disk in a file is as honest as its file behaves: `RandomAccessFile` says what each call
+//! does to the bytes of a file that does, and for every such file `RandomAccessDisk` keeps each clause of `Disk`. That a file of the system
+//! behaves is an assumption: no clause states it or denies it.
 #![tactic(auto)]
 
 mod buffered_disk;
@@ -27,9 +28,10 @@ pub use fault::FaultDisk;
 pub use file::{FileFault, RandomAccessDisk};
 pub use life::{Fill, Stop};
 pub use memory::{MemDisk, MemFault};
-pub use silt_disk::{BadGeometry, Call, CallAt, Disk, Geometry, Stoppable, write_synced};
-pub use silt_disk::{HEADER_LEN, REGIONS_AT, SECTOR, geometry_of, header_bytes, is_formatted};
-pub use silt_disk::{regions_lie_apart, slot_start};
+pub use silt_disk::{
+    BadGeometry, Call, CallAt, Disk, Geometry, HEADER_LEN, REGIONS_AT, SECTOR, Stoppable,
+    geometry_of, header_bytes, is_formatted, regions_lie_apart, slot_start, write_synced,
+};
 pub use source::{DiskSource, FileDisks, NamedDisk, NoSuchDisk};
 pub use system::{FileSystem, RandomAccessFile};
 pub use system_disk::FileDisk;

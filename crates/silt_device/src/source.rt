@@ -73,21 +73,22 @@ where
 {
     ghost use Rattle.std.specs.Prelude.{⊤};
     ghost use Rattle.silt_device.specs.File.{IsOpened, IsOpenedFile, IsMadeFile, IsSharedFile};
+    ghost use Rattle.silt_assumption.specs.Files.{system_content};
 
     type Disk = FileDisk;
 
     type Error = io::Error;
 
-    ghost opened = { λ source path disk. IsOpenedFile (S.opened source.system path) (S.locked source.system) (λ _ _. ⊤) (λ _. ⊤) disk.inner.inner };
+    ghost opened = { λ source path disk. IsOpenedFile system_content (S.opened source.system path) (S.locked source.system) (λ _ _. ⊤) (λ _ _. ⊤) disk.inner.inner };
 
     ghost not_opened = { λ _ _ _. ⊤ };
 
-    ghost shared = { λ source path disk. IsSharedFile (S.opened_to_read source.system path) (S.shared source.system) (λ _ _. ⊤) disk.inner.inner };
+    ghost shared = { λ source path disk. IsSharedFile system_content (S.opened_to_read source.system path) (S.shared source.system) (λ _ _. ⊤) disk.inner.inner };
 
     ghost not_shared = { λ _ _ _. ⊤ };
 
-    ghost created = { λ source path len disk. IsOpened len disk.inner.inner
-        × IsMadeFile (S.made source.system path) (S.locked source.system) (λ _ _ _. ⊤) (λ _. ⊤) len disk.inner.inner.file × S.folder_synced source.system path };
+    ghost created = { λ source path len disk. IsOpened system_content len disk.inner.inner
+        × IsMadeFile system_content (S.made source.system path) (S.locked source.system) (λ _ _ _. ⊤) (λ _ _. ⊤) len disk.inner.inner.file × S.folder_synced source.system path };
 
     ghost not_created = { λ _ _ _ _. ⊤ };
 

@@ -8,9 +8,9 @@ use silt_disk::Disk;
 use std::fs::File;
 use std::io;
 
-/// A disk in a file of the system, whose length never changes: it buffers adjacent writes for the random-access disk of one of std's files.
-/// So all that is proved of these two, over any disks and any files, holds of it; of the calls that std's files were given nothing
-/// can be said here.
+/// A disk in a file of the system, whose length never changes: it buffers adjacent writes for the random-access disk of such a file.
+/// So all that is proved of these two, over any disks and any files, holds of it: it is as honest as its file behaves. That the file does
+/// is an assumption, which no clause states or denies.
 #[derive(Drop)]
 pub struct FileDisk {
     inner: BufferedDisk<RandomAccessDisk<File>>,
@@ -18,6 +18,7 @@ pub struct FileDisk {
 
 impl FileDisk {
     ghost use Rattle.silt_device.specs.File.{IsOpened, IsOpenedFile, IsMadeFile, IsSharedFile};
+    ghost use Rattle.silt_assumption.specs.Files.{system_content};
 
     /// Makes the file, or takes the one that is there, locks it, gives it exactly this length in bytes, and syncs it and the folder
     /// that it is in. What a file that is there held up to this length stays, and what is new are zeros. Where the path is a link,
@@ -34,8 +35,8 @@ impl FileDisk {
         path: &str,
         len: u64,
     ) -> io::Result<FileDisk>
-        ensures opened { IfOk result (λ disk. IsOpened len disk.inner.inner) }
-        ensures made { IfOk result (λ disk. IsMadeFile (R.made system.now path.now) (R.locked system.now) (λ _ _ _. ⊤) (λ _. ⊤) len disk.inner.inner.file) }
+        ensures opened { IfOk result (λ disk. IsOpened system_content len disk.inner.inner) }
+        ensures made { IfOk result (λ disk. IsMadeFile system_content (R.made system.now path.now) (R.locked system.now) (λ _ _ _. ⊤) (λ _ _. ⊤) len disk.inner.inner.file) }
         ensures folder { OnOk result (R.folder_synced system.now path.now) }
         ensures too_long { 2 ^ 63 ≤ len → IsErr result }
     {
@@ -55,7 +56,7 @@ impl FileDisk {
         system: &R,
         path: &str,
     ) -> io::Result<FileDisk>
-        ensures opened { IfOk result (λ disk. IsOpenedFile (R.opened system.now path.now) (R.locked system.now) (λ _ _. ⊤) (λ _. ⊤) disk.inner.inner) }
+        ensures opened { IfOk result (λ disk. IsOpenedFile system_content (R.opened system.now path.now) (R.locked system.now) (λ _ _. ⊤) (λ _ _. ⊤) disk.inner.inner) }
     {
         let disk = RandomAccessDisk::open(system, path)?;
         let inner = BufferedDisk::new(system.alloc(), disk)?;
@@ -73,7 +74,7 @@ impl FileDisk {
         system: &R,
         path: &str,
     ) -> io::Result<FileDisk>
-        ensures opened { IfOk result (λ disk. IsSharedFile (R.opened_to_read system.now path.now) (R.shared system.now) (λ _ _. ⊤) disk.inner.inner) }
+        ensures opened { IfOk result (λ disk. IsSharedFile system_content (R.opened_to_read system.now path.now) (R.shared system.now) (λ _ _. ⊤) disk.inner.inner) }
     {
         let disk = RandomAccessDisk::open_shared(system, path)?;
         let inner = BufferedDisk::with_room(system.alloc(), disk, 0)?;
