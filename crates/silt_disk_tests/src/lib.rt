@@ -2,7 +2,12 @@
 //! long random runs beside a plain map.
 //!
 //! What no clause says stands here, seen from outside through the public calls.
+//!
+//! `MemFile` is a file in memory that behaves, for disks in files: it meets each clause of `RandomAccessFile`.
 #![tactic(auto)]
 
+mod mem_file;
 #[cfg(test)]
 mod tests;
+
+pub use mem_file::{MemFile, MemFolder};

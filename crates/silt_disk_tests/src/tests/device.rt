@@ -1,4 +1,5 @@
 // What no clause says of disks: which image a stop leaves, which call fails, and the worked layouts.
+mod behaving_file;
 mod buffered_disk;
 mod files;
 
