@@ -175,6 +175,7 @@ module _ {D F : Type 0} (facts : Ghosts D F) where
     settles = λ h. none_plain new reply (does.settles h);
     safe = does.safe;
     crash = does.crash;
+    keeps_basis = does.keeps_basis;
   }
 
   -- no store says that a history is full

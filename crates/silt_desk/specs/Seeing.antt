@@ -13,7 +13,7 @@ use Rattle.silt_event.specs.declared.refusal.Refusal.TheVariants.{Failed}
 use Rattle.silt_event.specs.declared.reply.Reply.TheVariants.{Acknowledged, Refused}
 
 -- a store as a trace sees it: what its device is, its shape, the map that gets answer from, the map of what is settled, the commands
--- that wait, the count of accepted commands, and whether it is failed
+-- that wait (of a failed store both as its failing call began), the count of accepted commands, and whether it is failed
 pub record SeenStore : Type 0 where
   pub content : Content
   pub shape : Shape
@@ -62,3 +62,4 @@ pub record SeenStep (old new : SeenStore) (event : Event) (reply : PlainReply) :
   -- whatever a stop leaves stands for the base, or, where the call failed, for the base as it was after a beginning of what waited
   pub safe : new.failed ≡ false → LeavesOnly new.content (StandsFor new.shape new.base)
   pub crash : old.failed ≡ false → new.failed ≡ true → LeavesOnly new.content (HasBegun old.shape old.base old.waiting)
+  pub keeps_basis : old.failed ≡ false → new.failed ≡ true → (new.base ≡ old.base) × (new.waiting ≡ old.waiting)

@@ -124,6 +124,12 @@ settles_more a c base waiting s t h old step moves =
           (acknowledged_one c.reply (acknowledged_after settled (replies_of a.calls)) s.count t.count (settled + length (old.moved ++ moves.moved)) t step.counts (step.settles h) now before);
     }
 
+-- a call that added nothing, and left the base and what waits, settles nothing more
+settles_same : (a : Keeping) (c : RecordedCall) (base : Map) (waiting : List Command) (s t : SeenStore) → IsTrue s.content.honest → HasSettled a base waiting s → SeenStep s t c.event c.reply
+    → accepted_command c.event c.reply ≡ [] → t.base ≡ s.base → t.waiting ≡ s.waiting → HasSettled (with_call a c) base waiting t
+settles_same a c base waiting s t h old step none same_base same_waiting =
+    settles_more a c base waiting s t h old step (record { moved = []; rest = same_waiting ∙ sym (append_nil s.waiting) ∙ ap (λ (cs : List Command). s.waiting ++ cs) (sym none); base = same_base })
+
 -- by a call that added and acknowledged nothing no more may be kept
 records_on : (a : Keeping) (c : RecordedCall) (shape : Shape) (base : Map) (waiting : List Command) (image : List ℕ) → accepted_command c.event c.reply ≡ [] → ((n : ℕ) → acknowledged_by n c.reply ≡ n)
     → StandsRecorded a shape base waiting image → StandsRecorded (with_call a c) shape base waiting image
@@ -158,29 +164,30 @@ survives_on a c opening s t survives step =
     let go : (b : Bool) → s.failed ≡ b → (d : Bool) → t.failed ≡ d → Survives (with_call a c) opening t = elim [
       | true ↦ λ failed d is.
           let stays = step.failed failed in
+          let none : c.reply ≡ Refused Failed → accepted_command c.event c.reply ≡ [] = λ is. ap (λ (r : PlainReply). accepted_command c.event r) is ∙ none_refused c.event Failed in
           record {
             base = base;
             waiting = waiting;
             opens = opens;
             few = few;
-            settled = λ working. absurd (let no : false ≡ true = sym working ∙ ap (λ (x : SeenStore). x.failed) stays.0 ∙ failed in cc);
+            settled = λ h. settles_same a c base waiting s t (was h) (survives.settled (was h)) step (none stays.1) (ap (λ (x : SeenStore). x.base) stays.0) (ap (λ (x : SeenStore). x.waiting) stays.0);
             left = record {
               each = λ h image left.
                   subst (λ (shape : Shape). StandsRecorded (with_call a c) shape base waiting image) (sym step.shape)
                   (records_on a c s.shape base waiting image
-                  (ap (λ (r : PlainReply). accepted_command c.event r) stays.1 ∙ none_refused c.event Failed) (λ n. ap (λ (r : PlainReply). acknowledged_by n r) stays.1)
+                  (none stays.1) (λ n. ap (λ (r : PlainReply). acknowledged_by n r) stays.1)
                   ((subst (λ (x : SeenStore). LeavesOnly x.content (StandsRecorded a s.shape base waiting)) (sym stays.0) survives.left).each h image left));
             };
           }
       | false ↦ λ working. elim [
         | false ↦ λ goes.
-            let settled : IsTrue t.content.honest → HasSettled (with_call a c) base waiting t = λ h. settles_more a c base waiting s t (was h) (survives.settled working (was h)) step (step.moves goes (was h)) in
+            let settled : IsTrue t.content.honest → HasSettled (with_call a c) base waiting t = λ h. settles_more a c base waiting s t (was h) (survives.settled (was h)) step (step.moves goes (was h)) in
             record {
               base = base;
               waiting = waiting;
               opens = opens;
               few = few;
-              settled = λ still h. settled h;
+              settled = settled;
               left = record { each = λ h image left. keeps_settled (with_call a c) base waiting t image (settled h) ((step.safe goes).each h image left) };
             }
         | true ↦ λ fails. record {
@@ -188,10 +195,12 @@ survives_on a c opening s t survives step =
           waiting = waiting;
           opens = opens;
           few = few;
-          settled = λ still. absurd (let no : false ≡ true = sym still ∙ fails in cc);
+          settled = λ h.
+              let kept = step.keeps_basis working fails in
+              settles_same a c base waiting s t (was h) (survives.settled (was h)) step (fault_adds c.event c.reply (step.faulted working fails)).0 kept.0 kept.1;
           left = record {
             each = λ h image left.
-                let old = survives.settled working (was h) in
+                let old = survives.settled (was h) in
                 let torn = (step.crash working fails).each h image left in
                 let fault = fault_adds c.event c.reply (step.faulted working fails) in
                 let before : StandsRecorded a s.shape base waiting image = (
@@ -268,7 +277,7 @@ history_opens kept store none count entries has_map few safe = record {
     waiting = store.waiting;
     opens = has_map;
     few = λ h. subst (λ (n : ℕ). length store.waiting ≤ n) (sym count) (few h);
-    settled = λ working h. settles_none kept store none count;
+    settled = λ h. settles_none kept store none count;
     left = record { each = λ h image left. keeps_settled kept store.base store.waiting store image (settles_none kept store none count) (safe.each h image left) };
   };
 }

@@ -1,5 +1,5 @@
 -- What a kept trace holds, as contracts see it.
-use Rattle.std.specs.Prelude.{◌≡◌, ◌≤◌, ℕ, ◌+◌, List, ◌∷◌, [], ◌++◌, length, false, IsTrue}
+use Rattle.std.specs.Prelude.{◌≡◌, ◌≤◌, ℕ, ◌+◌, List, ◌∷◌, [], ◌++◌, length, IsTrue}
 use Rattle.std.specs.BTreeMap.{is_at}
 use Rattle.std.specs.Map.{lookup}
 use Rattle.std.specs.FinMap.{get}
@@ -53,7 +53,7 @@ pub record Survives (kept : Keeping) (opening : Map) (store : SeenStore) : Type 
   pub waiting : List Command
   pub opens : IsTrue store.content.honest → opening ≡ map_after base waiting
   pub few : IsTrue store.content.honest → length waiting ≤ kept.count
-  pub settled : store.failed ≡ false → IsTrue store.content.honest → HasSettled kept base waiting store
+  pub settled : IsTrue store.content.honest → HasSettled kept base waiting store
   pub left : LeavesOnly store.content (StandsRecorded kept store.shape base waiting)
 
 -- The recorded calls are a history of one thread, from the opening entries and count to the store's map and count, and what a stop leaves is

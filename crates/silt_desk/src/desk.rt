@@ -1,5 +1,5 @@
 // A store with its trace, whose callers have seats.
-ghost use Rattle.std.specs.Prelude.{◌≡◌, ◌≢◌, ℕ, ◌+◌, ◌<◌, ◌%◌, ◌^◌, Some, Ok, false, IsTrue, length, IfOk, IfErr, OnOk, MatchResult, vec_len, vec_capacity, slice_get};
+ghost use Rattle.std.specs.Prelude.{◌≡◌, ◌≢◌, ℕ, ◌+◌, ◌≤◌, ◌<◌, ◌%◌, ◌^◌, Some, Ok, false, IsTrue, length, IfOk, IfErr, OnOk, MatchResult, vec_len, vec_capacity, slice_get};
 ghost use Rattle.silt_event.specs.Events.{plain};
 ghost use Rattle.silt_desk.specs.DeskState.{Notes};
 ghost use Rattle.silt_desk.specs.Notes.{noted_event, reply_of};
@@ -80,6 +80,7 @@ impl<D: Disk, T: Trace, N: Naming> Desk<D, T, N> {
     ghost use Rattle.std.specs.Prelude.{IsErrOf};
     ghost use Rattle.silt_disk.specs.Disk.{LeavesOnly};
     ghost use Rattle.silt_image.specs.Meaning.{StandsFor};
+    ghost use Rattle.silt_tiers.specs.Calls.{HasBegun};
     ghost use Rattle.silt_store_set.specs.CoreInvariant.{LeavesBegun};
     ghost use Rattle.silt_event.specs.Commands.{map_after};
     ghost use Rattle.silt_store_set.specs.CoreState.{Does, map_of, wants_convert, wants_merge};
@@ -129,12 +130,13 @@ impl<D: Disk, T: Trace, N: Naming> Desk<D, T, N> {
         self.core.geometry()
     }
 
-    /// Says what is true of the store at every moment, and does nothing: what a stop may leave of its device (see [`Core::standing`]). With
-    /// [`Kept`](crate::Kept) the recorded calls tell it: see [`Desk::trace`].
+    /// Says what is true of the store at every moment, and does nothing: what a stop may leave of its device, also of a failed store (see
+    /// [`Core::standing`]). With [`Kept`](crate::Kept) the recorded calls tell it: see [`Desk::trace`].
     pub fn standing(&self)
         ensures safe { self.now.core.failed ≡ false → LeavesOnly (D.content self.now.core.disk) (StandsFor self.now.core.shape self.now.core.base) }
-        ensures has_map { self.now.core.failed ≡ false → IsTrue (D.content self.now.core.disk).honest → map_of self.now.core ≡ map_after self.now.core.base self.now.core.waiting }
-        ensures left { LeavesBegun (D.content self.now.core.disk) self.now.core.shape }
+        ensures begun { LeavesOnly (D.content self.now.core.disk) (HasBegun self.now.core.shape self.now.core.base self.now.core.waiting) }
+        ensures has_map { IsTrue (D.content self.now.core.disk).honest → map_of self.now.core ≡ map_after self.now.core.base self.now.core.waiting }
+        ensures few { IsTrue (D.content self.now.core.disk).honest → length self.now.core.waiting ≤ self.now.core.count }
     {
         self.core.standing();
     }
@@ -321,10 +323,11 @@ impl<D: Disk, T: Trace, N: Naming> Desk<D, T, N> {
     }
 
     /// Gives the device back, at any moment. Each image that a stop may leave of it stands for the base, or, where the store is failed, for
-    /// one map after a beginning of one list of commands.
+    /// the base after a beginning of the commands that waited, both as its failing call began.
     pub fn close(self) -> D
         ensures disk { result ≡ self.core.disk }
         ensures safe { self.core.failed ≡ false → LeavesOnly (D.content result) (StandsFor self.core.shape self.core.base) }
+        ensures begun { LeavesOnly (D.content result) (HasBegun self.core.shape self.core.base self.core.waiting) }
         ensures left { LeavesBegun (D.content result) self.core.shape }
     {
         self.into_core().close()

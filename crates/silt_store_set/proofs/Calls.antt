@@ -5,7 +5,7 @@ use Rattle.silt_disk.specs.Layout.{device_size}
 use Rattle.silt_disk.specs.declared.disk.Disk.{Ghosts}
 use Rattle.silt_event.specs.Commands.{Command, Map, map_after}
 use Rattle.silt_image.specs.Meaning.{image_map, StandsFor}
-use Rattle.silt_tiers.specs.Calls.{Advances, Breaks, HasBegun}
+use Rattle.silt_tiers.specs.Calls.{Advances, Breaks, HasBegun, Remaps}
 use Rattle.silt_standing.specs.Standing.{SameDisk}
 use Rattle.silt_tiers.specs.Laws.{IsGoodWith}
 use Rattle.silt_standing.specs.Standing.{Stands, base_map, full_image, waiting_commands}
@@ -18,13 +18,14 @@ use Rattle.silt_event.specs.declared.refusal.Refusal.TheVariants.{Device, Failed
 use Rattle.silt_event.specs.declared.reply.Reply.{Reply}
 use Rattle.silt_event.specs.declared.reply.Reply.TheVariants.{Refused}
 use Rattle.silt_event.specs.Events.{Step, Counts, accepted_command, is_failed}
-use Rattle.silt_store_set.specs.CoreInvariant.{IsCore, LeavesBegun}
+use Rattle.silt_store_set.specs.Basis.{BasisState, basis_kept, basis_of}
+use Rattle.silt_store_set.specs.CoreInvariant.{BreaksFrom, IsCore}
 use Rattle.silt_store_set.specs.CoreState.{CoreState, map_of, Cause, LeavesNoneWaiting, Does, convert_work, is_convert, is_finished, is_merge, is_refused, merge_work}
 use Rattle.silt_store_set.proofs.Maps.{append_nil, map_after-append}
 
--- what contracts see of a store with these fields
-abbrev pub seen : {D F : Type 0} → Ghosts D F → D → TiersState → ℕ → Bool → CoreState D
-seen facts disk stores count failed = record {
+-- what contracts see of a store with these fields that is not failed
+abbrev pub seen : {D F : Type 0} → Ghosts D F → D → TiersState → ℕ → CoreState D
+seen facts disk stores count = record {
   disk = disk;
   shape = stores.manifest.shape;
   body = stores.manifest.ruling;
@@ -35,6 +36,18 @@ seen facts disk stores count failed = record {
   merging = merge_work stores.merging;
   charge = stores.charge;
   count = count;
+  failed = false;
+}
+
+-- and of one that failed in a call that began with this basis
+abbrev pub seen_failed : {D F : Type 0} → Ghosts D F → BasisState → D → TiersState → ℕ → CoreState D
+seen_failed facts basis disk stores count = record (seen facts disk stores count) { base = basis.base; waiting = basis.waiting; failed = true }
+
+-- and of one or the other
+abbrev pub seen_core : {D F : Type 0} → Ghosts D F → D → TiersState → ℕ → Bool → BasisState → CoreState D
+seen_core facts disk stores count failed basis = record (seen facts disk stores count) {
+  base = (basis_kept failed basis (basis_of (facts.content disk) stores)).base;
+  waiting = (basis_kept failed basis (basis_of (facts.content disk) stores)).waiting;
   failed = failed;
 }
 
@@ -45,8 +58,8 @@ pub record Standing {D F : Type 0} (facts : Ghosts D F) (core : CoreState D) : T
   pub safe : LeavesOnly (facts.content core.disk) (StandsFor core.shape core.base)
 
 -- a store that is not failed stands
-pub stands_seen : {D F : Type 0} (facts : Ghosts D F) (disk : D) (stores : TiersState) (count : ℕ) (failed : Bool) → Stands (facts.content disk) stores → Standing facts (seen facts disk stores count failed)
-stands_seen facts disk stores count failed stands = record {
+pub stands_seen : {D F : Type 0} (facts : Ghosts D F) (disk : D) (stores : TiersState) (count : ℕ) → Stands (facts.content disk) stores → Standing facts (seen facts disk stores count)
+stands_seen facts disk stores count stands = record {
   numbers = (meaning (facts.content disk) stores stands).numbers;
   has_map = λ h. (meaning (facts.content disk) stores stands).full h ∙ ap (λ m. map_after m (waiting_commands (facts.content disk) stores)) (sym ((meaning (facts.content disk) stores stands).shown h));
   safe = record {
@@ -54,63 +67,69 @@ stands_seen facts disk stores count failed stands = record {
   };
 }
 
--- of a store as contracts see it, each image stands for the base as long as it is not failed
-pub safe_seen : {D F : Type 0} (facts : Ghosts D F) (disk : D) (stores : TiersState) (count : ℕ) (failed : Bool) (core : CoreState D) → seen facts disk stores count failed ≡ core
-    → IsCore (facts.content disk) stores count failed → core.failed ≡ false → LeavesOnly (facts.content core.disk) (StandsFor core.shape core.base)
-safe_seen {D} facts disk stores count failed core is holds =
-    subst (λ (c : CoreState D). c.failed ≡ false → LeavesOnly (facts.content c.disk) (StandsFor c.shape c.base)) is (λ working. (stands_seen facts disk stores count failed (holds.stands working)).safe)
+-- what is true of a store at every moment, as contracts see it
+pub record Endures {D F : Type 0} (facts : Ghosts D F) (core : CoreState D) : Type 0 where
+  pub safe : core.failed ≡ false → LeavesOnly (facts.content core.disk) (StandsFor core.shape core.base)
+  pub begun : LeavesOnly (facts.content core.disk) (HasBegun core.shape core.base core.waiting)
+  pub has_map : IsTrue (facts.content core.disk).honest → map_of core ≡ map_after core.base core.waiting
+  pub few : IsTrue (facts.content core.disk).honest → length core.waiting ≤ core.count
 
--- and its map is the base after the waiting commands
-pub map_seen : {D F : Type 0} (facts : Ghosts D F) (disk : D) (stores : TiersState) (count : ℕ) (failed : Bool) (core : CoreState D) → seen facts disk stores count failed ≡ core
-    → IsCore (facts.content disk) stores count failed → core.failed ≡ false → IsTrue (facts.content core.disk).honest → map_of core ≡ map_after core.base core.waiting
-map_seen {D} facts disk stores count failed core is holds =
-    subst (λ (c : CoreState D). c.failed ≡ false → IsTrue (facts.content c.disk).honest → map_of c ≡ map_after c.base c.waiting) is
-    (λ working. (stands_seen facts disk stores count failed (holds.stands working)).has_map)
-
--- and no more commands wait than were accepted
-pub few_seen : {D F : Type 0} (facts : Ghosts D F) (disk : D) (stores : TiersState) (count : ℕ) (failed : Bool) (core : CoreState D) → seen facts disk stores count failed ≡ core
-    → IsCore (facts.content disk) stores count failed → core.failed ≡ false → IsTrue (facts.content core.disk).honest → length core.waiting ≤ core.count
-few_seen {D} facts disk stores count failed core is holds =
-    subst (λ (c : CoreState D). c.failed ≡ false → IsTrue (facts.content c.disk).honest → length c.waiting ≤ c.count) is holds.few
-
--- each image stands for the base after a beginning of what waits, where the store is failed and where it is not
-pub left_seen : {D F : Type 0} (facts : Ghosts D F) (disk : D) (stores : TiersState) (count : ℕ) (failed : Bool) → IsCore (facts.content disk) stores count failed → LeavesBegun (facts.content disk) stores.manifest.shape
-left_seen facts disk stores count failed holds =
-    let go : (b : Bool) → failed ≡ b → LeavesBegun (facts.content disk) stores.manifest.shape = elim [
-      | true ↦ λ fails. holds.left fails
-      | false ↦ λ working. record {
-        base = image_map (facts.content disk).shown;
-        waiting = waiting_commands (facts.content disk) stores;
-        begun = record {
-          each = λ h image left. record {
-            kept = [];
-            begins = record { rest = waiting_commands (facts.content disk) stores; is = refl };
-            stands = (stands_seen facts disk stores count failed (holds.stands working)).safe.each h image left;
-          };
+pub endures : {D F : Type 0} (facts : Ghosts D F) (disk : D) (stores : TiersState) (count : ℕ) (failed : Bool) (basis : BasisState) → IsCore (facts.content disk) stores count failed basis
+    → Endures facts (seen_core facts disk stores count failed basis)
+endures facts disk stores count true basis holds =
+    let breaks = holds.breaks refl in
+    record { safe = λ f. absurd (cc); begun = breaks.begun; has_map = breaks.has_map; few = breaks.few }
+endures facts disk stores count false basis holds =
+    let standing = stands_seen facts disk stores count (holds.stands refl) in
+    record {
+      safe = λ _. standing.safe;
+      begun = record {
+        each = λ h image left. record {
+          kept = [];
+          begins = record { rest = waiting_commands (facts.content disk) stores; is = refl };
+          stands = standing.safe.each h image left;
         };
-      }
-    ] in
-    go failed refl
+      };
+      has_map = standing.has_map;
+      few = holds.few refl;
+    }
+
+-- and of the store that contracts see so
+pub endures_seen : {D F : Type 0} (facts : Ghosts D F) (disk : D) (stores : TiersState) (count : ℕ) (failed : Bool) (basis : BasisState) (core : CoreState D) → seen_core facts disk stores count failed basis ≡ core
+    → IsCore (facts.content disk) stores count failed basis → Endures facts core
+endures_seen facts disk stores count failed basis core is holds = subst (Endures facts) is (endures facts disk stores count failed basis holds)
 
 -- what is true of a store stays where its disk and its stores do
-pub core_stays : {D : Type 0} (content : D → Content) (old new : D) (stores after : TiersState) (count : ℕ) (failed : Bool) → IsCore (content old) stores count failed → after ≡ stores → new ≡ old → IsCore (content new) after count failed
-core_stays content old new stores after count failed holds same same_disk = rw (same_disk, same) holds
+pub core_stays : {D : Type 0} (content : D → Content) (old new : D) (stores after : TiersState) (count : ℕ) (failed : Bool) (basis : BasisState) → IsCore (content old) stores count failed basis → after ≡ stores → new ≡ old
+    → IsCore (content new) after count failed basis
+core_stays content old new stores after count failed basis holds same same_disk = rw (same_disk, same) holds
 
 -- what is true of a store after a failed write or sync
-pub core_broke : (old new : Content) (stores after : TiersState) (count : ℕ) (failed : Bool) → IsCore old stores count failed → SameDisk old new → after.manifest.shape ≡ stores.manifest.shape → Breaks old new stores
-    → IsCore new after count true
-core_broke old new stores after count failed holds same shape breaks = record {
-  has_size = same.size ∙ holds.has_size ∙ ap device_size (sym shape);
-  count_most = holds.count_most;
-  stands = λ f. absurd (cc);
-  few = λ f. absurd (cc);
-  left = λ _. subst (LeavesBegun new) (sym shape) (record { base = base_map old stores; waiting = waiting_commands old stores; begun = breaks });
-}
+pub core_broke : (old new : Content) (stores after : TiersState) (count : ℕ) (failed : Bool) (basis : BasisState) → IsCore old stores count failed basis → failed ≡ false → SameDisk old new
+    → after.manifest.shape ≡ stores.manifest.shape → Breaks old new stores → Remaps [] old new stores after → IsCore new after count true (basis_of old stores)
+core_broke old new stores after count failed basis holds working same shape breaks maps =
+    let back : IsTrue new.honest → IsTrue old.honest = λ h. sym same.honest ∙ h in
+    let means = meaning old stores (holds.stands working) in
+    record {
+      has_size = same.size ∙ holds.has_size ∙ ap device_size (sym shape);
+      count_most = holds.count_most;
+      stands = λ f. absurd (cc);
+      few = λ f. absurd (cc);
+      breaks = λ _. record {
+        begun = record {
+          each = λ h image left.
+              subst (λ s. HasBegun s (image_map old.shown) (waiting_commands old stores) image) (sym shape)
+              (subst (λ m. HasBegun stores.manifest.shape m (waiting_commands old stores) image) (sym (means.shown (back h))) (breaks.each h image left));
+        };
+        has_map = λ h. maps (back h) ∙ means.full (back h) ∙ ap (λ m. map_after m (waiting_commands old stores)) (sym (means.shown (back h)));
+        few = λ h. holds.few working (back h);
+      };
+    }
 
 -- what is true of a store after a call that was answered, by which these commands were accepted
-pub core_went : (adds : List Command) (old new : Content) (stores after : TiersState) (count next : ℕ) (failed : Bool) → IsCore old stores count failed → failed ≡ false → SameDisk old new
-    → Advances adds old new stores after → next ≡ count + length adds → next < 2 ^ 63 → IsCore new after next failed
-core_went adds old new stores after count next failed holds working same goes is most = record {
+pub core_went : (adds : List Command) (old new : Content) (stores after : TiersState) (count next : ℕ) (failed : Bool) (basis : BasisState) → IsCore old stores count failed basis → failed ≡ false → SameDisk old new
+    → Advances adds old new stores after → next ≡ count + length adds → next < 2 ^ 63 → IsCore new after next failed basis
+core_went adds old new stores after count next failed basis holds working same goes is most = record {
   has_size = same.size ∙ holds.has_size ∙ ap device_size (sym goes.shape);
   count_most = most;
   stands = λ _. goes.stands;
@@ -126,7 +145,7 @@ core_went adds old new stores after count next failed holds working same goes is
         holds.few working there,
         is,
       );
-  left = λ f. absurd (let no : false ≡ true = sym working ∙ f in cc);
+  breaks = λ f. absurd (let no : false ≡ true = sym working ∙ f in cc);
 }
 
 -- ---- calls that change nothing
@@ -175,6 +194,7 @@ module _ {D F : Type 0} (facts : Ghosts D F) where
     settles = settles;
     safe = λ f. (stands f).safe;
     crash = λ a b. absurd (let no : false ≡ true = sym a ∙ b in cc);
+    keeps_basis = λ _ _. (refl, refl);
   }
 
   -- a failed store refuses
@@ -184,23 +204,23 @@ module _ {D F : Type 0} (facts : Ghosts D F) where
       (λ f. absurd (let no : false ≡ true = sym f ∙ failed in cc))
 
   -- a store that is not failed refuses, for another cause than a failure, and is as it was
-  pub refused : (disk : D) (stores : TiersState) (count : ℕ) (failed : Bool) (event : Event) (refusal : Refusal F) → failed ≡ false → Stands (facts.content disk) stores → is_failed (Refused refusal) ≡ false
-      → Cause facts (seen facts disk stores count failed) (seen facts disk stores count failed) event (Refused refusal)
-      → Does facts (seen facts disk stores count failed) (seen facts disk stores count failed) event (Refused refusal)
-  refused disk stores count failed event refusal working stands other cause =
-      unchanged (seen facts disk stores count failed) event (Refused refusal) refl cause (λ f. absurd (let no : false ≡ true = sym working ∙ f in cc)) (λ t. absurd (let no : false ≡ true = sym other ∙ t in cc))
-      (λ _ _. step_refused (image_map (full_image (facts.content disk) stores)) event refusal) (none_refused event refusal) (λ _. tt) (λ _. stands_seen facts disk stores count failed stands)
+  pub refused : (disk : D) (stores : TiersState) (count : ℕ) (event : Event) (refusal : Refusal F) → Stands (facts.content disk) stores → is_failed (Refused refusal) ≡ false
+      → Cause facts (seen facts disk stores count) (seen facts disk stores count) event (Refused refusal)
+      → Does facts (seen facts disk stores count) (seen facts disk stores count) event (Refused refusal)
+  refused disk stores count event refusal stands other cause =
+      unchanged (seen facts disk stores count) event (Refused refusal) refl cause (λ f. absurd (cc)) (λ t. absurd (let no : false ≡ true = sym other ∙ t in cc))
+      (λ _ _. step_refused (image_map (full_image (facts.content disk) stores)) event refusal) (none_refused event refusal) (λ _. tt) (λ _. stands_seen facts disk stores count stands)
 
   -- a store that is not failed answers without a change
-  pub answered : (disk : D) (stores : TiersState) (count : ℕ) (failed : Bool) (event : Event) (reply : Reply F)
-      → failed ≡ false → Stands (facts.content disk) stores → Counts count reply count → is_failed reply ≡ false → accepted_command event reply ≡ []
-      → Cause facts (seen facts disk stores count failed) (seen facts disk stores count failed) event reply
+  pub answered : (disk : D) (stores : TiersState) (count : ℕ) (event : Event) (reply : Reply F)
+      → Stands (facts.content disk) stores → Counts count reply count → is_failed reply ≡ false → accepted_command event reply ≡ []
+      → Cause facts (seen facts disk stores count) (seen facts disk stores count) event reply
       → (IsTrue (facts.content disk).honest → Step (image_map (full_image (facts.content disk) stores)) event reply (image_map (full_image (facts.content disk) stores)))
-      → (IsTrue (facts.content disk).honest → LeavesNoneWaiting (seen facts disk stores count failed) reply)
-      → Does facts (seen facts disk stores count failed) (seen facts disk stores count failed) event reply
-  answered disk stores count failed event reply working stands counts other none cause step settles =
-      unchanged (seen facts disk stores count failed) event reply counts cause (λ f. absurd (let no : false ≡ true = sym working ∙ f in cc)) (λ t. absurd (let no : false ≡ true = sym other ∙ t in cc))
-      (λ _ h. step h) none settles (λ _. stands_seen facts disk stores count failed stands)
+      → (IsTrue (facts.content disk).honest → LeavesNoneWaiting (seen facts disk stores count) reply)
+      → Does facts (seen facts disk stores count) (seen facts disk stores count) event reply
+  answered disk stores count event reply stands counts other none cause step settles =
+      unchanged (seen facts disk stores count) event reply counts cause (λ f. absurd (cc)) (λ t. absurd (let no : false ≡ true = sym other ∙ t in cc))
+      (λ _ h. step h) none settles (λ _. stands_seen facts disk stores count stands)
 
   -- ---- calls that write
 
@@ -226,14 +246,14 @@ module _ {D F : Type 0} (facts : Ghosts D F) where
     -- a call is answered, and these commands are accepted
     pub advanced : (adds : List Command) (count next : ℕ) (event : Event) (reply : Reply F) → Advances adds (facts.content disk) (facts.content new) stores after
         → Counts count reply next → accepted_command event reply ≡ adds → is_refused reply ≡ false → is_failed reply ≡ false
-        → Cause facts (seen facts disk stores count false) (seen facts new after next false) event reply
+        → Cause facts (seen facts disk stores count) (seen facts new after next) event reply
         → ((m to : Map) → to ≡ map_after m adds → Step m event reply to)
         → (adds ≡ [] → is_finished reply ≡ false → after.manifest.ruling ≡ stores.manifest.ruling)
         → (is_convert event ≡ false → after.converting ≡ stores.converting) → (is_merge event ≡ false → after.merging ≡ stores.merging)
-        → (IsTrue (facts.content disk).honest → LeavesNoneWaiting (seen facts new after next false) reply) → facts.failures new ≡ facts.failures disk
-        → Does facts (seen facts disk stores count false) (seen facts new after next false) event reply
+        → (IsTrue (facts.content disk).honest → LeavesNoneWaiting (seen facts new after next) reply) → facts.failures new ≡ facts.failures disk
+        → Does facts (seen facts disk stores count) (seen facts new after next) event reply
     advanced adds count next event reply goes counts own answers tells cause step named converts merges settles none_failed =
-        let standing = stands_seen facts new after next false goes.stands in
+        let standing = stands_seen facts new after next goes.stands in
         record {
           disk = same;
           shape = goes.shape;
@@ -261,14 +281,15 @@ module _ {D F : Type 0} (facts : Ghosts D F) where
           settles = settles;
           safe = λ _. standing.safe;
           crash = λ _ f. absurd (cc);
+          keeps_basis = λ _ f. absurd (cc);
         }
 
     -- a write or sync failed
     pub broke : (count : ℕ) (event : Event) (fault : F) → Breaks (facts.content disk) (facts.content new) stores → after.manifest.shape ≡ stores.manifest.shape
         → (IsTrue (facts.content disk).honest → image_map (full_image (facts.content new) after) ≡ image_map (full_image (facts.content disk) stores))
-        → Cause facts (seen facts disk stores count false) (seen facts new after count true) event (Refused (Device fault))
+        → Cause facts (seen facts disk stores count) (seen_failed facts (basis_of (facts.content disk) stores) new after count) event (Refused (Device fault))
         → facts.failures new ≡ (facts.failures disk + 1) % 2 ^ 64
-        → Does facts (seen facts disk stores count false) (seen facts new after count true) event (Refused (Device fault))
+        → Does facts (seen facts disk stores count) (seen_failed facts (basis_of (facts.content disk) stores) new after count) event (Refused (Device fault))
     broke count event fault breaks shape maps cause one_failed = record {
       disk = same;
       shape = shape;
@@ -293,4 +314,5 @@ module _ {D F : Type 0} (facts : Ghosts D F) where
         each = λ h image left.
             subst (λ m. HasBegun stores.manifest.shape m (waiting_commands (facts.content disk) stores) image) (sym ((meaning (facts.content disk) stores stands).shown (back h))) (breaks.each h image left);
       };
+      keeps_basis = λ _ _. (refl, refl);
     }

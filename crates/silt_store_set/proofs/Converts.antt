@@ -15,8 +15,9 @@ use Rattle.silt_event.specs.declared.progress.Progress.TheVariants.{Idle, Waitin
 use Rattle.silt_event.specs.declared.event.Event.TheVariants.{Convert}
 use Rattle.silt_event.specs.declared.refusal.Refusal.TheVariants.{Device, NoMemory, Spent}
 use Rattle.silt_event.specs.declared.reply.Reply.TheVariants.{Progress, Refused}
+use Rattle.silt_store_set.specs.Basis.{basis_of}
 use Rattle.silt_store_set.specs.CoreState.{CoreState, ConvertGoesOn, ConvertsTo, Does, convert_due, convert_work, written_of}
-use Rattle.silt_store_set.proofs.Calls.{seen, advanced, answered, broke, refused}
+use Rattle.silt_store_set.proofs.Calls.{seen, seen_failed, advanced, answered, broke, refused}
 
 -- a conversion in memory and as contracts see it have written as many slots
 written_same : (o : Option ConversionState) → written_of (convert_work o) ≡ written_by o
@@ -31,7 +32,7 @@ goes_on s (Some before) after step = step
 module _ {D F : Type 0} (facts : Ghosts D F) (disk : D) (stores : TiersState) (count : ℕ) (stands : Stands (facts.content disk) stores) where
   -- the store before
   abbrev before : CoreState D
-  before = seen facts disk stores count false
+  before = seen facts disk stores count
 
   -- what is due is the same in memory and in the body's words
   pub due_same : convert_due before ≡ convert_turn stores
@@ -44,9 +45,9 @@ module _ {D F : Type 0} (facts : Ghosts D F) (disk : D) (stores : TiersState) (c
 
   -- nothing was to be done
   stood : (progress : ProgressOf) (new : D) (after : TiersState) → progress ≡ convert_turn stores → new ≡ disk → after ≡ stores → facts.failures new ≡ facts.failures disk
-      → ConvertsTo facts before before progress → is_work progress ≡ false → Does facts before (seen facts new after count false) Convert (Progress progress)
+      → ConvertsTo facts before before progress → is_work progress ≡ false → Does facts before (seen facts new after count) Convert (Progress progress)
   stood progress new after due same_disk same counted does idle =
-      rw (same_disk, same) (answered facts disk stores count false Convert (Progress progress) refl stands refl refl refl (refl, due ∙ sym due_same, does, refl) (λ _. refl) (λ _. tt))
+      rw (same_disk, same) (answered facts disk stores count Convert (Progress progress) stands refl refl refl (refl, due ∙ sym due_same, does, refl) (λ _. refl) (λ _. tt))
 
   -- what the slots have
   rows_are : (new : D) (after : TiersState) (conversion : ConversionState) → stores.converting ≡ Some conversion → HasConvertedRows (facts.content disk) (facts.content new) stores after
@@ -58,7 +59,7 @@ module _ {D F : Type 0} (facts : Ghosts D F) (disk : D) (stores : TiersState) (c
   -- a step was answered
   pub stepped : (progress : ProgressOf) (new : D) (after : TiersState) → SameDisk (facts.content disk) (facts.content new) → Advances [] (facts.content disk) (facts.content new) stores after
       → Converts progress stores after → (progress ≡ Finished → IsTrue (facts.content disk).honest → HasConvertedRows (facts.content disk) (facts.content new) stores after) → (is_work progress ≡ false → new ≡ disk) → facts.failures new ≡ facts.failures disk
-      → Does facts before (seen facts new after count false) Convert (Progress progress)
+      → Does facts before (seen facts new after count) Convert (Progress progress)
   stepped Idle new after same goes converts rows quiet counted = stood Idle new after converts.due (quiet refl) converts.done counted refl refl
   stepped Waiting new after same goes converts rows quiet counted = stood Waiting new after converts.due (quiet refl) converts.done counted refl refl
   stepped Moved new after same goes converts rows quiet counted =
@@ -87,22 +88,22 @@ module _ {D F : Type 0} (facts : Ghosts D F) (disk : D) (stores : TiersState) (c
   -- ---- a step was refused
 
   pub step_unread : (new : D) (after : TiersState) (fault : F) → after ≡ stores → new ≡ disk → convert_turn stores ≡ Moved → GaveAny facts.gave disk fault
-      → Does facts before (seen facts new after count false) Convert (Refused (Device fault))
+      → Does facts before (seen facts new after count) Convert (Refused (Device fault))
   step_unread new after fault same same_disk due given =
-      rw (same_disk, same) (refused facts disk stores count false Convert (Device fault) refl stands refl (inl (due_same ∙ due, record { given = given; working = refl; same = refl })))
+      rw (same_disk, same) (refused facts disk stores count Convert (Device fault) stands refl (inl (due_same ∙ due, record { given = given; working = refl; same = refl })))
 
   pub step_spent : (new : D) (after : TiersState) → after ≡ stores → new ≡ disk → convert_turn stores ≡ Finished → IsLastGeneration stores
-      → Does facts before (seen facts new after count false) Convert (Refused Spent)
-  step_spent new after same same_disk due last = rw (same_disk, same) (refused facts disk stores count false Convert Spent refl stands refl (refl, due_same ∙ due, last))
+      → Does facts before (seen facts new after count) Convert (Refused Spent)
+  step_spent new after same same_disk due last = rw (same_disk, same) (refused facts disk stores count Convert Spent stands refl (refl, due_same ∙ due, last))
 
   pub step_no_memory : (new : D) (after : TiersState) → after ≡ stores → new ≡ disk → convert_turn stores ≡ Moved → stores.converting ≡ None
-      → Does facts before (seen facts new after count false) Convert (Refused NoMemory)
-  step_no_memory new after same same_disk due none = rw (same_disk, same) (refused facts disk stores count false Convert NoMemory refl stands refl (refl, due_same ∙ due, ap convert_work none))
+      → Does facts before (seen facts new after count) Convert (Refused NoMemory)
+  step_no_memory new after same same_disk due none = rw (same_disk, same) (refused facts disk stores count Convert NoMemory stands refl (refl, due_same ∙ due, ap convert_work none))
 
   -- a write or a sync failed
   pub step_broke : (new : D) (after : TiersState) (fault : F) → SameDisk (facts.content disk) (facts.content new) → is_work (convert_turn stores) ≡ true → Breaks (facts.content disk) (facts.content new) stores
       → Remaps [] (facts.content disk) (facts.content new) stores after → after.manifest.shape ≡ stores.manifest.shape → GaveAny facts.gave new fault → facts.failures new ≡ (facts.failures disk + 1) % 2 ^ 64
-      → Does facts before (seen facts new after count true) Convert (Refused (Device fault))
+      → Does facts before (seen_failed facts (basis_of (facts.content disk) stores) new after count) Convert (Refused (Device fault))
   step_broke new after fault same work breaks remaps shape given counted =
       broke facts disk new stores after same stands count Convert fault breaks shape remaps
       (inr (ap is_work due_same ∙ work, record { given = given; counted = counted; failed = refl })) counted

@@ -15,8 +15,9 @@ use Rattle.silt_standing.specs.State.{TiersState}
 use Rattle.silt_event.specs.declared.event.Event.TheVariants.{Flush}
 use Rattle.silt_event.specs.declared.refusal.Refusal.TheVariants.{Device}
 use Rattle.silt_event.specs.declared.reply.Reply.TheVariants.{Acknowledged, Refused}
+use Rattle.silt_store_set.specs.Basis.{basis_of}
 use Rattle.silt_store_set.specs.CoreState.{Does}
-use Rattle.silt_store_set.proofs.Calls.{seen, answered, advanced, broke}
+use Rattle.silt_store_set.proofs.Calls.{seen, seen_failed, answered, advanced, broke}
 use Rattle.silt_store_set.proofs.Openings.{none_wait}
 
 tells_below : (a b : ℕ) → nat_lt a b ≡ true → a < b
@@ -31,17 +32,17 @@ some_wait content log waits none =
 
 module _ {D F : Type 0} (facts : Ghosts D F) (disk : D) (stores : TiersState) (count : ℕ) (stands : Stands (facts.content disk) stores) where
   -- where no row waits nothing is done
-  pub flushed_none : (failed : _) → failed ≡ false → nat_lt stores.active.log.settled stores.active.log.used ≡ false
-      → Does facts (seen facts disk stores count failed) (seen facts disk stores count failed) Flush (Acknowledged count)
-  flushed_none failed working none =
+  pub flushed_none : nat_lt stores.active.log.settled stores.active.log.used ≡ false
+      → Does facts (seen facts disk stores count) (seen facts disk stores count) Flush (Acknowledged count)
+  flushed_none none =
       let settled : stores.active.log.settled ≡ stores.active.log.used = grind (arith, nat_tests, none, stands.active.bounds.order) in
-      answered facts disk stores count failed Flush (Acknowledged count) working stands (refl, refl) refl refl (working, refl, λ _. refl) (λ _. refl)
+      answered facts disk stores count Flush (Acknowledged count) stands (refl, refl) refl refl (refl, refl, λ _. refl) (λ _. refl)
       (λ _. ap (map command_of) (none_wait (facts.content disk) stores.active.log settled))
 
   -- the waiting rows are settled
   pub flushed : (new : D) (after : TiersState) → nat_lt stores.active.log.settled stores.active.log.used ≡ true → SameDisk (facts.content disk) (facts.content new) → Advances [] (facts.content disk) (facts.content new) stores after → IsQuiet (facts.content new) after
       → after.manifest ≡ stores.manifest → after.converting ≡ stores.converting → after.merging ≡ stores.merging → facts.failures new ≡ facts.failures disk
-      → Does facts (seen facts disk stores count false) (seen facts new after count false) Flush (Acknowledged count)
+      → Does facts (seen facts disk stores count) (seen facts new after count) Flush (Acknowledged count)
   flushed new after some same goes quiet manifest converting merging counted =
       let waits = tells_below stores.active.log.settled stores.active.log.used some in
       advanced facts disk new stores after same stands [] count count Flush (Acknowledged count) goes (refl, refl) refl refl refl
@@ -51,7 +52,7 @@ module _ {D F : Type 0} (facts : Ghosts D F) (disk : D) (stores : TiersState) (c
   -- a sync or the write of the gates failed
   pub flush_broke : (new : D) (after : TiersState) (fault : F) → SameDisk (facts.content disk) (facts.content new) → Breaks (facts.content disk) (facts.content new) stores → Remaps [] (facts.content disk) (facts.content new) stores after
       → after.manifest ≡ stores.manifest → GaveAny facts.gave new fault → facts.failures new ≡ (facts.failures disk + 1) % 2 ^ 64
-      → Does facts (seen facts disk stores count false) (seen facts new after count true) Flush (Refused (Device fault))
+      → Does facts (seen facts disk stores count) (seen_failed facts (basis_of (facts.content disk) stores) new after count) Flush (Refused (Device fault))
   flush_broke new after fault same breaks remaps manifest given counted =
       broke facts disk new stores after same stands count Flush fault breaks (ap (λ m. m.shape) manifest) remaps
       (record { given = given; counted = counted; failed = refl }) counted

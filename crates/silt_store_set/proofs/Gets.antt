@@ -17,34 +17,34 @@ use Rattle.silt_store_set.specs.CoreState.{Does}
 use Rattle.silt_store_set.specs.Replies.{ReadCause, get_reply}
 use Rattle.silt_store_set.proofs.Calls.{seen, answered, refused}
 
-module _ {D F : Type 0} (facts : Ghosts D F) (disk : D) (stores : TiersState) (count : ℕ) (failed : Bool) (key : Key) (working : failed ≡ false) (stands : Stands (facts.content disk) stores) where
+module _ {D F : Type 0} (facts : Ghosts D F) (disk : D) (stores : TiersState) (count : ℕ) (key : Key) (stands : Stands (facts.content disk) stores) where
   -- the map that lookups answer from is that of the full image
   looked_up : (value : Option (List ℕ)) → (IsTrue (facts.content disk).honest → get (current_map (facts.content disk) stores) key.0 ≡ value) → IsTrue (facts.content disk).honest → get (image_map (full_image (facts.content disk) stores)) key.0 ≡ value
   looked_up value found h = ap (λ (m : Map). get m key.0) ((meaning (facts.content disk) stores stands).full h) ∙ found h
 
   pub get_found : (value : List ℕ) → (IsTrue (facts.content disk).honest → get (current_map (facts.content disk) stores) key.0 ≡ Some value)
-      → Does facts (seen facts disk stores count failed) (seen facts disk stores count failed) (Get key) (Found value)
-  get_found value found = answered facts disk stores count failed (Get key) (Found value) working stands refl refl refl (working, refl) (λ h. (looked_up (Some value) found h, refl)) (λ _. tt)
+      → Does facts (seen facts disk stores count) (seen facts disk stores count) (Get key) (Found value)
+  get_found value found = answered facts disk stores count (Get key) (Found value) stands refl refl refl (refl, refl) (λ h. (looked_up (Some value) found h, refl)) (λ _. tt)
 
   pub get_absent : (IsTrue (facts.content disk).honest → get (current_map (facts.content disk) stores) key.0 ≡ None)
-      → Does facts (seen facts disk stores count failed) (seen facts disk stores count failed) (Get key) Absent
-  get_absent none = answered facts disk stores count failed (Get key) Absent working stands refl refl refl (working, refl) (λ h. (looked_up None none h, refl)) (λ _. tt)
+      → Does facts (seen facts disk stores count) (seen facts disk stores count) (Get key) Absent
+  get_absent none = answered facts disk stores count (Get key) Absent stands refl refl refl (refl, refl) (λ h. (looked_up None none h, refl)) (λ _. tt)
 
   -- a lookup was answered
   pub get_answered : (found : Bool) (out : List ℕ) → (found ≡ true → IsTrue (facts.content disk).honest → get (current_map (facts.content disk) stores) key.0 ≡ Some out)
       → (found ≡ false → IsTrue (facts.content disk).honest → get (current_map (facts.content disk) stores) key.0 ≡ None)
-      → Does facts (seen facts disk stores count failed) (seen facts disk stores count failed) (Get key) (get_reply {F = F} out (Ok found))
+      → Does facts (seen facts disk stores count) (seen facts disk stores count) (Get key) (get_reply {F = F} out (Ok found))
   get_answered true out there none = get_found out (there refl)
   get_answered false out there none = get_absent (none refl)
 
   -- a read failed
-  pub get_faulted : (fault : F) → GaveAny facts.gave disk fault → Does facts (seen facts disk stores count failed) (seen facts disk stores count failed) (Get key) (Refused (Device fault))
-  get_faulted fault given = refused facts disk stores count failed (Get key) (Device fault) working stands refl (record { given = given; working = working; same = refl })
+  pub get_faulted : (fault : F) → GaveAny facts.gave disk fault → Does facts (seen facts disk stores count) (seen facts disk stores count) (Get key) (Refused (Device fault))
+  get_faulted fault given = refused facts disk stores count (Get key) (Device fault) stands refl (record { given = given; working = refl; same = refl })
 
   -- a value was not read
   pub get_refused : (refusal : Refusal F) (value : List ℕ) → (IsTrue (facts.content disk).honest → get (current_map (facts.content disk) stores) key.0 ≡ Some value) → ReadCause (GaveAny facts.gave disk) refusal
-      → Does facts (seen facts disk stores count failed) (seen facts disk stores count failed) (Get key) (Refused refusal)
+      → Does facts (seen facts disk stores count) (seen facts disk stores count) (Get key) (Refused refusal)
   get_refused (Device fault) value found given = get_faulted fault given
   get_refused NoMemory value found none =
-      refused facts disk stores count failed (Get key) NoMemory working stands refl (working, λ h. (value, looked_up (Some value) found h))
+      refused facts disk stores count (Get key) NoMemory stands refl (refl, λ h. (value, looked_up (Some value) found h))
   get_refused refusal value found cause = absurd cause

@@ -23,8 +23,9 @@ use Rattle.silt_tiers.specs.Merge.{EndsMerged, HasMergedEntries, IsDoneBySteps, 
 use Rattle.silt_standing.specs.Standing.{HasGathered, Stands}
 use Rattle.silt_standing.specs.State.{IsMerging, TiersState, hash_region_of}
 use Rattle.silt_tiers.proofs.Meaning.{meaning}
+use Rattle.silt_store_set.specs.Basis.{basis_of}
 use Rattle.silt_store_set.specs.CoreState.{CoreState, Does, GathersNewKey, GathersNext, IsMergeDue, MergeGoesOn, MergeLacksMemory, has_decided, merge_due, merge_work}
-use Rattle.silt_store_set.proofs.Calls.{seen, advanced, answered, broke, refused}
+use Rattle.silt_store_set.proofs.Calls.{seen, seen_failed, advanced, answered, broke, refused}
 use Rattle.silt_store_set.proofs.Gatherings.{new_key_next}
 
 -- a test of two numbers tells what holds exactly where they are the same
@@ -53,7 +54,7 @@ goes_on s (Some before) after named step = (step.0.stores, step.1)
 module _ {D F : Type 0} (facts : Ghosts D F) (disk : D) (stores : TiersState) (count : ℕ) (stands : Stands (facts.content disk) stores) where
   -- the store before
   abbrev before : CoreState D
-  before = seen facts disk stores count false
+  before = seen facts disk stores count
 
   -- as many hash stores are in memory as the body names
   hash_count : length stores.hashes ≡ length stores.manifest.ruling.hashed
@@ -107,9 +108,9 @@ module _ {D F : Type 0} (facts : Ghosts D F) (disk : D) (stores : TiersState) (c
   pub stepped : (progress : ProgressOf) (new : D) (after : TiersState) → SameDisk (facts.content disk) (facts.content new) → Advances [] (facts.content disk) (facts.content new) stores after
       → Merges progress stores after → (progress ≡ Finished → IsTrue (facts.content disk).honest → HasMergedEntries (facts.content disk) (facts.content new) stores after)
       → (is_work progress ≡ false → new ≡ disk) → facts.failures new ≡ facts.failures disk
-      → Does facts before (seen facts new after count false) Merge (Progress progress)
+      → Does facts before (seen facts new after count) Merge (Progress progress)
   stepped Idle new after same goes merges entries quiet counted =
-      rw (quiet refl, merges.done) (answered facts disk stores count false Merge (Progress Idle) refl stands refl refl refl (refl, due Idle merges.due, refl, refl) (λ _. refl) (λ _. tt))
+      rw (quiet refl, merges.done) (answered facts disk stores count Merge (Progress Idle) stands refl refl refl (refl, due Idle merges.due, refl, refl) (λ _. refl) (λ _. tt))
   stepped Waiting new after same goes merges entries quiet counted = absurd merges.done
   stepped Moved new after same goes merges entries quiet counted =
       let moves : MergesOn stores after = merges.done in
@@ -139,13 +140,13 @@ module _ {D F : Type 0} (facts : Ghosts D F) (disk : D) (stores : TiersState) (c
   -- ---- a step was refused
 
   pub step_unread : (new : D) (after : TiersState) (fault : F) → after ≡ stores → new ≡ disk → merge_turn stores ≡ Moved → GaveAny facts.gave disk fault
-      → Does facts before (seen facts new after count false) Merge (Refused (Device fault))
+      → Does facts before (seen facts new after count) Merge (Refused (Device fault))
   step_unread new after fault same same_disk turn given =
-      rw (same_disk, same) (refused facts disk stores count false Merge (Device fault) refl stands refl (inl (due Moved (sym turn), record { given = given; working = refl; same = refl })))
+      rw (same_disk, same) (refused facts disk stores count Merge (Device fault) stands refl (inl (due Moved (sym turn), record { given = given; working = refl; same = refl })))
 
   pub step_spent : (new : D) (after : TiersState) → after ≡ stores → new ≡ disk → merge_turn stores ≡ Finished → IsLastGeneration stores
-      → Does facts before (seen facts new after count false) Merge (Refused Spent)
-  step_spent new after same same_disk turn last = rw (same_disk, same) (refused facts disk stores count false Merge Spent refl stands refl (refl, due Finished (sym turn), last))
+      → Does facts before (seen facts new after count) Merge (Refused Spent)
+  step_spent new after same same_disk turn last = rw (same_disk, same) (refused facts disk stores count Merge Spent stands refl (refl, due Finished (sym turn), last))
 
   -- a merge that gathers a slot has not gathered all of them
   gathers : (o : Option MergeState) → IfSome o (IsMerging stores) → IfSome o (λ (merge : MergeState). TakesMemory (facts.content disk) (oldest_stores merge.stores stores.hashes) merge)
@@ -169,13 +170,13 @@ module _ {D F : Type 0} (facts : Ghosts D F) (disk : D) (stores : TiersState) (c
 
   pub step_no_memory : (new : D) (after : TiersState) → after ≡ stores → new ≡ disk
       → ((merge_turn stores ≡ Moved) × MayLackMemory (facts.content disk) stores) ⊎ ((merge_turn stores ≡ Finished) × (IsLastGeneration stores → ⊥))
-      → Does facts before (seen facts new after count false) Merge (Refused NoMemory)
-  step_no_memory new after same same_disk why = rw (same_disk, same) (refused facts disk stores count false Merge NoMemory refl stands refl (refl, lacks why))
+      → Does facts before (seen facts new after count) Merge (Refused NoMemory)
+  step_no_memory new after same same_disk why = rw (same_disk, same) (refused facts disk stores count Merge NoMemory stands refl (refl, lacks why))
 
   -- a write or a sync failed
   pub step_broke : (new : D) (after : TiersState) (fault : F) → SameDisk (facts.content disk) (facts.content new) → is_work (merge_turn stores) ≡ true → Breaks (facts.content disk) (facts.content new) stores
       → Remaps [] (facts.content disk) (facts.content new) stores after → after.manifest.shape ≡ stores.manifest.shape → GaveAny facts.gave new fault → facts.failures new ≡ (facts.failures disk + 1) % 2 ^ 64
-      → Does facts before (seen facts new after count true) Merge (Refused (Device fault))
+      → Does facts before (seen_failed facts (basis_of (facts.content disk) stores) new after count) Merge (Refused (Device fault))
   step_broke new after fault same work breaks remaps shape given counted =
       broke facts disk new stores after same stands count Merge fault breaks shape remaps
       (inr (work_same ∙ work, record { given = given; counted = counted; failed = refl })) counted

@@ -56,7 +56,7 @@ none_wait content log settled =
     rw none refl
 
 -- a store that was taken up
-pub opened : {D F : Type 0} (facts : Ghosts D F) (old : Content) (disk : D) (stores : TiersState) → TakesUp old (facts.content disk) stores → Opens facts old (seen facts disk stores 0 false)
+pub opened : {D F : Type 0} (facts : Ghosts D F) (old : Content) (disk : D) (stores : TiersState) → TakesUp old (facts.content disk) stores → Opens facts old (seen facts disk stores 0)
 opened facts old disk stores takes =
     let means = meaning (facts.content disk) stores takes.stands in
     let there : IsTrue old.honest → IsTrue (facts.content disk).honest = λ h. takes.disk.honest ∙ h in
@@ -73,5 +73,5 @@ opened facts old disk stores takes =
       base = λ h. means.shown (there h) ∙ takes.has_map h;
       has_map = λ h. means.full (there h) ∙ ap (map_after _) waits ∙ takes.has_map h;
       numbers = λ h. means.numbers (there h);
-      safe = (stands_seen facts disk stores 0 false takes.stands).safe;
+      safe = (stands_seen facts disk stores 0 takes.stands).safe;
     }

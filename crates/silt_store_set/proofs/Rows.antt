@@ -24,8 +24,9 @@ use Rattle.silt_event.specs.declared.refusal.Refusal.{Refusal}
 use Rattle.silt_event.specs.declared.refusal.Refusal.TheVariants.{Device, NoMemory, NoRoom, Spent}
 use Rattle.silt_event.specs.declared.reply.Reply.TheVariants.{Accepted, Refused}
 use Rattle.silt_event.specs.Events.{is_failed}
+use Rattle.silt_store_set.specs.Basis.{basis_of}
 use Rattle.silt_store_set.specs.CoreState.{CoreState, AreAllInUse, Cause, Does, FailsBy, FailsRead, Freezes, HasFreeLog, IsStuck, MayWrite, Takes, row_event}
-use Rattle.silt_store_set.proofs.Calls.{seen, advanced, broke, refused}
+use Rattle.silt_store_set.proofs.Calls.{seen, seen_failed, advanced, broke, refused}
 
 -- a store that may write is not failed
 pub may_working : {D : Type 0} (k : Kind) (core : CoreState D) → MayWrite k core → core.failed ≡ false
@@ -46,7 +47,7 @@ freezes logs old new region lowest is =
 module _ {D F : Type 0} (facts : Ghosts D F) (disk : D) (stores : TiersState) (count : ℕ) (stands : Stands (facts.content disk) stores) where
   -- the store before
   abbrev before : CoreState D
-  before = seen facts disk stores count false
+  before = seen facts disk stores count
 
   -- the rows of the active log, in memory's words and in those of the full image
   rows_are : IsTrue (facts.content disk).honest → all_rows (facts.content disk) stores.active.log ≡ log_rows stores.manifest.shape stores.manifest.ruling.active (full_image (facts.content disk) stores)
@@ -66,7 +67,7 @@ module _ {D F : Type 0} (facts : Ghosts D F) (disk : D) (stores : TiersState) (c
   has_free free = λ all. free (ap (λ (n : ℕ). n + 1) frozen_count ∙ all)
 
   takes : (new : D) (after : TiersState) (next : ℕ) (key : List ℕ) (command : Command) → SameDisk (facts.content disk) (facts.content new) → Stands (facts.content new) after
-      → WritesKey (facts.content disk) (facts.content new) stores after key command → Takes facts before (seen facts new after next false) key command
+      → WritesKey (facts.content disk) (facts.content new) stores after key command → Takes facts before (seen facts new after next) key command
   takes new after next key command same stood (inl stays) = inl (
     (stays.ruling, λ h cannot. stays.has_place h (subst (λ (rows : List StoredRow). CannotTake stores.manifest.shape rows key) (sym (rows_are h)) cannot)),
     λ h. record {
@@ -77,7 +78,7 @@ module _ {D F : Type 0} (facts : Ghosts D F) (disk : D) (stores : TiersState) (c
   takes new after next key command same stood (inr turns) = inr (
     (
       freezes stores.manifest.shape.logs stores.manifest.ruling after.manifest.ruling turns.region turns.lowest turns.ruling,
-      stopped (seen facts new after next false) key turns.needs,
+      stopped (seen facts new after next) key turns.needs,
     ),
     λ h. record {
       waiting = (turns.waits h).waiting;
@@ -91,7 +92,7 @@ module _ {D F : Type 0} (facts : Ghosts D F) (disk : D) (stores : TiersState) (c
 
   pub row_taken : (new : D) (after : TiersState) (k : Kind) (key : Key) (value : List ℕ) → MayWrite k before → SameDisk (facts.content disk) (facts.content new)
       → Advances (command_of (stored_row k key value) ∷ []) (facts.content disk) (facts.content new) stores after → WritesKey (facts.content disk) (facts.content new) stores after key.0 (command_of (stored_row k key value)) → after.converting ≡ stores.converting → after.merging ≡ stores.merging → facts.failures new ≡ facts.failures disk
-      → Does facts before (seen facts new after (count + 1) false) (row_event k key value) (Accepted (count + 1))
+      → Does facts before (seen facts new after (count + 1)) (row_event k key value) (Accepted (count + 1))
   row_taken new after kind.Put key value may same goes taken converting merging counted =
       advanced facts disk new stores after same stands (command_of (stored_row kind.Put key value) ∷ []) count (count + 1) (Put key value) (Accepted (count + 1)) goes (refl, refl) refl refl refl
       (may, (takes new after (count + 1) key.0 _ same goes.stands taken, counted)) (λ m to e. e) (λ none. absurd (cc)) (λ _. converting) (λ _. merging) (λ _. tt) counted
@@ -112,22 +113,22 @@ module _ {D F : Type 0} (facts : Ghosts D F) (disk : D) (stores : TiersState) (c
   pub row_broke : (new : D) (after : TiersState) (k : Kind) (key : Key) (value : List ℕ) (fault : F) → MayWrite k before → SameDisk (facts.content disk) (facts.content new)
       → Breaks (facts.content disk) (facts.content new) stores → Remaps [] (facts.content disk) (facts.content new) stores after → after.manifest.shape ≡ stores.manifest.shape
       → GaveAny facts.gave new fault → facts.failures new ≡ (facts.failures disk + 1) % 2 ^ 64
-      → Does facts before (seen facts new after count true) (row_event k key value) (Refused (Device fault))
+      → Does facts before (seen_failed facts (basis_of (facts.content disk) stores) new after count) (row_event k key value) (Refused (Device fault))
   row_broke new after k key value fault may same breaks remaps shape given counted =
       broke facts disk new stores after same stands count (row_event k key value) fault breaks shape remaps
-      (broke_cause (seen facts new after count true) k key value fault may (record { given = given; counted = counted; failed = refl })) counted
+      (broke_cause (seen_failed facts (basis_of (facts.content disk) stores) new after count) k key value fault may (record { given = given; counted = counted; failed = refl })) counted
 
   -- ---- the row was refused
 
   -- nothing was changed
   kept : (new : D) (after : TiersState) (k : Kind) (key : Key) (value : List ℕ) (refusal : Refusal F) → after ≡ stores → new ≡ disk → is_failed (Refused refusal) ≡ false
       → Cause facts before before (row_event k key value) (Refused refusal)
-      → Does facts before (seen facts new after count false) (row_event k key value) (Refused refusal)
+      → Does facts before (seen facts new after count) (row_event k key value) (Refused refusal)
   kept new after k key value refusal same_stores same_disk other cause =
-      rw (same_stores, same_disk) (refused facts disk stores count false (row_event k key value) refusal refl stands other cause)
+      rw (same_stores, same_disk) (refused facts disk stores count (row_event k key value) refusal stands other cause)
 
   pub row_unread : (new : D) (after : TiersState) (k : Kind) (key : Key) (value : List ℕ) (fault : F) → MayWrite k before → after ≡ stores → new ≡ disk → GaveAny facts.gave disk fault
-      → Does facts before (seen facts new after count false) (row_event k key value) (Refused (Device fault))
+      → Does facts before (seen facts new after count) (row_event k key value) (Refused (Device fault))
   row_unread new after k key value fault may same_stores same_disk given =
       kept new after k key value (Device fault) same_stores same_disk refl (read_cause before k key value fault may (record { given = given; working = refl; same = refl }))
 
@@ -136,7 +137,7 @@ module _ {D F : Type 0} (facts : Ghosts D F) (disk : D) (stores : TiersState) (c
   no_room_cause kind.Delete key value may needs all = (may, (stopped before key.0 needs, all_in_use all))
 
   pub row_no_room : (new : D) (after : TiersState) (k : Kind) (key : Key) (value : List ℕ) → MayWrite k before → after ≡ stores → new ≡ disk → NeedsNext (facts.content disk) stores key.0 → AllInUse stores
-      → Does facts before (seen facts new after count false) (row_event k key value) (Refused NoRoom)
+      → Does facts before (seen facts new after count) (row_event k key value) (Refused NoRoom)
   row_no_room new after k key value may same_stores same_disk needs all = kept new after k key value NoRoom same_stores same_disk refl (no_room_cause k key value may needs all)
 
   spent_cause : (k : Kind) (key : Key) (value : List ℕ) → MayWrite k before → NeedsNext (facts.content disk) stores key.0 → (AllInUse stores → ⊥) → IsLastGeneration stores → Cause facts before before (row_event k key value) (Refused Spent)
@@ -144,7 +145,7 @@ module _ {D F : Type 0} (facts : Ghosts D F) (disk : D) (stores : TiersState) (c
   spent_cause kind.Delete key value may needs free last = (refl, inr (may, (stopped before key.0 needs, has_free free, last)))
 
   pub row_spent : (new : D) (after : TiersState) (k : Kind) (key : Key) (value : List ℕ) → MayWrite k before → after ≡ stores → new ≡ disk → NeedsNext (facts.content disk) stores key.0 → (AllInUse stores → ⊥) → IsLastGeneration stores
-      → Does facts before (seen facts new after count false) (row_event k key value) (Refused Spent)
+      → Does facts before (seen facts new after count) (row_event k key value) (Refused Spent)
   row_spent new after k key value may same_stores same_disk needs free last = kept new after k key value Spent same_stores same_disk refl (spent_cause k key value may needs free last)
 
   memory_cause : (k : Kind) (key : Key) (value : List ℕ) → MayWrite k before → NeedsNext (facts.content disk) stores key.0 → (AllInUse stores → ⊥) → (IsLastGeneration stores → ⊥) → Cause facts before before (row_event k key value) (Refused NoMemory)
@@ -152,5 +153,5 @@ module _ {D F : Type 0} (facts : Ghosts D F) (disk : D) (stores : TiersState) (c
   memory_cause kind.Delete key value may needs free more = (may, (stopped before key.0 needs, has_free free, more))
 
   pub row_no_memory : (new : D) (after : TiersState) (k : Kind) (key : Key) (value : List ℕ) → MayWrite k before → after ≡ stores → new ≡ disk → NeedsNext (facts.content disk) stores key.0 → (AllInUse stores → ⊥) → (IsLastGeneration stores → ⊥)
-      → Does facts before (seen facts new after count false) (row_event k key value) (Refused NoMemory)
+      → Does facts before (seen facts new after count) (row_event k key value) (Refused NoMemory)
   row_no_memory new after k key value may same_stores same_disk needs free more = kept new after k key value NoMemory same_stores same_disk refl (memory_cause k key value may needs free more)

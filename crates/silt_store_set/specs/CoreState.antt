@@ -64,9 +64,8 @@ pub record CoreState (D : Type 0) : Type 0 where
   pub body : Body
   -- what is shown, with the gates of the waiting rows open
   pub full : List ℕ
-  -- the map of what is shown, for which each image stands as long as the store is not failed
+  -- the map of what is shown, and the commands of the waiting rows; of a failed store both as its failing call began, for contracts alone to see
   pub base : Map
-  -- the commands of the waiting rows
   pub waiting : List Command
   -- the conversion and the merge under way
   pub converting : Option ConvertWork
@@ -418,6 +417,8 @@ pub record Does {D F : Type 0} (facts : Ghosts D F) (old new : CoreState D) (eve
   -- whatever a stop leaves stands for the base, or, where the call failed, for the base as it was after a beginning of what waited
   pub safe : new.failed ≡ false → LeavesOnly (facts.content new.disk) (StandsFor new.shape new.base)
   pub crash : old.failed ≡ false → new.failed ≡ true → LeavesOnly (facts.content new.disk) (HasBegun old.shape old.base old.waiting)
+  -- and a store that failed keeps both as they were
+  pub keeps_basis : old.failed ≡ false → new.failed ≡ true → (new.base ≡ old.base) × (new.waiting ≡ old.waiting)
 
 -- why the entries are refused
 abbrev pub EntriesCause : {D F : Type 0} → Ghosts D F → CoreState D → Refusal F → Type 0

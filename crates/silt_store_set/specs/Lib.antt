@@ -1,5 +1,7 @@
+pub mod Basis
 pub mod CoreInvariant
 pub mod CoreState
+pub mod FailedLaw
 pub mod Living
 pub mod Opening
 pub mod Replies

@@ -20,12 +20,15 @@
 #![tactic(auto)]
 
 mod answerer;
+mod basis;
+mod laws;
 mod life;
 mod replies;
 mod store_core;
 
 pub use crate::store_core::{Core, OpenFault};
 pub use answerer::Served;
+pub use laws::failed_law;
 pub use life::lives;
 pub use silt_device::{FileDisk, MemDisk};
 pub use silt_disk::{BadGeometry, Disk, Geometry};

@@ -3,6 +3,7 @@ ghost use Rattle.std.specs.Prelude.{◌≡◌, ◌<◌, ◌≤◌, length, false
 ghost use Rattle.silt_event.specs.Events.{Legal};
 ghost use Rattle.silt_disk.specs.Disk.{LeavesOnly};
 
+use crate::basis::Basis;
 use crate::replies::{accepted, copied, is_work, progressed, zeros};
 use crate::{Event, Progress, Refusal, Reply};
 use silt_disk::{Disk, Geometry};
@@ -33,13 +34,15 @@ pub struct Core<D: Disk> {
     // How many commands this life has accepted.
     count: u64,
     failed: bool,
+    // What its failing call began with, where it is failed.
+    basis: Basis<D>,
 }
 
 impl<D: Disk> Model for Core<D> {
     ghost use Rattle.std.specs.Coded.{codes};
     ghost use Rattle.silt_event.specs.Commands.{map_code};
-    ghost use Rattle.silt_image.specs.Meaning.{image_map};
-    ghost use Rattle.silt_standing.specs.Standing.{full_image, waiting_commands};
+    ghost use Rattle.silt_standing.specs.Standing.{full_image};
+    ghost use Rattle.silt_store_set.specs.Basis.{basis_kept, basis_of};
     ghost use Rattle.silt_store_set.specs.CoreState.{CoreState, convert_work, merge_work};
     ghost use Rattle.silt_store_set.specs.CoreInvariant.{IsCore};
 
@@ -52,8 +55,8 @@ impl<D: Disk> Model for Core<D> {
       shape = a.tiers.manifest.shape;
       body = a.tiers.manifest.ruling;
       full = full_image (D.content a.disk) a.tiers;
-      base = image_map (D.content a.disk).shown;
-      waiting = waiting_commands (D.content a.disk) a.tiers;
+      base = (basis_kept a.failed a.basis (basis_of (D.content a.disk) a.tiers)).base;
+      waiting = (basis_kept a.failed a.basis (basis_of (D.content a.disk) a.tiers)).waiting;
       converting = convert_work a.tiers.converting;
       merging = merge_work a.tiers.merging;
       charge = a.tiers.charge;
@@ -61,7 +64,7 @@ impl<D: Disk> Model for Core<D> {
       failed = a.failed;
     } };
 
-    ghost invariant = { λ a. IsCore (D.content a.disk) a.tiers a.count a.failed };
+    ghost invariant = { λ a. IsCore (D.content a.disk) a.tiers a.count a.failed a.basis };
 }
 
 impl<D: Disk> Core<D> {
@@ -74,6 +77,7 @@ impl<D: Disk> Core<D> {
     ghost use Rattle.silt_event.specs.Commands.{map_after};
     ghost use Rattle.silt_image.specs.Meaning.{StandsFor};
     ghost use Rattle.silt_standing.specs.Standing.{SameDisk};
+    ghost use Rattle.silt_tiers.specs.Calls.{HasBegun};
     ghost use Rattle.silt_store_set.specs.CoreInvariant.{LeavesBegun};
     ghost use Rattle.silt_frame.specs.Rows.{key_cmp};
     ghost use Rattle.silt_store_set.specs.CoreState.{CoreState, Does, Runs, Opens, EntriesCause, StandsKept, map_of, MayWrite, row_event, wants_convert, wants_merge};
@@ -97,16 +101,18 @@ impl<D: Disk> Core<D> {
         match silt_recovery::open(alloc, disk) {
             Ok(opened) => {
                 let held = opened.held;
+                let tiers = Tiers::new(
+                    held.manifest,
+                    held.active,
+                    held.frozen,
+                    held.hashes,
+                    held.sorted,
+                    held.charge,
+                );
                 Ok(Core {
+                    basis: Basis::of(&opened.disk, &tiers),
                     disk: opened.disk,
-                    tiers: Tiers::new(
-                        held.manifest,
-                        held.active,
-                        held.frozen,
-                        held.hashes,
-                        held.sorted,
-                        held.charge,
-                    ),
+                    tiers,
                     count: 0,
                     failed: false,
                 })
@@ -133,13 +139,13 @@ impl<D: Disk> Core<D> {
     }
 
     /// Says what is true of the store at every moment, and does nothing: each image that a stop may leave of its device stands for the
-    /// base, gets answer from the base after the commands that wait, and no more wait than this life has accepted; or, where the store is
-    /// failed, each image stands for one map after a beginning of one list of commands.
+    /// base, or, where the store is failed, for the base after a beginning of the commands that wait. Its map is the base after all
+    /// of these, and no more wait than this life has accepted. A failed store has both as its failing call began.
     pub fn standing(&self)
         ensures safe { self.now.failed ≡ false → LeavesOnly (D.content self.now.disk) (StandsFor self.now.shape self.now.base) }
-        ensures has_map { self.now.failed ≡ false → IsTrue (D.content self.now.disk).honest → map_of self.now ≡ map_after self.now.base self.now.waiting }
-        ensures few { self.now.failed ≡ false → IsTrue (D.content self.now.disk).honest → length self.now.waiting ≤ self.now.count }
-        ensures left { LeavesBegun (D.content self.now.disk) self.now.shape }
+        ensures begun { LeavesOnly (D.content self.now.disk) (HasBegun self.now.shape self.now.base self.now.waiting) }
+        ensures has_map { IsTrue (D.content self.now.disk).honest → map_of self.now ≡ map_after self.now.base self.now.waiting }
+        ensures few { IsTrue (D.content self.now.disk).honest → length self.now.waiting ≤ self.now.count }
     {
         let _ = &self.disk; // the store is as it was made
     }
@@ -194,6 +200,7 @@ impl<D: Disk> Core<D> {
         requires zeros { IsValueOf kind value.now }
         ensures { Does D.Disk self.old self.new (row_event kind key.now value.now) (change_reply result) }
     {
+        let basis = Basis::of(&self.disk, &self.tiers);
         match self.tiers.write(alloc, &mut self.disk, kind, key, value) {
             Ok(()) => {
                 self.count += 1;
@@ -201,6 +208,7 @@ impl<D: Disk> Core<D> {
             }
             Err(WriteError::Write(fault)) => {
                 self.failed = true; // the row or the manifest may stand in part
+                self.basis = basis;
                 Err(Refusal::Device(fault))
             }
             Err(WriteError::Read(fault)) => Err(Refusal::Device(fault)),
@@ -220,10 +228,12 @@ impl<D: Disk> Core<D> {
         if !self.tiers.has_waiting() {
             return Ok(self.count);
         }
+        let basis = Basis::of(&self.disk, &self.tiers);
         match self.tiers.flush(&mut self.disk) {
             Ok(()) => Ok(self.count),
             Err(fault) => {
                 self.failed = true; // some of the gates may be open
+                self.basis = basis;
                 Err(Refusal::Device(fault))
             }
         }
@@ -277,10 +287,12 @@ impl<D: Disk> Core<D> {
         if self.failed {
             return Err(Refusal::Failed);
         }
+        let basis = Basis::of(&self.disk, &self.tiers);
         match self.tiers.convert(alloc, &mut self.disk) {
             Ok(progress) => Ok(progress),
             Err(ConvertError::Write(fault)) => {
                 self.failed = true; // a slot or the manifest may stand in part
+                self.basis = basis;
                 Err(Refusal::Device(fault))
             }
             Err(ConvertError::Read(fault)) => Err(Refusal::Device(fault)),
@@ -302,10 +314,12 @@ impl<D: Disk> Core<D> {
         if self.failed {
             return Err(Refusal::Failed);
         }
+        let basis = Basis::of(&self.disk, &self.tiers);
         match self.tiers.merge(alloc, &mut self.disk) {
             Ok(merged) => Ok(merged),
             Err(MergeError::Write(fault)) => {
                 self.failed = true; // an entry or the manifest may stand in part
+                self.basis = basis;
                 Err(Refusal::Device(fault))
             }
             Err(MergeError::Read(fault)) => Err(Refusal::Device(fault)),
@@ -398,11 +412,12 @@ impl<D: Disk> Core<D> {
         }
     }
 
-    /// Gives the device back. Each image that a stop may leave of it stands for the base, or, where the store is failed, for one map
-    /// after a beginning of one list of commands.
+    /// Gives the device back. Each image that a stop may leave of it stands for the base, or, where the store is failed, for the base
+    /// after a beginning of the commands that waited, both as its failing call began.
     pub fn close(self) -> D
         ensures disk { result ≡ self.disk }
         ensures safe { self.failed ≡ false → LeavesOnly (D.content result) (StandsFor self.shape self.base) }
+        ensures begun { LeavesOnly (D.content result) (HasBegun self.shape self.base self.waiting) }
         ensures left { LeavesBegun (D.content result) self.shape }
     {
         let Core {
@@ -410,6 +425,7 @@ impl<D: Disk> Core<D> {
             tiers: _,
             count: _,
             failed: _,
+            basis: _,
         } = self;
         disk
     }

@@ -5,5 +5,5 @@ use Rattle.silt_store_set.proofs.Calls.{refused}
 use Rattle.silt_store_set.proofs.store_core.Core.delete.Goals as goal
 
 pub returns-then-self-eq-MOST_COMMANDS : goal.returns-then-self-eq-MOST_COMMANDS
-returns-then-self-eq-MOST_COMMANDS g c = rw (← c.self.view_is) (refused g.D.Disk c.self.inside.disk c.self.inside.tiers c.self.inside.count c.self.inside.failed (Delete c.args.key.now) Spent
-    c.if-self.false (c.self.invariant.stands c.if-self.false) refl (c.if-self.false, inl c.if-self-eq-MOST_COMMANDS.true))
+returns-then-self-eq-MOST_COMMANDS g c = rw (← c.self.view_is, c.if-self.false) (refused g.D.Disk c.self.inside.disk c.self.inside.tiers c.self.inside.count (Delete c.args.key.now) Spent
+    (c.self.invariant.stands c.if-self.false) refl (refl, inl c.if-self-eq-MOST_COMMANDS.true))

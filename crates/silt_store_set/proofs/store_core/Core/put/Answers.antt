@@ -6,11 +6,11 @@ use Rattle.silt_store_set.proofs.Calls.{refused}
 use Rattle.silt_store_set.proofs.store_core.Core.put.Goals as goal
 
 pub returns-then-self-eq-MOST_COMMANDS : goal.returns-then-self-eq-MOST_COMMANDS
-returns-then-self-eq-MOST_COMMANDS g c = rw (← c.self.view_is) (refused g.D.Disk c.self.inside.disk c.self.inside.tiers c.self.inside.count c.self.inside.failed (Put c.args.key.now c.args.value.now) Spent
-    c.if-self.false (c.self.invariant.stands c.if-self.false) refl (c.if-self.false, inl c.if-self-eq-MOST_COMMANDS.true))
+returns-then-self-eq-MOST_COMMANDS g c = rw (← c.self.view_is, c.if-self.false) (refused g.D.Disk c.self.inside.disk c.self.inside.tiers c.self.inside.count (Put c.args.key.now c.args.value.now) Spent
+    (c.self.invariant.stands c.if-self.false) refl (refl, inl c.if-self-eq-MOST_COMMANDS.true))
 
 pub returns-then-charge-sorted_capacity : goal.returns-then-charge-sorted_capacity
 returns-then-charge-sorted_capacity g c =
     let full : c.self.inside.tiers.charge ≡ c.self.inside.tiers.manifest.shape.sorted_capacity = sym c.charge.ensures.value ∙ c.if-charge-sorted_capacity.true ∙ c.sorted_capacity.ensures.value ∙ ap (λ (s : Shape). s.sorted_capacity) c.geometry.ensures.value in
-    rw (← c.self.view_is) (refused g.D.Disk c.self.inside.disk c.self.inside.tiers c.self.inside.count c.self.inside.failed (Put c.args.key.now c.args.value.now) StoreFull
-    c.if-self.false (c.self.invariant.stands c.if-self.false) refl (record { working = c.if-self.false; count = omega (arith, c.self.invariant.count_most, c.if-self-eq-MOST_COMMANDS.false) }, full))
+    rw (← c.self.view_is, c.if-self.false) (refused g.D.Disk c.self.inside.disk c.self.inside.tiers c.self.inside.count (Put c.args.key.now c.args.value.now) StoreFull
+    (c.self.invariant.stands c.if-self.false) refl (record { working = refl; count = omega (arith, c.self.invariant.count_most, c.if-self-eq-MOST_COMMANDS.false) }, full))

@@ -2,7 +2,7 @@ use Rattle.std.proofs.Common.{◌≡◌, ◌+◌, ◌++◌, ◌∷◌, [], List,
 use Rattle.std.proofs.lemmas.List.{take_more, take_all}
 use Rattle.silt_event.specs.declared.event.Event.{Event}
 use Rattle.silt_store_set.specs.CoreState.{Runs}
-use Rattle.silt_store_set.proofs.Calls.{safe_seen}
+use Rattle.silt_store_set.proofs.Calls.{endures_seen}
 use Rattle.silt_store_set.proofs.Keeps.{keeps_runs}
 use Rattle.silt_store_set.proofs.Runs.{runs_more, legal_runs}
 use Rattle.silt_store_set.proofs.store_core.Core.run.Goals as goal
@@ -33,7 +33,7 @@ pub returns-clause-kept : goal.returns-clause-kept
 returns-clause-kept g c = λ working.
     let all = take_all c.loop-event.event-index c.args.events.now c.loop-event-test.false in
     let runs = subst (λ (events : List Event). Runs g.D.Disk c.args.self.now events c.loop-event.replies.items c.loop-event.self) all c.loop-event.invariant.runs in
-    let safe = safe_seen g.D.Disk c.self.inside.disk c.self.inside.tiers c.self.inside.count c.self.inside.failed c.args.self.now c.self.view_is c.self.invariant working in
+    let safe = (endures_seen g.D.Disk c.self.inside.disk c.self.inside.tiers c.self.inside.count c.self.inside.failed c.self.inside.basis c.args.self.now c.self.view_is c.self.invariant).safe working in
     record {
       each = λ h image left.
           keeps_runs g.D.Disk c.args.self.now c.loop-event.self c.args.events.now c.loop-event.replies.items working safe runs

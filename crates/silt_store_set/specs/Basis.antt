@@ -1,0 +1,21 @@
+-- What a call begins with.
+use Rattle.std.specs.Prelude.{Bool, true, false, List}
+use Rattle.silt_disk.specs.Disk.{Content}
+use Rattle.silt_event.specs.Commands.{Command, Map}
+use Rattle.silt_image.specs.Meaning.{image_map}
+use Rattle.silt_standing.specs.Standing.{waiting_commands}
+use Rattle.silt_standing.specs.State.{TiersState}
+
+-- the map of what is shown, and the commands of the rows that wait
+pub record BasisState : Type 0 where
+  pub base : Map
+  pub waiting : List Command
+
+-- of a disk and what memory holds of it
+abbrev pub basis_of : Content → TiersState → BasisState
+basis_of content stores = record { base = image_map content.shown; waiting = waiting_commands content stores }
+
+-- a failed store keeps the basis of its failing call
+abbrev pub basis_kept : Bool → BasisState → BasisState → BasisState
+basis_kept true failing now = failing
+basis_kept false failing now = now

@@ -1,0 +1,39 @@
+// What a call begins with, which contracts alone see.
+ghost use Rattle.std.specs.Prelude.{◌≡◌};
+ghost use Rattle.silt_store_set.specs.Basis.{basis_of};
+
+use silt_disk::Disk;
+use silt_tiers::Tiers;
+use std::marker::Model;
+use std::snapshot::Snapshot;
+
+// The map that the images of a store stand for, and the commands that wait, as they were when it was taken. It has no bytes.
+#[derive(Drop)]
+pub struct Basis<D: Disk> {
+    disk: Snapshot<D>,
+    tiers: Snapshot<Tiers>,
+}
+
+impl<D: Disk> Model for Basis<D> {
+    ghost use Rattle.std.specs.Coded.{codes};
+    ghost use Rattle.silt_event.specs.Commands.{map_code};
+    ghost use Rattle.silt_store_set.specs.Basis.{BasisState, basis_of};
+
+    ghost Value = { BasisState };
+
+    ghost coded = { Prim.hlevel (codes, map_code) };
+
+    ghost view = { λ b. basis_of (D.content b.disk.value) b.tiers.value };
+}
+
+impl<D: Disk> Basis<D> {
+    // Takes that of a disk and what memory holds of it.
+    pub fn of(disk: &D, tiers: &Tiers) -> Basis<D>
+        ensures { result ≡ basis_of (D.content disk.now) tiers.now }
+    {
+        Basis {
+            disk: Snapshot::of(disk),
+            tiers: Snapshot::of(tiers),
+        }
+    }
+}
