@@ -1,8 +1,7 @@
 use denote.Param.Send.{sendable}
 use Rattle.std.proofs.Crossing.{crosses}
 use Rattle.std.proofs.sync.RwLock.TheSendSync.{the_sync as lock_sync}
-use Rattle.silt_desk.proofs.desk.Desk.TheSendSync.{the_send as desk_send}
-use Rattle.silt_desk.proofs.Shares.{desk_sync}
+use Rattle.silt_desk.proofs.Shares.{desk_send, desk_sync}
 use Rattle.silt_bench.proofs.workers.run_crew.Goals as goal
 
 pub join_over-seats-requires-sync-S : goal.join_over-seats-requires-sync-S

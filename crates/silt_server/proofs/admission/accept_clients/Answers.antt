@@ -1,8 +1,7 @@
 use denote.Param.Send.{sendable}
 use Rattle.std.proofs.Crossing.{crosses}
 use Rattle.std.proofs.sync.RwLock.TheSendSync.{the_sync as lock_sync}
-use Rattle.silt_desk.proofs.desk.Desk.TheSendSync.{the_send as desk_send}
-use Rattle.silt_desk.proofs.Shares.{desk_sync}
+use Rattle.silt_desk.proofs.Shares.{desk_send, desk_sync}
 use Rattle.silt_server.proofs.admission.accept_clients.Goals as goal
 
 pub accept_sessions-requires-sync-S : goal.accept_sessions-requires-sync-S
