@@ -3,11 +3,11 @@ use Rattle.std.proofs.Common.{◌≡◌, ◌∙◌, ◌⊎◌, ℕ, List, None, 
 use Rattle.std.specs.Prelude.{IfOk}
 use Rattle.std.specs.Result.{IsOk, result_unwrap_or}
 use Rattle.std.specs.Io.KnownBytes.{Appends}
-use Rattle.silt_server.specs.Serving.{IsStatus}
+use Rattle.silt_wire.specs.Statuses.{IsStatus}
 use Rattle.silt_words.specs.Commands.{job_named}
 use Rattle.silt_words.specs.declared.job.WordsError.{WordsError}
 use Rattle.silt_words.specs.declared.job.WordsError.TheVariants.{Usage, NoMemory}
-use Rattle.silt.specs.Programs.{IsUnread, TellsWords}
+use Rattle.silt.specs.Programs.{NamesNoJob, TellsWords}
 
 -- a job that ended well or was told to be refused, and what is known of each
 pub job_ended : {E T D : Type 0} {W : ℕ → Type 0} (result : Result ℕ E) → ((status : ℕ) → ((status ≡ 0) × D) ⊎ ((status ≡ 1) × T) → W status)
@@ -18,7 +18,7 @@ job_ended (Err error) wrap told done = tt
 
 -- no job was read
 pub unread : (told : List (List ℕ) → Type 0) (words : List (List ℕ)) (error : WordsError) → (error ≡ Usage → job_named words ≡ None) → (error ≡ Usage → told words)
-    → IsUnread told words error
+    → NamesNoJob told words error
 unread told words Usage none noted = (none refl, noted refl)
 unread told words NoMemory none noted = tt
 
@@ -43,7 +43,7 @@ done_at_0 Named Done Told Unread status before after is (inr (NoMemory, cause, t
 
 -- with 2 the words name no job, and why was told
 pub usage_at_2 : {A : Type 0} (Named Done Told : A → Type 0) (told_words : List (List ℕ) → Type 0) (words : List (List ℕ)) (status : ℕ) (before after : Option (List ℕ)) → status ≡ 2
-    → ((job : A) × Named job × (((status ≡ 0) × Done job) ⊎ ((status ≡ 1) × Told job))) ⊎ ((error : WordsError) × IsUnread told_words words error × TellsWords error status before after)
+    → ((job : A) × Named job × (((status ≡ 0) × Done job) ⊎ ((status ≡ 1) × Told job))) ⊎ ((error : WordsError) × NamesNoJob told_words words error × TellsWords error status before after)
     → (job_named words ≡ None) × told_words words × Appends before after (codes "usage\n")
 usage_at_2 Named Done Told told_words words status before after is (inl (job, named, inl h)) = absurd (omega (arith, is, h.0))
 usage_at_2 Named Done Told told_words words status before after is (inl (job, named, inr h)) = absurd (omega (arith, is, h.0))

@@ -1,10 +1,1 @@
-pub mod FileRefusals
-pub mod Fits
-pub mod Lives
 pub mod Endings
-pub mod NewStores
-pub mod Outcomes
-pub mod Readings
-pub mod Refusals
-pub mod Services
-pub mod Texts

@@ -1,8 +1,2 @@
-pub mod Damage
-pub mod Files
-pub mod Jobs
-pub mod NewStores
-pub mod Notes
-pub mod Numbers
 pub mod Programs
-pub mod Scripts
+pub mod Services

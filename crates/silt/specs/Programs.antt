@@ -10,9 +10,10 @@ use Rattle.silt_words.specs.declared.job.Job.{Job}
 use Rattle.silt_words.specs.declared.job.Job.TheVariants.{Format, Script, Run, Check, Serve}
 use Rattle.silt_words.specs.declared.job.WordsError.{WordsError}
 use Rattle.silt_words.specs.declared.job.WordsError.TheVariants.{Usage, NoMemory}
-use Rattle.silt.specs.Files.{ChecksFile, FormatsFile, RunsFile, ServesFile, TellsCheckFile, TellsFormatFile, TellsRunFile, TellsServeFile}
-use Rattle.silt.specs.Numbers.{shape_asked}
-use Rattle.silt.specs.Scripts.{EndsScript, TellsRefusal}
+use Rattle.silt_jobs.specs.Files.{ChecksFile, FormatsFile, RunsFile, TellsCheckFile, TellsFormatFile, TellsRunFile}
+use Rattle.silt.specs.Services.{ServesFile, TellsServeFile}
+use Rattle.silt_jobs.specs.Numbers.{shape_asked}
+use Rattle.silt_jobs.specs.Scripts.{EndsScript, TellsRefusal}
 
 module _ {D F : Type 0} (facts : Ghosts D F)
     (told_store : List ℕ → Type 0) (told_session : List ℕ → SessionEnd → D → Type 0) (told_failures : List ℕ → D → Type 0)
@@ -55,9 +56,9 @@ abbrev pub NamesJob : List (List ℕ) → Job → Type 0
 NamesJob words job = job_named words ≡ Some (named job)
 
 -- no job was read of the words: they name none, and why was told, or memory was wanted
-abbrev pub IsUnread : (List (List ℕ) → Type 0) → List (List ℕ) → WordsError → Type 0
-IsUnread told words Usage = (job_named words ≡ None) × told words
-IsUnread told words NoMemory = Unit {0}
+abbrev pub NamesNoJob : (List (List ℕ) → Type 0) → List (List ℕ) → WordsError → Type 0
+NamesNoJob told words Usage = (job_named words ≡ None) × told words
+NamesNoJob told words NoMemory = Unit {0}
 
 module _ {D F E : Type 0} (facts : Ghosts D F)
     (told_refusal : List ℕ → Refusal F → Type 0) (told_session : List ℕ → SessionEnd → D → Type 0) (told_failures : List ℕ → D → Type 0)
@@ -70,4 +71,4 @@ module _ {D F E : Type 0} (facts : Ghosts D F)
       ((job : Job) × NamesJob words job
       × (((status ≡ 0) × EndsJob facts told_store told_session told_failures Opened Shared Created job remaining left before after)
       ⊎ ((status ≡ 1) × TellsJob facts told_refusal told_session Opened NotOpened Shared NotShared Created NotCreated job remaining left before after)))
-      ⊎ ((error : WordsError) × IsUnread told_words words error × TellsWords error status before after)
+      ⊎ ((error : WordsError) × NamesNoJob told_words words error × TellsWords error status before after)

@@ -9,35 +9,19 @@
 //!   K-th write or sync of the life that ends there, and what the stop leaves is opened again.
 //! - `silt serve FILE PORT [--audit N] [--sessions M]` serves the store in a file to the connections of a port of this machine.
 //!
-//! What is done on a file is done by functions over any source of disks, whose contracts say what is written for what the disk of
-//! the path shows. Of a disk in a file nothing is known but its length.
+//! What is done on a file or in memory is done by silt_jobs, and what is served by silt_server: by functions over any source of disks,
+//! whose contracts say what is written for what the disk of the path shows. Of a disk in a file nothing is known but its length.
 #![tactic(auto)]
 
-mod damage;
-mod failure;
-mod files;
-mod geometry;
-mod jobs;
 mod listener;
-mod note_lines;
-mod notes;
 mod program;
-mod progress;
-mod refusal;
-mod script;
-mod script_lines;
 mod service;
-mod streams;
 #[cfg(test)]
 mod tests;
-mod transcript;
-mod usage;
-mod watched_file;
 
-use note_lines::NoteLines;
 use program::{program, refuse_words, status_of};
-use progress::{AfterProgress, Progress};
 use silt_device::FileDisks;
+use silt_jobs::{AfterProgress, NoteLines, Progress, WatchedFiles, WatchedReader, WatchedWriter};
 use silt_words::WordsError;
 use std::env::{self, Env};
 use std::fs::File;
@@ -48,8 +32,6 @@ use std::rt::{Files, Runtime};
 use std::sync::Wait;
 use std::thread::Threads;
 use std::time::Clock;
-use streams::{WatchedReader, WatchedWriter};
-use watched_file::WatchedFiles;
 
 fn main(rt: HostRuntime) -> ExitCode {
     done(&rt, rt.stderr(), rt.stderr())

@@ -4,18 +4,17 @@ ghost use Rattle.std.specs.Io.KnownBytes.{Appends};
 ghost use Rattle.std.specs.Result.{result_unwrap_or};
 ghost use Rattle.silt_words.specs.declared.job.Job.{Job as JobOf};
 ghost use Rattle.silt_words.specs.Commands.{job_named};
-ghost use Rattle.silt_server.specs.Serving.{IsStatus};
-ghost use Rattle.silt.specs.Notes.{NotMadeTold, NotOpenedTold, ToldFailures, ToldRefusal, ToldSession};
+ghost use Rattle.silt_wire.specs.Statuses.{IsStatus};
+ghost use Rattle.silt_jobs.specs.Notes.{NotMadeTold, NotOpenedTold, ToldFailures, ToldRefusal, ToldSession};
 ghost use Rattle.silt.specs.Programs.{Answers, EndsJob, NamesJob, TellsJob, TellsWords};
 
-use crate::failure::Watched;
-use crate::files::{check_file, format_file, run_file};
-use crate::notes::{FaultNotes, Notes, SourceNotes, tell_error_of};
-use crate::script::script;
 use crate::service::serve_file;
-use crate::streams::KeepsError;
 use silt_device::DiskSource;
 use silt_disk::Disk;
+use silt_jobs::{
+    FaultNotes, KeepsError, Notes, SourceNotes, Watched, check_file, format_file, run_file,
+    run_script, tell_error_of,
+};
 use silt_store_set::Served;
 use silt_words::{Job, WordsError, read_words};
 use std::alloc::Global;
@@ -155,7 +154,7 @@ where
         Job::Format { file, numbers } => format_file(
             alloc, source, file, &numbers, writer, notes,
         ).1,
-        Job::Script(numbers) => script(alloc, &numbers, reader, writer),
+        Job::Script(numbers) => run_script(alloc, &numbers, reader, writer),
         Job::Run { file } => run_file(alloc, source, file, reader, writer, notes).1,
         Job::Check { file } => check_file(alloc, source, file, writer, notes).1,
         Job::Serve(service) => serve_file(rt, alloc, source, &service, writer, notes).1,

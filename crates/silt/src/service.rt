@@ -2,18 +2,16 @@
 ghost use Rattle.std.specs.Prelude.{◌≡◌, Ok, IfOk};
 ghost use Rattle.silt_disk.specs.Layout.{Shape};
 ghost use Rattle.silt_store_set.specs.CoreInvariant.{LeavesBegun};
-ghost use Rattle.silt_server.specs.Serving.{IsStatus, TellsNotServed};
-ghost use Rattle.silt.specs.Files.{EndsServe, LeavesServed, ServesFile, TellsServe, TellsServeFile};
-ghost use Rattle.silt.specs.Notes.{NotOpenedTold, ToldFailures, ToldRefusal};
+ghost use Rattle.silt_wire.specs.Statuses.{IsStatus};
+ghost use Rattle.silt_server.specs.Serving.{TellsNotServed};
+ghost use Rattle.silt.specs.Services.{EndsServe, LeavesServed, ServesFile, TellsServe, TellsServeFile};
+ghost use Rattle.silt_jobs.specs.Notes.{NotOpenedTold, ToldFailures, ToldRefusal};
 
-use crate::failure::Watched;
-use crate::jobs::refuse_opening;
 use crate::listener::PatientListener;
-use crate::notes::{FaultNotes, Notes, SourceNotes, tell_failures};
-use crate::refusal::refuse;
 use silt_desk::{Gate, Spot};
 use silt_device::DiskSource;
 use silt_disk::Disk;
+use silt_jobs::{FaultNotes, Notes, SourceNotes, Watched, refuse, refuse_opening, tell_failures};
 use silt_server::{refuse_network, serve_on};
 use silt_store_set::{Core, Refusal};
 use silt_words::Service;

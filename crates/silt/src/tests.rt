@@ -3,30 +3,22 @@
 mod damage;
 mod examples;
 mod files;
-mod jobs;
 mod library;
 mod lines;
 mod notes;
-mod progress;
 mod scripts;
 mod steps;
 
 use crate::done;
-use crate::failure::{Failure, Watched};
-use crate::notes::{FaultNotes, Notes, SourceNotes};
 use crate::program::{program, refuse_words};
-use crate::progress::Progress;
-use crate::script_lines::read_script;
-use crate::streams::{KeepsError, StreamError};
-use crate::watched_file::{WatchedFile, WatchedFiles};
-use silt_device::{Disk, FaultDisk, FileDisk, FileDisks, MemDisk};
-use silt_event::{Event, Place, Reply};
-use silt_store_set::{Core, Served};
-use silt_wire::SessionEnd;
+use silt_device::{Disk, FileDisk, FileDisks};
+use silt_jobs::{
+    FaultNotes, NoteLines, Notes, Progress, SourceNotes, WatchedFiles, WatchedReader, WatchedWriter,
+};
 use silt_words::WordsError;
-use std::alloc::{AllocError, Global};
+use std::alloc::AllocError;
 use std::fs::File;
-use std::io::{self, Cursor, ErrorKind, Read, Write};
+use std::io::{self, Cursor, ErrorKind, Read, Stderr, Write};
 use std::net::{Net, TcpListener, TcpStream};
 use std::process::{Abort, ExitCode};
 use std::rt::Files;
@@ -34,6 +26,17 @@ use std::sync::Wait;
 use std::test::Fail;
 use std::thread::Threads;
 use std::time::Clock;
+
+// A system whose standard error is at hand.
+pub(crate) trait HasErrors {
+    fn errors(&self) -> Stderr;
+}
+
+impl HasErrors for HostRuntime {
+    fn errors(&self) -> Stderr {
+        self.stderr()
+    }
+}
 
 // Values of two bytes, two buckets, four rows a log.
 pub(crate) const SMALL: &str = "silt script 2 2 4 2 2 8";
@@ -86,180 +89,6 @@ impl Write for Short {
     }
 }
 
-// How many notes of each kind were told.
-#[derive(Drop)]
-pub(crate) struct Counted {
-    pub errors: u32,
-    pub faults: u32,
-    pub others: u32,
-}
-
-impl Counted {
-    pub(crate) fn new() -> Self {
-        Counted {
-            errors: 0,
-            faults: 0,
-            others: 0,
-        }
-    }
-}
-
-impl Notes for Counted {
-    ghost use Rattle.std.specs.Prelude.{⊤};
-
-    ghost told_port = { λ _ _ _. ⊤ };
-
-    ghost told_store = { λ _ _ _. ⊤ };
-
-    ghost told_failure = { λ _ _ _ _. ⊤ };
-
-    ghost told_failed_store = { λ _ _ _. ⊤ };
-
-    ghost told_end = { λ _ _ _ _. ⊤ };
-
-    ghost told_broken = { λ _ _. ⊤ };
-
-    ghost told_words = { λ _ _ _. ⊤ };
-
-    fn tell_port(&mut self, _port: u16, _error: &io::Error) {
-        self.others = self.others.wrapping_add(1);
-    }
-
-    fn tell_store(&mut self, _file: &str) {
-        self.others = self.others.wrapping_add(1);
-    }
-
-    fn tell_failure(&mut self, _file: &str, _failure: &Failure) {
-        self.faults = self.faults.wrapping_add(1);
-    }
-
-    fn tell_failed_store(&mut self, _failure: &Failure) {
-        self.faults = self.faults.wrapping_add(1);
-    }
-
-    fn tell_end(&mut self, _end: SessionEnd, _error: Option<StreamError>) {
-        self.others = self.others.wrapping_add(1);
-    }
-
-    fn tell_broken(&mut self, _error: &io::Error) {
-        self.others = self.others.wrapping_add(1);
-    }
-
-    fn tell_words(&mut self, _words: &[String]) {
-        self.others = self.others.wrapping_add(1);
-    }
-}
-
-// Disks that keep no failure: where one failed is seen in the replies alone.
-impl Watched for MemDisk {
-    ghost use Rattle.std.specs.Prelude.{⊤, None};
-
-    ghost last_failure = { λ _. None };
-
-    ghost kept_read = { λ _ _. ⊤ };
-
-    fn last_failure(&self) -> Option<Failure> {
-        None
-    }
-
-    fn failed_read(&self) -> Option<Failure> {
-        None
-    }
-
-    fn tell_at_once(&mut self) {}
-}
-
-impl Watched for FaultDisk {
-    ghost use Rattle.std.specs.Prelude.{⊤, None};
-
-    ghost last_failure = { λ _. None };
-
-    ghost kept_read = { λ _ _. ⊤ };
-
-    fn last_failure(&self) -> Option<Failure> {
-        None
-    }
-
-    fn failed_read(&self) -> Option<Failure> {
-        None
-    }
-
-    fn tell_at_once(&mut self) {}
-}
-
-impl Served for WatchedFile<'_, Counted> {
-    fn answer_on(core: &mut Core<Self>, alloc: Global, event: &Event) -> Reply<()> {
-        core.answer(alloc, event).plain()
-    }
-}
-
-// Readers and writers that keep no error.
-impl KeepsError for Cursor<&[u8]> {
-    ghost use Rattle.std.specs.Prelude.{None};
-
-    ghost kept_error = { λ _. None };
-
-    fn kept_error(&self) -> Option<StreamError> {
-        None
-    }
-}
-
-impl KeepsError for Vec<u8> {
-    ghost use Rattle.std.specs.Prelude.{None};
-
-    ghost kept_error = { λ _. None };
-
-    fn kept_error(&self) -> Option<StreamError> {
-        None
-    }
-}
-
-impl KeepsError for Pieces<'_> {
-    ghost use Rattle.std.specs.Prelude.{None};
-
-    ghost kept_error = { λ _. None };
-
-    fn kept_error(&self) -> Option<StreamError> {
-        None
-    }
-}
-
-impl KeepsError for Short {
-    ghost use Rattle.std.specs.Prelude.{None};
-
-    ghost kept_error = { λ _. None };
-
-    fn kept_error(&self) -> Option<StreamError> {
-        None
-    }
-}
-
-impl<E> SourceNotes<E> for Counted {
-    ghost use Rattle.std.specs.Prelude.{⊤};
-
-    ghost told_error = { λ _ _ _ _. ⊤ };
-
-    fn tell_error(&mut self, _file: &str, _error: &E) {
-        self.errors = self.errors.wrapping_add(1);
-    }
-}
-
-impl<F> FaultNotes<F> for Counted {
-    ghost use Rattle.std.specs.Prelude.{⊤};
-
-    ghost told_fault = { λ _ _ _ _. ⊤ };
-
-    ghost told_damage = { λ _ _ _ _ _. ⊤ };
-
-    fn tell_fault(&mut self, _file: &str, _fault: &F) {
-        self.faults = self.faults.wrapping_add(1);
-    }
-
-    fn tell_damage(&mut self, _file: &str, _place: Place, _at: Option<u64>) {
-        self.others = self.others.wrapping_add(1);
-    }
-}
-
 // The words of a call, which stand apart by one space each.
 fn words<S: AllocGlobal>(rt: &S, call: &str) -> Result<Vec<String>, AllocError> {
     let mut words = Vec::new(rt.alloc());
@@ -278,21 +107,22 @@ pub(crate) fn status_of_call<
         + Clock
         + Threads
         + Wait
+        + HasErrors
         + Sync,
-    R: Read + KeepsError,
-    W: Write + KeepsError,
+    R: Read,
+    W: Write,
     N: Notes + SourceNotes<io::Error> + FaultNotes<<FileDisk as Disk>::Fault>,
 >(rt: &S, call: &str, reader: &mut R, writer: &mut W, notes: &mut N) -> Result<u8, AllocError> {
     let words = words(rt, call)?;
     let progress = Progress::new(None);
-    let files = WatchedFiles::new(FileDisks::new(rt), Counted::new(), &progress);
+    let files = WatchedFiles::new(FileDisks::new(rt), NoteLines::new(rt.errors()), &progress);
     Ok(program(
         rt,
         rt.alloc(),
         files,
         words.as_slice(),
-        reader,
-        writer,
+        &mut WatchedReader::new(reader),
+        &mut WatchedWriter::new(writer),
         notes,
     ))
 }
@@ -340,12 +170,19 @@ pub(crate) fn answers<
         + Clock
         + Threads
         + Wait
+        + HasErrors
         + Sync,
 >(rt: &S, call: &str, text: &str, status: u8, output: &str) -> Result<(), Fail> {
     let text = with_keys(rt, text)?;
     let mut out = Vec::new(rt.alloc());
     let mut reader = Cursor::new(text.as_slice());
-    let code = status_of_call(rt, call, &mut reader, &mut out, &mut Counted::new());
+    let code = status_of_call(
+        rt,
+        call,
+        &mut reader,
+        &mut out,
+        &mut NoteLines::new(Vec::new(rt.alloc())),
+    );
     compare(rt, call, code.ok(), &out, status, output.as_bytes());
     Ok(())
 }
@@ -359,6 +196,7 @@ pub(crate) fn answers_each<
         + Clock
         + Threads
         + Wait
+        + HasErrors
         + Sync,
 >(rt: &S, examples: &[Example]) -> Result<(), Fail> {
     for example in examples {
@@ -382,6 +220,7 @@ pub(crate) fn answers_calls<
         + Clock
         + Threads
         + Wait
+        + HasErrors
         + Sync,
 >(rt: &S, calls: &[&str], status: u8, output: &str) -> Result<(), Fail> {
     for call in calls {
@@ -414,10 +253,17 @@ pub(crate) fn reads<
         + Clock
         + Threads
         + Wait
+        + HasErrors
         + Sync,
 >(rt: &S, call: &str, reader: &mut Pieces, status: u8, output: &[u8]) -> Result<(), Fail> {
     let mut out = Vec::new(rt.alloc());
-    let code = status_of_call(rt, call, reader, &mut out, &mut Counted::new());
+    let code = status_of_call(
+        rt,
+        call,
+        reader,
+        &mut out,
+        &mut NoteLines::new(Vec::new(rt.alloc())),
+    );
     compare(rt, call, code.ok(), &out, status, output);
     Ok(())
 }
@@ -434,18 +280,6 @@ fn ends_by_a_reader_that_fails(rt: HostRuntime) -> Result<(), Fail> {
     reads(&rt, SMALL, &mut reader, 1, b"")
 }
 
-// A line for which memory is wanted ends the reading: values of this length fit into no memory.
-#[test]
-fn ends_by_a_line_that_wants_memory(rt: HostRuntime) -> Result<(), Fail> {
-    let mut reader = Cursor::new(b"get =a\nno line\nput =b 00\nget =c\n".as_slice());
-    let kind = match read_script(rt.alloc(), 1 << 62, &mut reader) {
-        Ok(_) => ErrorKind::Other,
-        Err(error) => error.kind(),
-    };
-    assert!(rt; kind == ErrorKind::OutOfMemory);
-    Ok(())
-}
-
 // Runs the program with a writer that takes so many bytes, and compares its status, which is 1, and what was taken.
 pub(crate) fn writes_short<
     S: Files<File = File>
@@ -455,6 +289,7 @@ pub(crate) fn writes_short<
         + Clock
         + Threads
         + Wait
+        + HasErrors
         + Sync,
 >(rt: &S, call: &str, text: &[u8], output: &[u8]) -> Result<(), Fail> {
     let mut writer = Short {
@@ -462,7 +297,13 @@ pub(crate) fn writes_short<
         room: output.len(),
     };
     let mut reader = Cursor::new(text);
-    let code = status_of_call(rt, call, &mut reader, &mut writer, &mut Counted::new());
+    let code = status_of_call(
+        rt,
+        call,
+        &mut reader,
+        &mut writer,
+        &mut NoteLines::new(Vec::new(rt.alloc())),
+    );
     compare(rt, call, code.ok(), &writer.taken, 1, output);
     Ok(())
 }

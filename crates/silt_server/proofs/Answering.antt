@@ -2,7 +2,7 @@
 use Rattle.std.proofs.Common.{◌≡◌, ◌⊎◌, ℕ, ◌%◌, ◌^◌, Option, Some, None, List, [], ◌∷◌, ◌++◌, ap, arith, codes, inl, inr, subst, sym}
 use Rattle.std.specs.Prelude.{IfOk, IfSome, OnOk, Result, Ok, Err}
 use Rattle.silt_wire.proofs.Streams.{Appends-append}
-use Rattle.silt_server.specs.Serving.{BreaksServing, IsStatus, TellsCalls, TellsServed, head_text, network_text, no_memory_text}
+use Rattle.silt_server.specs.Serving.{BreaksServing, TellsCalls, TellsServed, head_text, network_text, no_memory_text}
 use Rattle.std.proofs.lemmas.Fmt.{decimal_digit}
 use Rattle.std.specs.Io.KnownBytes.{Appends}
 use Rattle.silt_disk.specs.declared.disk.Disk.{Ghosts}
@@ -56,17 +56,6 @@ served_written {T} {X} {E} has_port counts old new port before mid after head x 
     )
 
 -- ---- a server that did not serve to its end
-
--- what is told with status 1 may be told in other words
-pub status_weaker : {E P Q : Type 0} (result : Result ℕ E) → (P → Q) → IfOk result (IsStatus P) → IfOk result (IsStatus Q)
-status_weaker (Err e) weaker told = told
-status_weaker (Ok status) weaker (inl done) = inl done
-status_weaker (Ok status) weaker (inr broken) = inr (broken.0, weaker broken.1)
-
--- status 1 alone
-pub status_broken : {E P Q : Type 0} (result : Result ℕ E) → (P → Q) → IfOk result (λ status. (status ≡ 1) × P) → IfOk result (IsStatus Q)
-status_broken (Err e) weaker told = told
-status_broken (Ok status) weaker told = inr (told.0, weaker told.1)
 
 -- behind the head
 behind_head : {X E : Type 0} (port : ℕ) (before mid after : Option (List ℕ)) (head : Result X E) (x : X) (text : List ℕ) → head ≡ Ok x → OnOk head (Appends before mid (head_text port))

@@ -72,7 +72,3 @@ module _ {D F : Type 0} (facts : Ghosts D F) where
   -- it was written why this store is not served to the end
   abbrev pub TellsNotServed : (ℕ → Type 0) → CoreState D → D → Option (List ℕ) → Option (List ℕ) → Type 0
   TellsNotServed has_port core disk before after = TellsEntries core disk before after ⊎ BreaksServing has_port before after
-
--- the status is 0, or 1 and this is so
-abbrev pub IsStatus : Type 0 → ℕ → Type 0
-IsStatus Told status = (status ≡ 0) ⊎ ((status ≡ 1) × Told)

@@ -8,7 +8,6 @@ use Rattle.std.proofs.lemmas.List.Splits.{slice_split_first, slice_split_none, l
 use Rattle.silt_event.specs.declared.event.Event.{Event}
 use Rattle.silt_wire.specs.declared.line.LineFault.{LineFault}
 use Rattle.silt_wire.specs.declared.line.LineFault.TheVariants.{BadLine}
-use Rattle.silt_wire.specs.Stops.{stop_of_words, told_stop}
 use Rattle.silt_wire.specs.Lines.{Parses, words_of, bare_event, key_event, value_event, event_of}
 
 -- the first word ends at the first space, and the other words stand after it
@@ -51,7 +50,7 @@ event_of-many len word key value [] some = absurd (some refl)
 event_of-many len word key value (next ∷ more) some = refl
 
 -- there is at least one word
-words_of-some : (text : List ℕ) → words_of text ≢ []
+pub words_of-some : (text : List ℕ) → words_of text ≢ []
 words_of-some text e =
     let none : length (words_of text) ≡ 0 = ap length e in
     let count = length-slice_split (λ b. b == 32) text in
@@ -72,33 +71,3 @@ pub ruleset words_of_steps = (words_of-cut, words_of-whole)
 
 -- what a line's words ask for, by their number
 pub ruleset asked_steps = (asked-one, asked-many)
-
--- ---- stops
-
--- one word tells no stop
-pub stop-one : (text : List ℕ) → words_of text ≡ text ∷ [] → stop_of_words (words_of text) ≡ None
-unfolding stop_of_words
-stop-one text words = ap stop_of_words words
-
--- nor do two
-pub stop-two : (text word rest : List ℕ) → words_of text ≡ word ∷ words_of rest → words_of rest ≡ rest ∷ [] → stop_of_words (words_of text) ≡ None
-unfolding stop_of_words
-stop-two text word rest words last = ap stop_of_words (words ∙ ap (λ more. word ∷ more) last)
-
--- three may
-pub stop-three : (text word rest k fill : List ℕ) → words_of text ≡ word ∷ words_of rest → words_of rest ≡ k ∷ words_of fill → words_of fill ≡ fill ∷ [] → stop_of_words (words_of text) ≡ told_stop word k fill
-unfolding stop_of_words
-stop-three text word rest k fill words more last = ap stop_of_words (words ∙ ap (λ parts. word ∷ parts) (more ∙ ap (λ parts. k ∷ parts) last))
-
--- four words and more tell none
-stop_of_words-many : (word k fill : List ℕ) (more : List (List ℕ)) → more ≢ [] → stop_of_words (word ∷ k ∷ fill ∷ more) ≡ None
-unfolding stop_of_words
-stop_of_words-many word k fill [] some = absurd (some refl)
-stop_of_words-many word k fill (next ∷ more) some = refl
-
-pub stop-many : (text word rest k fill last next : List ℕ) → words_of text ≡ word ∷ words_of rest → words_of rest ≡ k ∷ words_of fill → words_of fill ≡ last ∷ words_of next → stop_of_words (words_of text) ≡ None
-stop-many text word rest k fill last next words more most =
-    ap stop_of_words (words ∙ ap (λ parts. word ∷ parts) (more ∙ ap (λ parts. k ∷ parts) most)) ∙ stop_of_words-many word k last (words_of next) (words_of-some next)
-
--- what a line's words tell, by their number
-pub ruleset stop_steps = (stop-one, stop-two, stop-many)

@@ -1,4 +1,5 @@
 pub mod Answering
 pub mod Cuts
 pub mod Digits
+pub mod Statuses
 pub mod Streams

@@ -4,4 +4,4 @@ pub mod LineBuffer
 pub mod Replies
 pub mod Reports
 pub mod Sessions
-pub mod Stops
+pub mod Statuses

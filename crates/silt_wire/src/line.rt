@@ -78,9 +78,9 @@ fn space_at(text: &[u8]) -> Option<usize>
     text.iter().position(|byte| *byte == b' ')
 }
 
-// The first word and what comes after its space, or nothing where there is one word alone.
+/// The first word and what comes after its space, or nothing where there is one word alone.
 #[tactic(auto, using(crate::proofs::Cuts::words_of_steps))]
-pub(crate) fn cut_word(text: &[u8]) -> Option<(&[u8], &[u8])>
+pub fn cut_word(text: &[u8]) -> Option<(&[u8], &[u8])>
     ensures more { IfSome result (λ parts. words_of text.now ≡ parts.0.now ∷ words_of parts.1.now) }
     ensures last { IfNone result (words_of text.now ≡ text.now ∷ []) }
 {

@@ -3,11 +3,8 @@ ghost use Rattle.std.specs.Prelude.{◌≡◌, ◌==◌, ◌++◌, ◌<◌, ◌�
 ghost use Rattle.silt_event.specs.Events.{HasValueOf};
 ghost use Rattle.silt_wire.specs.Lines.{Parses, asked_by, is_blank};
 ghost use Rattle.silt_wire.specs.LineBuffer.{HoldsBytes, TakesPiece};
-ghost use Rattle.silt_wire.specs.Stops.{stop_of};
 
 use crate::line::{LONGEST_LINE, LineFault, is_blank, parse_line};
-use crate::stop::stop_of;
-use silt_device::Stop;
 use silt_event::Event;
 use std::alloc::{AllocError, Global};
 
@@ -95,16 +92,6 @@ impl LineBuffer {
         ensures { (line : List ℕ) → HoldsBytes self.now line → result ≡ is_blank line }
     {
         !self.is_long && is_blank(&self.line)
-    }
-
-    /// The stop that the line tells.
-    pub fn stop(&self) -> Option<Stop>
-        ensures { (line : List ℕ) → HoldsBytes self.now line → result ≡ stop_of line }
-    {
-        if self.is_long {
-            return None;
-        }
-        stop_of(&self.line)
     }
 
     /// What the line asks for.

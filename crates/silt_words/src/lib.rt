@@ -9,7 +9,9 @@
 
 mod command;
 mod job;
+mod usage;
 mod words;
 
 pub use job::{Job, Numbers, Service, WordsError};
+pub use usage::{Complaint, FORMS, VERSION, asks_version, complaint_of};
 pub use words::read_words;

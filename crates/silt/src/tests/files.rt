@@ -2,9 +2,10 @@
 
 use crate::tests::lines::REFUSED;
 use crate::tests::steps::{Step, make_folder, take_in_folder};
-use crate::tests::{Pieces, answers, reads, writes_short};
+use crate::tests::{HasErrors, Pieces, answers, reads, writes_short};
 use std::alloc::AllocError;
-use std::fs::{self, File};
+use std::fs;
+use std::fs::File;
 use std::net::{Net, TcpListener, TcpStream};
 use std::process::Abort;
 use std::rt::Files;
@@ -199,6 +200,7 @@ fn refuses<
         + Clock
         + Threads
         + Wait
+        + HasErrors
         + Sync,
 >(rt: &S, lines: &[&str], reply: &str) -> Result<(), Fail> {
     let mut text = String::new(rt.alloc());

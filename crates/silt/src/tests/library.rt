@@ -1,4 +1,4 @@
-// The library's example, as the README has it, of the store's crate alone.
+// The library's example, as docs/library.md has it, of the store's crate alone.
 
 use silt_store_set::{Core, Disk, Geometry, Key, MemDisk, format};
 use std::alloc::Global;

@@ -1,6 +1,6 @@
 // What is wrong with a line is told by its number, letter for letter. A key `01..` is these digits and zeros up to forty.
 
-use crate::tests::{SMALL, answers};
+use crate::tests::{HasErrors, SMALL, answers};
 use std::alloc::AllocError;
 use std::fs::File;
 use std::net::{Net, TcpListener, TcpStream};
@@ -73,6 +73,7 @@ fn refuses<
         + Clock
         + Threads
         + Wait
+        + HasErrors
         + Sync,
 >(rt: &S, lines: &[&str], reply: &str) -> Result<(), Fail> {
     let output = format!(in rt.alloc(); "opened\n{reply}acknowledged 0\n")?;

@@ -1,17 +1,13 @@
 // What people are told, on files and by words, and one owner for a file. Each test has a folder of its own.
 
-use crate::failure::Watched;
-use crate::files::run_file;
-use crate::note_lines::NoteLines;
-use crate::notes::Notes;
-use crate::progress::Progress;
-use crate::streams::{KeepsError, StreamError, WatchedReader, WatchedWriter};
 use crate::tests::steps::{Step, make_folder, take_in_folder, take_steps};
-use crate::tests::{Counted, answers, compare, status_of_call, words};
-use crate::usage::{FORMS, complaint_of};
-use crate::watched_file::WatchedFiles;
+use crate::tests::{HasErrors, answers, compare, status_of_call, words};
 use silt_device::{Disk, DiskSource, FileDisk, FileDisks, FileSystem};
+use silt_jobs::{
+    NoteLines, Notes, Progress, Watched, WatchedFiles, WatchedReader, WatchedWriter, run_file,
+};
 use silt_wire::SessionEnd;
+use silt_words::{FORMS, complaint_of};
 use std::alloc::AllocError;
 use std::fs::{self, File, OpenOptions};
 use std::io::{self, Cursor, Read, Write};
@@ -32,6 +28,7 @@ pub(crate) fn tells<
         + Clock
         + Threads
         + Wait
+        + HasErrors
         + Sync,
 >(rt: &S, call: &str, status: u8, told: &str) -> Result<(), Fail> {
     let mut notes = Vec::new(rt.alloc());
@@ -187,12 +184,22 @@ where
 }
 
 // Runs a session on a file that cannot be written, and compares what is answered and told.
-fn fails_to_write<S: Files<File = File> + AllocGlobal + Abort>(rt: &S) {
+fn fails_to_write<
+    S: Files<File = File>
+        + AllocGlobal
+        + Abort
+        + Net<Listener = TcpListener, Stream = TcpStream>
+        + Clock
+        + Threads
+        + Wait
+        + HasErrors
+        + Sync,
+>(rt: &S) {
     let progress = Progress::new(None);
     let files = ReadFiles {
         files: FileDisks::new(rt),
     };
-    let files = WatchedFiles::new(files, Counted::new(), &progress);
+    let files = WatchedFiles::new(files, NoteLines::new(rt.errors()), &progress);
     let mut reader = Cursor::new(b"get =a\nput =a 0102\nput =b 0102\nflush\n".as_slice());
     let mut out = Vec::new(rt.alloc());
     let mut notes = Vec::new(rt.alloc());
@@ -201,8 +208,8 @@ fn fails_to_write<S: Files<File = File> + AllocGlobal + Abort>(rt: &S) {
         rt.alloc(),
         files,
         "failing/disk",
-        &mut reader,
-        &mut out,
+        &mut WatchedReader::new(&mut reader),
+        &mut WatchedWriter::new(&mut out),
         &mut lines,
     );
     let output = b"opened\nabsent\nrefused 5 Device\nrefused 9 Failed\nrefused 9 Failed\n";
@@ -301,16 +308,6 @@ impl Read for CuttingReader<'_> {
     }
 }
 
-impl KeepsError for CuttingReader<'_> {
-    ghost use Rattle.std.specs.Prelude.{None};
-
-    ghost kept_error = { λ _. None };
-
-    fn kept_error(&self) -> Option<StreamError> {
-        None
-    }
-}
-
 // Runs a session on a file that is cut short under it, and compares what is answered and told.
 fn fails_to_read<
     S: Files<File = File>
@@ -320,6 +317,7 @@ fn fails_to_read<
         + Clock
         + Threads
         + Wait
+        + HasErrors
         + Sync,
 >(rt: &S, file: File) {
     let mut reader = CuttingReader {
@@ -409,16 +407,17 @@ fn breaks_off<
         + Clock
         + Threads
         + Wait
+        + HasErrors
         + Sync,
     R: Read + Drop,
     W: Write + Drop,
->(rt: &S, call: &str, reader: R, writer: W, told: &str) {
+>(rt: &S, call: &str, mut reader: R, mut writer: W, told: &str) {
     let mut notes = Vec::new(rt.alloc());
     let code = status_of_call(
         rt,
         call,
-        &mut WatchedReader::new(reader),
-        &mut WatchedWriter::new(writer),
+        &mut reader,
+        &mut writer,
         &mut NoteLines::new(&mut notes),
     );
     compare(rt, call, code.ok(), &notes, 1, told.as_bytes());
@@ -436,6 +435,7 @@ fn breaks_at_a_write<
         + Clock
         + Threads
         + Wait
+        + HasErrors
         + Sync,
 >(rt: &S, room: usize, error: i32, told: &str) {
     let writer = FullWriter { room, error };
@@ -451,6 +451,7 @@ fn breaks_at_a_read<
         + Clock
         + Threads
         + Wait
+        + HasErrors
         + Sync,
 >(rt: &S) {
     let reader = BrokenReader {
@@ -527,6 +528,7 @@ fn refuses_port<
         + Clock
         + Threads
         + Wait
+        + HasErrors
         + Sync,
 >(rt: &S, port: u16) -> Result<(), Fail> {
     let call = format!(in rt.alloc(); "silt serve port/disk {port}")?;
@@ -597,6 +599,7 @@ fn complains<
         + Clock
         + Threads
         + Wait
+        + HasErrors
         + Sync,
 >(rt: &S, call: &str, expected: &str) -> Result<(), Fail> {
     let Some(found) = complaint(rt, call)? else {

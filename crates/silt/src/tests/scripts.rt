@@ -4,7 +4,7 @@ use crate::tests::{Example, SMALL, answers, answers_each};
 use std::test::Fail;
 
 // Five puts, of which the last finds the log full and freezes it.
-pub(crate) const FIVE_PUTS: &str =
+const FIVE_PUTS: &str =
     "put 01.. 0001\nput 02.. 0002\nput 03.. 0003\nput 04.. 0004\nput 05.. 0005\n";
 
 // Lines, keys and values.

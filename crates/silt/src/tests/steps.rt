@@ -1,7 +1,7 @@
 // Tests on files as tables of steps: calls of the program, and what is done to its files and seen of them between the calls.
 
-use crate::tests::answers;
 use crate::tests::notes::tells;
+use crate::tests::{HasErrors, answers};
 use silt_device::{Disk, FileDisk};
 use std::fs::{self, File, OpenOptions};
 use std::io;
@@ -98,6 +98,7 @@ fn take_step<
         + Clock
         + Threads
         + Wait
+        + HasErrors
         + Sync,
 >(rt: &S, step: &Step) -> Result<(), Fail> {
     match *step {
@@ -122,6 +123,7 @@ pub(crate) fn take_steps<
         + Clock
         + Threads
         + Wait
+        + HasErrors
         + Sync,
 >(rt: &S, steps: &[Step]) -> Result<(), Fail> {
     for step in steps {
@@ -139,6 +141,7 @@ pub(crate) fn take_in_folder<
         + Clock
         + Threads
         + Wait
+        + HasErrors
         + Sync,
 >(rt: &S, name: &str, steps: &[Step]) -> Result<(), Fail> {
     make_folder(rt, name)?;

@@ -1,4 +1,4 @@
-use Rattle.silt.proofs.FileRefusals.{told_weaker}
+use Rattle.silt_wire.proofs.Statuses.{told_weaker}
 use Rattle.silt.proofs.program.do_job.Goals as goal
 
 pub returns-in-Format-clause-told : goal.returns-in-Format-clause-told

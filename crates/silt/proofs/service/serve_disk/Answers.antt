@@ -1,6 +1,5 @@
 use Rattle.std.proofs.Common.{inl, inr}
-use Rattle.silt.proofs.FileRefusals.{told_weaker}
-use Rattle.silt.proofs.Services.{never_done, status_told}
+use Rattle.silt_wire.proofs.Statuses.{never_done, status_told, told_weaker}
 use Rattle.silt.proofs.service.serve_disk.Goals as goal
 
 pub returns-in-Ok-clause-failed : goal.returns-in-Ok-clause-failed

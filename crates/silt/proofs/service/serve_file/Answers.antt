@@ -1,6 +1,7 @@
 use Rattle.std.proofs.Common.{inl, inr}
 use Rattle.silt_event.specs.declared.refusal.Refusal.TheVariants.{Device}
-use Rattle.silt.proofs.FileRefusals.{told_refusal, told_weaker}
+use Rattle.silt_wire.proofs.Statuses.{told_weaker}
+use Rattle.silt_jobs.proofs.FileRefusals.{told_refusal}
 use Rattle.silt.proofs.service.serve_file.Goals as goal
 
 pub returns-in-Ok-clause-told : goal.returns-in-Ok-clause-told

@@ -1,5 +1,5 @@
 use Rattle.std.proofs.Common.{inl, inr}
-use Rattle.silt.proofs.Services.{never_done, status_told}
+use Rattle.silt_wire.proofs.Statuses.{never_done, status_told}
 use Rattle.silt.proofs.service.serve_store.Goals as goal
 
 pub returns-in-Err-clause-served : goal.returns-in-Err-clause-served

@@ -1,5 +1,6 @@
 use Rattle.std.proofs.Common.{ap}
-use Rattle.silt_server.proofs.Answering.{breaks_behind, served_written, status_weaker}
+use Rattle.silt_wire.proofs.Statuses.{told_weaker}
+use Rattle.silt_server.proofs.Answering.{breaks_behind, served_written}
 use Rattle.silt_server.proofs.serve.serve_desk.Goals as goal
 
 pub returns-clause-served : goal.returns-clause-served
@@ -8,4 +9,4 @@ returns-clause-served g c =
 
 pub returns-clause-told : goal.returns-clause-told
 returns-clause-told g c =
-    status_weaker c.end-status.result (breaks_behind (g.L.Listens.has_port c.args.listener.now) c.in-Ok.port _ _ _ c.write_head.result _ c.in-Ok.ensures c.in_default-write_head.is c.write_head.ensures) c.end-status.ensures.told
+    told_weaker c.end-status.result (breaks_behind (g.L.Listens.has_port c.args.listener.now) c.in-Ok.port _ _ _ c.write_head.result _ c.in-Ok.ensures c.in_default-write_head.is c.write_head.ensures) c.end-status.ensures.told

@@ -1,0 +1,39 @@
+-- What serving the disk of a path does.
+use Rattle.std.specs.Prelude.{◌⊎◌, ℕ, List, IfSome, Option}
+use Rattle.std.specs.Option.{IsSomeAnd}
+use Rattle.silt_disk.specs.Layout.{Shape}
+use Rattle.silt_disk.specs.declared.disk.Disk.{Ghosts}
+use Rattle.silt_event.specs.declared.refusal.Refusal.{Refusal}
+use Rattle.silt_recovery.specs.Opening.{LeavesNoOther}
+use Rattle.silt_server.specs.Serving.{IsServed, ServesKept, TellsNotServed}
+use Rattle.silt_store_set.specs.CoreInvariant.{LeavesBegun}
+use Rattle.silt_store_set.specs.CoreState.{CoreState, Opens}
+use Rattle.silt_jobs.specs.Files.{TellsNoDisk}
+use Rattle.silt_jobs.specs.Jobs.{TellsOpening}
+
+-- the store on a disk was served to the end; where its calls were kept, they are a history of the store that is left
+abbrev pub EndsServe : {D F : Type 0} → Ghosts D F → Option ℕ → D → Option (List ℕ) → Option (List ℕ) → Type 0
+EndsServe facts audit new before after = IsServed (facts.content new) before after × IfSome audit (λ most. ServesKept facts (λ port. Unit {0}) new before after)
+
+module _ {D F : Type 0} (facts : Ghosts D F) where
+  -- it was written why the store on a disk was not taken up, and people were told; or why the store that was taken up was not served to the end
+  abbrev pub TellsServe : (Refusal F → Type 0) → D → D → Option (List ℕ) → Option (List ℕ) → Type 0
+  TellsServe told old new before after =
+      TellsOpening facts told old new before after
+      ⊎ ((core : CoreState D) × Opens facts (facts.content old) core × TellsNotServed facts (λ port. Unit {0}) core new before after)
+
+  -- what a server gives back, however it ends: each image that a stop may leave might have been left before or stands for what was shown, or all
+  -- stand for one map after a beginning of one list of commands
+  abbrev pub LeavesServed : D → D → Type 0
+  LeavesServed old new = LeavesNoOther (facts.content old) (facts.content new) ⊎ ((shape : Shape) × LeavesBegun (facts.content new) shape)
+
+  -- a disk that the source opened was served to the end, and is given back as a server leaves it; people were told which calls of it failed
+  abbrev pub ServesFile : (D → Type 0) → (D → Type 0) → Option ℕ → Option D → Option (List ℕ) → Option (List ℕ) → Type 0
+  ServesFile told_failures Opened audit given before after =
+      (old : D) × Opened old × IsSomeAnd given (λ new. EndsServe facts audit new before after × LeavesServed old new × told_failures new)
+
+  -- it was written that the source opened no disk, or why the one that it opened was not served to the end, which is given back as a server leaves it
+  abbrev pub TellsServeFile : {E : Type 0} → (Refusal F → Type 0) → (D → Type 0) → (E → Type 0) → Option D → Option (List ℕ) → Option (List ℕ) → Type 0
+  TellsServeFile told Opened NotOpened given before after =
+      TellsNoDisk NotOpened before after
+      ⊎ ((old : D) × Opened old × IsSomeAnd given (λ new. TellsServe told old new before after × LeavesServed old new))

@@ -1,0 +1,55 @@
+-- Taking bytes in two parts is taking them at once.
+use Rattle.std.proofs.Common.{◌≡◌, ◌≢◌, ◌+◌, take, drop, ℕ, true, false, MatchBool, None, Result, Err, inl, inr, List, [], ◌∷◌, ◌++◌, refl, sym, subst}
+use Rattle.std.proofs.Math.Seq.{take-add}
+use Rattle.silt_event.specs.declared.event.Event.{Event}
+use Rattle.silt_wire.specs.declared.line.LineFault.{LineFault}
+use Rattle.silt_wire.specs.declared.line.LineFault.TheVariants.{NoMemory}
+use Rattle.silt_wire.specs.declared.line_buffer.LineBuffer.{LineBuffer}
+use Rattle.silt_wire.specs.declared.line_buffer.Taken.{Taken}
+use Rattle.silt_wire.specs.LineBuffer.{HoldsBytes, TakesPiece}
+use Rattle.silt_wire.specs.Lines.{Parses, asked_by, is_blank}
+use Rattle.silt_wire.specs.Sessions.{lines_after, rest_after}
+use Rattle.silt_jobs.specs.Stops.{stop_of}
+use Rattle.silt_wire.proofs.Streams.{lines_after-append, piece-line, piece-open}
+use Rattle.silt_jobs.specs.declared.script_lines.Reading.{Reading}
+use Rattle.silt_jobs.specs.Scripts.{TakesAsked, TakesLine, TakesLines, TakesBytes, TakesTold}
+
+-- what was read of a line is what it asks for, where memory was not wanted
+parsed-is : (asked parsed : Result Event LineFault) → Parses asked parsed → parsed ≢ Err NoMemory → parsed ≡ asked
+parsed-is asked parsed (inl is) told = is
+parsed-is asked parsed (inr wanted) told = absurd (told wanted.0)
+
+-- a line that is not blank and tells no stop is taken as what it asks for
+pub TakesLine-asked : (value_len : ℕ) (line : List ℕ) (parsed : Result Event LineFault) (old new : Reading) → is_blank line ≡ false → stop_of line ≡ None → Parses (asked_by value_len line) parsed
+    → parsed ≢ Err NoMemory → TakesAsked parsed old new → TakesLine value_len line old new
+TakesLine-asked value_len line parsed old new live other parses told takes =
+    let asked = subst (λ a. TakesAsked a old new) (parsed-is (asked_by value_len line) parsed parses told) takes in
+    let line_told = subst (λ s. TakesTold value_len line s old new) (sym other) asked in
+    subst (λ b. MatchBool b (new ≡ old) (TakesTold value_len line (stop_of line) old new)) (sym live) line_told
+
+-- the line that these bytes end is taken
+pub TakesBytes-line : (value_len : ℕ) (begun bytes : List ℕ) (taken : Taken) (pending : LineBuffer) (old new : Reading) → taken.ends_line ≡ true → TakesPiece begun bytes taken pending
+    → ((line : List ℕ) → HoldsBytes pending line → TakesLine value_len line old new) → TakesBytes value_len begun old (take taken.count bytes) new
+TakesBytes-line value_len begun bytes taken pending old new e piece takes =
+    let line = piece-line begun bytes taken pending e piece in
+    subst (λ lines. TakesLines value_len lines old new) (sym line.2) (new, takes line.0 line.1, refl)
+
+-- bytes that end no line are kept
+pub TakesBytes-none : (value_len : ℕ) (begun bytes : List ℕ) (taken : Taken) (pending : LineBuffer) (reading : Reading) → taken.ends_line ≡ false → TakesPiece begun bytes taken pending
+    → TakesBytes value_len begun reading (take taken.count bytes) reading
+TakesBytes-none value_len begun bytes taken pending reading e piece =
+    subst (λ lines. TakesLines value_len lines reading reading) (sym (piece-open begun bytes taken pending e piece).1) refl
+
+TakesLines-append : (value_len : ℕ) (a b c : Reading) (xs ys : List (List ℕ)) → TakesLines value_len xs a b → TakesLines value_len ys b c → TakesLines value_len (xs ++ ys) a c
+TakesLines-append value_len a b c [] ys h k = subst (λ s. TakesLines value_len ys s c) h k
+TakesLines-append value_len a b c (x ∷ xs) ys h k = (h.0, h.1, TakesLines-append value_len h.0 b c xs ys h.2 k)
+
+pub TakesBytes-append : (value_len : ℕ) (p : List ℕ) (a b c : Reading) (xs ys : List ℕ) → TakesBytes value_len p a xs b → TakesBytes value_len (rest_after p xs) b ys c → TakesBytes value_len p a (xs ++ ys) c
+TakesBytes-append value_len p a b c xs ys h k =
+    subst (λ lines. TakesLines value_len lines a c) (sym (lines_after-append p xs ys)) (TakesLines-append value_len a b c (lines_after p xs) (lines_after (rest_after p xs) ys) h k)
+
+-- one part more of a slice
+pub TakesBytes-part : (value_len : ℕ) (p : List ℕ) (a b c : Reading) (bytes : List ℕ) (done count : ℕ) → TakesBytes value_len p a (take done bytes) b
+    → TakesBytes value_len (rest_after p (take done bytes)) b (take count (drop done bytes)) c → TakesBytes value_len p a (take (done + count) bytes) c
+TakesBytes-part value_len p a b c bytes done count h k =
+    subst (λ xs. TakesBytes value_len p a xs c) (sym (take-add done count bytes)) (TakesBytes-append value_len p a b c (take done bytes) (take count (drop done bytes)) h k)

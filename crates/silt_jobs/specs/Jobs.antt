@@ -1,0 +1,89 @@
+-- What the jobs on a disk do, and what they write.
+use Rattle.std.specs.Prelude.{◌≡◌, ◌≢◌, ◌⊎◌, ℕ, IsTrue, List, ◌++◌, Option, codes}
+use Rattle.std.specs.FinMap.{empty}
+use Rattle.std.specs.Fmt.{decimal}
+use Rattle.std.specs.Io.KnownBytes.{Appends}
+use Rattle.silt_disk.specs.Disk.{GaveAny, LeavesOnly, size}
+use Rattle.silt_disk.specs.Layout.{Shape, device_size}
+use Rattle.silt_disk.specs.declared.disk.Disk.{Ghosts}
+use Rattle.silt_event.specs.declared.report.Report.{Report}
+use Rattle.silt_recovery.specs.Format.{FormatCause}
+use Rattle.silt_recovery.specs.Opening.{IsReported}
+use Rattle.silt_recovery.specs.Refusals.{IsFound, IsRefusedLook}
+use Rattle.silt_recovery.specs.declared.fault.FormatError.{FormatError}
+use Rattle.silt_recovery.specs.declared.fault.OpenError.{OpenError}
+use Rattle.silt_image.specs.Meaning.{StandsFor}
+use Rattle.silt_store_set.specs.CoreState.{CoreState, Opens, DoesPlain}
+use Rattle.silt_store_set.specs.Opening.{OpeningCause}
+use Rattle.silt_recovery.specs.Errors.{refusal_of_formatting, refusal_of_opening}
+use Rattle.silt_event.specs.declared.refusal.Refusal.{Refusal}
+use Rattle.silt_event.specs.declared.reply.Reply.TheVariants.{Refused}
+use Rattle.silt_wire.specs.Reports.{report_text}
+use Rattle.silt_wire.specs.Sessions.{Ends}
+use Rattle.silt_wire.specs.declared.sessions.SessionEnd.{SessionEnd}
+use Rattle.silt_wire.specs.declared.sessions.SessionEnd.TheVariants.{End}
+use Rattle.silt_jobs.specs.Scripts.{reply_line}
+
+-- the length of a device that was formatted, in bytes
+abbrev pub formatted_line : ℕ → List ℕ
+formatted_line bytes = codes "formatted " ++ (decimal bytes ++ codes "\n")
+
+-- it was written that the job is refused, and nothing else
+abbrev pub Tells : {F : Type 0} → Refusal F → Option (List ℕ) → Option (List ℕ) → Type 0
+Tells refusal before after = Appends before after (reply_line (Refused refusal))
+
+-- the status by the end of a session
+abbrev pub status_of : SessionEnd → ℕ
+status_of End = 0
+status_of end = 1
+
+module _ {D F : Type 0} (facts : Ghosts D F) where
+  -- `opened` was written, and then the store's session with the reader and the writer ended so
+  abbrev pub AnswersReader : SessionEnd → CoreState D → CoreState D → Option (List ℕ) → Option (List ℕ) → Option (List ℕ) → Option (List ℕ) → Type 0
+  AnswersReader end old new remaining left before after =
+      (opened : Option (List ℕ)) × Appends before opened (codes "opened\n")
+      × Ends (DoesPlain facts) end old.shape.value_len old new remaining left opened after
+
+module _ {D F : Type 0} (facts : Ghosts D F) (told_session : SessionEnd → D → Type 0) where
+  -- one life on a disk: the store was taken up from it, its session ended so, the disk is as the store then left it, and people were told
+  abbrev pub EndsRun : SessionEnd → D → D → Option (List ℕ) → Option (List ℕ) → Option (List ℕ) → Option (List ℕ) → Type 0
+  EndsRun end old new remaining left before after =
+      (first : CoreState D) × (last : CoreState D) × Opens facts (facts.content old) first
+      × AnswersReader facts end first last remaining left before after × (new ≡ last.disk) × told_session end new
+
+  -- one life whose session did not reach the end of the lines
+  abbrev pub BreaksRun : D → D → Option (List ℕ) → Option (List ℕ) → Option (List ℕ) → Option (List ℕ) → Type 0
+  BreaksRun old new remaining left before after = (end : SessionEnd) × (end ≢ End) × EndsRun end old new remaining left before after
+
+-- the report of what the disk shows was written
+abbrev pub EndsCheck : {D F : Type 0} → Ghosts D F → D → Option (List ℕ) → Option (List ℕ) → Type 0
+EndsCheck facts disk before after =
+    (report : Report) × (IsTrue (facts.content disk).honest → IsReported (facts.content disk).shown report) × Appends before after (report_text report)
+
+-- an empty store of this shape was made of the disk, and its length was written
+abbrev pub EndsFormat : {D F : Type 0} → Ghosts D F → Shape → D → Option (List ℕ) → Option (List ℕ) → Type 0
+EndsFormat facts shape new before after =
+    (size (facts.content new) ≡ device_size shape) × LeavesOnly (facts.content new) (StandsFor shape empty) × Appends before after (formatted_line (device_size shape))
+
+module _ {D F : Type 0} (facts : Ghosts D F) (told : Refusal F → Type 0) where
+  -- it was written that the store was not taken up from the disk, for its cause, and people were told
+  abbrev pub TellsOpening : D → D → Option (List ℕ) → Option (List ℕ) → Type 0
+  TellsOpening old new before after = (refusal : Refusal F) × OpeningCause facts (facts.content old) new refusal × Tells refusal before after × told refusal
+
+  -- it was written what is wrong with the disk, or that it could not be looked at, for its cause, and people were told
+  abbrev pub TellsCheck : D → Option (List ℕ) → Option (List ℕ) → Type 0
+  TellsCheck disk before after =
+      (error : OpenError F) × IsRefusedLook (λ finding. IsTrue (facts.content disk).honest → IsFound (facts.content disk).shown finding) (GaveAny facts.gave disk) error
+      × Tells (refusal_of_opening error) before after × told (refusal_of_opening error)
+
+  -- it was written that the disk was not formatted, for its cause, and people were told
+  abbrev pub TellsFormat : Shape → D → D → Option (List ℕ) → Option (List ℕ) → Type 0
+  TellsFormat shape old new before after =
+      (error : FormatError F) × FormatCause facts.content (GaveAny facts.gave) shape old new error × Tells (refusal_of_formatting error) before after
+      × told (refusal_of_formatting error)
+
+-- it was written that the store was not taken up from the disk, or the session on it broke off, and people were told
+abbrev pub TellsRun : {D F : Type 0} → Ghosts D F → (Refusal F → Type 0) → (SessionEnd → D → Type 0)
+    → D → D → Option (List ℕ) → Option (List ℕ) → Option (List ℕ) → Option (List ℕ) → Type 0
+TellsRun facts told_refusal told_session old new remaining left before after =
+    TellsOpening facts told_refusal old new before after ⊎ BreaksRun facts told_session old new remaining left before after

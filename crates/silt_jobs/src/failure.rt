@@ -1,0 +1,43 @@
+// Disks that keep which of their calls failed.
+ghost use Rattle.std.specs.Prelude.{◌≡◌, Option};
+ghost use Rattle.silt_jobs.specs.declared.failure.Failure.{Failure as FailureOf};
+
+use silt_disk::{CallAt, Disk};
+use std::{fmt, io};
+
+/// A call of a disk that failed, and the system's error.
+#[derive(Clone, Copy, Debug)]
+pub struct Failure {
+    pub call: CallAt,
+    pub error: io::Error,
+}
+
+// What failed, and the system's words for it.
+impl fmt::Display for Failure {
+    fn fmt<W: fmt::Write>(&self, f: &mut fmt::Formatter<W>) -> fmt::Result {
+        let Failure { call, error } = *self;
+        write!(f, "{call}: {error}")
+    }
+}
+
+/// A disk that keeps which of its reads failed first, and which of its writes and syncs failed last.
+pub trait Watched: Disk {
+    /// The last write or sync that failed, if one did.
+    ghost last_failure: { Self → Option FailureOf };
+
+    /// The disk said that this read failed first, or that none did.
+    ghost kept_read: { Self → Option FailureOf → Type 0 };
+
+    /// The last write or sync that failed, if one did.
+    fn last_failure(&self) -> Option<Failure>
+        ensures { result ≡ last_failure self.now };
+
+    /// The first read that failed, if one did.
+    fn failed_read(&self) -> Option<Failure>
+        ensures { kept_read self.now result };
+
+    /// From now on people are told of the first write or sync that fails as soon as it fails.
+    fn tell_at_once(&mut self)
+        ensures disk { Self.content self.new ≡ Self.content self.old }
+        ensures last { last_failure self.new ≡ last_failure self.old };
+}

@@ -1,0 +1,153 @@
+// What the program tells people, beside what it writes for programs.
+ghost use Rattle.std.specs.Prelude.{◌≡◌, ℕ, IsErr, IsOk, List, Option, map, string_bytes};
+ghost use Rattle.silt_event.specs.declared.place.Place.{Place as PlaceOf};
+ghost use Rattle.silt_wire.specs.declared.sessions.SessionEnd.{SessionEnd as SessionEndOf};
+ghost use Rattle.silt_jobs.specs.Notes.{ToldCall, ToldEnd, ToldFailures, ToldRefusal};
+ghost use Rattle.silt_jobs.specs.declared.failure.Failure.{Failure as FailureOf};
+ghost use Rattle.silt_jobs.specs.declared.streams.StreamError.{StreamError as StreamErrorOf};
+
+use crate::failure::{Failure, Watched};
+use crate::streams::{KeepsError, StreamError};
+use silt_store_set::{Place, Refusal};
+use silt_wire::SessionEnd;
+use std::io;
+
+/// Where people are told what does not concern one disk or its source. Nothing that is written for programs depends on a note.
+pub trait Notes {
+    /// It was told why this port of this machine cannot be listened on.
+    ghost told_port: { Self → Self → ℕ → Type 0 };
+
+    /// It was told that a file of this name held a store, which is gone.
+    ghost told_store: { Self → Self → List ℕ → Type 0 };
+
+    /// It was told that this call failed on the disk of a file of this name.
+    ghost told_failure: { Self → Self → List ℕ → FailureOf → Type 0 };
+
+    /// It was told that this call failed, and with it the store.
+    ghost told_failed_store: { Self → Self → FailureOf → Type 0 };
+
+    /// It was told why a session broke off, with the error of its reader or its writer, if that is why.
+    ghost told_end: { Self → Self → SessionEndOf → Option StreamErrorOf → Type 0 };
+
+    /// It was told why the reader or the writer failed.
+    ghost told_broken: { Self → Self → Type 0 };
+
+    /// It was told why these words name no job.
+    ghost told_words: { Self → Self → List (List ℕ) → Type 0 };
+
+    /// Tells why this port cannot be listened on.
+    fn tell_port(&mut self, port: u16, error: &io::Error)
+        ensures { told_port self.old self.new port };
+
+    /// Tells that the file of this name held a store, which is gone.
+    fn tell_store(&mut self, file: &str)
+        ensures { told_store self.old self.new file.now };
+
+    /// Tells that this call failed on the disk of the file of this name.
+    fn tell_failure(&mut self, file: &str, failure: &Failure)
+        ensures { told_failure self.old self.new file.now failure.now };
+
+    /// Tells that this call failed, and with it the store.
+    fn tell_failed_store(&mut self, failure: &Failure)
+        ensures { told_failed_store self.old self.new failure.now };
+
+    /// Tells why a session broke off, with the error of its reader or its writer, if that is why.
+    fn tell_end(&mut self, end: SessionEnd, error: Option<StreamError>)
+        ensures { told_end self.old self.new end error };
+
+    /// Tells why the reader or the writer failed.
+    fn tell_broken(&mut self, error: &io::Error)
+        ensures { told_broken self.old self.new };
+
+    /// Tells which words would name a job, and what is wrong with these.
+    fn tell_words(&mut self, words: &[String])
+        ensures { told_words self.old self.new (map string_bytes words.now) };
+}
+
+/// Tells which read of a disk failed first, and which write or sync failed last, where one did.
+pub fn tell_failures<D: Watched, N: Notes>(file: &str, disk: &D, notes: &mut N)
+    ensures { ToldFailures N.told_failure D.kept_read D.last_failure notes.old notes.new file.now disk.now }
+{
+    tell_call(file, disk.failed_read(), notes);
+    tell_call(file, disk.last_failure(), notes);
+}
+
+// Tells that a call of a disk failed, where one did.
+fn tell_call<N: Notes>(file: &str, failure: Option<Failure>, notes: &mut N)
+    ensures { ToldCall (λ from to. N.told_failure from to file.now) failure notes.old notes.new }
+{
+    match failure {
+        None => {}
+        Some(failure) => notes.tell_failure(file, &failure),
+    }
+}
+
+/// Tells why a session with this reader and this writer broke off, where it did not come to the end of its lines.
+pub fn tell_end<R: KeepsError, W: KeepsError, N: Notes>(
+    end: SessionEnd,
+    reader: &R,
+    writer: &W,
+    notes: &mut N,
+)
+    ensures { ToldEnd N.told_end (R.kept_error reader.now) (W.kept_error writer.now) end notes.old notes.new }
+{
+    match end {
+        SessionEnd::End => {}
+        SessionEnd::ReadFault => notes.tell_end(end, reader.kept_error()),
+        SessionEnd::WriteFault => notes.tell_end(end, writer.kept_error()),
+        SessionEnd::NoMemory => notes.tell_end(end, None),
+    }
+}
+
+/// Tells why a job ended with an error of its reader or its writer, where it did.
+pub fn tell_error_of<N: Notes>(ended: &io::Result<u8>, notes: &mut N)
+    ensures told { IsErr ended.now → N.told_broken notes.old notes.new }
+    ensures quiet { IsOk ended.now → notes.new ≡ notes.old }
+{
+    if let Err(error) = ended {
+        notes.tell_broken(error);
+    }
+}
+
+/// Where people are told why there is no disk. `E` is the error of the disks' source.
+pub trait SourceNotes<E> {
+    /// It was told that this error kept the disk of a file of this name away.
+    ghost told_error: { Self → Self → List ℕ → E → Type 0 };
+
+    /// Tells why there is no disk of the file of this name.
+    fn tell_error(&mut self, file: &str, error: &E)
+        ensures { told_error self.old self.new file.now error.now };
+}
+
+/// Where people are told why a call of a disk failed, and which part of a disk is damaged. `F` is the disk's fault.
+pub trait FaultNotes<F> {
+    /// It was told that this fault came up on the disk of a file of this name.
+    ghost told_fault: { Self → Self → List ℕ → F → Type 0 };
+
+    /// It was told that this part of the disk of a file of this name is damaged, and where it begins, if that is known.
+    ghost told_damage: { Self → Self → List ℕ → PlaceOf → Option ℕ → Type 0 };
+
+    /// Tells why a call of the disk of the file of this name failed.
+    fn tell_fault(&mut self, file: &str, fault: &F)
+        ensures { told_fault self.old self.new file.now fault.now };
+
+    /// Tells which part of the disk of the file of this name is damaged, and where it begins, if that is known.
+    fn tell_damage(&mut self, file: &str, place: Place, at: Option<u64>)
+        ensures { told_damage self.old self.new file.now place at };
+}
+
+/// Tells the fault of a disk, or the damage that begins there, where a refusal has one of them.
+pub fn tell_refusal<F, N: FaultNotes<F>>(
+    file: &str,
+    refusal: &Refusal<F>,
+    at: Option<u64>,
+    notes: &mut N,
+)
+    ensures { ToldRefusal N.told_fault N.told_damage notes.old notes.new file.now refusal.now }
+{
+    match refusal {
+        Refusal::Device(fault) => notes.tell_fault(file, fault),
+        Refusal::Damaged(place) => notes.tell_damage(file, *place, at),
+        _ => {}
+    }
+}

@@ -1,0 +1,76 @@
+// Lines to stops.
+ghost use Rattle.std.specs.Prelude.{◌≡◌, ℕ, List};
+ghost use Rattle.silt_wire.specs.LineBuffer.{HoldsBytes};
+ghost use Rattle.silt_wire.specs.Lines.{words_of};
+ghost use Rattle.silt_jobs.specs.Stops.{fill_of, told_stop, stop_of_words, stop_of};
+
+use silt_device::{Fill, Stop};
+use silt_wire::{LONGEST_LINE, LineBuffer, cut_word, number_of, without_carriage_return};
+
+// What a stop leaves, by its word.
+fn fill_of(word: &[u8]) -> Option<Fill>
+    ensures { result ≡ fill_of word.now }
+{
+    if word == b"old".as_slice() {
+        Some(Fill::Old)
+    } else if word == b"new".as_slice() {
+        Some(Fill::New)
+    } else if word == b"zero".as_slice() {
+        Some(Fill::Zero)
+    } else if word == b"ones".as_slice() {
+        Some(Fill::Ones)
+    } else if word == b"mix".as_slice() {
+        Some(Fill::Mix)
+    } else {
+        None
+    }
+}
+
+// The stop of three words.
+fn told_stop(word: &[u8], k: &[u8], fill: &[u8]) -> Option<Stop>
+    ensures { result ≡ told_stop word.now k.now fill.now }
+{
+    if word != b"stop".as_slice() {
+        return None;
+    }
+    let k = number_of(k)?;
+    let fill = fill_of(fill)?;
+    Some(Stop { k, fill })
+}
+
+// The stop that the words of a text tell.
+#[tactic(auto, using(crate::proofs::Stops::stop_steps))]
+fn stop_of_words(text: &[u8]) -> Option<Stop>
+    ensures { result ≡ stop_of_words (words_of text.now) }
+{
+    let (word, rest) = cut_word(text)?;
+    let (k, fill) = cut_word(rest)?;
+    if cut_word(fill).is_some() {
+        return None;
+    }
+    told_stop(word, k, fill)
+}
+
+// The stop that a line tells, or nothing where it is no stop line.
+//
+// The line comes without its line feed, and one carriage return at its end is taken off: `stop K FILL`, where K is one to ten
+// decimal digits and at most 4,294,967,295, and FILL is `old`, `new`, `zero`, `ones` or `mix`. A line of more than 8,300 bytes
+// tells none.
+fn stop_of(line: &[u8]) -> Option<Stop>
+    ensures { result ≡ stop_of line.now }
+{
+    if line.len() > LONGEST_LINE {
+        return None;
+    }
+    stop_of_words(without_carriage_return(line))
+}
+
+/// The stop that the line tells which is kept here, if it tells one.
+pub fn stop_told(pending: &LineBuffer) -> Option<Stop>
+    ensures { (line : List ℕ) → HoldsBytes pending.now line → result ≡ stop_of line }
+{
+    if pending.is_long {
+        return None;
+    }
+    stop_of(&pending.line)
+}

@@ -1,0 +1,189 @@
+// What no contract says of the jobs: their texts, letter for letter, over memory.
+
+mod damage;
+mod jobs;
+mod progress;
+
+use crate::failure::{Failure, Watched};
+use crate::notes::{FaultNotes, Notes, SourceNotes};
+use crate::script_lines::read_script;
+use crate::streams::{KeepsError, StreamError};
+use silt_device::{FaultDisk, MemDisk};
+use silt_event::Place;
+use silt_wire::SessionEnd;
+use std::io::{self, Cursor, ErrorKind};
+use std::process::Abort;
+use std::test::Fail;
+
+// How many notes of each kind were told.
+#[derive(Drop)]
+pub(crate) struct Counted {
+    pub errors: u32,
+    pub faults: u32,
+    pub others: u32,
+}
+
+impl Counted {
+    pub(crate) fn new() -> Self {
+        Counted {
+            errors: 0,
+            faults: 0,
+            others: 0,
+        }
+    }
+}
+
+impl Notes for Counted {
+    ghost use Rattle.std.specs.Prelude.{⊤};
+
+    ghost told_port = { λ _ _ _. ⊤ };
+
+    ghost told_store = { λ _ _ _. ⊤ };
+
+    ghost told_failure = { λ _ _ _ _. ⊤ };
+
+    ghost told_failed_store = { λ _ _ _. ⊤ };
+
+    ghost told_end = { λ _ _ _ _. ⊤ };
+
+    ghost told_broken = { λ _ _. ⊤ };
+
+    ghost told_words = { λ _ _ _. ⊤ };
+
+    fn tell_port(&mut self, _port: u16, _error: &io::Error) {
+        self.others = self.others.wrapping_add(1);
+    }
+
+    fn tell_store(&mut self, _file: &str) {
+        self.others = self.others.wrapping_add(1);
+    }
+
+    fn tell_failure(&mut self, _file: &str, _failure: &Failure) {
+        self.faults = self.faults.wrapping_add(1);
+    }
+
+    fn tell_failed_store(&mut self, _failure: &Failure) {
+        self.faults = self.faults.wrapping_add(1);
+    }
+
+    fn tell_end(&mut self, _end: SessionEnd, _error: Option<StreamError>) {
+        self.others = self.others.wrapping_add(1);
+    }
+
+    fn tell_broken(&mut self, _error: &io::Error) {
+        self.others = self.others.wrapping_add(1);
+    }
+
+    fn tell_words(&mut self, _words: &[String]) {
+        self.others = self.others.wrapping_add(1);
+    }
+}
+
+// Disks that keep no failure: where one failed is seen in the replies alone.
+impl Watched for MemDisk {
+    ghost use Rattle.std.specs.Prelude.{⊤, None};
+
+    ghost last_failure = { λ _. None };
+
+    ghost kept_read = { λ _ _. ⊤ };
+
+    fn last_failure(&self) -> Option<Failure> {
+        None
+    }
+
+    fn failed_read(&self) -> Option<Failure> {
+        None
+    }
+
+    fn tell_at_once(&mut self) {}
+}
+
+impl Watched for FaultDisk {
+    ghost use Rattle.std.specs.Prelude.{⊤, None};
+
+    ghost last_failure = { λ _. None };
+
+    ghost kept_read = { λ _ _. ⊤ };
+
+    fn last_failure(&self) -> Option<Failure> {
+        None
+    }
+
+    fn failed_read(&self) -> Option<Failure> {
+        None
+    }
+
+    fn tell_at_once(&mut self) {}
+}
+
+// Readers and writers that keep no error.
+impl KeepsError for Cursor<&[u8]> {
+    ghost use Rattle.std.specs.Prelude.{None};
+
+    ghost kept_error = { λ _. None };
+
+    fn kept_error(&self) -> Option<StreamError> {
+        None
+    }
+}
+
+impl KeepsError for Vec<u8> {
+    ghost use Rattle.std.specs.Prelude.{None};
+
+    ghost kept_error = { λ _. None };
+
+    fn kept_error(&self) -> Option<StreamError> {
+        None
+    }
+}
+
+impl<E> SourceNotes<E> for Counted {
+    ghost use Rattle.std.specs.Prelude.{⊤};
+
+    ghost told_error = { λ _ _ _ _. ⊤ };
+
+    fn tell_error(&mut self, _file: &str, _error: &E) {
+        self.errors = self.errors.wrapping_add(1);
+    }
+}
+
+impl<F> FaultNotes<F> for Counted {
+    ghost use Rattle.std.specs.Prelude.{⊤};
+
+    ghost told_fault = { λ _ _ _ _. ⊤ };
+
+    ghost told_damage = { λ _ _ _ _ _. ⊤ };
+
+    fn tell_fault(&mut self, _file: &str, _fault: &F) {
+        self.faults = self.faults.wrapping_add(1);
+    }
+
+    fn tell_damage(&mut self, _file: &str, _place: Place, _at: Option<u64>) {
+        self.others = self.others.wrapping_add(1);
+    }
+}
+
+// Compares the status with which a call ended, if it did, and what it wrote.
+pub(crate) fn compare<S: Abort>(
+    rt: &S,
+    call: &str,
+    code: Option<u8>,
+    out: &[u8],
+    status: u8,
+    output: &[u8],
+) {
+    assert_eq!(rt; out, output, "{call}");
+    assert_eq!(rt; code, Some(status), "{call}");
+}
+
+// A line for which memory is wanted ends the reading: values of this length fit into no memory.
+#[test]
+fn ends_by_a_line_that_wants_memory(rt: HostRuntime) -> Result<(), Fail> {
+    let mut reader = Cursor::new(b"get =a\nno line\nput =b 00\nget =c\n".as_slice());
+    let kind = match read_script(rt.alloc(), 1 << 62, &mut reader) {
+        Ok(_) => ErrorKind::Other,
+        Err(error) => error.kind(),
+    };
+    assert!(rt; kind == ErrorKind::OutOfMemory);
+    Ok(())
+}
