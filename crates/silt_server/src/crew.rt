@@ -49,28 +49,56 @@ impl<N: Naming> Crew<N> {
     ) -> Result<Crew<N>, AllocError>
         ensures { IfOk result (λ crew. (crew.writer ≡ writer) × (crew.converter.seat ≡ converter) × (crew.merger.seat ≡ merger)) }
     {
-        let (to_converter, converter_wakes) = crossbeam_channel::bounded(alloc, MESSAGES)?;
-        let (to_merger, merger_wakes) = crossbeam_channel::bounded(alloc, MESSAGES)?;
+        let (first, second) = two_ways(alloc)?;
         Ok(Crew {
             writer,
             converter: Worker {
                 seat: converter,
-                wakes: converter_wakes,
-                other: to_merger.clone()?,
+                wakes: first.wakes,
+                other: second.by_other,
             },
             merger: Worker {
                 seat: merger,
-                wakes: merger_wakes,
-                other: to_converter.clone()?,
+                wakes: second.wakes,
+                other: first.by_other,
             },
             wakes: Wakes {
-                converter: to_converter.clone()?,
-                merger: to_merger.clone()?,
+                converter: first.by_writer,
+                merger: second.by_writer,
             },
             stops: Wakes {
-                converter: to_converter,
-                merger: to_merger,
+                converter: first.by_stop,
+                merger: second.by_stop,
             },
         })
     }
+}
+
+// The way to a worker: where it is woken, and an end for each who wakes it.
+#[derive(Drop)]
+struct Way {
+    wakes: Receiver<Wake>,
+    by_other: Sender<Wake>,
+    by_writer: Sender<Wake>,
+    by_stop: Sender<Wake>,
+}
+
+// A way to one worker.
+fn make_way(alloc: Global) -> Result<Way, AllocError> {
+    let (by_stop, wakes) = crossbeam_channel::bounded(alloc, MESSAGES)?;
+    let by_other = by_stop.clone()?;
+    let by_writer = by_stop.clone()?;
+    Ok(Way {
+        wakes,
+        by_other,
+        by_writer,
+        by_stop,
+    })
+}
+
+// A way to each of two workers.
+fn two_ways(alloc: Global) -> Result<(Way, Way), AllocError> {
+    let first = make_way(alloc)?;
+    let second = make_way(alloc)?;
+    Ok((first, second))
 }

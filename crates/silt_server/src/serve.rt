@@ -5,6 +5,7 @@ ghost use Rattle.silt_disk.specs.Layout.{Shape};
 ghost use Rattle.silt_store_set.specs.CoreInvariant.{LeavesBegun};
 ghost use Rattle.silt_store_set.specs.CoreState.{CoreState};
 ghost use Rattle.silt_desk.specs.Seeing.{seen};
+ghost use Rattle.silt_wire.specs.Statuses.{IsStatus};
 ghost use Rattle.silt_server.specs.Serving.{BreaksServing, ServesAt, ServesKept, TellsCalls, TellsNotServed};
 ghost use Rattle.silt_server.specs.Serving.{TellsServed, head_text, network_text, no_memory_text};
 
