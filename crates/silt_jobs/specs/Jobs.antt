@@ -42,7 +42,9 @@ module _ {D F : Type 0} (facts : Ghosts D F) where
   abbrev pub AnswersReader : SessionEnd → CoreState D → CoreState D → Option (List ℕ) → Option (List ℕ) → Option (List ℕ) → Option (List ℕ) → Type 0
   AnswersReader end old new remaining left before after =
       (opened : Option (List ℕ)) × Appends before opened (codes "opened\n")
-      × Ends (DoesPlain facts) end old.shape.value_len old new remaining left opened after
+      × Ends (DoesPlain facts) end old.shape.value_len
+      (record { answerer = old; remaining = remaining; contents = opened })
+      (record { answerer = new; remaining = left; contents = after })
 
 module _ {D F : Type 0} (facts : Ghosts D F) (told_session : SessionEnd → D → Type 0) where
   -- one life on a disk: the store was taken up from it, its session ended so, the disk is as the store then left it, and people were told

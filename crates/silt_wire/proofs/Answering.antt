@@ -10,7 +10,7 @@ use Rattle.silt_wire.specs.declared.sessions.SessionEnd.{SessionEnd}
 use Rattle.silt_wire.specs.declared.sessions.SessionEnd.TheVariants.{End, ReadFault, WriteFault, NoMemory}
 use Rattle.silt_wire.specs.Lines.{Parses, asked_by, is_blank}
 use Rattle.silt_wire.specs.Replies.{fault_line}
-use Rattle.silt_wire.specs.Sessions.{IsBeginning, asks, events_of, line_of, texts_of, AnswersEach, AnswersAll, AnswersSome, Ends, IsCut}
+use Rattle.silt_wire.specs.Sessions.{IsBeginning, asks, events_of, line_of, texts_of, AnswersEach, AnswersAll, AnswersSome, Ends, IsCut, SessionState}
 use Rattle.silt_event.specs.Events.{PlainReply}
 use Rattle.silt_wire.specs.Sessions.{lines_after, rest_after}
 use Rattle.silt_wire.proofs.Streams.{rest_after-append, lines_after-append, Appends-append, Appends-keeps, Appends-none}
@@ -212,15 +212,15 @@ module _ {A : Type 0} (answers : A → A → Event → PlainReply → Type 0) wh
 
   -- ---- the end of a session
 
-  pub Ends-cut : (end : SessionEnd) (n : ℕ) (a b : A) (r s w v : Option (List ℕ)) (read : List ℕ) → IsCut end → Consumes r s read
-      → AnswersSome answers (asks n (lines_after [] read)) a b w v → Ends answers end n a b r s w v
-  Ends-cut End n a b r s w v read cut h k = absurd cut
-  Ends-cut ReadFault n a b r s w v read cut h k = absurd cut
-  Ends-cut WriteFault n a b r s w v read cut h k = (read, h, k)
-  Ends-cut NoMemory n a b r s w v read cut h k = (read, h, k)
+  pub Ends-cut : (end : SessionEnd) (n : ℕ) (old new : SessionState A) (read : List ℕ) → IsCut end → Consumes old.remaining new.remaining read
+      → AnswersSome answers (asks n (lines_after [] read)) old.answerer new.answerer old.contents new.contents → Ends answers end n old new
+  Ends-cut End n old new read cut h k = absurd cut
+  Ends-cut ReadFault n old new read cut h k = absurd cut
+  Ends-cut WriteFault n old new read cut h k = (read, h, k)
+  Ends-cut NoMemory n old new read cut h k = (read, h, k)
 
-  pub Ends-unbegun : (n : ℕ) (a : A) (r w : Option (List ℕ)) → Ends answers NoMemory n a a r r w w
-  Ends-unbegun n a r w = ([], Consumes-none r, some-none [] a w)
+  pub Ends-unbegun : (n : ℕ) (state : SessionState A) → Ends answers NoMemory n state state
+  Ends-unbegun n state = ([], Consumes-none state.remaining, some-none [] state.answerer state.contents)
 
 -- what was read of a line is what it asks for, where memory was not wanted
 pub asked-event : (asked : Result Event LineFault) (event : Event) → Parses asked (Ok event) → Ok event ≡ asked

@@ -49,6 +49,12 @@ texts_of (Err fault ∷ more) replies = fault_line fault ++ texts_of more replie
 texts_of (Ok event ∷ more) [] = []
 texts_of (Ok event ∷ more) (reply ∷ replies) = line_of reply ++ texts_of more replies
 
+-- a session between two reads: its answerer, what its reader has left, and what its writer has
+pub record SessionState (A : Type 0) : Type 0 where
+  pub answerer : A
+  pub remaining : Option (List ℕ)
+  pub contents : Option (List ℕ)
+
 -- ---- what an answerer does
 
 module _ {A : Type 0} (answers : A → A → Event → PlainReply → Type 0) where
@@ -78,15 +84,16 @@ module _ {A : Type 0} (answers : A → A → Event → PlainReply → Type 0) wh
   ServesSome value_len begun bytes old new before after = AnswersSome (asks value_len (lines_after begun bytes)) old new before after
 
   -- what a session did that ends so: which bytes it took from the reader, and what it answered and wrote for them
-  abbrev pub Ends : SessionEnd → ℕ → A → A → Option (List ℕ) → Option (List ℕ) → Option (List ℕ) → Option (List ℕ) → Type 0
-  Ends End value_len old new remaining left before after =
-      (read : List ℕ) × Consumes remaining left read × IsAtEnd left × ServesAll value_len [] read old new before after
-  Ends ReadFault value_len old new remaining left before after =
-      (read : List ℕ) × Consumes remaining left read × ServesAll value_len [] read old new before after
-  Ends WriteFault value_len old new remaining left before after =
-      (read : List ℕ) × Consumes remaining left read × ServesSome value_len [] read old new before after
-  Ends NoMemory value_len old new remaining left before after =
-      (read : List ℕ) × Consumes remaining left read × ServesSome value_len [] read old new before after
+  abbrev pub Ends : SessionEnd → ℕ → SessionState A → SessionState A → Type 0
+  Ends End value_len old new =
+      (read : List ℕ) × Consumes old.remaining new.remaining read × IsAtEnd new.remaining
+      × ServesAll value_len [] read old.answerer new.answerer old.contents new.contents
+  Ends ReadFault value_len old new =
+      (read : List ℕ) × Consumes old.remaining new.remaining read × ServesAll value_len [] read old.answerer new.answerer old.contents new.contents
+  Ends WriteFault value_len old new =
+      (read : List ℕ) × Consumes old.remaining new.remaining read × ServesSome value_len [] read old.answerer new.answerer old.contents new.contents
+  Ends NoMemory value_len old new =
+      (read : List ℕ) × Consumes old.remaining new.remaining read × ServesSome value_len [] read old.answerer new.answerer old.contents new.contents
 
 -- the ends at which what was written may be cut
 abbrev pub IsCut : SessionEnd → Type 0

@@ -52,7 +52,8 @@ pub fn session<A: Answerer, R: Read, W: Write>(
 ) -> SessionEnd
     requires { A.value_len answerer.old ≡ value_len }
     ensures ends { Ends A.answers result value_len
-        answerer.old answerer.new (R.remaining reader.old) (R.remaining reader.new) (W.contents writer.old) (W.contents writer.new) }
+        (record { answerer = answerer.old; remaining = R.remaining reader.old; contents = W.contents writer.old })
+        (record { answerer = answerer.new; remaining = R.remaining reader.new; contents = W.contents writer.new }) }
     ensures stays { A.value_len answerer.new ≡ value_len }
 {
     let Ok(mut pending) = LineBuffer::new(alloc) else {

@@ -6,13 +6,17 @@ use Rattle.silt_wire.proofs.sessions.session.Goals as goal
 use Rattle.silt_wire.proofs.sessions.session.Goals.{in-Ok-read+in-Ok-answer_read, in-Err}
 
 pub returns-in_default-clause-ends : goal.returns-in_default-clause-ends
-returns-in_default-clause-ends g c = Ends-unbegun g.A.Answerer.answers c.args.value_len c.args.answerer.now (g.R.Read.remaining c.args.reader.now) (g.W.Write.contents c.args.writer.now)
+returns-in_default-clause-ends g c = Ends-unbegun g.A.Answerer.answers c.args.value_len (record {
+  answerer = c.args.answerer.now;
+  remaining = g.R.Read.remaining c.args.reader.now;
+  contents = g.W.Write.contents c.args.writer.now;
+})
 
 pub returns-in-Err-answer_read-clause-ends : goal.returns-in-Err-answer_read-clause-ends
 returns-in-Err-answer_read-clause-ends g c =
     let i = c.loop.invariant in
     let more = take c.in-Ok-read.count c.read.new.buf in
-    Ends-cut g.A.Answerer.answers c.in-Err-answer_read.end c.args.value_len _ _ _ _ _ _ (i.1 ++ more) c.in-Err-answer_read.ensures.cut
+    Ends-cut g.A.Answerer.answers c.in-Err-answer_read.end c.args.value_len _ _ (i.1 ++ more) c.in-Err-answer_read.ensures.cut
     (Consumes-append _ _ _ i.1 more i.2 c.in-Ok-read.ensures.bytes.0)
     (some-bytes g.A.Answerer.answers c.args.value_len [] i.1 more _ _ _ _ _ _ i.4 (c.in-Err-answer_read.ensures.some _ i.3))
 
