@@ -4,7 +4,7 @@ use Rattle.silt_disk.specs.declared.disk.Disk.{Ghosts}
 use Rattle.silt_event.specs.Commands.{Command, Map}
 use Rattle.silt_event.specs.declared.progress.Progress.{Progress as ProgressOf}
 use Rattle.silt_store_set.proofs.Runs.{does_step}
-use Rattle.silt_store_set.specs.CoreState.{CoreState, Cause, Does, LeavesNoneWaiting, map_of}
+use Rattle.silt_store_set.specs.CoreState.{CoreState, Cause, Does, Durable, map_of}
 use Rattle.silt_event.specs.Events.{Counts, Step, accepted_command, is_fault, plain}
 use Rattle.silt_store_set.specs.Replies.{change_reply, flush_reply, get_reply, progress_reply}
 use Rattle.silt_event.specs.declared.event.Event.{Event}
@@ -15,6 +15,7 @@ use Rattle.silt_event.specs.declared.reply.Reply.{Reply}
 use Rattle.silt_event.specs.declared.reply.Reply.TheVariants.{Accepted, Acknowledged, Found, Absent, Progress, Refused, Unsettled, NotServed}
 use Rattle.silt_store_set.proofs.Keeps.{own_counts}
 use Rattle.silt_desk.specs.declared.call.RecordedCall.{RecordedCall}
+use Rattle.silt_desk.specs.declared.trace.Trace.{Ghosts as TraceOf}
 use Rattle.silt_desk.specs.DeskState.{DeskState, Notes, Serves}
 use Rattle.silt_desk.specs.History.{accepted_by, call}
 use Rattle.silt_desk.specs.Notes.{plain_answer}
@@ -147,7 +148,7 @@ fault_plain (Refused HistoryFull) fault = absurd (cc)
 
 module _ {D F : Type 0} (facts : Ghosts D F) where
   -- an acknowledging reply leaves nothing waiting
-  none_plain : (core : CoreState D) (reply : Reply F) → LeavesNoneWaiting core reply → NoneWaits (seen facts core) (plain reply)
+  none_plain : (core : CoreState D) (reply : Reply F) → Durable core reply → NoneWaits (seen facts core) (plain reply)
   none_plain core (Accepted n) none = tt
   none_plain core (Acknowledged n) none = none
   none_plain core (Found v) none = tt
@@ -199,15 +200,15 @@ module _ {D F : Type 0} (facts : Ghosts D F) where
       ] in
       go old.failed refl new.failed refl
 
-  module _ {T : Type 0} (extends : T → RecordedCall → T → Type 0) (is_full takes_memory : T → Type 0) (c0 c1 : CoreState D) (t0 t1 : T) (totals after_totals : Totals) (seat after : SeatState) (event : Event) where
+  module _ {T : Type 0} (trace : TraceOf T) (c0 c1 : CoreState D) (t0 t1 : T) (totals after_totals : Totals) (seat after : SeatState) (event : Event) where
     abbrev desk : CoreState D → T → DeskState D T
-    desk core trace = record { core = core; trace = trace }
+    desk core kept = record { core = core; trace = kept }
 
     same_desk : c1 ≡ c0 → t1 ≡ t0 → desk c1 t1 ≡ desk c0 t0
-    same_desk cores traces = ap (λ (core : CoreState D). desk core t1) cores ∙ ap (λ (trace : T). desk c0 trace) traces
+    same_desk cores traces = ap (λ (core : CoreState D). desk core t1) cores ∙ ap (λ (t : T). desk c0 t) traces
 
-    serves_told : (reply : Reply F) → Does facts c0 c1 event reply → Notes extends t0 t1 totals after_totals seat after event (plain reply)
-        → Serves facts extends is_full takes_memory (desk c0 t0) (desk c1 t1) seat after event reply
+    serves_told : (reply : Reply F) → Does facts c0 c1 event reply → Notes trace.extends t0 t1 totals after_totals seat after event (plain reply)
+        → Serves facts trace (desk c0 t0) (desk c1 t1) seat after event reply
     serves_told (Accepted n) does notes = record { done = does; recorded = notes.0; seated = notes.1 }
     serves_told (Acknowledged n) does notes = record { done = does; recorded = notes.0; seated = notes.1 }
     serves_told (Found v) does notes = record { done = does; recorded = notes.0; seated = notes.1 }
@@ -230,12 +231,12 @@ module _ {D F : Type 0} (facts : Ghosts D F) where
     serves_told (Refused HistoryFull) does notes = absurd (never_full c0 c1 event does.cause)
 
     -- the store did the event, and the call was noted
-    pub serves : (reply : Reply F) (told : Reply (Unit {0})) → told ≡ plain reply → Does facts c0 c1 event reply → Notes extends t0 t1 totals after_totals seat after event told
-        → Serves facts extends is_full takes_memory (desk c0 t0) (desk c1 t1) seat after event reply
-    serves reply told is does notes = serves_told reply does (subst (λ r. Notes extends t0 t1 totals after_totals seat after event r) is notes)
+    pub serves : (reply : Reply F) (told : Reply (Unit {0})) → told ≡ plain reply → Does facts c0 c1 event reply → Notes trace.extends t0 t1 totals after_totals seat after event told
+        → Serves facts trace (desk c0 t0) (desk c1 t1) seat after event reply
+    serves reply told is does notes = serves_told reply does (subst (λ r. Notes trace.extends t0 t1 totals after_totals seat after event r) is notes)
 
-    module _ (agrees : T → SeenStore → Type 0) (law : agrees t0 (seen facts c0) → (c : RecordedCall) → extends t0 c t1 → SeenStep (seen facts c0) (seen facts c1) c.event c.reply → agrees t1 (seen facts c1)) where
-      keeps_told : (reply : Reply F) → Does facts c0 c1 event reply → Notes extends t0 t1 totals after_totals seat after event (plain reply) → agrees t0 (seen facts c0) → agrees t1 (seen facts c1)
+    module _ (agrees : T → SeenStore → Type 0) (law : agrees t0 (seen facts c0) → (c : RecordedCall) → trace.extends t0 c t1 → SeenStep (seen facts c0) (seen facts c1) c.event c.reply → agrees t1 (seen facts c1)) where
+      keeps_told : (reply : Reply F) → Does facts c0 c1 event reply → Notes trace.extends t0 t1 totals after_totals seat after event (plain reply) → agrees t0 (seen facts c0) → agrees t1 (seen facts c1)
       keeps_told (Accepted n) does notes held = law held (call seat.number event (plain {F = F} (Accepted n))) notes.0 (seen_step c0 c1 event (Accepted n) does)
       keeps_told (Acknowledged n) does notes held = law held (call seat.number event (plain {F = F} (Acknowledged n))) notes.0 (seen_step c0 c1 event (Acknowledged n) does)
       keeps_told (Found v) does notes held = law held (call seat.number event (plain {F = F} (Found v))) notes.0 (seen_step c0 c1 event (Found v) does)
@@ -257,8 +258,8 @@ module _ {D F : Type 0} (facts : Ghosts D F) where
       keeps_told (Refused HistoryFull) does notes held = absurd (never_full c0 c1 event does.cause)
 
       -- the trace agrees with the store on
-      pub keeps_agreeing : (reply : Reply F) (told : Reply (Unit {0})) → told ≡ plain reply → Does facts c0 c1 event reply → Notes extends t0 t1 totals after_totals seat after event told → agrees t0 (seen facts c0) → agrees t1 (seen facts c1)
-      keeps_agreeing reply told is does notes held = keeps_told reply does (subst (λ r. Notes extends t0 t1 totals after_totals seat after event r) is notes) held
+      pub keeps_agreeing : (reply : Reply F) (told : Reply (Unit {0})) → told ≡ plain reply → Does facts c0 c1 event reply → Notes trace.extends t0 t1 totals after_totals seat after event told → agrees t0 (seen facts c0) → agrees t1 (seen facts c1)
+      keeps_agreeing reply told is does notes held = keeps_told reply does (subst (λ r. Notes trace.extends t0 t1 totals after_totals seat after event r) is notes) held
 
 module _ {T : Type 0} (counts : T → ℕ → ℕ → Type 0) (extends : T → RecordedCall → T → Type 0) (t0 t1 : T) (totals after_totals : Totals) (seat after : SeatState) (event : Event)
     (law : (c : RecordedCall) → counts t0 totals.calls totals.accepted → extends t0 c t1 → after_totals.calls ≡ totals.calls + 1 → after_totals.accepted ≡ totals.accepted + accepted_by c.reply → counts t1 after_totals.calls after_totals.accepted) where

@@ -9,6 +9,7 @@ use Rattle.silt_event.specs.declared.refusal.Refusal.TheVariants.{NoMemory, Hist
 use Rattle.silt_event.specs.declared.reply.Reply.{Reply}
 use Rattle.silt_event.specs.declared.reply.Reply.TheVariants.{Refused}
 use Rattle.silt_desk.specs.declared.call.RecordedCall.{RecordedCall}
+use Rattle.silt_desk.specs.declared.trace.Trace.{Ghosts as TraceOf}
 use Rattle.silt_desk.specs.History.{accepted_by, call, is_recorded}
 use Rattle.silt_desk.specs.Seats.{SeatState, Totals, after_call}
 
@@ -17,17 +18,17 @@ pub record DeskState (D T : Type 0) : Type 0 where
   pub core : CoreState D
   pub trace : T
 
-module _ {D F T : Type 0} (facts : Ghosts D F) (extends : T → RecordedCall → T → Type 0) (is_full takes_memory : T → Type 0) (old new : DeskState D T) (seat after : SeatState) (event : Event) (reply : Reply F) where
+module _ {D F T : Type 0} (facts : Ghosts D F) (trace : TraceOf T) (old new : DeskState D T) (seat after : SeatState) (event : Event) (reply : Reply F) where
   -- the store did the event and gave the reply, and exactly this call was recorded, for this seat
   pub record Records : Type 0 where
     pub done : Does facts old.core new.core event reply
-    pub recorded : extends old.trace (call seat.number event (plain reply)) new.trace
+    pub recorded : trace.extends old.trace (call seat.number event (plain reply)) new.trace
     pub seated : after ≡ after_call seat (accepted_by reply)
 
   -- why a call is not recorded: the history is full, or a growth of memory was refused, to the trace or to the store
   abbrev pub UnrecordedCause : Reply F → Type 0
-  UnrecordedCause (Refused HistoryFull) = is_full old.trace
-  UnrecordedCause (Refused NoMemory) = takes_memory old.trace ⊎ Does facts old.core old.core event (Refused NoMemory)
+  UnrecordedCause (Refused HistoryFull) = trace.is_full old.trace
+  UnrecordedCause (Refused NoMemory) = trace.takes_memory old.trace ⊎ Does facts old.core old.core event (Refused NoMemory)
   UnrecordedCause other = ⊥
 
   -- nothing is done, nothing is recorded, and the seat is as it was

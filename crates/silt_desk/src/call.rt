@@ -1,13 +1,14 @@
 // A call at a desk, with its answer.
 ghost use Rattle.std.specs.Prelude.{◌≡◌, ℕ, List};
 ghost use Rattle.silt_event.specs.Events.{plain_refusal};
-ghost use Rattle.silt_store_set.specs.Replies.{change_reply, get_reply, progress_reply};
+ghost use Rattle.silt_store_set.specs.Replies.{get_reply};
 ghost use Rattle.silt_event.specs.declared.reply.Reply.TheVariants as reply_case;
 ghost use Rattle.silt_desk.specs.History.{accepted_by, is_recorded};
 ghost use Rattle.silt_desk.specs.Notes.{noted_event, plain_answer, reply_of};
 
 use silt_event::{Event, Progress, Refusal, Reply};
 use silt_frame::{Key, Value};
+use silt_store_set::{accepted, progressed};
 
 /// A call that is recorded: by which seat, what was asked and what was answered.
 #[derive(Debug, Drop)]
@@ -75,16 +76,6 @@ fn is_record(refusal: &Refusal<()>) -> bool
     !matches!(refusal, Refusal::NoMemory | Refusal::HistoryFull)
 }
 
-// The reply to a put or a delete.
-fn accepted(answer: Result<u64, Refusal<()>>) -> Reply<()>
-    ensures { result ≡ change_reply answer }
-{
-    match answer {
-        Ok(count) => Reply::Accepted(count),
-        Err(refusal) => Reply::Refused(refusal),
-    }
-}
-
 // The reply to a get, where these bytes were found.
 fn found(answer: Result<bool, Refusal<()>>, bytes: Vec<u8>) -> Reply<()>
     ensures { result ≡ get_reply bytes.items answer }
@@ -92,16 +83,6 @@ fn found(answer: Result<bool, Refusal<()>>, bytes: Vec<u8>) -> Reply<()>
     match answer {
         Ok(true) => Reply::Found(Value::new(bytes)),
         Ok(false) => Reply::Absent,
-        Err(refusal) => Reply::Refused(refusal),
-    }
-}
-
-// The reply to a step in the background.
-fn progressed(answer: Result<Progress, Refusal<()>>) -> Reply<()>
-    ensures { result ≡ progress_reply answer }
-{
-    match answer {
-        Ok(progress) => Reply::Progress(progress),
         Err(refusal) => Reply::Refused(refusal),
     }
 }

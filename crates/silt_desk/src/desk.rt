@@ -150,7 +150,7 @@ impl<D: Disk, T: Trace, N: Naming> Desk<D, T, N> {
         value: &[u8],
     ) -> Result<u64, Refusal<D::Fault>>
         requires { length value.now ≡ self.old.core.shape.value_len }
-        ensures { Serves D.Disk T.extends T.is_full T.takes_memory self.old self.new seat.old seat.new (Put key.now value.now) (change_reply result) }
+        ensures { Serves D.Disk T.Trace self.old self.new seat.old seat.new (Put key.now value.now) (change_reply result) }
     {
         let room = match self.trace.prepare(alloc, value.len()) {
             Ok(room) => room,
@@ -169,7 +169,7 @@ impl<D: Disk, T: Trace, N: Naming> Desk<D, T, N> {
         seat: &mut Seat<N>,
         key: &Key,
     ) -> Result<u64, Refusal<D::Fault>>
-        ensures { Serves D.Disk T.extends T.is_full T.takes_memory self.old self.new seat.old seat.new (Delete key.now) (change_reply result) }
+        ensures { Serves D.Disk T.Trace self.old self.new seat.old seat.new (Delete key.now) (change_reply result) }
     {
         let room = match self.trace.prepare(alloc, 0) {
             Ok(room) => room,
@@ -183,7 +183,7 @@ impl<D: Disk, T: Trace, N: Naming> Desk<D, T, N> {
 
     /// Acknowledges all commands accepted so far, as a recorded call, and answers their number.
     pub fn flush(&mut self, alloc: Global, seat: &mut Seat<N>) -> Result<u64, Refusal<D::Fault>>
-        ensures { Serves D.Disk T.extends T.is_full T.takes_memory self.old self.new seat.old seat.new Flush (flush_reply result) }
+        ensures { Serves D.Disk T.Trace self.old self.new seat.old seat.new Flush (flush_reply result) }
     {
         let room = match self.trace.prepare(alloc, 0) {
             Ok(room) => room,
@@ -204,7 +204,7 @@ impl<D: Disk, T: Trace, N: Naming> Desk<D, T, N> {
         out: &mut [u8],
     ) -> Result<bool, Refusal<D::Fault>>
         requires { length out.old ≡ self.old.core.shape.value_len }
-        ensures reply { Serves D.Disk T.extends T.is_full T.takes_memory self.old self.new seat.old seat.new (Get key.now) (get_reply out.new result) }
+        ensures reply { Serves D.Disk T.Trace self.old self.new seat.old seat.new (Get key.now) (get_reply out.new result) }
         ensures absent { result ≡ Ok false → out.new ≡ out.old }
         ensures memory { IsErrOf result Refusal.NoMemory → T.takes_memory self.old.trace }
     {
@@ -224,7 +224,7 @@ impl<D: Disk, T: Trace, N: Naming> Desk<D, T, N> {
         alloc: Global,
         seat: &mut Seat<N>,
     ) -> Result<Progress, Refusal<D::Fault>>
-        ensures { Serves D.Disk T.extends T.is_full T.takes_memory self.old self.new seat.old seat.new Convert (progress_reply result) }
+        ensures { Serves D.Disk T.Trace self.old self.new seat.old seat.new Convert (progress_reply result) }
     {
         let room = match self.trace.prepare(alloc, 0) {
             Ok(room) => room,
@@ -242,7 +242,7 @@ impl<D: Disk, T: Trace, N: Naming> Desk<D, T, N> {
         alloc: Global,
         seat: &mut Seat<N>,
     ) -> Result<Progress, Refusal<D::Fault>>
-        ensures { Serves D.Disk T.extends T.is_full T.takes_memory self.old self.new seat.old seat.new Merge (progress_reply result) }
+        ensures { Serves D.Disk T.Trace self.old self.new seat.old seat.new Merge (progress_reply result) }
     {
         let room = match self.trace.prepare(alloc, 0) {
             Ok(room) => room,

@@ -19,8 +19,8 @@ use Rattle.silt_event.specs.declared.reply.Reply.{Reply}
 use Rattle.silt_event.specs.declared.reply.Reply.TheVariants.{Refused}
 use Rattle.silt_event.specs.Events.{Step, Counts, accepted_command, is_failed}
 use Rattle.silt_store_set.specs.Basis.{BasisState, basis_kept, basis_of}
-use Rattle.silt_store_set.specs.CoreInvariant.{BreaksFrom, IsCore}
-use Rattle.silt_store_set.specs.CoreState.{CoreState, map_of, Cause, LeavesNoneWaiting, Does, convert_work, is_convert, is_finished, is_merge, is_refused, merge_work}
+use Rattle.silt_store_set.specs.CoreInvariant.{IsCore}
+use Rattle.silt_store_set.specs.CoreState.{CoreState, map_of, Cause, Durable, Does, convert_work, is_convert, is_finished, is_merge, is_refused, merge_work}
 use Rattle.silt_store_set.proofs.Maps.{append_nil, map_after-append}
 
 -- what contracts see of a store with these fields that is not failed
@@ -171,7 +171,7 @@ module _ {D F : Type 0} (facts : Ghosts D F) where
   pub unchanged : (core : CoreState D) (event : Event) (reply : Reply F) → Counts core.count reply core.count → Cause facts core core event reply
       → (core.failed ≡ true → reply ≡ Refused Failed) → (IsTrue (is_failed reply) → core.failed ≡ true)
       → (core.failed ≡ false → IsTrue (facts.content core.disk).honest → Step (map_of core) event reply (map_of core))
-      → accepted_command event reply ≡ [] → (IsTrue (facts.content core.disk).honest → LeavesNoneWaiting core reply)
+      → accepted_command event reply ≡ [] → (IsTrue (facts.content core.disk).honest → Durable core reply)
       → (core.failed ≡ false → Standing facts core) → Does facts core core event reply
   unchanged core event reply counts cause failed told step none settles stands = record {
     disk = record { size = refl; honest = refl };
@@ -216,7 +216,7 @@ module _ {D F : Type 0} (facts : Ghosts D F) where
       → Stands (facts.content disk) stores → Counts count reply count → is_failed reply ≡ false → accepted_command event reply ≡ []
       → Cause facts (seen facts disk stores count) (seen facts disk stores count) event reply
       → (IsTrue (facts.content disk).honest → Step (image_map (full_image (facts.content disk) stores)) event reply (image_map (full_image (facts.content disk) stores)))
-      → (IsTrue (facts.content disk).honest → LeavesNoneWaiting (seen facts disk stores count) reply)
+      → (IsTrue (facts.content disk).honest → Durable (seen facts disk stores count) reply)
       → Does facts (seen facts disk stores count) (seen facts disk stores count) event reply
   answered disk stores count event reply stands counts other none cause step settles =
       unchanged (seen facts disk stores count) event reply counts cause (λ f. absurd (cc)) (λ t. absurd (let no : false ≡ true = sym other ∙ t in cc))
@@ -250,7 +250,7 @@ module _ {D F : Type 0} (facts : Ghosts D F) where
         → ((m to : Map) → to ≡ map_after m adds → Step m event reply to)
         → (adds ≡ [] → is_finished reply ≡ false → after.manifest.ruling ≡ stores.manifest.ruling)
         → (is_convert event ≡ false → after.converting ≡ stores.converting) → (is_merge event ≡ false → after.merging ≡ stores.merging)
-        → (IsTrue (facts.content disk).honest → LeavesNoneWaiting (seen facts new after next) reply) → facts.failures new ≡ facts.failures disk
+        → (IsTrue (facts.content disk).honest → Durable (seen facts new after next) reply) → facts.failures new ≡ facts.failures disk
         → Does facts (seen facts disk stores count) (seen facts new after next) event reply
     advanced adds count next event reply goes counts own answers tells cause step named converts merges settles none_failed =
         let standing = stands_seen facts new after next goes.stands in

@@ -1,12 +1,10 @@
 -- A store that failed after an acknowledged flush.
 use Rattle.std.proofs.Common.{◌≡◌, ℕ, Bool, true, false, IsTrue, List, [], ◌∷◌, ◌++◌, refl, ap, sym, ◌∙◌}
 use Rattle.silt_disk.specs.declared.disk.Disk.{Ghosts}
-use Rattle.silt_event.specs.Commands.{Command, Map, map_after}
-use Rattle.silt_event.specs.declared.event.Event.{Event}
+use Rattle.silt_event.specs.Commands.{Command, map_after}
 use Rattle.silt_event.specs.declared.event.Event.TheVariants.{Flush}
-use Rattle.silt_event.specs.declared.reply.Reply.{Reply}
 use Rattle.silt_event.specs.declared.reply.Reply.TheVariants.{Acknowledged}
-use Rattle.silt_store_set.specs.CoreState.{CoreState, Does, map_of}
+use Rattle.silt_store_set.specs.CoreState.{CoreState, Does}
 use Rattle.silt_store_set.specs.FailedLaw.{FailedLaw}
 
 -- a beginning of nothing is nothing

@@ -11,7 +11,7 @@ use Rattle.silt_event.specs.declared.reply.Reply.{Reply}
 use Rattle.silt_event.specs.declared.reply.Reply.TheVariants.{Accepted, Acknowledged, Found, Absent, Progress, Refused, Unsettled, NotServed}
 use Rattle.silt_event.specs.Commands.{Command, Map, map_after}
 use Rattle.silt_event.specs.Events.{Counts, accepted_command, accepted_commands, acknowledged_by, acknowledged_after, is_fault, is_failed, FailsAfterFault}
-use Rattle.silt_store_set.specs.CoreState.{CoreState, Cause, Does, Runs, LeavesNoneWaiting, StandsKept}
+use Rattle.silt_store_set.specs.CoreState.{CoreState, Cause, Does, Runs, Durable, StandsKept}
 use Rattle.silt_store_set.proofs.Maps.{map_after-append, append_nil}
 use Rattle.silt_store_set.proofs.Calls.{none_refused}
 
@@ -121,7 +121,7 @@ nines facts old new [] (reply ∷ replies) before working runs = absurd runs
 nines facts old new (event ∷ events) [] before working runs = absurd runs
 
 -- what was acknowledged by one reply is settled after it
-acknowledged_one : {D F : Type 0} (old next : CoreState D) (reply : Reply F) (settled moved : ℕ) → Counts old.count reply next.count → LeavesNoneWaiting next reply → settled + moved + length next.waiting ≡ next.count → acknowledged_by settled reply ≤ settled + moved
+acknowledged_one : {D F : Type 0} (old next : CoreState D) (reply : Reply F) (settled moved : ℕ) → Counts old.count reply next.count → Durable next reply → settled + moved + length next.waiting ≡ next.count → acknowledged_by settled reply ≤ settled + moved
 acknowledged_one old next (Accepted n) settled moved counts none sum = omega arith
 acknowledged_one old next (Acknowledged n) settled moved counts none sum = omega (arith, counts.0, counts.1, ap length none)
 acknowledged_one old next (Found v) settled moved counts none sum = omega arith

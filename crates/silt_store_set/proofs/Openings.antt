@@ -1,5 +1,5 @@
 -- What an opening answers, from what recovery finds.
-use Rattle.std.proofs.Common.{◌≡◌, ◌-◌, false, IsTrue, [], Option, Some, None, refl, ap, sym, ◌∙◌, arith}
+use Rattle.std.proofs.Common.{◌≡◌, ◌-◌, IsTrue, [], Option, Some, None, refl, ap, sym, ◌∙◌, arith}
 use Rattle.silt_disk.specs.Disk.{Content, GaveAny}
 use Rattle.silt_disk.specs.declared.disk.Disk.{Ghosts}
 use Rattle.silt_event.specs.Commands.{map_after}

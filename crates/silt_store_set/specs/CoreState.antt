@@ -354,10 +354,10 @@ pub record Moves {D : Type 0} (old new : CoreState D) (adds : List Command) : Ty
   pub rest : moved ++ new.waiting ≡ old.waiting ++ adds
   pub base : new.base ≡ map_after old.base moved
 
--- an acknowledging reply leaves nothing waiting
-abbrev pub LeavesNoneWaiting : {D F : Type 0} → CoreState D → Reply F → Type 0
-LeavesNoneWaiting new (Acknowledged n) = new.waiting ≡ []
-LeavesNoneWaiting new reply = Unit {0}
+-- what an acknowledging reply says: nothing waits, so the base is the map
+abbrev pub Durable : {D F : Type 0} → CoreState D → Reply F → Type 0
+Durable new (Acknowledged n) = new.waiting ≡ []
+Durable new reply = Unit {0}
 
 -- a call is refused
 abbrev pub is_refused : {F : Type 0} → Reply F → Bool
@@ -379,41 +379,47 @@ abbrev pub is_merge : Event → Bool
 is_merge Merge = true
 is_merge event = false
 
--- What one call does, whatever it answers: what it keeps, why it answers so, what becomes of the map, and what a stop may leave.
+-- What one call does, whatever it answers: what its reply tells, what becomes of the store, and what a stop may leave.
 pub record Does {D F : Type 0} (facts : Ghosts D F) (old new : CoreState D) (event : Event) (reply : Reply F) : Type 0 where
+  -- ---- what the reply tells
+
+  -- the reply has its cause, and the store is then as this reply has it
+  pub cause : Cause facts old new event reply
+  -- an accepted command is counted, and the reply tells the count
+  pub counts : Counts old.count reply new.count
+  -- the reply is that of a map
+  pub step : old.failed ≡ false → IsTrue (facts.content old.disk).honest → Step (map_of old) event reply (map_of new)
+  -- a failed store answers so and changes nothing
+  pub failed : old.failed ≡ true → (new ≡ old) × (reply ≡ Refused Failed)
+  -- only a failed store answers Failed
+  pub failed_only : IsTrue (is_failed reply) → old.failed ≡ true
+  -- a store fails only where it answers a fault of its device
+  pub faulted : old.failed ≡ false → new.failed ≡ true → IsTrue (is_fault reply)
+  -- ---- what becomes of the store
+
   -- the disk is as long and as honest as before, and the store has the same shape
   pub disk : SameDisk (facts.content old.disk) (facts.content new.disk)
   pub shape : new.shape ≡ old.shape
-  -- an accepted command is counted, and the reply tells the count
-  pub counts : Counts old.count reply new.count
+  -- in a call by which the store does not fail no write or sync fails, and in one by which it does exactly one
+  pub quiet : new.failed ≡ old.failed → facts.failures new.disk ≡ facts.failures old.disk
+  pub counted : old.failed ≡ false → new.failed ≡ true → facts.failures new.disk ≡ (facts.failures old.disk + 1) % 2 ^ 64
   -- a refusal by which the store does not fail changes nothing
   pub stays : IsTrue (is_refused reply) → new.failed ≡ old.failed → new ≡ old
-  -- a failed store answers so and changes nothing
-  pub failed : old.failed ≡ true → (new ≡ old) × (reply ≡ Refused Failed)
   -- a call that accepts nothing and finishes nothing leaves the named regions as they are
   pub keeps_body : new.failed ≡ false → accepted_command event reply ≡ [] → is_finished reply ≡ false → new.body ≡ old.body
   -- only steps of conversion touch the conversion under way, and only steps of merging the merge under way
   pub keeps_converting : new.failed ≡ false → is_convert event ≡ false → new.converting ≡ old.converting
   pub keeps_merging : new.failed ≡ false → is_merge event ≡ false → new.merging ≡ old.merging
-  -- the reply has its cause, and the store is then as this reply has it
-  pub cause : Cause facts old new event reply
-  -- only a failed store answers Failed
-  pub failed_only : IsTrue (is_failed reply) → old.failed ≡ true
-  -- a store fails only where it answers a fault of its device
-  pub faulted : old.failed ≡ false → new.failed ≡ true → IsTrue (is_fault reply)
-  -- in a call by which the store does not fail no write or sync fails, and in one by which it does exactly one
-  pub quiet : new.failed ≡ old.failed → facts.failures new.disk ≡ facts.failures old.disk
-  pub counted : old.failed ≡ false → new.failed ≡ true → facts.failures new.disk ≡ (facts.failures old.disk + 1) % 2 ^ 64
-  -- the reply is that of a map
-  pub step : old.failed ≡ false → IsTrue (facts.content old.disk).honest → Step (map_of old) event reply (map_of new)
   -- the map is the base after the commands that wait
   pub has_map : new.failed ≡ false → IsTrue (facts.content old.disk).honest → map_of new ≡ map_after new.base new.waiting
   -- the numbers by which the store refuses are those of what is shown with the gates of the waiting rows open
   pub numbers : new.failed ≡ false → IsTrue (facts.content old.disk).honest → IsGoodWith new.shape new.body new.charge new.full
+  -- ---- what a stop may leave
+
   -- a beginning of what waited, and of what is accepted behind it, goes into the base, and the rest waits
   pub moves : new.failed ≡ false → IsTrue (facts.content old.disk).honest → Moves old new (accepted_command event reply)
   -- an acknowledging reply leaves nothing waiting
-  pub settles : IsTrue (facts.content old.disk).honest → LeavesNoneWaiting new reply
+  pub settles : IsTrue (facts.content old.disk).honest → Durable new reply
   -- whatever a stop leaves stands for the base, or, where the call failed, for the base as it was after a beginning of what waited
   pub safe : new.failed ≡ false → LeavesOnly (facts.content new.disk) (StandsFor new.shape new.base)
   pub crash : old.failed ≡ false → new.failed ≡ true → LeavesOnly (facts.content new.disk) (HasBegun old.shape old.base old.waiting)

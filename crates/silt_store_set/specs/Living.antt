@@ -1,18 +1,30 @@
 -- What lives do: each opens its store, runs its events where it can, and is stopped.
-use Rattle.std.specs.Prelude.{Vec, ◌≡◌, ◌≢◌, ◌⊎◌, ℕ, List, [], ◌∷◌}
+use Rattle.std.specs.Prelude.{Vec, ◌≡◌, ◌≢◌, ◌⊎◌, ℕ, IsTrue, List, [], ◌∷◌}
 use Rattle.std.specs.declared.alloc.Global.{Global}
-use Rattle.silt_disk.specs.Disk.{Restarts}
+use Rattle.silt_disk.specs.Disk.{Content, LeavesOnly, Restarts}
 use Rattle.silt_disk.specs.declared.disk.Disk.{Ghosts}
 use Rattle.silt_standing.specs.Standing.{SameDisk}
 use Rattle.silt_recovery.specs.Opening.{LeavesNoOther}
+use Rattle.silt_event.specs.Commands.{Map}
+use Rattle.silt_event.specs.Events.{LivesHistory}
 use Rattle.silt_event.specs.declared.event.Event.{Event}
 use Rattle.silt_event.specs.declared.reply.LifeReply.{LifeReply}
 use Rattle.silt_event.specs.declared.reply.LifeReply.TheVariants.{NotOpened, Opened}
 use Rattle.silt_event.specs.declared.refusal.Refusal.{Refusal}
 use Rattle.silt_event.specs.declared.refusal.Refusal.TheVariants.{BadGeometry, NoMemory}
 use Rattle.silt_event.specs.declared.reply.Reply.{Reply}
+use Rattle.silt_store_set.specs.CoreInvariant.{IsSafe}
 use Rattle.silt_store_set.specs.CoreState.{CoreState, Opens, Runs}
 use Rattle.silt_store_set.specs.Opening.{OpeningCause}
+
+-- each image that a stop may leave of this honest disk is a store of values of this length, and stands for the map
+pub record StartsFrom (value_len : ℕ) (map : Map) (content : Content) : Type 0 where
+  pub honest : IsTrue content.honest
+  pub safe : LeavesOnly content (IsSafe value_len map)
+
+-- the replies of these lives are a history from the map
+abbrev pub IsHistoryFrom : {F : Type 0} → Map → List (Vec Event Global) → Vec (LifeReply F) Global → Type 0
+IsHistoryFrom map lives replies = (to : Map) × LivesHistory map lives replies.items to
 
 -- an opening of this disk was refused with its cause, and left this one
 pub record Unopened {D F : Type 0} (facts : Ghosts D F) (disk stopped : D) (refusal : Refusal F) : Type 0 where

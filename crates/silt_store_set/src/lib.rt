@@ -30,6 +30,7 @@ pub use crate::store_core::{Core, OpenFault};
 pub use answerer::Served;
 pub use laws::failed_law;
 pub use life::lives;
+pub use replies::{accepted, progressed};
 pub use silt_device::{FileDisk, MemDisk};
 pub use silt_disk::{BadGeometry, Disk, Geometry};
 pub use silt_event::{Answerer, Event, LifeReply, Place, Progress, Refusal, Reply, Report};

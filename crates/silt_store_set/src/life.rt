@@ -1,10 +1,10 @@
 // Lives of a store, each ended by a stop.
-ghost use Rattle.std.specs.Prelude.{◌≡◌, All, IsTrue, IfOk};
+ghost use Rattle.std.specs.Prelude.{◌≡◌, All, IfOk};
 ghost use Rattle.silt_disk.specs.Disk.{LeavesOnly, Restarts};
 ghost use Rattle.silt_event.specs.Commands.{Map};
-ghost use Rattle.silt_event.specs.Events.{HasValueOf, LifeHistory, LivesHistory};
+ghost use Rattle.silt_event.specs.Events.{HasValueOf, LifeHistory};
 ghost use Rattle.silt_store_set.specs.CoreInvariant.{IsSafe};
-ghost use Rattle.silt_store_set.specs.Living.{LifeEnds, LivesRun};
+ghost use Rattle.silt_store_set.specs.Living.{IsHistoryFrom, LifeEnds, LivesRun, StartsFrom};
 
 use crate::{Core, Event, LifeReply, OpenFault, Refusal};
 use silt_disk::Stoppable;
@@ -32,8 +32,7 @@ pub fn lives<D: Stoppable>(
     lives: &[Vec<Event>],
 ) -> Result<Vec<LifeReply<D::Fault>>, AllocError>
     requires { All (λ life. All (HasValueOf value_len) life.items) lives.now }
-    ensures history { (map : Map) → IsTrue (D.content disk).honest → LeavesOnly (D.content disk) (IsSafe value_len map) → IfOk result (λ replies. (to : Map)
-        × LivesHistory map lives.now replies.items to) }
+    ensures history { (map : Map) → StartsFrom value_len map (D.content disk) → IfOk result (IsHistoryFrom map lives.now) }
     ensures ran { IfOk result (λ replies. LivesRun D.Disk value_len lives.now replies.items disk) }
 {
     let mut replies = Vec::with_capacity(alloc, lives.len())?;
@@ -56,7 +55,7 @@ fn live<D: Stoppable>(
     requires { All (HasValueOf value_len) events.now }
     ensures honest { (D.content result.1).honest ≡ (D.content disk).honest }
     ensures ran { LifeEnds D.Disk value_len events.now result.0 disk result.1 }
-    ensures life { (map : Map) → IsTrue (D.content disk).honest → LeavesOnly (D.content disk) (IsSafe value_len map) → (to : Map) × LifeHistory map events.now result.0 to
+    ensures life { (map : Map) → StartsFrom value_len map (D.content disk) → (to : Map) × LifeHistory map events.now result.0 to
         × LeavesOnly (D.content result.1) (IsSafe value_len to) }
 {
     let mut core = match Core::open(alloc, disk) {

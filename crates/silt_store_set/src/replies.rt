@@ -35,7 +35,7 @@ pub fn is_work(progress: Progress) -> bool
     matches!(progress, Progress::Moved | Progress::Finished)
 }
 
-// The reply to a put or a delete.
+/// The reply to a put or a delete.
 pub fn accepted<F>(answer: Result<u64, Refusal<F>>) -> Reply<F>
     ensures { result ≡ change_reply answer }
 {
@@ -45,7 +45,7 @@ pub fn accepted<F>(answer: Result<u64, Refusal<F>>) -> Reply<F>
     }
 }
 
-// The reply to a step in the background.
+/// The reply to a step in the background.
 pub fn progressed<F>(answer: Result<Progress, Refusal<F>>) -> Reply<F>
     ensures { result ≡ progress_reply answer }
 {

@@ -10,7 +10,7 @@ pub loop-events-init : goal.loop-events-init
 loop-events-init g c = record {
   honest = refl;
   ran = rw c.in_ok-replies.ensures.items refl;
-  so_far = λ m h safe. (m, rw c.in_ok-replies.ensures.items refl, safe);
+  so_far = λ m starts. (m, rw c.in_ok-replies.ensures.items refl, starts.safe);
 }
 
 pub loop-events-preserved : goal.loop-events-preserved
@@ -22,10 +22,10 @@ loop-events-preserved g c = record {
       take_more c.args.lives.now c.loop-events.events-index c.events-item.result c.loop-events-test.true ∙ ap (λ (x : Vec Event Global). take c.loop-events.events-index c.args.lives.now ++ x ∷ []) (sym c.events-item.is) in
       rw (taken, c.in_ok-push.ensures.items) (lives_on g.D.Disk c.args.value_len (take c.loop-events.events-index c.args.lives.now) c.loop-events.replies.items
       c.args.disk c.loop-events.disk c.live-reply.result.1 c.events-item.result c.live-reply.result.0 c.loop-events.invariant.ran life);
-  so_far = λ m h safe.
-      let before = c.loop-events.invariant.so_far m h safe in
-      let here : IsTrue (g.D.Disk.content c.loop-events.disk).honest = c.loop-events.invariant.honest ∙ h in
-      let now = c.live-reply.ensures.life before.0 here before.2 in
+  so_far = λ m starts.
+      let before = c.loop-events.invariant.so_far m starts in
+      let here : IsTrue (g.D.Disk.content c.loop-events.disk).honest = c.loop-events.invariant.honest ∙ starts.honest in
+      let now = c.live-reply.ensures.life before.0 (record { honest = here; safe = before.2 }) in
       let life = rw c.deref.ensures.value at now.1 in
       let taken : take (c.loop-events.events-index + 1) c.args.lives.now ≡ take c.loop-events.events-index c.args.lives.now ++ c.events-item.result ∷ [] =
       take_more c.args.lives.now c.loop-events.events-index c.events-item.result c.loop-events-test.true ∙ ap (λ (x : Vec Event Global). take c.loop-events.events-index c.args.lives.now ++ x ∷ []) (sym c.events-item.is) in (
@@ -36,8 +36,8 @@ loop-events-preserved g c = record {
 }
 
 pub returns-clause-history : goal.returns-clause-history
-returns-clause-history g c = λ m h safe.
-    let so_far = c.loop-events.invariant.so_far m h safe in
+returns-clause-history g c = λ m starts.
+    let so_far = c.loop-events.invariant.so_far m starts in
     let all = take_all c.loop-events.events-index c.args.lives.now c.loop-events-test.false in
     (so_far.0, rw all at so_far.1)
 

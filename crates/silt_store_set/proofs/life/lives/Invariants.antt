@@ -1,8 +1,9 @@
-use Rattle.std.proofs.Common.{◌≡◌, IsTrue, take}
+use Rattle.std.proofs.Common.{◌≡◌, take}
 use Rattle.silt_disk.specs.Disk.{LeavesOnly}
 use Rattle.silt_event.specs.Commands.{Map}
 use Rattle.silt_event.specs.Events.{LivesHistory}
 use Rattle.silt_store_set.specs.CoreInvariant.{IsSafe}
+use Rattle.silt_store_set.specs.Living.{StartsFrom}
 use Rattle.silt_store_set.proofs.Livings.{LivesTo}
 use Rattle.silt_store_set.proofs.life.lives.Given as goal
 
@@ -11,6 +12,5 @@ abbrev pub invariant-loop-events : goal.invariant-loop-events
 invariant-loop-events g l = record {
   honest : (g.D.Disk.content l.disk).honest ≡ (g.D.Disk.content l.fn.disk).honest;
   ran : LivesTo g.D.Disk l.value_len (take l.events-index l.lives) l.replies.items l.fn.disk l.disk;
-  so_far : (map : Map) → IsTrue (g.D.Disk.content l.fn.disk).honest → LeavesOnly (g.D.Disk.content l.fn.disk) (IsSafe l.value_len map)
-      → (to : Map) × LivesHistory map (take l.events-index l.lives) l.replies.items to × LeavesOnly (g.D.Disk.content l.disk) (IsSafe l.value_len to);
+  so_far : (map : Map) → StartsFrom l.value_len map (g.D.Disk.content l.fn.disk) → (to : Map) × LivesHistory map (take l.events-index l.lives) l.replies.items to × LeavesOnly (g.D.Disk.content l.disk) (IsSafe l.value_len to);
 }

@@ -6,13 +6,13 @@ use Rattle.silt_desk.proofs.Serving.{progress_plain, keeps_agreeing, keeps_count
 use Rattle.silt_desk.proofs.desk.Desk.convert.Goals as goal
 
 pub returns : goal.returns
-returns g c = rw (← c.self.view_is) (serves g.D.Disk g.T.Trace.extends g.T.Trace.is_full g.T.Trace.takes_memory
+returns g c = rw (← c.self.view_is) (serves g.D.Disk g.T.Trace
     c.self.inside.core c.convert-answer.new.self c.self.inside.trace c.note.new.trace c.self.inside.ledgers c.note.new.ledgers c.args.seat.now c.note.new.seat Convert
     (progress_reply c.convert-answer.result) (progress_reply c.plain.result) (ap progress_reply c.plain.ensures ∙ progress_plain c.convert-answer.result) c.convert-answer.ensures c.note.ensures)
 
 pub invariant_of-self : goal.invariant_of-self
 invariant_of-self g c = (
-  keeps_agreeing g.D.Disk g.T.Trace.extends g.T.Trace.is_full g.T.Trace.takes_memory
+  keeps_agreeing g.D.Disk g.T.Trace
       c.self.inside.core c.convert-answer.new.self c.self.inside.trace c.note.new.trace c.self.inside.ledgers c.note.new.ledgers c.args.seat.now c.note.new.seat Convert
       g.T.Trace.agrees (λ held call more step. g.met.T.Trace.agrees_after c.self.inside.trace c.note.new.trace call (seen g.D.Disk c.self.inside.core) (seen g.D.Disk c.convert-answer.new.self) held more step)
       (progress_reply c.convert-answer.result) (progress_reply c.plain.result) (ap progress_reply c.plain.ensures ∙ progress_plain c.convert-answer.result) c.convert-answer.ensures c.note.ensures c.self.invariant.0,

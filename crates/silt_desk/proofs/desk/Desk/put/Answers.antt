@@ -6,13 +6,13 @@ use Rattle.silt_desk.proofs.Serving.{change_plain, keeps_agreeing, keeps_countin
 use Rattle.silt_desk.proofs.desk.Desk.put.Goals as goal
 
 pub returns : goal.returns
-returns g c = rw (← c.self.view_is) (serves g.D.Disk g.T.Trace.extends g.T.Trace.is_full g.T.Trace.takes_memory
+returns g c = rw (← c.self.view_is) (serves g.D.Disk g.T.Trace
     c.self.inside.core c.put-answer.new.self c.self.inside.trace c.note.new.trace c.self.inside.ledgers c.note.new.ledgers c.args.seat.now c.note.new.seat (Put c.args.key.now c.args.value.now)
     (change_reply c.put-answer.result) (change_reply c.plain.result) (ap change_reply c.plain.ensures ∙ change_plain c.put-answer.result) c.put-answer.ensures c.note.ensures)
 
 pub invariant_of-self : goal.invariant_of-self
 invariant_of-self g c = (
-  keeps_agreeing g.D.Disk g.T.Trace.extends g.T.Trace.is_full g.T.Trace.takes_memory
+  keeps_agreeing g.D.Disk g.T.Trace
       c.self.inside.core c.put-answer.new.self c.self.inside.trace c.note.new.trace c.self.inside.ledgers c.note.new.ledgers c.args.seat.now c.note.new.seat (Put c.args.key.now c.args.value.now)
       g.T.Trace.agrees (λ held call more step. g.met.T.Trace.agrees_after c.self.inside.trace c.note.new.trace call (seen g.D.Disk c.self.inside.core) (seen g.D.Disk c.put-answer.new.self) held more step)
       (change_reply c.put-answer.result) (change_reply c.plain.result) (ap change_reply c.plain.ensures ∙ change_plain c.put-answer.result) c.put-answer.ensures c.note.ensures c.self.invariant.0,
