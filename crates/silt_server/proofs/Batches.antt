@@ -12,20 +12,20 @@ use Rattle.silt_store_set.specs.Replies.{change_reply, flush_reply}
 use Rattle.silt_desk.specs.DeskState.{DeskState, Records, Refuses, Serves}
 use Rattle.silt_desk.specs.History.{is_recorded}
 use Rattle.silt_desk.specs.Seats.{SeatState}
-use Rattle.silt_desk.specs.declared.call.RecordedCall.{RecordedCall}
+use Rattle.silt_desk.specs.declared.trace.Trace.{Ghosts as TraceOf}
 use Rattle.silt_server.specs.Requests.{Answer}
 use Rattle.silt_server.specs.Batches.{Flushes, Performs, PerformsAll, PerformsJob, RepliesTo, RepliesToAll, ServesBatch, ServesBatches}
 use Rattle.silt_server.specs.declared.job.Job.{Job}
 use Rattle.silt_server.specs.declared.job.Request.{Request}
 use Rattle.silt_server.specs.declared.job.Request.TheVariants.{Put, Delete, Flush}
 
-module _ {D F T : Type 0} (facts : Ghosts D F) (extends : T → RecordedCall → T → Type 0) (is_full takes_memory : T → Type 0) where
+module _ {D F T : Type 0} (facts : Ghosts D F) (trace : TraceOf T) where
   -- a job more is done behind the others
   pub performs_more : (seat mid after : SeatState) (xs ys : List Job) (x y : Job)
-      → PerformsAll facts extends is_full takes_memory seat xs ys mid → PerformsJob facts extends is_full takes_memory mid x y after
-      → PerformsAll facts extends is_full takes_memory seat (xs ++ x ∷ []) (ys ++ y ∷ []) after
+      → PerformsAll facts trace seat xs ys mid → PerformsJob facts trace mid x y after
+      → PerformsAll facts trace seat (xs ++ x ∷ []) (ys ++ y ∷ []) after
   performs_more seat mid after [] [] x y all one =
-      (after, subst (λ (s : SeatState). PerformsJob facts extends is_full takes_memory s x y after) all one, refl)
+      (after, subst (λ (s : SeatState). PerformsJob facts trace s x y after) all one, refl)
   performs_more seat mid after (a ∷ xs) (b ∷ ys) x y all one = (all.0, all.1, performs_more all.0 mid after xs ys x y all.2 one)
   performs_more seat mid after [] (b ∷ ys) x y all one = absurd all
   performs_more seat mid after (a ∷ xs) [] x y all one = absurd all
@@ -44,28 +44,28 @@ written_back xs ys zs n len is count =
     let same : n ≡ length ys = omega (arith, len, count) in
     ap (λ (m : ℕ). take m (ys ++ drop (length ys) zs)) same ∙ take-append_seam ys (drop (length ys) zs)
 
-module _ {D F T : Type 0} (facts : Ghosts D F) (extends : T → RecordedCall → T → Type 0) (is_full takes_memory : T → Type 0) where
+module _ {D F T : Type 0} (facts : Ghosts D F) (trace : TraceOf T) where
   -- the next job of the list is done
   pub performs_next : (seat mid after : SeatState) (xs ys : List Job) (i : ℕ) (d new : Job) → i < length xs → length ys ≡ length xs
-      → PerformsAll facts extends is_full takes_memory seat (take i xs) (take i ys) mid → drop i ys ≡ drop i xs
-      → PerformsJob facts extends is_full takes_memory mid (get_or ys i d) new after
-      → PerformsAll facts extends is_full takes_memory seat (take (i + 1) xs) (take (i + 1) (set ys i new)) after
+      → PerformsAll facts trace seat (take i xs) (take i ys) mid → drop i ys ≡ drop i xs
+      → PerformsJob facts trace mid (get_or ys i d) new after
+      → PerformsAll facts trace seat (take (i + 1) xs) (take (i + 1) (set ys i new)) after
   performs_next seat mid after xs ys i d new in_xs len all same job =
       let in_ys : i < length ys = omega (arith, len, in_xs) in
-      let one = subst (λ (x : Job). PerformsJob facts extends is_full takes_memory mid x new after) (same_at xs ys i d in_xs in_ys same) job in
-      subst (λ (l : List Job). PerformsAll facts extends is_full takes_memory seat l (take (i + 1) (set ys i new)) after) (sym (take_more xs i d in_xs))
-      (subst (λ (l : List Job). PerformsAll facts extends is_full takes_memory seat (take i xs ++ get_or xs i d ∷ []) l after) (sym (take_more_set ys i new in_ys))
-      (performs_more facts extends is_full takes_memory seat mid after (take i xs) (take i ys) (get_or xs i d) new all one))
+      let one = subst (λ (x : Job). PerformsJob facts trace mid x new after) (same_at xs ys i d in_xs in_ys same) job in
+      subst (λ (l : List Job). PerformsAll facts trace seat l (take (i + 1) (set ys i new)) after) (sym (take_more xs i d in_xs))
+      (subst (λ (l : List Job). PerformsAll facts trace seat (take i xs ++ get_or xs i d ∷ []) l after) (sym (take_more_set ys i new in_ys))
+      (performs_more facts trace seat mid after (take i xs) (take i ys) (get_or xs i d) new all one))
 
   -- all jobs are done
   pub performs_end : (seat after : SeatState) (xs ys zs : List Job) (i n : ℕ) → length xs ≤ i → length ys ≡ length xs → xs ≡ zs → n ≡ length xs
-      → PerformsAll facts extends is_full takes_memory seat (take i xs) (take i ys) after
-      → PerformsAll facts extends is_full takes_memory seat zs (take n (ys ++ drop (length ys) zs)) after
+      → PerformsAll facts trace seat (take i xs) (take i ys) after
+      → PerformsAll facts trace seat zs (take n (ys ++ drop (length ys) zs)) after
   performs_end seat after xs ys zs i n over len is count all =
       let over_ys : length ys ≤ i = omega (arith, over, len) in
-      subst (λ (l : List Job). PerformsAll facts extends is_full takes_memory seat zs l after) (sym (written_back xs ys zs n len is count))
-      (subst (λ (l : List Job). PerformsAll facts extends is_full takes_memory seat l ys after) (take_all i xs over ∙ is)
-      (subst (λ (l : List Job). PerformsAll facts extends is_full takes_memory seat (take i xs) l after) (take_all i ys over_ys) all))
+      subst (λ (l : List Job). PerformsAll facts trace seat zs l after) (sym (written_back xs ys zs n len is count))
+      (subst (λ (l : List Job). PerformsAll facts trace seat l ys after) (take_all i xs over ∙ is)
+      (subst (λ (l : List Job). PerformsAll facts trace seat (take i xs) l after) (take_all i ys over_ys) all))
 
 -- a job more has its reply
 pub replies_more : (flushed : Answer) (xs ys : List Job) (x y : Job) → RepliesToAll flushed xs ys → RepliesTo flushed x y → RepliesToAll flushed (xs ++ x ∷ []) (ys ++ y ∷ [])
@@ -94,18 +94,18 @@ replies_end flushed xs ys zs i n over len is count all =
 
 -- ---- a batch is done from one seat
 
-module _ {D F T : Type 0} (facts : Ghosts D F) (extends : T → RecordedCall → T → Type 0) (is_full takes_memory : T → Type 0) where
+module _ {D F T : Type 0} (facts : Ghosts D F) (trace : TraceOf T) where
   serves_number : (old new : DeskState D T) (seat after : SeatState) (e : Event) (reply : Reply F)
-      → Serves facts extends is_full takes_memory old new seat after e reply → after.number ≡ seat.number
+      → Serves facts trace old new seat after e reply → after.number ≡ seat.number
   serves_number old new seat after e reply serves =
-      let go : (b : Bool) → MatchBool b (Records facts extends is_full takes_memory old new seat after e reply) (Refuses facts extends is_full takes_memory old new seat after e reply) → after.number ≡ seat.number = elim [
+      let go : (b : Bool) → MatchBool b (Records facts trace old new seat after e reply) (Refuses facts trace old new seat after e reply) → after.number ≡ seat.number = elim [
         | true ↦ λ records. ap (λ (s : SeatState). s.number) records.seated
         | false ↦ λ refuses. ap (λ (s : SeatState). s.number) refuses.seated
       ] in
       go (is_recorded reply) serves
 
   performs_number : (old new : DeskState D T) (seat after : SeatState) (request : Request) (answer : Option Answer)
-      → Performs facts extends is_full takes_memory old new seat after request answer → after.number ≡ seat.number
+      → Performs facts trace old new seat after request answer → after.number ≡ seat.number
   performs_number old new seat after (Put key value) (Some answer) does = serves_number old new seat after (event.Put key value) (change_reply does.0) does.2
   performs_number old new seat after (Delete key) (Some answer) does = serves_number old new seat after (event.Delete key) (change_reply does.0) does.2
   performs_number old new seat after Flush (Some answer) does = absurd does
@@ -113,25 +113,25 @@ module _ {D F T : Type 0} (facts : Ghosts D F) (extends : T → RecordedCall →
   performs_number old new seat after (Delete key) None does = absurd does
   performs_number old new seat after Flush None does = ap (λ (s : SeatState). s.number) does.1
 
-  pub all_number : (seat after : SeatState) (xs ys : List Job) → PerformsAll facts extends is_full takes_memory seat xs ys after → after.number ≡ seat.number
+  pub all_number : (seat after : SeatState) (xs ys : List Job) → PerformsAll facts trace seat xs ys after → after.number ≡ seat.number
   all_number seat after [] [] all = ap (λ (s : SeatState). s.number) all
   all_number seat after (x ∷ xs) (y ∷ ys) all =
       all_number all.0 after xs ys all.2 ∙ performs_number all.1.0 all.1.1 seat all.0 x.request y.answer all.1.2
   all_number seat after [] (y ∷ ys) all = absurd all
   all_number seat after (x ∷ xs) [] all = absurd all
 
-  pub flush_number : (old new : DeskState D T) (seat after : SeatState) (answer : Answer) → Flushes facts extends is_full takes_memory old new seat after answer → after.number ≡ seat.number
+  pub flush_number : (old new : DeskState D T) (seat after : SeatState) (answer : Answer) → Flushes facts trace old new seat after answer → after.number ≡ seat.number
   flush_number old new seat after answer does = serves_number old new seat after event.Flush (flush_reply does.0) does.2
 
 -- ---- batch after batch
 
-module _ {D F T : Type 0} (facts : Ghosts D F) (extends : T → RecordedCall → T → Type 0) (is_full takes_memory : T → Type 0) where
+module _ {D F T : Type 0} (facts : Ghosts D F) (trace : TraceOf T) where
   -- a batch more is done behind the others
   pub batches_more : (seat mid after : SeatState) (taken then end : ℕ) (batches : List (List Job)) (jobs done : List Job)
-      → ServesBatches facts extends is_full takes_memory seat taken batches mid then
-      → ServesBatch facts extends is_full takes_memory mid jobs done after → end ≡ then + length jobs
-      → ServesBatches facts extends is_full takes_memory seat taken (batches ++ jobs ∷ []) after end
+      → ServesBatches facts trace seat taken batches mid then
+      → ServesBatch facts trace mid jobs done after → end ≡ then + length jobs
+      → ServesBatches facts trace seat taken (batches ++ jobs ∷ []) after end
   batches_more seat mid after taken then end [] jobs done all one is =
-      (done, after, subst (λ (s : SeatState). ServesBatch facts extends is_full takes_memory s jobs done after) all.0 one, (refl, is ∙ ap (λ (n : ℕ). n + length jobs) all.1))
+      (done, after, subst (λ (s : SeatState). ServesBatch facts trace s jobs done after) all.0 one, (refl, is ∙ ap (λ (n : ℕ). n + length jobs) all.1))
   batches_more seat mid after taken then end (x ∷ batches) jobs done all one is =
       (all.0, all.1, all.2, batches_more all.1 mid after (taken + length x) then end batches jobs done all.3 one is)

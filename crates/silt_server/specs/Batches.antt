@@ -7,21 +7,21 @@ use Rattle.silt_store_set.specs.Replies.{change_reply, flush_reply}
 use Rattle.silt_desk.specs.DeskState.{DeskState, Serves}
 use Rattle.silt_desk.specs.Notes.{plain_answer}
 use Rattle.silt_desk.specs.Seats.{SeatState}
-use Rattle.silt_desk.specs.declared.call.RecordedCall.{RecordedCall}
+use Rattle.silt_desk.specs.declared.trace.Trace.{Ghosts as TraceOf}
 use Rattle.silt_server.specs.Requests.{Answer, reply_due, reply_in}
 use Rattle.silt_server.specs.declared.job.Job.{Job}
 use Rattle.silt_server.specs.declared.job.Request.{Request}
 use Rattle.silt_server.specs.declared.job.Request.TheVariants.{Put, Delete, Flush}
 
-module _ {D F T : Type 0} (facts : Ghosts D F) (extends : T → RecordedCall → T → Type 0) (is_full takes_memory : T → Type 0) where
+module _ {D F T : Type 0} (facts : Ghosts D F) (trace : TraceOf T) where
   -- what is done at the desk for a request that is answered so
   abbrev pub Performs : DeskState D T → DeskState D T → SeatState → SeatState → Request → Option Answer → Type 0
   Performs old new seat after (Put key value) (Some answer) =
       (told : Result ℕ (Refusal F)) × (answer ≡ plain_answer told)
-      × Serves facts extends is_full takes_memory old new seat after (event.Put key value) (change_reply told)
+      × Serves facts trace old new seat after (event.Put key value) (change_reply told)
   Performs old new seat after (Delete key) (Some answer) =
       (told : Result ℕ (Refusal F)) × (answer ≡ plain_answer told)
-      × Serves facts extends is_full takes_memory old new seat after (event.Delete key) (change_reply told)
+      × Serves facts trace old new seat after (event.Delete key) (change_reply told)
   Performs old new seat after (Put key value) None = (length value ≢ old.core.shape.value_len) × (new ≡ old) × (after ≡ seat)
   Performs old new seat after Flush None = (new ≡ old) × (after ≡ seat)
   Performs old new seat after request answer = ⊥
@@ -30,7 +30,7 @@ module _ {D F T : Type 0} (facts : Ghosts D F) (extends : T → RecordedCall →
   abbrev pub Flushes : DeskState D T → DeskState D T → SeatState → SeatState → Answer → Type 0
   Flushes old new seat after answer =
       (told : Result ℕ (Refusal F)) × (answer ≡ plain_answer told)
-      × Serves facts extends is_full takes_memory old new seat after event.Flush (flush_reply told)
+      × Serves facts trace old new seat after event.Flush (flush_reply told)
 
   -- what a job asks was done at the desk, and the job has the answer
   abbrev pub PerformsJob : SeatState → Job → Job → SeatState → Type 0
@@ -55,13 +55,13 @@ RepliesToAll flushed [] [] = Unit {0}
 RepliesToAll flushed (x ∷ xs) (y ∷ ys) = RepliesTo flushed x y × RepliesToAll flushed xs ys
 RepliesToAll flushed xs ys = ⊥
 
-module _ {D F T : Type 0} (facts : Ghosts D F) (extends : T → RecordedCall → T → Type 0) (is_full takes_memory : T → Type 0) where
+module _ {D F T : Type 0} (facts : Ghosts D F) (trace : TraceOf T) where
   -- each job was done at the desk in order, then the desk was flushed once from the same seat, and each job has the reply due after that
   abbrev pub ServesBatch : SeatState → List Job → List Job → SeatState → Type 0
   ServesBatch seat old new after =
       (done : List Job) × (mid : SeatState) × (flushed : Answer) × (before : DeskState D T) × (then : DeskState D T)
-      × PerformsAll facts extends is_full takes_memory seat old done mid
-      × Flushes facts extends is_full takes_memory before then mid after flushed
+      × PerformsAll facts trace seat old done mid
+      × Flushes facts trace before then mid after flushed
       × RepliesToAll flushed done new
 
   -- batch after batch was done, from call to call of the seat; then so many jobs were taken in all

@@ -28,7 +28,7 @@ fn perform<D: Disk, T: Trace, N: Naming>(
     seat: &mut Seat<N>,
     request: &Request,
 ) -> Option<Result<u64, Refusal<()>>>
-    ensures { Performs D.Disk T.extends T.is_full T.takes_memory desk.old desk.new seat.old seat.new request.now result }
+    ensures { Performs D.Disk T.Trace desk.old desk.new seat.old seat.new request.now result }
 {
     match request {
         Request::Put(key, value) => {
@@ -49,7 +49,7 @@ fn flush<D: Disk, T: Trace, N: Naming>(
     alloc: Global,
     seat: &mut Seat<N>,
 ) -> Result<u64, Refusal<()>>
-    ensures { Flushes D.Disk T.extends T.is_full T.takes_memory desk.old desk.new seat.old seat.new result }
+    ensures { Flushes D.Disk T.Trace desk.old desk.new seat.old seat.new result }
 {
     plain(desk.flush(alloc, seat))
 }
@@ -63,7 +63,7 @@ fn perform_all<D: Disk, T: Trace, N: Naming, G: Gate, R: Wait>(
     gate: &G,
     jobs: &mut Vec<Job>,
 )
-    ensures { PerformsAll D.Disk T.extends T.is_full T.takes_memory seat.old jobs.old.items jobs.new.items seat.new }
+    ensures { PerformsAll D.Disk T.Trace seat.old jobs.old.items jobs.new.items seat.new }
 {
     for job in jobs.iter_mut() {
         gate.pass(Spot::Writer);
@@ -93,7 +93,7 @@ pub fn serve_batch<D: Disk, T: Trace, N: Naming, G: Gate, R: Wait>(
     jobs: &mut Vec<Job>,
 )
     ensures number { seat.new.number ≡ seat.old.number }
-    ensures batch { ServesBatch D.Disk T.extends T.is_full T.takes_memory seat.old jobs.old.items jobs.new.items seat.new }
+    ensures batch { ServesBatch D.Disk T.Trace seat.old jobs.old.items jobs.new.items seat.new }
 {
     perform_all(rt, alloc, shared, seat, gate, jobs);
     gate.pass(Spot::Writer);

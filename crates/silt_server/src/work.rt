@@ -43,7 +43,7 @@ pub fn writer<D: Disk, T: Trace, N: Naming, P: Post, I: Jobs<P>, G: Gate, R: Wai
 ) -> (Seat<N>, Taker<P>)
     ensures number { result.0.number ≡ seat.number }
     ensures ended { I.has_ended inbox.now }
-    ensures batches { (batches : List (List JobOf)) × ServesBatches D.Disk T.extends T.is_full T.takes_memory seat taker batches result.0 result.1 }
+    ensures batches { (batches : List (List JobOf)) × ServesBatches D.Disk T.Trace seat taker batches result.0 result.1 }
 {
     for _ in rt.forever() {
         let Some(mut jobs) = inbox.take_all(rt, &mut taker) else {

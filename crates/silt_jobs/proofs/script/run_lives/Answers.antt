@@ -14,7 +14,7 @@ returns-in-Ok-clause-ran c =
     let disk = c.arm-disk.result in
     let images = stays_leaves (memory_content new) (memory_content disk) _ c.arm-disk.ensures.content c.in_ok-new_store.ensures.images in
     let safe = new_is_safe (memory_content disk) c.args.geometry images in (
-      c.in-Ok.ensures.history empty refl (subst (λ (n : ℕ). LeavesOnly (memory_content disk) (IsSafe n empty)) (sym c.value_len.ensures.value) safe),
+      c.in-Ok.ensures.history empty (record { honest = refl; safe = subst (λ (n : ℕ). LeavesOnly (memory_content disk) (IsSafe n empty)) (sym c.value_len.ensures.value) safe }),
       (
         disk,
         record {

@@ -10,7 +10,7 @@ pub loop-job-preserved : goal.loop-job-preserved
 loop-job-preserved g c =
     let before = c.loop-job.invariant in
     record {
-      done = performs_next g.D.Disk g.T.Trace.extends g.T.Trace.is_full g.T.Trace.takes_memory c.args.seat.now _ _ c.deref_mut-job-items.result.now c.loop-job.job-items c.loop-job.job-index c.job-item.result _ c.loop-job-test.true before.same_length before.done before.rest (_, _, c.perform-answer.ensures, refl, refl, refl);
+      done = performs_next g.D.Disk g.T.Trace c.args.seat.now _ _ c.deref_mut-job-items.result.now c.loop-job.job-items c.loop-job.job-index c.job-item.result _ c.loop-job-test.true before.same_length before.done before.rest (_, _, c.perform-answer.ensures, refl, refl, refl);
       rest = rest_next c.deref_mut-job-items.result.now c.loop-job.job-items c.loop-job.job-index _ before.rest;
       same_length = length-set c.loop-job.job-items c.loop-job.job-index _ ∙ before.same_length;
     }
@@ -18,4 +18,4 @@ loop-job-preserved g c =
 pub returns : goal.returns
 returns g c =
     let done = c.loop-job.invariant in
-    performs_end g.D.Disk g.T.Trace.extends g.T.Trace.is_full g.T.Trace.takes_memory c.args.seat.now _ c.deref_mut-job-items.result.now c.loop-job.job-items c.args.jobs.now.items c.loop-job.job-index c.args.jobs.now.len c.loop-job-test.false done.same_length c.deref_mut-job-items.ensures.value (sym c.deref_mut-job-items.ensures.len) done.done
+    performs_end g.D.Disk g.T.Trace c.args.seat.now _ c.deref_mut-job-items.result.now c.loop-job.job-items c.args.jobs.now.items c.loop-job.job-index c.args.jobs.now.len c.loop-job-test.false done.same_length c.deref_mut-job-items.ensures.value (sym c.deref_mut-job-items.ensures.len) done.done

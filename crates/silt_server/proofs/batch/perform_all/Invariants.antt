@@ -5,7 +5,7 @@ use Rattle.silt_server.proofs.batch.perform_all.Given as goal
 -- the jobs so far are done in order, and the others are as they were
 abbrev pub invariant-loop-job : goal.invariant-loop-job
 invariant-loop-job g l = record {
-  done : PerformsAll g.D.Disk g.T.Trace.extends g.T.Trace.is_full g.T.Trace.takes_memory l.initial.seat (take l.job-index l.initial.job-items) (take l.job-index l.job-items) l.seat;
+  done : PerformsAll g.D.Disk g.T.Trace l.initial.seat (take l.job-index l.initial.job-items) (take l.job-index l.job-items) l.seat;
   rest : drop l.job-index l.job-items ≡ drop l.job-index l.initial.job-items;
   same_length : length l.job-items ≡ length l.initial.job-items;
 }

@@ -7,5 +7,5 @@ use Rattle.silt_server.proofs.work.writer.Given as goal
 abbrev pub invariant-loop : goal.invariant-loop
 invariant-loop g l = record {
   number : l.seat.number ≡ l.fn.seat.number;
-  batches : (batches : List (List Job)) × ServesBatches g.D.Disk g.T.Trace.extends g.T.Trace.is_full g.T.Trace.takes_memory l.fn.seat l.fn.taker batches l.seat l.taker;
+  batches : (batches : List (List Job)) × ServesBatches g.D.Disk g.T.Trace l.fn.seat l.fn.taker batches l.seat l.taker;
 }
