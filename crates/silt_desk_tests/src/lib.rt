@@ -1,4 +1,4 @@
-//! Tests of the desk, the inbox and the server: what many threads see.
+//! Tests of the desk and the inbox: what many threads see.
 //!
 //! What no clause says stands here, seen from outside through the public calls.
 #![tactic(auto)]

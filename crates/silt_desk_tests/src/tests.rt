@@ -1,9 +1,8 @@
-// What no contract says of desk, inbox and server. What they share stands here: the store on a disk, entries beside a plain map, a gate that
+// What no contract says of desk and inbox. What they share stands here: the store on a disk, entries beside a plain map, a gate that
 // is always open, and a wait with an end.
 
 mod desk;
 mod inbox;
-mod server;
 
 use silt_desk::{Gate, Spot};
 use silt_device::Disk;

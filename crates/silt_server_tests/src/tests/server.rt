@@ -9,10 +9,11 @@ mod lost;
 mod network;
 mod record;
 
-use crate::tests::{Open, opened};
+use crate::tests::Open;
 use silt_desk::Gate;
 use silt_device::Disk;
 use silt_server::{Listens, serve_on};
+use silt_store_set::Core;
 use std::alloc::Global;
 use std::io::{self, ErrorKind, Read, Write};
 use std::net::{Net, Shutdown, SocketAddr, TcpListener, TcpStream};
@@ -79,25 +80,27 @@ fn serve_beside<
     let listener = TcpListener::bind(rt, ("127.0.0.1", 0u16))?;
     let addr = listener.local_addr()?;
     let listener = Patient { rt, listener };
-    let core = opened(alloc, disk)?;
     let mut written = Vec::new(alloc);
     let (served, got) = thread::join(
         rt,
-        || serve_on(
-            rt,
-            alloc,
-            &listener,
-            core,
-            audit,
-            sessions,
-            gate,
-            &mut written,
-        ),
+        || -> Option<(D, io::Result<u8>)> {
+            let core = Core::open(alloc, disk).ok()?;
+            Some(serve_on(
+                rt,
+                alloc,
+                &listener,
+                core,
+                audit,
+                sessions,
+                gate,
+                &mut written,
+            ))
+        },
         move || -> X
             requires { C.IsAlwaysCallable clients }
         { clients(addr) },
     );
-    let (disk, status) = served;
+    let (disk, status) = served.ok_or("opens")?;
     Ok(Ended {
         disk,
         status: status?,
