@@ -1,5 +1,5 @@
 -- Findings one after the other.
-use Rattle.std.proofs.Common.{◌≡◌, ◌+◌, Bool, true, false, not, List, [], ◌∷◌, ◌++◌, refl, ap, ◌∙◌}
+use Rattle.std.proofs.Common.{◌≡◌, Bool, true, false, not, List, [], ◌∷◌, ◌++◌, refl, ap, ◌∙◌}
 use Rattle.silt_event.specs.Findings.{finding_if}
 use Rattle.silt_event.specs.declared.damage.Finding.{Finding}
 

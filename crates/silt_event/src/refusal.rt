@@ -68,13 +68,13 @@ impl<F: Drop> Refusal<F> {
     }
 
     /// The refusal without its fault.
-    pub fn plain(self) -> Refusal<()>
-        ensures { result ≡ plain_refusal self }
+    pub fn plain(&self) -> Refusal<()>
+        ensures { result ≡ plain_refusal self.now }
     {
         match self {
             Refusal::NotFormatted => Refusal::NotFormatted,
             Refusal::BadGeometry => Refusal::BadGeometry,
-            Refusal::Damaged(place) => Refusal::Damaged(place),
+            Refusal::Damaged(place) => Refusal::Damaged(*place),
             Refusal::Crowded => Refusal::Crowded,
             Refusal::Device(_) => Refusal::Device(()),
             Refusal::NoMemory => Refusal::NoMemory,

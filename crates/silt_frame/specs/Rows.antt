@@ -1,5 +1,5 @@
 -- Rows as they lie on a device.
-use Rattle.std.specs.Prelude.{ℕ, ◌==◌, Bool, List, map, count_by, take, drop, slice_index, slice_range}
+use Rattle.std.specs.Prelude.{◌≡◌, ◌≤◌, ◌==◌, ℕ, Bool, List, ◌∷◌, ◌++◌, length, map, flat_map, count_by, take, drop, slice_index, slice_range}
 use Rattle.std.specs.Option.{is_some}
 use Rattle.std.specs.Ordering.{nat_cmp}
 use Rattle.std.specs.declared.cmp.Ordering.{Ordering}
@@ -34,6 +34,28 @@ is_put_row row = row.kind == kind_byte Put
 -- the put that the bytes of a sorted entry stand for
 abbrev pub entry_row : List ℕ → StoredRow
 entry_row bytes = record { kind = kind_byte Put; key = take key_len bytes; value = drop key_len bytes }
+
+-- the bytes of a row as they lie on the device: the other way of `row_of`
+abbrev pub row_bytes : StoredRow → List ℕ
+row_bytes row = row.kind ∷ (row.key ++ row.value)
+
+-- the bytes of some rows, one after the other
+abbrev pub rows_bytes : List StoredRow → List ℕ
+rows_bytes rows = flat_map row_bytes rows
+
+-- the bytes of a put as a sorted entry: the other way of `entry_row`
+abbrev pub put_bytes : StoredRow → List ℕ
+put_bytes row = row.key ++ row.value
+
+-- the bytes of some puts as sorted entries, one after the other
+abbrev pub entries_bytes : List StoredRow → List ℕ
+entries_bytes rows = flat_map put_bytes rows
+
+-- the bytes of the row and of the put that some bytes hold are those bytes
+abbrev pub RowBytesLaw : Type 0
+RowBytesLaw =
+    ((bytes : List ℕ) → head_len ≤ length bytes → row_bytes (row_of bytes) ≡ bytes)
+    × ((bytes : List ℕ) → put_bytes (entry_row bytes) ≡ bytes)
 
 -- the keys of some rows, in their order
 abbrev pub keys_of : List StoredRow → List (List ℕ)

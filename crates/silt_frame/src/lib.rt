@@ -5,12 +5,14 @@
 //! A gate is one byte, and open exactly where it is 0xA7.
 #![tactic(auto)]
 
+mod digest;
 mod entry;
 mod gate;
 mod head;
 mod key;
 mod value;
 
+pub use digest::{Digest, row_bytes_law};
 pub use entry::{entry_of, entry_reads_back, write_entry};
 pub use gate::{GATE_CLOSED, GATE_OPEN, gates_differ, is_open};
 pub use head::{HEAD_LEN, head_bytes, head_of, head_reads_back};
