@@ -57,7 +57,7 @@ length_left bytes at end window ready left shows =
     sym (ap length shows.view) ∙ length-take-le (end - at) (drop at (bits_of bytes)) (omega arith)
 
 -- what is left after w bits
-left_after : (bytes : List ℕ) (at end window ready w : ℕ) (left : List ℕ) → Shows bytes at end window ready left → w ≤ end - at → take (end - (at + w)) (drop (at + w) (bits_of bytes)) ≡ drop w left
+pub left_after : (bytes : List ℕ) (at end window ready w : ℕ) (left : List ℕ) → Shows bytes at end window ready left → w ≤ end - at → take (end - (at + w)) (drop (at + w) (bits_of bytes)) ≡ drop w left
 left_after bytes at end window ready w left shows within =
     let count : end - at ≡ w + (end - (at + w)) = let ordered = shows.is.ordered in omega arith in
     let bits = bits_of bytes in

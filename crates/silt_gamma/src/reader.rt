@@ -70,6 +70,16 @@ impl<'a> BitReader<'a> {
         self.at += width;
         Some((window >> (64 - width)) as u32)
     }
+
+    /// Takes so many bits off the front.
+    pub fn skip(&mut self, count: usize)
+        requires { count ≤ length self.old }
+        ensures { self.new ≡ drop count self.old }
+    {
+        self.at += count;
+        self.window = 0;
+        self.ready = 0;
+    }
 }
 
 /// The window where it has all of the code that it begins with, and else one that is read anew.

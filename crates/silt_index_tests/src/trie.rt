@@ -179,32 +179,89 @@ fn locates_in_one_buffer(rt: HostRuntime) -> Result<(), Fail> {
     Ok(())
 }
 
+/// A pseudo-random key whose first byte has no other bits than these.
+fn random_key(number: u32, firsts: u8) -> Key {
+    let mut bytes = Sha1::digest(&number.to_be_bytes());
+    bytes[0] &= firsts;
+    Key(bytes)
+}
+
 /// So many pseudo-random keys, in their order.
-fn random_keys(alloc: Global, count: u32) -> Result<Vec<Key>, AllocError> {
+fn random_keys(alloc: Global, count: u32, firsts: u8) -> Result<Vec<Key>, AllocError> {
     let mut keys = Vec::new(alloc);
     for number in 0..count {
-        keys.push(Key(Sha1::digest(&number.to_be_bytes())))?;
+        keys.push(random_key(number, firsts))?;
     }
     keys.sort_unstable();
     Ok(keys)
 }
 
+/// How many of the first pseudo-random keys a look finds elsewhere than a search among all keys
+/// does. An absent key may have any place among the keys.
+fn misplaced(marked: &MarkedTrie, keys: &[Key], count: u32, firsts: u8) -> u32 {
+    let mut wrong = 0u32;
+    for number in 0..count {
+        let key = random_key(number, firsts);
+        let place = marked.locate_marked(&key);
+        let right = match keys.binary_search(&key) {
+            Ok(at) => place == Some(at),
+            Err(_) => place.unwrap_or(0) < keys.len(),
+        };
+        if !right {
+            wrong = wrong.saturating_add(1);
+        }
+    }
+    wrong
+}
+
 #[test]
 fn marks_locate_as_a_search_does(rt: HostRuntime) -> Result<(), Fail> {
     let alloc = rt.alloc();
-    let keys = random_keys(alloc, 6_000)?;
+    let keys = random_keys(alloc, 6_000, 255)?;
     assert!(rt; is_codable(&keys, 0));
     for levels in [8, 11] {
         let marked = MarkedTrie::encode(alloc, &keys, 0, 8, levels)?;
         assert_eq!(rt; marked.len(), 6_000);
-        for number in 0..12_000u32 {
-            let key = Key(Sha1::digest(&number.to_be_bytes()));
-            let place = marked.locate_marked(&key);
-            match keys.binary_search(&key) {
-                Ok(at) => assert_eq!(rt; place, Some(at)),
-                Err(_) => assert!(rt; place.unwrap_or(0) < 6_000),
-            }
-        }
+        assert_eq!(rt; misplaced(&marked, &keys, 12_000, 255), 0);
+    }
+    Ok(())
+}
+
+#[test]
+fn marks_locate_in_many_keys_each(rt: HostRuntime) -> Result<(), Fail> {
+    let alloc = rt.alloc();
+    for count in [1, 300, 4_000] {
+        let keys = random_keys(alloc, count, 1)?;
+        assert!(rt; is_codable(&keys, 0));
+        let marked = MarkedTrie::encode(alloc, &keys, 0, 8, 8)?;
+        assert_eq!(rt; misplaced(&marked, &keys, 6_000, 1), 0);
+    }
+    Ok(())
+}
+
+/// Pairs of keys that differ in their last bit, so that a pair has a long code. All keys have first
+/// byte 0; of the 336 pairs 256 have bit 0 next.
+fn paired_keys(alloc: Global) -> Result<Vec<Key>, AllocError> {
+    let mut keys = Vec::new(alloc);
+    for number in 0..336u16 {
+        let mut bytes = [0; 20];
+        bytes[1..3].copy_from_slice(&(number << 7).to_be_bytes());
+        keys.push(Key(bytes))?;
+        bytes[19] = 1;
+        keys.push(Key(bytes))?;
+    }
+    Ok(keys)
+}
+
+#[test]
+fn marks_code_that_is_too_long_to_skip(rt: HostRuntime) -> Result<(), Fail> {
+    let alloc = rt.alloc();
+    let keys = paired_keys(alloc)?;
+    assert!(rt; is_codable(&keys, 0));
+    let marked = MarkedTrie::encode(alloc, &keys, 0, 8, 8)?;
+    assert!(rt; marked.memory() > 257 * 72 + 2 * 8_192); // more than 65,535 bits on the left
+    for (at, key) in keys.iter().enumerate() {
+        assert_eq!(rt; marked.locate_marked(key), Some(at));
     }
     Ok(())
 }
@@ -215,7 +272,7 @@ fn marks_few_keys(rt: HostRuntime) -> Result<(), Fail> {
     let keys = [key(0, 0), key(0, 0x40), key(0, 0x80)];
     assert!(rt; is_codable(&keys, 0));
     let marked = MarkedTrie::encode(alloc, &keys, 0, 8, 9)?;
-    assert_eq!(rt; marked.memory(), 1 + 8 * 513); // six bits, and a mark for each of the prefixes and one behind them
+    assert_eq!(rt; marked.memory(), 1 + 72 * 513); // six bits, and a mark for each of the prefixes and one behind them
     assert_eq!(rt; marked.locate_marked(&key(0, 0)), Some(0));
     assert_eq!(rt; marked.locate_marked(&key(0, 0x40)), Some(1));
     assert_eq!(rt; marked.locate_marked(&key(0, 0x80)), Some(2));
@@ -227,9 +284,10 @@ fn marks_few_keys(rt: HostRuntime) -> Result<(), Fail> {
 #[test]
 fn chooses_levels(rt: HostRuntime) {
     assert_eq!(rt; levels_for(0), 8);
-    assert_eq!(rt; levels_for(40_960), 8);
-    assert_eq!(rt; levels_for(40_961), 9);
-    assert_eq!(rt; levels_for(1_000_000), 13);
+    assert_eq!(rt; levels_for(131_072), 8);
+    assert_eq!(rt; levels_for(131_073), 9);
+    assert_eq!(rt; levels_for(1_000_000), 11);
+    assert_eq!(rt; levels_for(16_000_000), 15);
     assert_eq!(rt; levels_for(usize::MAX), 24);
 }
 
@@ -279,22 +337,22 @@ fn builds_a_key_for_each_group(rt: HostRuntime) -> Result<(), Fail> {
         keys.push(key(first, 7))?;
     }
     check_built(&rt, alloc, &keys)?;
-    assert_eq!(rt; build(&rt, alloc, &keys)?.memory(), 8 * 257); // no bit of code
+    assert_eq!(rt; build(&rt, alloc, &keys)?.memory(), 72 * 257); // no bit of code
     Ok(())
 }
 
 #[test]
 fn builds_random_keys(rt: HostRuntime) -> Result<(), Fail> {
     let alloc = rt.alloc();
-    check_built(&rt, alloc, &random_keys(alloc, 3_000)?)?;
+    check_built(&rt, alloc, &random_keys(alloc, 3_000, 255)?)?;
     Ok(())
 }
 
 #[test]
 fn builds_more_marks(rt: HostRuntime) -> Result<(), Fail> {
     let alloc = rt.alloc();
-    let keys = random_keys(alloc, 500)?;
-    let mut builder = MarkedTrieBuilder::new(alloc, 100_000);
+    let keys = random_keys(alloc, 500, 255)?;
+    let mut builder = MarkedTrieBuilder::new(alloc, 400_000);
     for key in &keys {
         assert!(rt; builder.len() < 10_000);
         assert!(rt; builder.push(*key)?);
@@ -330,10 +388,10 @@ fn refuses_keys_that_do_not_rise(rt: HostRuntime) -> Result<(), Fail> {
 fn takes_little_memory(rt: HostRuntime) -> Result<(), Fail> {
     let alloc = rt.alloc();
     let none = MarkedTrie::encode(alloc, &[], 0, 8, 8)?;
-    assert_eq!(rt; none.memory(), 257 * 8);
+    assert_eq!(rt; none.memory(), 257 * 72);
     let keys = [key(0, 0), key(0, 0x40), key(0, 0x80)];
     assert!(rt; is_codable(&keys, 0));
     let few = MarkedTrie::encode(alloc, &keys, 0, 8, 8)?;
-    assert_eq!(rt; few.memory(), 257 * 8 + 1);
+    assert_eq!(rt; few.memory(), 257 * 72 + 1);
     Ok(())
 }

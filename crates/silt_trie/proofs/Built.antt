@@ -7,7 +7,7 @@ use Rattle.silt_frame.specs.declared.key.Key.{Key}
 use Rattle.silt_trie.specs.Building.{Building, HasGroups, IsBuildingOf, group_of, group_under_way}
 use Rattle.silt_trie.specs.Code.{IsCodable, trie_code}
 use Rattle.silt_trie.specs.Coded.{bytes_of}
-use Rattle.silt_trie.specs.Marks.{IsMadeOf, MarkedCode, grouped_code, marks_of}
+use Rattle.silt_trie.specs.Marks.{IsMadeOf, MarkedCode, grouped_code, mark_behind, marks_of}
 use Rattle.silt_trie.specs.declared.marks.Mark.{Mark}
 use Rattle.silt_trie.proofs.Codes.{length-bytes_of}
 use Rattle.silt_trie.proofs.Gathered.{codable_none}
@@ -66,7 +66,7 @@ coded_group n keys old new place small has most levels count none place_is code 
     }
 
 -- where all groups are coded it is made of all keys
-pub made_of : (keys : List (List ℕ)) (b : Building) (made : MarkedCode) → IsCodable keys 0 → HasGroups 256 keys b → 8 ≤ b.levels → made ≡ record { code = b.code; marks = b.marks ++ record { start = length b.code; place = b.count } ∷ []; count = b.count; depth = 0; groups = 8; levels = b.levels } → IsMadeOf keys made
+pub made_of : (keys : List (List ℕ)) (b : Building) (made : MarkedCode) → IsCodable keys 0 → HasGroups 256 keys b → 8 ≤ b.levels → made ≡ record { code = b.code; marks = b.marks ++ mark_behind b.code b.count ∷ []; count = b.count; depth = 0; groups = 8; levels = b.levels } → IsMadeOf keys made
 made_of keys b made codable has most made_is =
     let done = has.done in
     let none : bytes_of b.group ≡ [] = none_below (λ key. group_of key ≡ 256) (bytes_of b.group) (λ key is. let small = number_below 8 0 key in omega arith) has.alike in
@@ -77,8 +77,8 @@ made_of keys b made codable has most made_is =
     rw made_is (record {
       codable = codable;
       code_is = has.code_is ∙ ap (λ (ks : List (List ℕ)). grouped_code 8 ks 0) all;
-      marks_are = ap (λ (ms : List Mark). ms ++ record { start = length b.code; place = b.count } ∷ []) (has.marks_are ∙ whole ∙ ap (λ (ks : List (List ℕ)). marks_of b.levels 8 ks 0 0 0) all)
-          ∙ ap (λ (n : ℕ). marks_of b.levels 8 keys 0 0 0 ++ record { start = length b.code; place = n } ∷ []) has.count_is;
+      marks_are = ap (λ (ms : List Mark). ms ++ mark_behind b.code b.count ∷ []) (has.marks_are ∙ whole ∙ ap (λ (ks : List (List ℕ)). marks_of b.levels 8 ks 0 0 0) all)
+          ∙ ap (λ (n : ℕ). marks_of b.levels 8 keys 0 0 0 ++ mark_behind b.code n ∷ []) has.count_is;
       count_is = has.count_is;
     })
 
@@ -112,9 +112,9 @@ way_small (Some last) = number_below 8 0 last.0
 
 -- code and marks with the mark behind all keys are made of the keys that they are built of
 pub finished : {E : Type 0} (r : Result MarkedCode E) (old seen now : Building) → now ≡ seen → ((keys : List (List ℕ)) → HasGroups (group_under_way old.last) keys old → group_under_way old.last ≤ 256 → HasGroups 256 keys seen) → 8 ≤ now.levels
-    → IfOk r (λ made. made ≡ record { code = now.code; marks = now.marks ++ record { start = length now.code; place = now.count } ∷ []; count = now.count; depth = 0; groups = 8; levels = now.levels })
+    → IfOk r (λ made. made ≡ record { code = now.code; marks = now.marks ++ mark_behind now.code now.count ∷ []; count = now.count; depth = 0; groups = 8; levels = now.levels })
     → IfOk r (λ made. (keys : List (List ℕ)) → IsBuildingOf keys old → IsMadeOf keys made)
-finished r old seen now view coded most = IfOk-weaker r (λ made. made ≡ record { code = now.code; marks = now.marks ++ record { start = length now.code; place = now.count } ∷ []; count = now.count; depth = 0; groups = 8; levels = now.levels })
+finished r old seen now view coded most = IfOk-weaker r (λ made. made ≡ record { code = now.code; marks = now.marks ++ mark_behind now.code now.count ∷ []; count = now.count; depth = 0; groups = 8; levels = now.levels })
     (λ made. (keys : List (List ℕ)) → IsBuildingOf keys old → IsMadeOf keys made)
     (λ made made_is keys building.
     let small = way_small old.last in

@@ -101,7 +101,7 @@ rights_grow : (d : ℕ) (xs ys : List (List ℕ)) → All (λ key. bit_of d key 
 rights_grow d xs ys high = filter-append (λ key. bit_of d key == 1) xs ys ∙ ap (λ (ks : List (List ℕ)). with_bit 1 d xs ++ ks) (all_kept 1 d ys high)
 
 -- each key is on one side
-length_sides : (d : ℕ) (keys : List (List ℕ)) → length (with_bit 0 d keys) + length (with_bit 1 d keys) ≡ length keys
+pub length_sides : (d : ℕ) (keys : List (List ℕ)) → length (with_bit 0 d keys) + length (with_bit 1 d keys) ≡ length keys
 length_sides d [] = refl
 length_sides d (key ∷ keys) =
     let rest = length_sides d keys in

@@ -6,5 +6,6 @@ pub mod Pending
 pub mod Gathered
 pub mod MarkedKeys
 pub mod Groups
+pub mod SkipsOf
 pub mod Built
 pub mod Above

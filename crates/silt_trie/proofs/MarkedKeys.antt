@@ -12,7 +12,7 @@ use Rattle.std.proofs.Math.Nat.{pow-succ'}
 use Rattle.std.proofs.Math.Pow.{pow_mono}
 use Rattle.silt_gamma.specs.Gamma.{gamma_code}
 use Rattle.silt_trie.specs.Code.{bit_of, with_bit, trie_code, IsCodable, StandsAt}
-use Rattle.silt_trie.specs.Marks.{prefix_of, number_of_bits, AreBits, GroupsLaw, prefixes, sub_keys, grouped_code, head_code, marks_of, MarkLaw, MarkedCode, IsMadeOf, IsPlaceBetween}
+use Rattle.silt_trie.specs.Marks.{prefix_of, number_of_bits, AreBits, GroupsLaw, prefixes, sub_keys, grouped_code, head_code, marks_of, mark_behind, skip_levels, skips_of, MarkLaw, MarkedCode, IsMadeOf, IsPlaceBetween}
 use Rattle.silt_trie.specs.Coded.{bytes_of}
 use Rattle.silt_frame.specs.declared.key.Key.{Key}
 use Rattle.silt_trie.proofs.KeyBits.{bit_small}
@@ -92,6 +92,7 @@ pub record Marked (p : List ℕ) (d e start place : ℕ) (bits : List ℕ) (keys
   pub upto : mark.start + length (trie_code (sub_keys keys d p) e) ≤ next.start
   pub count : next.place ≡ mark.place + length (sub_keys keys d p)
   pub stands : (i : ℕ) (key : List ℕ) → StandsAt keys i key → prefix_of (length p) d key ≡ p → (mark.place ≤ place + i) × StandsAt (sub_keys keys d p) (place + i - mark.place) key
+  pub skips : mark.skips ≡ skips_of skip_levels (sub_keys keys d p) e
   pub from : (i : ℕ) → i < length (sub_keys keys d p) → (place ≤ mark.place + i) × StandsAt keys (mark.place + i - place) (get_or (sub_keys keys d p) i []) × (prefix_of (length p) d (get_or (sub_keys keys d p) i []) ≡ p)
 
 -- what stands on the left stands among all keys
@@ -130,6 +131,7 @@ marked_left p d e start place bits head lefts rights keys mark next codable part
       begins = omega arith;
       upto = inside.upto;
       count = inside.count;
+      skips = inside.skips;
       stands = λ i key stands same. inside.stands i key (stands_left d i key keys codable stands (ap (λ (xs : List ℕ). get_or xs 0 0) same)) (ap (λ (xs : List ℕ). drop 1 xs) same);
       from = λ i h.
           let key = get_or (sub_keys (with_bit 0 d keys) (d + 1) p) i [] in
@@ -156,6 +158,7 @@ marked_right p d e start place bits head lefts rights keys mark next codable par
       begins = omega arith;
       upto = inside.upto;
       count = inside.count;
+      skips = inside.skips;
       stands = λ i key stands same.
           let one_bit : bit_of d key ≡ 1 = ap (λ (xs : List ℕ). get_or xs 0 0) same in
           let right = stands_right d i key keys codable stands (λ e. absurd (omega arith)) in
@@ -188,6 +191,7 @@ marked [] g d e start place keys more other bits codable groups deep within last
       begins = omega arith;
       upto = let same_code = ap (λ (h : ℕ). length (grouped_code h keys d)) none in let same_depth = ap (λ (x : ℕ). length (trie_code keys x)) same in omega arith;
       count = last;
+      skips = ap (λ (x : ℕ). skips_of skip_levels keys x) same;
       stands = λ i key stands same. let e : place + i - place ≡ i = omega arith in (omega arith, subst (λ (j : ℕ). StandsAt keys j key) (sym e) stands);
       from = λ i h. let e : place + i - place ≡ i = omega arith in (omega arith, subst (λ (j : ℕ). StandsAt keys j (get_or keys i [])) (sym e) (h, refl), refl);
     }
@@ -247,6 +251,7 @@ mark_law g d keys prefix last other codable bits groups within count last_start 
       from = λ i h. let there = found.from i h in (subst (λ (j : ℕ). StandsAt keys j (get_or (sub_keys keys d prefix) i [])) (less_none _) there.1, there.2);
       code = (found.back, drop_front _ found.front _ _ (omega arith) found.code);
       upto = found.upto;
+      skips = found.skips;
     }
 
 -- the bits of a key are bits
@@ -279,7 +284,7 @@ prefix_small m d at key few is =
 pub in_range : (made : MarkedCode) (keys : List (List ℕ)) (at : ℕ) (key : List ℕ) → IsMadeOf keys made → at ≡ number_of_bits (prefix_of made.levels made.depth key) → at + 1 < length made.marks
 in_range made keys at key is at_is =
     let p = prefix_of made.levels made.depth key in
-    let last : Mark = record { start = length made.code; place = length keys } in
+    let last : Mark = mark_behind made.code (length keys) in
     let small = number_small p (prefix_bits made.levels made.depth key) in
     let size = ap (λ (n : ℕ). 2 ^ n) (length-prefix_of made.levels made.depth key) in
     let count = ap length is.marks_are ∙ length-append (marks_of made.levels made.groups keys made.depth 0 0) (last ∷ []) in
@@ -294,7 +299,7 @@ located made keys i at key mark next found is stands within groups at_is mark_is
     let g = made.groups in
     let p = prefix_of made.levels d key in
     let size = length-prefix_of made.levels d key in
-    let last : Mark = record { start = length made.code; place = length keys } in
+    let last : Mark = mark_behind made.code (length keys) in
     let marks = marks_of (length p) g keys d 0 0 ++ last ∷ [] in
     let marks_is : marks ≡ made.marks = ap (λ (n : ℕ). marks_of n g keys d 0 0 ++ last ∷ []) size ∙ sym is.marks_are in
     let one : get_or marks (number_of_bits p) mark ≡ mark = ap (λ (ms : List Mark). get_or ms (number_of_bits p) mark) marks_is ∙ ap (λ (j : ℕ). get_or made.marks j mark) (sym at_is) ∙ sym mark_is in
@@ -306,7 +311,7 @@ located made keys i at key mark next found is stands within groups at_is mark_is
     let from = inside.0 in
     let begins = here.begins in
     let e : mark.place + (0 + i - mark.place) ≡ i = omega arith in
-    place (sub_keys keys d p) (0 + i - mark.place) here.back here.codable here.count here.upto (drop_front mark.start here.front _ made.code (omega arith) (is.code_is ∙ here.code)) inside.1 ∙ ap (λ (j : ℕ). Some j) e
+    place (sub_keys keys d p) (0 + i - mark.place) here.back here.codable here.count here.upto (drop_front mark.start here.front _ made.code (omega arith) (is.code_is ∙ here.code)) here.skips inside.1 ∙ ap (λ (j : ℕ). Some j) e
 
 -- the code of keys, written part by part
 pub code_marked : (g h d left : ℕ) (keys lefts rights : List Key) (old first second third : List ℕ) → IsCodable (bytes_of keys) d → d < 160 → h ≡ g - 1 → left ≡ length (with_bit 0 d (bytes_of keys)) → lefts ≡ take left keys → rights ≡ drop left keys

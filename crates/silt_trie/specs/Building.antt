@@ -18,10 +18,11 @@ pub record Building : Type 0 where
   pub last : Option Key
   pub levels : ℕ
 
--- marks by so many bits leave at most 160 of so many keys a mark, where these are spread evenly and 24 bits are enough, and fewer bits would not
+-- marks by so many bits leave at most 512 of so many keys a mark, 16 for each of its 32 parts, where these are spread evenly and 24 bits are enough,
+-- and fewer bits would not
 pub record SuitsKeys (count levels : ℕ) : Type 0 where
-  pub enough : levels < 24 → count ≤ 160 * 2 ^ levels
-  pub least : 8 < levels → 160 * 2 ^ (levels - 1) < count
+  pub enough : levels < 24 → count ≤ 512 * 2 ^ levels
+  pub least : 8 < levels → 512 * 2 ^ (levels - 1) < count
 
 -- a key is above the last one
 abbrev pub is_above : Option Key → List ℕ → Bool

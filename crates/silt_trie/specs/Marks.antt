@@ -1,5 +1,5 @@
 -- Marks into the codes of groups of keys: where in them the codes of parts of the keys begin.
-use Rattle.std.specs.Prelude.{◌≡◌, ℕ, zero, suc, ◌+◌, ◌-◌, ◌*◌, ◌^◌, ◌<◌, ◌≤◌, nat_le, if◌then◌else◌, List, [], ◌∷◌, ◌++◌, length, map, drop, slice_index, slice_index_or, Option, Some}
+use Rattle.std.specs.Prelude.{◌≡◌, ℕ, zero, suc, ◌+◌, ◌-◌, ◌*◌, ◌^◌, ◌<◌, ◌≤◌, nat_le, min, if◌then◌else◌, List, [], ◌∷◌, ◌++◌, length, map, drop, replicate, slice_index, slice_index_or, Option, Some, IfSome}
 use Rattle.std.specs.List.{flat_map}
 use Rattle.silt_gamma.specs.Gamma.{gamma_code}
 use Rattle.silt_trie.specs.Code.{IsCodable, StandsAt, bit_of, trie_code, with_bit}
@@ -34,19 +34,53 @@ abbrev pub head_code : ℕ → List (List ℕ) → ℕ → List ℕ
 head_code zero keys d = if nat_le 2 (length keys) then gamma_code (length (with_bit 0 d keys) + 1) else []
 head_code (suc g) keys d = []
 
+-- into how many bits behind its prefix a mark goes
+abbrev pub skip_levels : ℕ
+skip_levels = 5
+
+-- how many bits the code of keys takes, where it takes fewer than 65,535
+abbrev pub skip_over : List (List ℕ) → ℕ → ℕ
+skip_over keys d = min (length (trie_code keys d)) 65535
+
+-- How many bits the code of the keys on the left takes: of all keys, and then of both parts that the next bit makes of
+-- them, and so on for m bits, the left part with all its parts first.
+unfoldable pub skips_of : ℕ → List (List ℕ) → ℕ → List ℕ
+skips_of zero keys d = []
+skips_of (suc m) keys d = skip_over (with_bit 0 d keys) (d + 1) ∷ (skips_of m (with_bit 0 d keys) (d + 1) ++ skips_of m (with_bit 1 d keys) (d + 1))
+
+-- the skip over the code of these keys, or none
+abbrev pub IsSkipOf : List (List ℕ) → ℕ → Option ℕ → Type 0
+IsSkipOf keys d skip = IfSome skip (λ n. n ≡ skip_over keys d)
+
+-- the skips of keys, divided: the one over the left side, those into it, and those into the right side
+pub record AreSkipsInto (m : ℕ) (keys : List (List ℕ)) (d : ℕ) (skip : Option ℕ) (lefts rights : List ℕ) : Type 0 where
+  pub over : IsSkipOf (with_bit 0 d keys) (d + 1) skip
+  pub left : lefts ≡ skips_of (m - 1) (with_bit 0 d keys) (d + 1)
+  pub right : rights ≡ skips_of (m - 1) (with_bit 1 d keys) (d + 1)
+
+-- where bits begin with the code of so many keys, and the skips are those of these keys, this is the place of a key that is one of them
+abbrev pub IsPlaceBySkips : List ℕ → ℕ → ℕ → List ℕ → List ℕ → ℕ → Type 0
+IsPlaceBySkips bits count depth skips key place =
+    (m : ℕ) (keys : List (List ℕ)) (i : ℕ) (rest : List ℕ)
+    → IsCodable keys depth → length keys ≡ count → bits ≡ trie_code keys depth ++ rest → skips ≡ skips_of m keys depth → StandsAt keys i key → place ≡ i
+
 -- the marks of all prefixes of m bits from d on, by their numbers: the code of the keys, grouped by g bits, begins at `start`,
 -- and `place` keys stand before them
 abbrev pub marks_of : ℕ → ℕ → List (List ℕ) → ℕ → ℕ → ℕ → List Mark
-marks_of zero g keys d start place = record { start = start; place = place } ∷ []
+marks_of zero g keys d start place = record { start = start; place = place; skips = skips_of skip_levels keys d } ∷ []
 marks_of (suc m) g keys d start place =
     let lefts = with_bit 0 d keys in
     let rights = with_bit 1 d keys in
     let behind = start + length (head_code g keys d) in
     marks_of m (g - 1) lefts (d + 1) behind place ++ marks_of m (g - 1) rights (d + 1) (behind + length (grouped_code (g - 1) lefts (d + 1))) (place + length lefts)
 
+-- the mark behind all keys, where there are so many, and this is their code
+abbrev pub mark_behind : List ℕ → ℕ → Mark
+mark_behind code count = record { start = length code; place = count; skips = replicate (2 ^ skip_levels - 1) 0 }
+
 -- What a mark into bits says of the keys with a prefix, where `next` is the mark that follows: there are as many as
 -- `next` has more, they are those that stand among all keys from `place` on, and from bit `start` on the bits begin
--- with their code, which ends before that of `next` begins.
+-- with their code, which ends before that of `next` begins; and the skips are those of these keys.
 pub record IsMark (bits : List ℕ) (keys : List (List ℕ)) (d : ℕ) (prefix : List ℕ) (mark next : Mark) : Type 0 where
   pub codable : IsCodable (sub_keys keys d prefix) (d + length prefix)
   pub count : next.place ≡ mark.place + length (sub_keys keys d prefix)
@@ -54,6 +88,7 @@ pub record IsMark (bits : List ℕ) (keys : List (List ℕ)) (d : ℕ) (prefix :
   pub from : (i : ℕ) → i < length (sub_keys keys d prefix) → StandsAt keys (mark.place + i) (slice_index_or (sub_keys keys d prefix) i []) × (prefix_of (length prefix) d (slice_index_or (sub_keys keys d prefix) i []) ≡ prefix)
   pub code : (rest : List ℕ) × (drop mark.start bits ≡ trie_code (sub_keys keys d prefix) (d + length prefix) ++ rest)
   pub upto : mark.start + length (trie_code (sub_keys keys d prefix) (d + length prefix)) ≤ next.start
+  pub skips : mark.skips ≡ skips_of skip_levels (sub_keys keys d prefix) (d + length prefix)
 
 -- the marks of keys, with one behind all keys, are marks into their code
 abbrev pub MarkLaw : Type 0
@@ -86,15 +121,16 @@ pub record MarkedCode : Type 0 where
 pub record IsMadeOf (keys : List (List ℕ)) (made : MarkedCode) : Type 0 where
   pub codable : IsCodable keys made.depth
   pub code_is : made.code ≡ grouped_code made.groups keys made.depth
-  pub marks_are : made.marks ≡ marks_of made.levels made.groups keys made.depth 0 0 ++ record { start = length made.code; place = length keys } ∷ []
+  pub marks_are : made.marks ≡ marks_of made.levels made.groups keys made.depth 0 0 ++ mark_behind made.code (length keys) ∷ []
   pub count_is : made.count ≡ length keys
 
 -- this is the place of a key that is one of the keys that it was made of
 abbrev pub IsMarkedPlace : MarkedCode → List ℕ → Option ℕ → Type 0
 IsMarkedPlace made key found = (keys : List (List ℕ)) (i : ℕ) → IsMadeOf keys made → StandsAt keys i key → found ≡ Some i
 
--- between two marks the bits have keys at this depth, and this is the place of one of these
+-- where between two marks the bits have keys at this depth, and the first mark's skips are theirs, this is the place of one of these
 abbrev pub IsPlaceBetween : List ℕ → Mark → Mark → ℕ → List ℕ → Option ℕ → Type 0
 IsPlaceBetween bits mark next depth key found =
     (keys : List (List ℕ)) (i : ℕ) (rest : List ℕ)
-    → IsCodable keys depth → next.place ≡ mark.place + length keys → mark.start + length (trie_code keys depth) ≤ next.start → drop mark.start bits ≡ trie_code keys depth ++ rest → StandsAt keys i key → found ≡ Some (mark.place + i)
+    → IsCodable keys depth → next.place ≡ mark.place + length keys → mark.start + length (trie_code keys depth) ≤ next.start → drop mark.start bits ≡ trie_code keys depth ++ rest
+    → mark.skips ≡ skips_of skip_levels keys depth → StandsAt keys i key → found ≡ Some (mark.place + i)

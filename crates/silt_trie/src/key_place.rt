@@ -2,8 +2,10 @@
 ghost use Rattle.std.specs.Prelude.{◌≡◌, ℕ, ◌+◌, ◌^◌, ◌<◌, ◌≤◌, List};
 ghost use Rattle.silt_gamma.specs.Gamma.{BeginsWithCode};
 ghost use Rattle.silt_trie.specs.Coded.{ArePast, IsPlaceIn};
+ghost use Rattle.silt_trie.specs.Marks.{IsPlaceBySkips};
 
 use super::key::{KEY_BITS, key_bit};
+use super::skips::{divide_skips, pass_code};
 use silt_frame::Key;
 use silt_gamma::BitReader;
 
@@ -19,36 +21,44 @@ pub fn locate_in(mut bits: BitReader<'_>, count: usize, depth: usize, key: &Key)
     ensures below { result < count }
     ensures place { IsPlaceIn bits.entry count depth key.now.0 result }
 {
-    locate_from(&mut bits, count as u32, depth, key) as usize
+    locate_from(&mut bits, count as u32, depth, key, &[]) as usize
 }
 
-/// The same, which takes codes off the front of the bits.
-fn locate_from(bits: &mut BitReader<'_>, count: u32, depth: usize, key: &Key) -> u32
+/// The same, which takes codes off the front of the bits, and passes over code on the left by the
+/// skips.
+pub(crate) fn locate_from(
+    bits: &mut BitReader<'_>,
+    count: u32,
+    depth: usize,
+    key: &Key,
+    skips: &[u16],
+) -> u32
     requires { 0 < count }
     ensures below { result < count }
-    ensures place { IsPlaceIn bits.old count depth key.now.0 result }
+    ensures place { IsPlaceBySkips bits.old count depth skips.now key.now.0 result }
 {
     if count < 2 || depth >= KEY_BITS {
         return 0;
     }
     let left = read_left(bits, count);
+    let (skip, lefts, rights) = divide_skips(skips);
     if key_bit(key, depth) == 0 {
         if left == 0 {
             return 0;
         }
-        return locate_from(bits, left, depth + 1, key);
+        return locate_from(bits, left, depth + 1, key, lefts);
     }
     if left == count {
         return 0;
     }
-    skip_code(bits, left, depth + 1);
-    left + locate_from(bits, count - left, depth + 1, key)
+    pass_code(bits, left, depth + 1, skip);
+    left + locate_from(bits, count - left, depth + 1, key, rights)
 }
 
 /// Takes the code of `count` keys off the front, in one pass. The numbers of keys whose codes are
 /// still to come are pending, the next one last; each has at least two keys, so that each turn of
 /// the loop takes one code.
-fn skip_code(bits: &mut BitReader<'_>, count: u32, depth: usize)
+pub(crate) fn skip_code(bits: &mut BitReader<'_>, count: u32, depth: usize)
     ensures { ArePast bits.old count depth bits.new }
 {
     if count < 2 {

@@ -10,9 +10,12 @@
 //!
 //! A look walks half of a code, so a [`MarkedTrie`] keeps marks: for each prefix of some bits where
 //! the code of the keys with that prefix begins, and how many keys stand before them. A look then
-//! walks the code of these keys alone. Its keys are in groups, whose codes stand one behind the
-//! other; marks of the groups' own bits are a table of the groups. A [`MarkedTrieBuilder`] makes one
-//! of keys that come one by one, and holds the keys of one group at a time.
+//! walks the code of these keys alone. A mark divides its keys into 32 parts, and says how many bits
+//! of code lie on the left, so that a look walks the code of one part.
+//!
+//! The keys of a `MarkedTrie` are in groups, whose codes stand one behind the other; marks of the
+//! groups' own bits are a table of the groups. A [`MarkedTrieBuilder`] makes one of keys that come
+//! one by one, and holds the keys of one group at a time.
 #![tactic(auto)]
 
 mod code_of_keys;
@@ -23,6 +26,7 @@ mod laws;
 mod marked_code;
 mod marked_trie;
 mod marks;
+mod skips;
 mod trie;
 mod trie_builder;
 

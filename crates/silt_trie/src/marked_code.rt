@@ -4,8 +4,9 @@ ghost use Rattle.silt_trie.specs.Code.{IsCodable, with_bit};
 ghost use Rattle.silt_trie.specs.Coded.{bytes_of};
 ghost use Rattle.silt_trie.specs.Marks.{grouped_code, head_code, marks_of};
 
-use super::code_of_keys::{count_left, write_code};
-use super::marks::Mark;
+use super::code_of_keys::count_left;
+use super::marks::{Mark, SKIPS};
+use super::skips::write_skipped;
 use silt_frame::Key;
 use silt_gamma::BitWriter;
 use std::alloc::AllocError;
@@ -31,8 +32,10 @@ pub fn write_marked(
         ≡ marks.old.items ++ marks_of levels groups (bytes_of keys.now) depth (length bits.old) place) }
 {
     if levels == 0 {
-        push_mark(marks, bits.len(), place)?;
-        return write_code(bits, keys, depth);
+        let start = bits.len();
+        let mut skips = [0; SKIPS];
+        write_skipped(bits, &mut skips, keys, depth)?;
+        return push_mark(marks, start, place, skips);
     }
     let left = write_head(bits, keys, depth, groups)?;
     let (lefts, rights) = keys.split_at(left);
@@ -50,11 +53,21 @@ pub fn write_marked(
 }
 
 /// Appends a mark. A place in the code that a `u32` can't count is want of memory too.
-pub fn push_mark(marks: &mut Vec<Mark>, start: usize, place: u32) -> Result<(), AllocError>
-    ensures { OnOk result (marks.new.items ≡ marks.old.items ++ record { start = start; place = place } ∷ []) }
+pub fn push_mark(
+    marks: &mut Vec<Mark>,
+    start: usize,
+    place: u32,
+    skips: [u16; SKIPS],
+) -> Result<(), AllocError>
+    ensures { OnOk result (marks.new.items
+        ≡ marks.old.items ++ record { start = start; place = place; skips = skips } ∷ []) }
 {
     let start = u32::try_from(start).map_err(|_| AllocError)?;
-    marks.push(Mark { start, place })?;
+    marks.push(Mark {
+        start,
+        place,
+        skips,
+    })?;
     Ok(())
 }
 

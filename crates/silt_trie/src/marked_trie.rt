@@ -2,22 +2,23 @@
 ghost use Rattle.std.specs.Prelude.{◌≡◌, ℕ, ◌+◌, ◌-◌, ◌*◌, ◌/◌, ◌^◌, ◌<◌, ◌≤◌, [], ◌∷◌, ◌++◌, length, min, IfOk, IfSome};
 ghost use Rattle.silt_trie.specs.Code.{IsCodable};
 ghost use Rattle.silt_trie.specs.Coded.{bytes_of};
-ghost use Rattle.silt_trie.specs.Marks.{IsMadeOf, IsMarkedPlace, IsPlaceBetween, MarkedCode};
+ghost use Rattle.silt_trie.specs.Marks.{IsMadeOf, IsMarkedPlace, IsPlaceBetween, MarkedCode, mark_behind};
 
-use super::key_place::locate_in;
+use super::key_place::locate_from;
 use super::marked_code::{push_mark, write_marked};
-use super::marks::{MOST_LEVELS, Mark, prefix_number};
+use super::marks::{MOST_LEVELS, Mark, SKIPS, prefix_number};
 use silt_frame::Key;
 use silt_gamma::BitWriter;
 use std::alloc::{AllocError, Global};
 use std::marker::Model;
 use std::mem::size_of;
 
-/// How many keys a mark is for, at most, where keys are spread evenly.
-const KEYS_A_MARK: usize = 160;
+/// How many keys a mark is for, at most, where keys are spread evenly: 16 for each of its parts.
+const KEYS_A_MARK: usize = 512;
 
 /// The codes of groups of keys, with marks of all prefixes of some bits, so that a look walks no
-/// more than the code of the keys with one prefix.
+/// more than the code of the keys with one prefix, and passes over the parts of it that lie on the
+/// left.
 #[derive(Drop)]
 pub struct MarkedTrie {
     bits: BitWriter,
@@ -84,14 +85,14 @@ impl MarkedTrie {
         requires counted { count < 2 ^ 32 }
         ensures { IfOk result (λ made. made ≡ record {
           code = bits;
-          marks = marks.items ++ record { start = length bits; place = count } ∷ [];
+          marks = marks.items ++ mark_behind bits count ∷ [];
           count = count;
           depth = depth;
           groups = groups;
           levels = levels;
         }) }
     {
-        push_mark(&mut marks, bits.len(), count as u32)?;
+        push_mark(&mut marks, bits.len(), count as u32, [0; SKIPS])?;
         marks.shrink_to_fit();
         bits.shrink_to_fit();
         Ok(MarkedTrie {
@@ -113,7 +114,7 @@ impl MarkedTrie {
 
     /// How many bytes of memory code and marks take, or the most that a `usize` can count.
     pub fn memory(&self) -> usize
-        ensures { result ≡ min ((length self.now.code + 7) / 8 + 8 * length self.now.marks) (2 ^ 64 - 1) }
+        ensures { result ≡ min ((length self.now.code + 7) / 8 + 72 * length self.now.marks) (2 ^ 64 - 1) }
     {
         let code = self.bits.len().div_ceil(8);
         code.saturating_add(self.marks.len().saturating_mul(size_of::<Mark>()))
@@ -129,7 +130,7 @@ impl MarkedTrie {
         if at + 1 >= self.marks.len() {
             return None;
         }
-        let (mark, next) = (self.marks[at], self.marks[at + 1]);
+        let (mark, next) = (&self.marks[at], &self.marks[at + 1]);
         let found = locate_between(&self.bits, mark, next, self.depth + self.levels, key);
         match found {
             Some(place) if place < self.count => Some(place),
@@ -142,31 +143,32 @@ impl MarkedTrie {
 /// begins at the first mark and which agree in their first `depth` bits.
 pub fn locate_between(
     bits: &BitWriter,
-    mark: Mark,
-    next: Mark,
+    mark: &Mark,
+    next: &Mark,
     depth: usize,
     key: &Key,
 ) -> Option<usize>
-    ensures within { IfSome result (λ place. (mark.place ≤ place) × (place < next.place)) }
-    ensures place { IsPlaceBetween bits.now mark next depth key.now.0 result }
+    ensures within { IfSome result (λ place. (mark.now.place ≤ place) × (place < next.now.place)) }
+    ensures place { IsPlaceBetween bits.now mark.now next.now depth key.now.0 result }
 {
     if next.place <= mark.place {
         return None;
     }
-    let count = (next.place - mark.place) as usize;
+    let count = next.place - mark.place;
     let start = (mark.start as usize).min(bits.len());
     let end = (next.start as usize).min(bits.len()).max(start);
-    let part = bits.reader(start, end - start);
-    Some(mark.place as usize + locate_in(part, count, depth, key))
+    let mut part = bits.reader(start, end - start);
+    let found = locate_from(&mut part, count, depth, key, &mark.skips);
+    Some(mark.place as usize + found as usize)
 }
 
 /// By how many bits to mark so many keys in groups: by 8, which are the groups, and by as many
-/// more as leave at most 160 keys a mark, where they are spread evenly, up to 16.
+/// more as leave at most 512 keys a mark, where they are spread evenly, up to 16.
 pub fn levels_for(count: usize) -> usize
     ensures groups { 8 ≤ result }
     ensures most { result ≤ 24 }
-    ensures enough { result < 24 → count ≤ 160 * 2 ^ result }
-    ensures least { 8 < result → 160 * 2 ^ (result - 1) < count }
+    ensures enough { result < 24 → count ≤ 512 * 2 ^ result }
+    ensures least { 8 < result → 512 * 2 ^ (result - 1) < count }
 {
     for levels in 8..MOST_LEVELS {
         if count <= KEYS_A_MARK << levels {

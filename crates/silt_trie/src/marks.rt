@@ -5,12 +5,24 @@ ghost use Rattle.silt_trie.specs.Marks.{GroupsLaw, MarkLaw, number_of_bits, pref
 use super::key::key_bit;
 use silt_frame::Key;
 
+/// Into how many bits behind its prefix a mark goes: it divides its keys into 32 parts.
+const SKIP_LEVELS: usize = 5;
+
+/// How many skips a mark has.
+pub(crate) const SKIPS: usize = (1 << SKIP_LEVELS) - 1;
+
 /// Where in some code that of the keys with one prefix begins, and how many keys stand before
 /// these.
+///
+/// The code of the keys says how many are on the left, but not where the code of the others begins.
+/// So `skips` says how many bits the code of the keys on the left takes: of all keys with the
+/// prefix, and then of both parts that the next bit makes of them, and so on for five bits; the
+/// left part with all its parts comes first. 65,535 bits and more are 65,535.
 #[derive(Clone, Copy, Debug, PartialEq, Eq)]
 pub struct Mark {
     pub start: u32,
     pub place: u32,
+    pub skips: [u16; SKIPS],
 }
 
 /// The most bits by which keys can be marked.
