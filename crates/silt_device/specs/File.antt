@@ -54,16 +54,24 @@ pub record IsOpenedFile {F : Type 0} (content : F → Content) (found : F → Ty
   pub told : measured disk.file metadata
   pub opened : IsOpened content (metadata_len metadata) disk
 
--- a disk in a file that was found, and then locked beside others, of the length that the system told of it: it has what the file held
-pub record IsSharedFile {F : Type 0} (content : F → Content) (found : F → Type 0) (shared : F → F → Type 0) (measured : F → Metadata → Type 0)
+-- a disk in a file that was opened and then locked, of the length that the system told of it: it has what the file held
+pub record IsFoundFile {F : Type 0} (content : F → Content) (found : F → Type 0) (locked : F → F → Type 0) (measured : F → Metadata → Type 0)
     (disk : FileState F) : Type 0 where
   pub first : F
   pub there : found first
-  pub held : shared first disk.file
+  pub held : locked first disk.file
   pub holds : content disk.file ≡ content first
   pub metadata : Metadata
   pub told : measured disk.file metadata
   pub opened : IsOpened content (metadata_len metadata) disk
+
+-- a file that was given this length and then synced: what it held up to this length is settled, with zeros behind it
+pub record IsResizedFile {F : Type 0} (content : F → Content) (resized : F → ℕ → F → Type 0) (synced : F → F → Type 0) (old : F) (len : ℕ) (new : F) : Type 0 where
+  pub mid : F
+  pub sized : resized old len mid
+  pub settled : synced mid new
+  pub cut : Resizes len (content old) (content mid)
+  pub holds : Settles (content mid) (content new)
 
 -- a file that was made, then locked, then given this length, and then synced: what it held up to this length is settled, with zeros behind it
 pub record IsMadeFile {F : Type 0} (content : F → Content) (made : F → Type 0) (locked : F → F → Type 0) (resized : F → ℕ → F → Type 0) (synced : F → F → Type 0)

@@ -1,5 +1,5 @@
 -- What a source of disks gives.
-use Rattle.std.specs.Prelude.{◌≡◌, ◌≢◌, ◌⊎◌, ℕ, List, string_bytes}
+use Rattle.std.specs.Prelude.{◌≡◌, ◌≢◌, ℕ, List, string_bytes}
 use Rattle.silt_disk.specs.Disk.{Content, size}
 use Rattle.silt_device.specs.declared.source.NamedDisk.{NamedDisk}
 
@@ -12,10 +12,10 @@ pub record NamedOpened {D : Type 0} (source : NamedDisk D) (path : List ℕ) (di
 abbrev pub NotNamed : {D : Type 0} → NamedDisk D → List ℕ → Type 0
 NotNamed source path = path ≢ string_bytes source.path
 
--- the disk is the source's one, the path its name, and this its length
-abbrev pub NamedCreated : {D : Type 0} → (D → Content) → NamedDisk D → List ℕ → ℕ → D → Type 0
-NamedCreated content source path len disk = NamedOpened source path disk × (size (content disk) ≡ len)
+-- the disk is the one that was found, and this is its length
+abbrev pub HasSize : {D : Type 0} → (D → Content) → D → ℕ → D → Type 0
+HasSize content old len new = (new ≡ old) × (size (content new) ≡ len)
 
--- the path is not the name of the source's disk, or this is not its length
-abbrev pub NotSized : {D : Type 0} → (D → Content) → NamedDisk D → List ℕ → ℕ → Type 0
-NotSized content source path len = NotNamed source path ⊎ (size (content source.disk) ≢ len)
+-- this is not the length of the disk
+abbrev pub NotSized : {D : Type 0} → (D → Content) → D → ℕ → Type 0
+NotSized content disk len = size (content disk) ≢ len

@@ -20,6 +20,16 @@ pub struct FileFault {
 }
 
 impl FileFault {
+    /// The call that failed.
+    pub fn call(&self) -> CallAt
+        ensures { result ≡ record { call = self.now.call; at = self.now.at } }
+    {
+        CallAt {
+            call: self.call,
+            at: self.at,
+        }
+    }
+
     /// The error that the system gave.
     pub fn error(&self) -> io::Error
         ensures { result ≡ self.now.error }
@@ -31,11 +41,7 @@ impl FileFault {
 // What failed, and the system's words for it.
 impl fmt::Display for FileFault {
     fn fmt<W: fmt::Write>(&self, f: &mut fmt::Formatter<W>) -> fmt::Result {
-        let call = CallAt {
-            call: self.call,
-            at: self.at,
-        };
-        let error = self.error;
+        let (call, error) = (self.call(), self.error);
         write!(f, "{call}: {error}")
     }
 }
@@ -68,18 +74,47 @@ impl<F: RandomAccessFile> Model for RandomAccessDisk<F> {
 
 impl<F: RandomAccessFile> RandomAccessDisk<F> {
     ghost use Rattle.std.specs.Fs.{metadata_len};
-    ghost use Rattle.silt_device.specs.File.{file_gave, HasLength, IsOpened, IsOpenedFile, IsMadeFile, IsSharedFile};
+    ghost use Rattle.silt_device.specs.File.{file_gave, HasLength, IsOpened, IsOpenedFile, IsFoundFile, IsMadeFile, IsResizedFile};
 
-    /// Makes the file, or takes the one that is there, locks it, gives it exactly this length in bytes, and syncs it and the folder
-    /// that it is in. What a file that is there held up to this length stays, and what is new are zeros. Where the path is a link,
-    /// the folder that is synced is that of the link. The lock goes with the disk: until the disk is dropped no other open of the
-    /// file gets one.
+    /// Opens the file that is there, or makes an empty one, and locks it. Nothing in it is changed: the disk has what the file holds,
+    /// at its length. The folder that it is in is synced; where the path is a link, that of the link. The lock goes with the disk:
+    /// until the disk is dropped no other open of the file gets one.
     ///
     /// # Errors
     ///
-    /// The error of the system, where the file cannot be opened or locked, and then nothing in it is changed, or where it or its
-    /// folder cannot be sized or synced. The file may then be there, at its old length or at the new one. A length of 2^63 or more
-    /// is always an error.
+    /// The error of the system, where the file cannot be opened, locked or measured, or its folder cannot be synced.
+    pub fn find<R: FileSystem<File = F>>(system: &R, path: &str) -> io::Result<RandomAccessDisk<F>>
+        ensures found { IfOk result (IsFoundFile F.content (R.made system.now path.now) (R.locked system.now) F.measured) }
+        ensures folder { OnOk result (R.folder_synced system.now path.now) }
+    {
+        let found = system.lock_file(system.make_file_at(path)?)?;
+        system.sync_folder_of(path)?;
+        let metadata = found.measure()?;
+        Ok(RandomAccessDisk::measured(found, &metadata))
+    }
+
+    /// Gives the file exactly this length in bytes, and syncs it. What it held up to this length stays, and what is new are zeros.
+    ///
+    /// # Errors
+    ///
+    /// The error of the system, where the file cannot be sized or synced. It may then have its old length or the new one. A length of
+    /// 2^63 or more is always an error.
+    pub fn resize(self, len: u64) -> io::Result<RandomAccessDisk<F>>
+        ensures opened { IfOk result (IsOpened F.content len) }
+        ensures resized { IfOk result (λ disk. IsResizedFile F.content F.resized F.synced self.file len disk.file) }
+        ensures too_long { 2 ^ 63 ≤ len → IsErr result }
+    {
+        let mut file = self.file.resize(len)?;
+        file.settle()?;
+        Ok(RandomAccessDisk::of_len(file, len))
+    }
+
+    /// Makes the file, or takes the one that is there, locks it, gives it exactly this length in bytes, and syncs it and the folder
+    /// that it is in. What a file that is there held up to this length stays, and what is new are zeros.
+    ///
+    /// # Errors
+    ///
+    /// Those of `find`, and then nothing in the file is changed, and those of `resize`.
     pub fn create<R: FileSystem<File = F>>(
         system: &R,
         path: &str,
@@ -90,10 +125,7 @@ impl<F: RandomAccessFile> RandomAccessDisk<F> {
         ensures folder { OnOk result (R.folder_synced system.now path.now) }
         ensures too_long { 2 ^ 63 ≤ len → IsErr result }
     {
-        let mut file = system.lock_file(system.make_file_at(path)?)?.resize(len)?;
-        file.settle()?;
-        system.sync_folder_of(path)?;
-        Ok(RandomAccessDisk::of_len(file, len))
+        RandomAccessDisk::find(system, path)?.resize(len)
     }
 
     /// Opens a file that is there, locks it, and syncs it, at the length that it then has: what an earlier process wrote and did
@@ -123,7 +155,7 @@ impl<F: RandomAccessFile> RandomAccessDisk<F> {
         system: &R,
         path: &str,
     ) -> io::Result<RandomAccessDisk<F>>
-        ensures opened { IfOk result (IsSharedFile F.content (R.opened_to_read system.now path.now) (R.shared system.now) F.measured) }
+        ensures opened { IfOk result (IsFoundFile F.content (R.opened_to_read system.now path.now) (R.shared system.now) F.measured) }
     {
         let found = system.share_file(system.open_file_to_read_at(path)?)?;
         let metadata = found.measure()?;

@@ -5,6 +5,7 @@ ghost use Rattle.silt_disk.specs.Disk.{size};
 use crate::FileDisk;
 use crate::system::FileSystem;
 use silt_disk::Disk;
+use std::alloc::Global;
 use std::fs::File;
 use std::io;
 use thiserror::Error;
@@ -29,11 +30,17 @@ pub trait DiskSource: Drop {
     /// The source answered that it cannot open a disk at this path to be read beside others, with this error.
     ghost not_shared: { Self → List ℕ → Self.Error → Type 0 };
 
-    /// The source made this disk, at this path and of this length in bytes.
-    ghost created: { Self → List ℕ → ℕ → Self.Disk → Type 0 };
+    /// The source opened this disk, at this path, or made it of no length, and changed nothing that it held.
+    ghost found: { Self → List ℕ → Self.Disk → Type 0 };
 
-    /// The source answered that it cannot make a disk at this path and of this length, with this error.
-    ghost not_created: { Self → List ℕ → ℕ → Self.Error → Type 0 };
+    /// The source answered that it can neither open nor make a disk at this path, with this error.
+    ghost not_found: { Self → List ℕ → Self.Error → Type 0 };
+
+    /// A disk that was found was given this length in bytes, and then it is the second one.
+    ghost resized: { Self.Disk → ℕ → Self.Disk → Type 0 };
+
+    /// A disk that was found cannot be given this length, with this error.
+    ghost not_resized: { Self.Disk → ℕ → Self.Error → Type 0 };
 
     /// Opens the disk that is there, for itself alone.
     fn open(self, path: &str) -> Result<Self::Disk, Self::Error>
@@ -45,11 +52,16 @@ pub trait DiskSource: Drop {
         ensures shared { IfOk result (shared self path.now) }
         ensures not_shared { IfErr result (not_shared self path.now) };
 
-    /// Makes a disk of this length in bytes, or takes the one that is there at exactly this length, for itself alone.
-    fn create(self, path: &str, len: u64) -> Result<Self::Disk, Self::Error>
-        ensures created { IfOk result (created self path.now len) }
-        ensures size { IfOk result (λ disk. size (Self.Disk.Disk.content disk) ≡ len) }
-        ensures not_created { IfErr result (not_created self path.now len) };
+    /// Opens the disk that is there, or makes one of no length, for itself alone. Nothing that it holds is changed.
+    fn find(self, path: &str) -> Result<Self::Disk, Self::Error>
+        ensures found { IfOk result (found self path.now) }
+        ensures not_found { IfErr result (not_found self path.now) };
+
+    /// Gives a disk that was found exactly this length in bytes.
+    fn resize(alloc: Global, disk: Self::Disk, len: u64) -> Result<Self::Disk, Self::Error>
+        ensures resized { IfOk result (resized disk len) }
+        ensures size { IfOk result (λ new. size (Self.Disk.Disk.content new) ≡ len) }
+        ensures not_resized { IfErr result (not_resized disk len) };
 }
 
 /// The files of a system, each of them a disk.
@@ -72,7 +84,7 @@ where
     S: FileSystem<File = File> + AllocGlobal + Drop,
 {
     ghost use Rattle.std.specs.Prelude.{⊤};
-    ghost use Rattle.silt_device.specs.File.{IsOpened, IsOpenedFile, IsMadeFile, IsSharedFile};
+    ghost use Rattle.silt_device.specs.File.{IsFoundFile, IsOpened, IsOpenedFile, IsResizedFile};
     ghost use Rattle.silt_assumption.specs.Files.{system_content};
 
     type Disk = FileDisk;
@@ -83,14 +95,17 @@ where
 
     ghost not_opened = { λ _ _ _. ⊤ };
 
-    ghost shared = { λ source path disk. IsSharedFile system_content (S.opened_to_read source.system path) (S.shared source.system) (λ _ _. ⊤) disk.inner.inner };
+    ghost shared = { λ source path disk. IsFoundFile system_content (S.opened_to_read source.system path) (S.shared source.system) (λ _ _. ⊤) disk.inner.inner };
 
     ghost not_shared = { λ _ _ _. ⊤ };
 
-    ghost created = { λ source path len disk. IsOpened system_content len disk.inner.inner
-        × IsMadeFile system_content (S.made source.system path) (S.locked source.system) (λ _ _ _. ⊤) (λ _ _. ⊤) len disk.inner.inner.file × S.folder_synced source.system path };
+    ghost found = { λ source path disk. IsFoundFile system_content (S.made source.system path) (S.locked source.system) (λ _ _. ⊤) disk.inner.inner × S.folder_synced source.system path };
 
-    ghost not_created = { λ _ _ _ _. ⊤ };
+    ghost not_found = { λ _ _ _. ⊤ };
+
+    ghost resized = { λ old len new. IsOpened system_content len new.inner.inner × IsResizedFile system_content (λ _ _ _. ⊤) (λ _ _. ⊤) old.inner.inner.file len new.inner.inner.file };
+
+    ghost not_resized = { λ _ _ _. ⊤ };
 
     fn open(self, path: &str) -> io::Result<FileDisk> {
         FileDisk::open(&self.system, path)
@@ -100,8 +115,12 @@ where
         FileDisk::open_shared(&self.system, path)
     }
 
-    fn create(self, path: &str, len: u64) -> io::Result<FileDisk> {
-        FileDisk::create(&self.system, path, len)
+    fn find(self, path: &str) -> io::Result<FileDisk> {
+        FileDisk::find(&self.system, path)
+    }
+
+    fn resize(alloc: Global, disk: FileDisk, len: u64) -> io::Result<FileDisk> {
+        disk.resize(alloc, len)
     }
 }
 
@@ -130,7 +149,7 @@ impl<D> NamedDisk<D> {
 }
 
 impl<D: Disk> DiskSource for NamedDisk<D> {
-    ghost use Rattle.silt_device.specs.Source.{NamedOpened, NotNamed, NamedCreated, NotSized};
+    ghost use Rattle.silt_device.specs.Source.{NamedOpened, NotNamed, HasSize, NotSized};
 
     type Disk = D;
 
@@ -144,9 +163,13 @@ impl<D: Disk> DiskSource for NamedDisk<D> {
 
     ghost not_shared = { λ source path _. NotNamed source path };
 
-    ghost created = { λ source path len disk. NamedCreated D.content source path len disk };
+    ghost found = { λ source path disk. NamedOpened source path disk };
 
-    ghost not_created = { λ source path len _. NotSized D.content source path len };
+    ghost not_found = { λ source path _. NotNamed source path };
+
+    ghost resized = { λ old len new. HasSize D.content old len new };
+
+    ghost not_resized = { λ old len _. NotSized D.content old len };
 
     fn open(self, path: &str) -> Result<D, NoSuchDisk> {
         if self.path.as_str() != path {
@@ -159,10 +182,14 @@ impl<D: Disk> DiskSource for NamedDisk<D> {
         self.open(path)
     }
 
-    fn create(self, path: &str, len: u64) -> Result<D, NoSuchDisk> {
-        if self.path.as_str() != path || self.disk.len() != len {
+    fn find(self, path: &str) -> Result<D, NoSuchDisk> {
+        self.open(path)
+    }
+
+    fn resize(_alloc: Global, disk: D, len: u64) -> Result<D, NoSuchDisk> {
+        if disk.len() != len {
             return Err(NoSuchDisk);
         }
-        Ok(self.disk)
+        Ok(disk)
     }
 }

@@ -140,7 +140,10 @@ pub trait FileSystem {
 fn lock_error(error: TryLockError) -> io::Error {
     match error {
         TryLockError::Error(error) => error,
-        TryLockError::WouldBlock => io::Error::new(ErrorKind::WouldBlock, "the file is in use"),
+        TryLockError::WouldBlock => io::Error::new(
+            ErrorKind::WouldBlock,
+            "the file is in use, and is free when the other program ends",
+        ),
     }
 }
 

@@ -5,6 +5,7 @@ use crate::buffered_disk::{BufferFault, BufferedDisk};
 use crate::file::{FileFault, RandomAccessDisk};
 use crate::system::FileSystem;
 use silt_disk::Disk;
+use std::alloc::Global;
 use std::fs::File;
 use std::io;
 
@@ -17,19 +18,52 @@ pub struct FileDisk {
 }
 
 impl FileDisk {
-    ghost use Rattle.silt_device.specs.File.{IsOpened, IsOpenedFile, IsMadeFile, IsSharedFile};
+    ghost use Rattle.silt_device.specs.File.{IsOpened, IsOpenedFile, IsFoundFile, IsMadeFile, IsResizedFile};
     ghost use Rattle.silt_assumption.specs.Files.{system_content};
 
-    /// Makes the file, or takes the one that is there, locks it, gives it exactly this length in bytes, and syncs it and the folder
-    /// that it is in. What a file that is there held up to this length stays, and what is new are zeros. Where the path is a link,
-    /// the folder that is synced is that of the link. The lock goes with the disk: until the disk is dropped no other open of the
-    /// file gets one.
+    /// Opens the file that is there, or makes an empty one, and locks it. Nothing in it is changed: the disk has what the file holds,
+    /// at its length. The folder that it is in is synced; where the path is a link, that of the link. The lock goes with the disk:
+    /// until the disk is dropped no other open of the file gets one.
     ///
     /// # Errors
     ///
-    /// The error of the system, where the file cannot be opened or locked, and then nothing in it is changed, or where it or its
-    /// folder cannot be sized or synced. The file may then be there, at its old length or at the new one. A length of 2^63 or more
-    /// is always an error. Where the bytes that it buffers find no memory, an error of that kind.
+    /// The error of the system, where the file cannot be opened, locked or measured, or its folder cannot be synced. Where the bytes
+    /// that it buffers find no memory, an error of that kind.
+    pub fn find<R: FileSystem<File = File> + AllocGlobal>(
+        system: &R,
+        path: &str,
+    ) -> io::Result<FileDisk>
+        ensures found { IfOk result (λ disk. IsFoundFile system_content (R.made system.now path.now) (R.locked system.now) (λ _ _. ⊤) disk.inner.inner) }
+        ensures folder { OnOk result (R.folder_synced system.now path.now) }
+    {
+        let disk = RandomAccessDisk::find(system, path)?;
+        let inner = BufferedDisk::new(system.alloc(), disk)?;
+        Ok(FileDisk { inner })
+    }
+
+    /// Gives the file exactly this length in bytes, and syncs it. What it held up to this length stays, and what is new are zeros. What
+    /// was written on the disk and not yet synced may be gone.
+    ///
+    /// # Errors
+    ///
+    /// The error of the system, where the file cannot be sized or synced. It may then have its old length or the new one. A length of
+    /// 2^63 or more is always an error. Where the bytes that it buffers find no memory, an error of that kind.
+    pub fn resize(self, alloc: Global, len: u64) -> io::Result<FileDisk>
+        ensures opened { IfOk result (λ disk. IsOpened system_content len disk.inner.inner) }
+        ensures resized { IfOk result (λ disk. IsResizedFile system_content (λ _ _ _. ⊤) (λ _ _. ⊤) self.inner.inner.file len disk.inner.inner.file) }
+        ensures too_long { 2 ^ 63 ≤ len → IsErr result }
+    {
+        let disk = self.inner.into_inner().resize(len)?;
+        let inner = BufferedDisk::new(alloc, disk)?;
+        Ok(FileDisk { inner })
+    }
+
+    /// Makes the file, or takes the one that is there, locks it, gives it exactly this length in bytes, and syncs it and the folder
+    /// that it is in. What a file that is there held up to this length stays, and what is new are zeros.
+    ///
+    /// # Errors
+    ///
+    /// Those of `find`, and then nothing in the file is changed, and those of `resize`.
     pub fn create<R: FileSystem<File = File> + AllocGlobal>(
         system: &R,
         path: &str,
@@ -40,9 +74,7 @@ impl FileDisk {
         ensures folder { OnOk result (R.folder_synced system.now path.now) }
         ensures too_long { 2 ^ 63 ≤ len → IsErr result }
     {
-        let disk = RandomAccessDisk::create(system, path, len)?;
-        let inner = BufferedDisk::new(system.alloc(), disk)?;
-        Ok(FileDisk { inner })
+        FileDisk::find(system, path)?.resize(system.alloc(), len)
     }
 
     /// Opens a file that is there, locks it, and syncs it, at the length that it then has: what an earlier process wrote and did
@@ -74,7 +106,7 @@ impl FileDisk {
         system: &R,
         path: &str,
     ) -> io::Result<FileDisk>
-        ensures opened { IfOk result (λ disk. IsSharedFile system_content (R.opened_to_read system.now path.now) (R.shared system.now) (λ _ _. ⊤) disk.inner.inner) }
+        ensures opened { IfOk result (λ disk. IsFoundFile system_content (R.opened_to_read system.now path.now) (R.shared system.now) (λ _ _. ⊤) disk.inner.inner) }
     {
         let disk = RandomAccessDisk::open_shared(system, path)?;
         let inner = BufferedDisk::with_room(system.alloc(), disk, 0)?;
