@@ -1,5 +1,5 @@
 -- What stands at the exits of the calls of a log store.
-use Rattle.std.proofs.Common.{◌≡◌, ◌↔◌, ℕ, ◌+◌, ◌-◌, ◌<◌, ◌≤◌, true, false, List, [], ◌∷◌, ◌++◌, Option, Some, None, IsTrue, IsSome, IfSome, ◌⊎◌, inl, inr, option_map, refl, sym, subst, ap, ◌∙◌, arith}
+use Rattle.std.proofs.Common.{◌≡◌, ◌↔◌, ℕ, ◌+◌, ◌-◌, ◌<◌, ◌≤◌, true, false, List, [], ◌∷◌, ◌++◌, Option, Some, None, IsTrue, IsSome, IfSome, inl, inr, option_map, refl, sym, subst, ap, ◌∙◌, arith}
 use Rattle.std.specs.List.{list_all}
 use Rattle.std.specs.Option.{is_some, option_and_then}
 use Rattle.silt_disk.specs.Disk.{Content, ChangesWithin, size}
@@ -20,7 +20,7 @@ use Rattle.silt_log.proofs.Elsewhere.{all_count}
 use Rattle.silt_log.proofs.Exits.{region_lies}
 use Rattle.silt_log.proofs.Standing.{gates_torn_rows}
 use Rattle.silt_log_store.specs.State.{LogStoreState, IsHeldStore, IsIndexed, IsLogStore}
-use Rattle.silt_log_store.specs.Calls.{IsPlacingFor, EmptiesStore, TakesRow, OpensSomeOfStore}
+use Rattle.silt_log_store.specs.Calls.{CanTake, EmptiesStore, IsFullFor, IsPlacingFor, OpensSomeOfStore, TakesRow}
 use Rattle.silt_log_store.specs.LastRow.{FindsLast}
 use Rattle.silt_log_store.specs.Lookup.{IsFirstMatch}
 use Rattle.silt_log_store.specs.declared.lookup.Match.{Match}
@@ -177,7 +177,7 @@ placing_found content store key found (Some placing) held room first holds plann
 -- none was planned exactly where the keys with this one have no table
 pub placing_none : (content : Content) (store : LogStoreState) (key : List ℕ) (found : Option Match) (placing : Option Placing) → IsHeldStore store → store.log.used < store.log.shape.log_capacity
     → IsTrue content.honest → IsIndexed content store → IsMatchIn content store key found → IfSome placing (HoldsIn store.table) → IsPlannedFor store key found placing
-    → (placing ≡ None) ↔ ((store.log.used ≡ store.log.shape.log_capacity) ⊎ (index_of_keys store.log.shape.buckets (keys_of (all_rows content store.log) ++ key ∷ []) ≡ None))
+    → (placing ≡ None) ↔ IsFullFor content store key
 placing_none content store key found None held room honest index first holds planned =
     (λ none. inr (table_with_key content store key held honest index found first ∙ sym (planned store.log.used)), λ stopped. refl)
 placing_none content store key found (Some placing) held room honest index first holds planned = (
@@ -193,7 +193,7 @@ placing_none content store key found (Some placing) held room honest index first
 
 -- a placing is answered exactly where a row of the key can be taken
 pub placing_exactly : (content : Content) (store : LogStoreState) (key : List ℕ) → IsTrue content.honest → IsIndexed content store → (placing : Option Placing) → IfSome placing (IsPlacingFor content store key)
-    → ((placing ≡ None) ↔ ((store.log.used ≡ store.log.shape.log_capacity) ⊎ (index_of_keys store.log.shape.buckets (keys_of (all_rows content store.log) ++ key ∷ []) ≡ None)))
+    → ((placing ≡ None) ↔ IsFullFor content store key)
     → IsTrue (is_some placing) ↔ ((store.log.used < store.log.shape.log_capacity) × IsSome (index_of_keys store.log.shape.buckets (keys_of (all_rows content store.log) ++ key ∷ [])))
 placing_exactly content store key honest index None some none = (
   λ yes. absurd (cc),
@@ -208,6 +208,12 @@ placing_exactly content store key honest index (Some placing) some none = (λ _.
 pub placing_room : (content : Content) (store : LogStoreState) (key : List ℕ) (placing : Option Placing) → IfSome placing (IsPlacingFor content store key) → IsTrue (is_some placing) → store.log.used < store.log.shape.log_capacity
 placing_room content store key None some answered = absurd (cc)
 placing_room content store key (Some placing) some answered = some.room
+
+-- a row can be taken where its key has a placing
+pub placing_can : (content : Content) (store : LogStoreState) (key : List ℕ) (answer : Option Placing) (placing : Placing) → answer ≡ Some placing → IsLogStore content store → IfSome answer (IsPlacingFor content store key) → CanTake content store key
+placing_can content store key answer placing some is found =
+    let at = subst (λ (o : Option Placing). IfSome o (IsPlacingFor content store key)) some found in
+    record { room = at.room; placed = λ honest. at.takes honest is.index }
 
 -- a change of gates alone leaves the rows that are shown
 pub gates_leave_rows : (old new : Content) (log : LogState) (from count : ℕ) → InBounds log → device_size log.shape ≤ size old → from + count ≤ log.shape.log_capacity → ChangesWithin (gates_at log.shape log.region + from) count old new

@@ -1,12 +1,15 @@
 -- What the calls of a log store do to it and to the disk.
-use Rattle.std.specs.Prelude.{◌≡◌, ◌<◌, ℕ, IsTrue, IsSome, List, [], ◌∷◌, ◌++◌}
+use Rattle.std.specs.Prelude.{◌≡◌, ◌<◌, ◌⊎◌, ℕ, IsTrue, IsSome, List, [], ◌∷◌, ◌++◌, None}
 use Rattle.silt_cuckoo.specs.Index.{index_of_keys}
-use Rattle.silt_disk.specs.Disk.{Content}
+use Rattle.silt_disk.specs.Disk.{Content, CountsFault, GaveAny}
+use Rattle.silt_disk.specs.declared.disk.Disk.{Ghosts}
 use Rattle.silt_frame.specs.Rows.{StoredRow, keys_of}
 use Rattle.silt_log.specs.State.{all_rows}
 use Rattle.silt_log.specs.Calls.{Empties, Appends, KeepsRows, OpensGates, OpensSome, Seals}
 use Rattle.silt_log_store.specs.State.{LogStoreState, IsIndexed, IsLogStore}
 use Rattle.silt_log_store.specs.Placement.{HoldsIn, entered}
+use Rattle.silt_log_store.specs.declared.log_store.TakeError.{TakeError}
+use Rattle.silt_log_store.specs.declared.log_store.TakeError.TheVariants.{Full, Read, Write}
 use Rattle.silt_log_store.specs.declared.placement.Placing.{Placing}
 
 -- the store has no rows, and whatever a stop leaves has none
@@ -56,3 +59,26 @@ pub record IsPlacingFor (content : Content) (store : LogStoreState) (key : List 
   pub takes : IsTrue content.honest → IsIndexed content store → IsSome (index_of_keys store.log.shape.buckets (keys_of (all_rows content store.log) ++ key ∷ []))
   pub table : IsTrue content.honest → IsIndexed content store → index_of_keys store.log.shape.buckets (keys_of (all_rows content store.log) ++ key ∷ [])
       ≡ entered store.table placing store.log.used
+
+-- a row of this key can be taken: the log has room, and the keys with this one have a table
+pub record CanTake (content : Content) (store : LogStoreState) (key : List ℕ) : Type 0 where
+  pub room : store.log.used < store.log.shape.log_capacity
+  pub placed : IsTrue content.honest → IsSome (index_of_keys store.log.shape.buckets (keys_of (all_rows content store.log) ++ key ∷ []))
+
+-- a row of this key cannot be taken: the log has no room, or the keys with this one have no table
+abbrev pub IsFullFor : Content → LogStoreState → List ℕ → Type 0
+IsFullFor content store key = (store.log.used ≡ store.log.shape.log_capacity) ⊎ (index_of_keys store.log.shape.buckets (keys_of (all_rows content store.log) ++ key ∷ []) ≡ None)
+
+module _ {D F : Type 0} (facts : Ghosts D F) (old new : D) (before after : LogStoreState) (key : List ℕ) where
+  -- why a row of this key was not taken: the store is full for it or a read failed, and nothing is written; or a write failed, and the
+  -- store has the same rows
+  abbrev pub FailsTake : TakeError F → Type 0
+  FailsTake Full = (new ≡ old) × (IsTrue (facts.content old).honest → IsFullFor (facts.content old) before key)
+  FailsTake (Read fault) = (new ≡ old) × GaveAny facts.gave old fault
+  FailsTake (Write fault) = CanTake (facts.content old) before key × KeepsStore (facts.content old) (facts.content new) before after × CountsFault facts.failures facts.gave old new fault
+
+-- the error is that of a write
+abbrev pub IsFailedWrite : {F : Type 0} → TakeError F → Type 0
+IsFailedWrite Full = ⊥
+IsFailedWrite (Read fault) = ⊥
+IsFailedWrite (Write fault) = Unit {0}

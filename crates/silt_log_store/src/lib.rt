@@ -6,9 +6,9 @@
 //! oldest first: a store that is rebuilt from the device has the table that it had before. Beside the table it counts the puts
 //! among its rows.
 //!
-//! A store takes a row while its log has room and the rule finds a place for the key: `placing` reads and answers where the key
-//! goes, and `take` writes there, with no read, so that a caller can tell a read that failed from a write that did. What a
-//! stop may leave is said in the log's words: the rows before the first closed gate.
+//! A store takes a row while its log has room and the rule finds a place for the key. `take` does it all: it reads the candidates,
+//! plans where the key goes, writes the row and enters the key as planned. Its error says whether the store is full for the key, a read
+//! failed, or a write did. What a stop may leave is said in the log's words: the rows before the first closed gate.
 #![tactic(auto)]
 
 mod index;
@@ -19,7 +19,6 @@ mod placement;
 mod rebuild;
 
 pub use laws::{entry_law, log_sound_law};
-pub use log_store::LogStore;
-pub use placement::Placing;
+pub use log_store::{LogStore, TakeError};
 pub use rebuild::RebuildError;
 pub use silt_log::Found;

@@ -1,6 +1,6 @@
 // A log region with the table of its keys and the number of its puts, and the calls that change it.
-ghost use Rattle.std.specs.Prelude.{◌≡◌, ◌==◌, ◌↔◌, ◌+◌, ◌-◌, ◌<◌, ◌≤◌, ◌++◌, ◌⊎◌, ℕ, [], ◌∷◌, length, replicate, nat_lt, false, true, IsTrue, IsSome, IfSome, None};
-ghost use Rattle.std.specs.Prelude.{IfOk, IfErr, OnOk, OnErr, MatchResult};
+ghost use Rattle.std.specs.Prelude.{◌≡◌, ◌==◌, ◌↔◌, ◌+◌, ◌-◌, ◌<◌, ◌≤◌, ◌++◌, ℕ, [], ◌∷◌, length, replicate, nat_lt, false, true, IsTrue, IsSome, IfSome, None};
+ghost use Rattle.std.specs.Prelude.{IsOkAnd, IfOk, IfErr, OnOk, OnErr, MatchResult};
 ghost use Rattle.std.specs.List.{list_all};
 ghost use Rattle.silt_cuckoo.specs.Slots.{empty_slots, entry_at};
 ghost use Rattle.silt_cuckoo.specs.Index.{index_of_keys};
@@ -26,6 +26,17 @@ use std::marker::Model;
 
 /// How many bytes a row has at most that is read whole for its value.
 const WHOLE_LEN: usize = 512;
+
+/// Why a row was not taken.
+#[derive(Debug, Drop)]
+pub enum TakeError<F> {
+    /// The log has no room, or the placing rule has no place for the key. Nothing is changed.
+    Full,
+    /// A read failed with this fault. Nothing is changed.
+    Read(F),
+    /// A write failed with this fault. What is shown behind the last row is then open.
+    Write(F),
+}
 
 /// A log region with the table of its keys, and how many of its rows are puts.
 ///
@@ -54,7 +65,7 @@ impl LogStore {
     ghost use Rattle.silt_frame.specs.Rows.{keys_of};
     ghost use Rattle.silt_log_store.specs.LastRow.{FindsLast};
     ghost use Rattle.silt_log.specs.Found.{put_place};
-    ghost use Rattle.silt_log_store.specs.Calls.{IsPlacingFor, EmptiesStore, TakesRow, KeepsStore, OpensStore, OpensSomeOfStore, SealsStore};
+    ghost use Rattle.silt_log_store.specs.Calls.{CanTake, EmptiesStore, FailsTake, IsFailedWrite, IsFullFor, IsPlacingFor, KeepsStore, OpensSomeOfStore, OpensStore, SealsStore, TakesRow};
     ghost use Rattle.silt_log_store.specs.Rebuild.{IsRebuilt, IsFirstDamaged, IsFirstCrowded, IsRefusedRebuild};
 
     /// A store of this region with no rows and an empty table. It is `prepare`d before it is used.
@@ -302,8 +313,8 @@ impl LogStore {
     }
 
     /// Whether a row of this key can be taken: the log has room, and the placing rule has a place for the key. The head of each
-    /// candidate is read. It is the question alone, for callers that write no row: no layer above asks it, since `placing` answers
-    /// it with the place.
+    /// candidate is read. It is the question alone, for callers that write no row: no layer above asks it, since `take` decides it
+    /// on its way.
     ///
     /// # Errors
     ///
@@ -319,20 +330,59 @@ impl LogStore {
         Ok(self.placing(disk, key)?.is_some())
     }
 
-    /// Where the entry of a key goes that the store can take: none exactly where the log has no room, or the placing rule gives up.
-    /// The head of each candidate is read. It takes no memory.
+    /// Takes a row behind the others: reads the head of each candidate of its key, writes the row with its gate closed, enters the
+    /// key into the table, and counts a put. A delete's value is zeros. It takes no memory. A store with no rows takes a row of any
+    /// key, and reads nothing for it.
     ///
     /// # Errors
     ///
-    /// The fault of a read.
-    pub fn placing<D: Disk>(&self, disk: &D, key: &Key) -> Result<Option<Placing>, D::Fault>
+    /// `Full` exactly if the log has no room, or the placing rule has no place for the key; `Read` with the fault of a read. Either
+    /// way nothing is written. `Write` with the fault of a write. The store then has the same rows, the same table and the same number
+    /// of puts as before.
+    pub fn take<D: Disk>(
+        &mut self,
+        disk: &mut D,
+        kind: Kind,
+        key: &Key,
+        value: &[u8],
+    ) -> Result<(), TakeError<D::Fault>>
+        requires value { length value.now ≡ self.old.log.shape.value_len }
+        requires zeros { IsValueOf kind value.now }
+        requires size { device_size self.old.log.shape ≤ size (D.content disk.old) }
+        requires store { IsLogStore (D.content disk.old) self.old }
+        ensures size { size (D.content disk.new) ≡ size (D.content disk.old) }
+        ensures changes { ChangesWithin (body_at self.old.log.shape self.old.log.region self.old.log.used) (row_len self.old.log.shape) (D.content disk.old) (D.content disk.new) }
+        ensures written { OnOk result (Writes (body_at self.old.log.shape self.old.log.region self.old.log.used) (head_bytes kind key.now ++ value.now) (D.content disk.old) (D.content disk.new)) }
+        ensures images { LeavesOnly (D.content disk.new) (λ image. log_rows self.old.log.shape self.old.log.region image ≡ settled_rows (D.content disk.old) self.old.log) }
+        ensures can { OnOk result (CanTake (D.content disk.old) self.old key.now.0) }
+        ensures ok { OnOk result (TakesRow (stored_row kind key.now value.now) (D.content disk.old) (D.content disk.new) self.old self.new) }
+        ensures puts { OnOk result (self.new.puts ≡ self.old.puts + puts_of kind) }
+        ensures failures { OnOk result (D.failures disk.new ≡ D.failures disk.old) }
+        ensures kept { OnErr result (self.new ≡ self.old) }
+        ensures err { IfErr result (FailsTake D.Disk disk.old disk.new self.old self.new key.now.0) }
+        ensures first { self.old.log.used ≡ 0 → IfErr result IsFailedWrite }
+    {
+        match self.placing(disk, key) {
+            Ok(Some(placing)) => match self.take_at(disk, kind, key, value, &placing) {
+                Ok(()) => Ok(()),
+                Err(fault) => Err(TakeError::Write(fault)),
+            },
+            Ok(None) => Err(TakeError::Full),
+            Err(fault) => Err(TakeError::Read(fault)),
+        }
+    }
+
+    // Where the entry of a key goes that the store can take: none exactly if the log has no room, or the placing rule gives up. A
+    // store with no rows has a place for any key, and reads nothing.
+    fn placing<D: Disk>(&self, disk: &D, key: &Key) -> Result<Option<Placing>, D::Fault>
         requires size { device_size self.now.log.shape ≤ size (D.content disk.now) }
         ensures none { IsTrue (D.content disk.now).honest → IsIndexed (D.content disk.now) self.now
-            → IfOk result (λ placing. (placing ≡ None) ↔ ((self.now.log.used ≡ self.now.log.shape.log_capacity)
-            ⊎ (index_of_keys self.now.log.shape.buckets (keys_of (all_rows (D.content disk.now) self.now.log) ++ key.now.0 ∷ []) ≡ None))) }
+            → IfOk result (λ placing. (placing ≡ None) ↔ IsFullFor (D.content disk.now) self.now key.now.0) }
         ensures some { IfOk result (λ placing. IfSome placing (IsPlacingFor (D.content disk.now) self.now key.now.0)) }
+        ensures first { self.now.log.used ≡ 0 → IsOkAnd result (λ placing. IsSome placing) }
         ensures fault { IfErr result (GaveAny D.gave disk.now) }
     {
+        let _limits = self.log.geometry().log_capacity(); // at least one row
         if self.log.is_full() {
             return Ok(None);
         }
@@ -342,27 +392,8 @@ impl LogStore {
         Ok(plan_entry(&self.table, buckets, slot_of(older)))
     }
 
-    /// Where the entry of a key goes in a store with no rows.
-    pub fn placing_in_empty(&self, key: &Key) -> Placing
-        requires used { self.now.log.used ≡ 0 }
-        requires table { self.now.table ≡ empty_slots self.now.log.shape.buckets }
-        ensures { (content : Content) → IsPlacingFor content self.now key.now.0 result }
-    {
-        let _limits = self.log.geometry().log_capacity(); // at least one row
-        let buckets = key_buckets(&key.0, self.table.bucket_count());
-        let Some(placing) = plan_entry(&self.table, buckets, None) else {
-            unreachable!()
-        };
-        placing
-    }
-
-    /// Takes a row behind the others, at a placing that was made for its key and this store as it stands: writes the row with its
-    /// gate closed, enters the key into the table with no further planning, and counts a put. A delete's value is zeros. It reads nothing and takes no memory.
-    ///
-    /// # Errors
-    ///
-    /// The fault of a write. The store has the same rows, the same table and the same number of puts as before.
-    pub fn take<D: Disk>(
+    // Takes a row at a placing that was made for its key and this store as it stands, with no read.
+    fn take_at<D: Disk>(
         &mut self,
         disk: &mut D,
         kind: Kind,

@@ -1,5 +1,5 @@
 // Look-ups of a key among the candidates of its two buckets.
-ghost use Rattle.std.specs.Prelude.{◌≡◌, ◌<◌, ◌≤◌, true, IsTrue, IfOk, IfErr, IfSome, OnOk, All, Contains, drop, length, option_map};
+ghost use Rattle.std.specs.Prelude.{◌≡◌, ◌<◌, ◌≤◌, IsOkAnd, None, true, IsTrue, IfOk, IfErr, IfSome, OnOk, All, Contains, drop, length, option_map};
 ghost use Rattle.std.specs.List.{list_all};
 ghost use Rattle.silt_cuckoo.specs.Index.{candidate_of_key};
 ghost use Rattle.silt_cuckoo.specs.Lookup.{candidates_of};
@@ -81,6 +81,7 @@ fn first_match<D: Disk>(
         → IfOk result (IsFirstMatch (all_rows (D.content disk.now) log.now) candidates.now key.now.0) }
     ensures value { IsTrue (D.content disk.now).honest → length front.old ≡ row_len log.now.shape
         → IfOk result (λ found. IfSome found (λ m. drop 21 front.new ≡ (row_at log.now.shape log.now.region (D.content disk.now).shown m.found.place).value)) }
+    ensures empty { log.now.used ≡ 0 → IsOkAnd result (λ found. found ≡ None) }
     ensures fault { IfErr result (GaveAny D.gave disk.now) }
 {
     for candidate in candidates {
@@ -147,6 +148,7 @@ pub fn look_up_under<D: Disk>(
         (second_bucket (bucket_count table.now) key.now.0)) key.now.0) }
     ensures value { IsTrue (D.content disk.now).honest → length front.old ≡ row_len log.now.shape
         → IfOk result (λ found. IfSome found (λ m. drop 21 front.new ≡ (row_at log.now.shape log.now.region (D.content disk.now).shown m.found.place).value)) }
+    ensures empty { log.now.used ≡ 0 → IsOkAnd result (λ found. found ≡ None) }
     ensures fault { IfErr result (GaveAny D.gave disk.now) }
 {
     let candidates = table.candidates(buckets.0, buckets.1);

@@ -1,18 +1,5 @@
-use Rattle.std.proofs.Common.{◌+◌, ap, arith}
-use Rattle.silt_log_store.specs.State.{LogStoreState, IsLogStore}
-use Rattle.silt_log_store.proofs.Exits.{held_after, takes_row}
+use Rattle.silt_log_store.proofs.Exits.{placing_can}
 use Rattle.silt_log_store.proofs.log_store.LogStore.take.Goals as goal
 
-pub invariant_of-self-2 : goal.invariant_of-self-2
-invariant_of-self-2 g c =
-    let store : LogStoreState = record { log = c.self.inside.log; table = c.self.inside.table; puts = c.self.inside.puts } in
-    held_after store _ _ _ c.len-place.result c.self.invariant c.in_ok-append.ensures.ok.stands.bounds c.in_ok-append.ensures.ok.log c.enter.ensures.table c.enter.ensures.buckets c.len-place.ensures.value c.enter.ensures.below
-    (omega (arith, c.puts.ensures.most))
-
-pub returns-clause-ok : goal.returns-clause-ok
-returns-clause-ok g c =
-    let store : LogStoreState = record { log = c.self.inside.log; table = c.self.inside.table; puts = c.self.inside.puts } in
-    let is : IsLogStore (g.D.Disk.content c.args.disk.now) store = rw (← c.self.view_is) at c.requires.store in
-    let at = rw (← c.self.view_is) at c.requires.placing in
-    let placed = rw c.len-place.ensures.value at c.enter.ensures.entered in
-    rw (← c.self.view_is) (takes_row _ _ store _ _ _ c.args.kind c.args.key.now c.args.value.now c.args.placing.now c.append.ensures.changes.honest is.index at (ap (λ n. c.self.inside.puts + n) c.puts.ensures.value) placed c.in_ok-append.ensures.ok)
+pub returns-in-Ok-clause-can : goal.returns-in-Ok-clause-can
+returns-in-Ok-clause-can g c = placing_can (g.D.Disk.content c.args.disk.now) c.args.self.now c.args.key.now.0 c.in-Ok-Some.field-0 c.in-Ok-Some.placing c.in-Ok-Some.field-0-is c.requires.store c.in-Ok-Some.ensures.some
