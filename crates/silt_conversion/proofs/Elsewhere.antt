@@ -1,8 +1,9 @@
 -- What calls on other parts of the disk leave of a conversion.
 use Rattle.std.proofs.Common.{◌+◌, ◌*◌, ◌≤◌, IsTrue, List, filter, sym, subst, ap, ◌∙◌, arith}
+use Rattle.sha1.specs.Sha1.{Holds}
 use Rattle.silt_disk.specs.Disk.{size}
 use Rattle.silt_disk.specs.Layout.{Shape, device_size, hash_at, row_len}
-use Rattle.silt_frame.specs.Rows.{put_count, has_known_kind, StoredRow}
+use Rattle.silt_frame.specs.Rows.{put_count, has_known_kind, rows_bytes, StoredRow}
 use Rattle.silt_log_store.proofs.Elsewhere.{rows_outside}
 use Rattle.silt_hash_store.proofs.Elsewhere.{slot_outside, slots_inside}
 use Rattle.silt_conversion.specs.Conversion.{converted_before, converted_row}
@@ -24,4 +25,8 @@ written_elsewhere log conversion old new at count bounds there most fits log_out
           let was : IsTrue old.honest = sym changes.honest ∙ honest in
           is.charged was
           ∙ ap (λ (rows : List StoredRow). put_count (filter has_known_kind (converted_before conversion.shape log.table rows conversion.next))) (sym (rows_outside old new log.log at count bounds log_fits log_outside changes was));
+      hashed = λ honest.
+          let was : IsTrue old.honest = sym changes.honest ∙ honest in
+          subst (λ (rows : List StoredRow). Holds conversion.hasher (rows_bytes (converted_before conversion.shape log.table rows conversion.next)))
+          (sym (rows_outside old new log.log at count bounds log_fits log_outside changes was)) (is.hashed was);
     }

@@ -1,13 +1,17 @@
 -- What a step of a conversion leaves, and the store of a conversion that is done.
-use Rattle.std.proofs.Common.{◌≡◌, ◌≢◌, ℕ, ◌+◌, ◌*◌, ◌≤◌, ◌<◌, true, IsTrue, List, [], ◌∷◌, filter, length, Option, Some, None, inl, inr, option_map, refl, sym, subst, ap, ◌∙◌, arith, length-set, get_or-set_other, get_or-set_same}
+use Rattle.std.proofs.Common.{◌≡◌, ◌≢◌, ℕ, ◌+◌, ◌*◌, ◌≤◌, ◌<◌, true, IsTrue, List, [], ◌∷◌, ◌++◌, filter, length, Option, Some, None, inl, inr, option_map, refl, sym, subst, ap, ◌∙◌, arith, length-set, get_or-set_other, get_or-set_same}
 use Rattle.std.proofs.lemmas.Bool.{cases_eq}
 use Rattle.std.proofs.lemmas.List.Elements.{filter-append}
 use Rattle.std.proofs.lemmas.List.FromFn.{map-range_with_len_more}
+use Rattle.sha1.specs.Sha1.{Holds, sha1}
+use Rattle.sha1.specs.declared.Sha1.{Sha1}
 use Rattle.silt_cuckoo.specs.Slots.{Entry, IsBucketCount, Slots, entry_at}
 use Rattle.silt_disk.specs.Disk.{ChangesWithin, Content, LiesOutside, size}
 use Rattle.silt_disk.specs.Layout.{Shape, device_size, gates_at, log_len, row_len}
 use Rattle.silt_hash_store.specs.Findings.{hash_findings}
-use Rattle.silt_frame.specs.Rows.{put_count, has_known_kind, StoredRow}
+use Rattle.silt_frame.specs.Rows.{put_count, has_known_kind, row_bytes, row_of, rows_bytes, StoredRow}
+use Rattle.silt_frame.specs.Frame.{head_len}
+use Rattle.silt_frame.proofs.RowBytes.{row_bytes_of, rows_bytes_more}
 use Rattle.silt_hash_store.specs.Slots.{hash_rows, rows_before, hash_slot_at, slot_row, slot_tag, tag_of}
 use Rattle.silt_event.proofs.Rows.{count_law}
 use Rattle.silt_log.specs.Rows.{row_at}
@@ -17,7 +21,7 @@ use Rattle.silt_log.proofs.Elsewhere.{row_of_all}
 use Rattle.silt_log_store.specs.State.{IsFrozenStore, IsIndexed, LogStoreState}
 use Rattle.silt_log_store.proofs.Elsewhere.{frozen_elsewhere, rows_outside}
 use Rattle.silt_log_store.proofs.Rows.{known_there}
-use Rattle.silt_conversion.specs.Conversion.{ConversionState, HasWritten, IsHeldConversion, Steps, converted_before, converted_row, converted_rows, empty_row, row_for, tag_of_entry, with_entry}
+use Rattle.silt_conversion.specs.Conversion.{ConversionState, HasWritten, IsDigestOf, IsHeldConversion, Steps, converted_before, converted_row, converted_rows, empty_row, row_for, tag_of_entry, with_entry}
 use Rattle.silt_conversion.specs.Laws.{IsTableOf}
 use Rattle.silt_hash_store.specs.State.{IsHashStore}
 use Rattle.silt_hash_store.proofs.Elsewhere.{behind_logs, slots_inside}
@@ -46,14 +50,22 @@ due_more s table rows n =
     ∙ ap put_count (filter-append has_known_kind before (converted_row s table rows n ∷ []))
     ∙ count_law (filter has_known_kind before) (filter has_known_kind (converted_row s table rows n ∷ []))
 
--- a conversion with no slot written
-pub none_written : (content : Content) (log : LogStoreState) (conversion : ConversionState) → conversion.shape ≡ log.log.shape → conversion.next ≡ 0 → conversion.puts ≡ 0 → HasWritten content log conversion
+-- the bytes that are due in one slot more
+bytes_more : (s : Shape) (table : Slots) (rows : List StoredRow) (n : ℕ) → rows_bytes (converted_before s table rows (n + 1)) ≡ rows_bytes (converted_before s table rows n) ++ row_bytes (converted_row s table rows n)
 unfolding converted_before
-none_written content log conversion same next puts = record {
+bytes_more s table rows n =
+    ap rows_bytes (map-range_with_len_more (converted_row s table rows) 0 n n (omega arith))
+    ∙ rows_bytes_more (converted_before s table rows n) (converted_row s table rows n)
+
+-- a conversion with no slot written
+pub none_written : (content : Content) (log : LogStoreState) (conversion : ConversionState) → conversion.shape ≡ log.log.shape → conversion.next ≡ 0 → conversion.puts ≡ 0 → Holds conversion.hasher [] → HasWritten content log conversion
+unfolding converted_before
+none_written content log conversion same next puts unfed = record {
   shape = same;
   due = λ honest slot below. absurd (omega (arith, next));
   tagged = λ slot below. absurd (omega (arith, next));
   charged = λ honest. puts ∙ ap (λ n. put_count (filter has_known_kind (converted_before conversion.shape log.table (all_rows content log.log) n))) (sym next);
+  hashed = λ honest. subst (λ n. Holds conversion.hasher (rows_bytes (converted_before conversion.shape log.table (all_rows content log.log) n))) (sym next) unfed;
 }
 
 -- ---- tags
@@ -74,9 +86,9 @@ entry_elsewhere tags slot other None apart = refl
 entry_elsewhere tags slot other (Some entry) apart = get_or-set_other tags slot other (Some entry.0) None apart
 
 -- a conversion with one slot more, and at most one put more
-pub held_step : (conversion : ConversionState) (len puts : ℕ) (entry : Option Entry) → IsHeldConversion conversion len → conversion.next < 4 * conversion.shape.buckets → puts ≤ 1
-    → IsHeldConversion (record conversion { next = conversion.next + 1; tags = with_entry conversion.tags conversion.next entry; puts = conversion.puts + puts }) len
-held_step conversion len puts entry held below few = record {
+pub held_step : (conversion : ConversionState) (len puts : ℕ) (hasher : Sha1) (entry : Option Entry) → IsHeldConversion conversion len → conversion.next < 4 * conversion.shape.buckets → puts ≤ 1
+    → IsHeldConversion (record conversion { next = conversion.next + 1; tags = with_entry conversion.tags conversion.next entry; puts = conversion.puts + puts; hasher = hasher }) len
+held_step conversion len puts hasher entry held below few = record {
   there = held.there;
   long = entry_long conversion.tags conversion.next entry ∙ held.long;
   most = omega (arith, below);
@@ -86,10 +98,10 @@ held_step conversion len puts entry held below few = record {
 }
 
 -- with the tags named in another way
-pub held_as : (conversion : ConversionState) (tags : List (Option ℕ)) (len puts : ℕ) (entry : Option Entry) → IsHeldConversion conversion len → conversion.next < 4 * conversion.shape.buckets → puts ≤ 1
-    → tags ≡ with_entry conversion.tags conversion.next entry → IsHeldConversion (record conversion { next = conversion.next + 1; tags = tags; puts = conversion.puts + puts }) len
-held_as conversion tags len puts entry held below few same =
-    subst (λ (t : List (Option ℕ)). IsHeldConversion (record conversion { next = conversion.next + 1; tags = t; puts = conversion.puts + puts }) len) (sym same) (held_step conversion len puts entry held below few)
+pub held_as : (conversion : ConversionState) (tags : List (Option ℕ)) (len puts : ℕ) (hasher : Sha1) (entry : Option Entry) → IsHeldConversion conversion len → conversion.next < 4 * conversion.shape.buckets → puts ≤ 1
+    → tags ≡ with_entry conversion.tags conversion.next entry → IsHeldConversion (record conversion { next = conversion.next + 1; tags = tags; puts = conversion.puts + puts; hasher = hasher }) len
+held_as conversion tags len puts hasher entry held below few same =
+    subst (λ (t : List (Option ℕ)). IsHeldConversion (record conversion { next = conversion.next + 1; tags = t; puts = conversion.puts + puts; hasher = hasher }) len) (sym same) (held_step conversion len puts hasher entry held below few)
 
 -- ---- a slot that is written
 
@@ -122,6 +134,9 @@ module _ (old new : Content) (log : LogStoreState) (conversion : ConversionState
     charged = λ honest.
         let was : IsTrue old.honest = sym changes.honest ∙ honest in
         is.charged was ∙ ap (λ (rows : List StoredRow). put_count (filter has_known_kind (converted_before conversion.shape log.table rows conversion.next))) (sym (rows_kept was));
+    hashed = λ honest.
+        let was : IsTrue old.honest = sym changes.honest ∙ honest in
+        subst (λ (rows : List StoredRow). Holds conversion.hasher (rows_bytes (converted_before conversion.shape log.table rows conversion.next))) (sym (rows_kept was)) (is.hashed was);
   }
 
   -- and the next one what is due
@@ -149,7 +164,26 @@ module _ (old new : Content) (log : LogStoreState) (conversion : ConversionState
             ∙ ap (λ n. n + put_count (filter has_known_kind (converted_row conversion.shape log.table (all_rows old log.log) conversion.next ∷ []))) (is.charged was)
             ∙ sym (due_more conversion.shape log.table (all_rows old log.log) conversion.next)
             ∙ ap (λ (rows : List StoredRow). put_count (filter has_known_kind (converted_before conversion.shape log.table rows (conversion.next + 1)))) (sym (rows_kept was));
+        hashed = λ honest.
+            let was : IsTrue old.honest = sym changes.honest ∙ honest in
+            let fed = steps.fed was frozen (rows_bytes (converted_before conversion.shape log.table (all_rows old log.log) conversion.next)) (is.hashed was) in
+            let more : Holds after.hasher (rows_bytes (converted_before conversion.shape log.table (all_rows old log.log) (conversion.next + 1))) =
+            subst (λ (l : List ℕ). Holds after.hasher l) (sym (bytes_more conversion.shape log.table (all_rows old log.log) conversion.next)) fed in
+            subst (λ (rows : List StoredRow). Holds after.hasher (rows_bytes (converted_before conversion.shape log.table rows (conversion.next + 1)))) (sym (rows_kept was)) more;
       })
+
+-- a step that wrote and fed the bytes of the row that is due
+pub step_made : (log : LogStoreState) (old new : Content) (before : ConversionState) (tags : List (Option ℕ)) (puts : ℕ) (hasher : Sha1) (row written fed : List ℕ) → tags ≡ with_entry before.tags before.next (entry_at log.table before.next)
+    → (IsTrue old.honest → IsFrozenStore old log → row_of row ≡ converted_row before.shape log.table (all_rows old log.log) before.next) → puts ≡ put_count (filter has_known_kind (row_of row ∷ []))
+    → (IsTrue old.honest → slot_row before.shape before.region new.shown before.next ≡ row_of written) → written ≡ row
+    → ((bytes : List ℕ) → Holds before.hasher bytes → Holds hasher (bytes ++ fed)) → fed ≡ row → head_len ≤ length row
+    → Steps log old new before (record before { next = before.next + 1; tags = tags; puts = before.puts + puts; hasher = hasher })
+step_made log old new before tags puts hasher row written fed is_tags due is_puts shows is_written feeds is_fed long = record {
+  next = ap (λ (t : List (Option ℕ)). let made : ConversionState = record before { next = before.next + 1; tags = t; puts = before.puts + puts; hasher = hasher } in made) is_tags;
+  shows = λ honest frozen. shows honest ∙ ap row_of is_written ∙ due honest frozen;
+  added = λ honest frozen. ap (λ n. before.puts + n) (is_puts ∙ ap (λ (r : StoredRow). put_count (filter has_known_kind (r ∷ []))) (due honest frozen));
+  fed = λ honest frozen bytes holds. subst (λ (l : List ℕ). Holds hasher (bytes ++ l)) (is_fed ∙ sym (row_bytes_of row long) ∙ ap row_bytes (due honest frozen)) (feeds bytes holds);
+}
 
 -- ---- all slots
 
@@ -169,14 +203,25 @@ unfolding converted_rows
 all_charged content log conversion done is honest =
     is.charged honest ∙ ap (λ n. put_count (filter has_known_kind (converted_before conversion.shape log.table (all_rows content log.log) n))) done
 
+-- and its digest is that of the slots' bytes
+pub all_digested : (content : Content) (log : LogStoreState) (conversion : ConversionState) (digest : List ℕ) → conversion.next ≡ 4 * conversion.shape.buckets → HasWritten content log conversion → IsTrue content.honest
+    → IsDigestOf conversion.hasher digest → digest ≡ sha1 (rows_bytes (hash_rows conversion.shape conversion.region content.shown))
+unfolding converted_rows
+all_digested content log conversion digest done is honest finalizes =
+    let due : List StoredRow = converted_before conversion.shape log.table (all_rows content log.log) conversion.next in
+    finalizes (rows_bytes due) (is.hashed honest)
+    ∙ ap (λ n. sha1 (rows_bytes (converted_before conversion.shape log.table (all_rows content log.log) n))) done
+    ∙ ap (λ (rows : List StoredRow). sha1 (rows_bytes rows)) (sym (all_due content log conversion done is honest))
+
 -- the table of a log that is only read is that of its rows
 pub table_of : (content : Content) (log : LogStoreState) → IsBucketCount log.log.shape.buckets → IsFrozenStore content log → IsTrue content.honest → IsTableOf log.log.shape (all_rows content log.log) log.table
 table_of content log count frozen honest = record { count = count; known = frozen.index.known honest; indexed = frozen.index.indexed honest }
 
 -- the store of a conversion that is done stands
-pub store_stands : (content : Content) (log : LogStoreState) (conversion : ConversionState) → IsBucketCount conversion.shape.buckets → conversion.next ≡ 4 * conversion.shape.buckets
-    → IsFrozenStore content log → HasWritten content log conversion → IsHashStore content (record { shape = conversion.shape; region = conversion.region; tags = conversion.tags; puts = conversion.puts })
-store_stands content log conversion count done frozen is = record {
+pub store_stands : (content : Content) (log : LogStoreState) (conversion : ConversionState) (digest : List ℕ) → IsBucketCount conversion.shape.buckets → conversion.next ≡ 4 * conversion.shape.buckets
+    → IsDigestOf conversion.hasher digest → IsFrozenStore content log → HasWritten content log conversion
+    → IsHashStore content (record { shape = conversion.shape; region = conversion.region; tags = conversion.tags; puts = conversion.puts; digest = digest })
+store_stands content log conversion digest count done finalizes frozen is = record {
   sound = λ honest.
       ap (λ (rows : List StoredRow). hash_findings conversion.shape (record { region = conversion.region; rows = rows })) (all_due content log conversion done is honest)
       ∙ converted_sound conversion.shape (all_rows content log.log) log.table conversion.region (its_table honest);
@@ -185,6 +230,7 @@ store_stands content log conversion count done frozen is = record {
       ∙ sym (converted_tag conversion.shape (all_rows content log.log) log.table (its_table honest) slot)
       ∙ ap (tag_of conversion.shape.buckets slot) (sym (is.due honest slot (omega (arith, below, done))));
   counted = λ honest. all_charged content log conversion done is honest ∙ ap (λ (rows : List StoredRow). put_count (filter has_known_kind rows)) (sym (all_due content log conversion done is honest));
+  digested = λ honest. all_digested content log conversion digest done is honest finalizes;
 }
   where
     its_table : IsTrue content.honest → IsTableOf conversion.shape (all_rows content log.log) log.table

@@ -1,23 +1,26 @@
 -- A log on its way to become a hash store.
-use Rattle.std.specs.Prelude.{◌≡◌, ℕ, ◌+◌, ◌*◌, ◌≤◌, ◌<◌, IsTrue, List, [], ◌∷◌, filter, length, replicate, get_or, map, slice_set, Option, Some, None}
+use Rattle.std.specs.Prelude.{◌≡◌, ℕ, ◌+◌, ◌*◌, ◌≤◌, ◌<◌, IsTrue, List, [], ◌∷◌, ◌++◌, filter, length, replicate, get_or, map, slice_set, Option, Some, None}
 use Rattle.std.specs.List.{range_with_len}
+use Rattle.sha1.specs.Sha1.{Holds, sha1}
+use Rattle.sha1.specs.declared.Sha1.{Sha1}
 use Rattle.silt_cuckoo.specs.Slots.{Entry, Slots, entry_at, place_at}
 use Rattle.silt_disk.specs.Disk.{Content}
 use Rattle.silt_disk.specs.Layout.{Shape, row_len}
-use Rattle.silt_frame.specs.Rows.{put_count, has_known_kind, row_of, StoredRow}
+use Rattle.silt_frame.specs.Rows.{put_count, has_known_kind, row_bytes, row_of, rows_bytes, StoredRow}
 use Rattle.silt_log.specs.State.{all_rows}
 use Rattle.silt_log_store.specs.State.{IsFrozenStore, LogStoreState}
 use Rattle.silt_hash_store.specs.Slots.{slot_row, slot_tag}
 use Rattle.silt_conversion.specs.declared.conversion.StepError.{StepError}
 use Rattle.silt_conversion.specs.declared.conversion.StepError.TheVariants.{Read, Write}
 
--- a conversion: the region that is written, the tags of the slots that were written, the next slot, and how many puts were written
+-- a conversion: the region that is written, the tags of the slots that were written, the next slot, how many puts were written, and a hasher of the slots' bytes
 pub record ConversionState : Type 0 where
   pub shape : Shape
   pub region : ℕ
   pub tags : List (Option ℕ)
   pub next : ℕ
   pub puts : ℕ
+  pub hasher : Sha1
 
 -- what holds of every conversion, with a buffer of this length
 pub record IsHeldConversion (conversion : ConversionState) (buffer_len : ℕ) : Type 0 where
@@ -59,7 +62,11 @@ abbrev pub tag_of_entry : Option Entry → Option ℕ
 tag_of_entry None = None
 tag_of_entry (Some entry) = Some entry.0
 
--- so far the slots show what is due, and have the tags of the log's table, and the puts of what is due are counted
+-- this is the digest of whatever the hasher was fed
+abbrev pub IsDigestOf : Sha1 → List ℕ → Type 0
+IsDigestOf hasher digest = (bytes : List ℕ) → Holds hasher bytes → digest ≡ sha1 bytes
+
+-- so far the slots show what is due, and have the tags of the log's table, the puts of what is due are counted, and the hasher was fed its bytes
 pub record HasWritten (content : Content) (log : LogStoreState) (conversion : ConversionState) : Type 0 where
   pub shape : conversion.shape ≡ log.log.shape
   pub due : IsTrue content.honest → (slot : ℕ) → slot < conversion.next
@@ -67,14 +74,18 @@ pub record HasWritten (content : Content) (log : LogStoreState) (conversion : Co
   pub tagged : (slot : ℕ) → slot < conversion.next → slot_tag conversion.tags slot ≡ tag_of_entry (entry_at log.table slot)
   pub charged : IsTrue content.honest
       → conversion.puts ≡ put_count (filter has_known_kind (converted_before conversion.shape log.table (all_rows content log.log) conversion.next))
+  pub hashed : IsTrue content.honest
+      → Holds conversion.hasher (rows_bytes (converted_before conversion.shape log.table (all_rows content log.log) conversion.next))
 
--- one slot more shows what is due, and its puts are counted
+-- one slot more shows what is due, its puts are counted, and the hasher was fed its bytes
 pub record Steps (log : LogStoreState) (old new : Content) (before after : ConversionState) : Type 0 where
-  pub next : after ≡ record before { next = before.next + 1; tags = with_entry before.tags before.next (entry_at log.table before.next); puts = after.puts }
+  pub next : after ≡ record before { next = before.next + 1; tags = with_entry before.tags before.next (entry_at log.table before.next); puts = after.puts; hasher = after.hasher }
   pub shows : IsTrue old.honest → IsFrozenStore old log
       → slot_row before.shape before.region new.shown before.next ≡ converted_row before.shape log.table (all_rows old log.log) before.next
   pub added : IsTrue old.honest → IsFrozenStore old log
       → after.puts ≡ before.puts + put_count (filter has_known_kind (converted_row before.shape log.table (all_rows old log.log) before.next ∷ []))
+  pub fed : IsTrue old.honest → IsFrozenStore old log → (bytes : List ℕ) → Holds before.hasher bytes
+      → Holds after.hasher (bytes ++ row_bytes (converted_row before.shape log.table (all_rows old log.log) before.next))
 
 -- why a step failed: a read, and nothing is changed, or the write
 abbrev pub FailsStep : {D F : Type 0} → (D → F → Type 0) → (F → Type 0) → D → D → StepError F → Type 0

@@ -1,5 +1,6 @@
 // A log's rows, written into a hash region slot by slot.
 ghost use Rattle.std.specs.Prelude.{◌≡◌, ◌==◌, ◌+◌, ◌*◌, ◌<◌, ◌≤◌, ◌^◌, true, false, [], ◌∷◌, filter, Some, length, replicate, None, IsTrue, IfOk, IfErr, IfSome, OnOk, OnErr, MatchResult};
+ghost use Rattle.sha1.specs.Sha1.{Holds};
 ghost use Rattle.silt_disk.specs.Disk.{Content, ChangesWithin, CountsFault, GaveAny, size};
 ghost use Rattle.silt_disk.specs.Layout.{device_size, row_len};
 ghost use Rattle.silt_conversion.specs.Conversion.{converted_row, converted_rows, with_entry};
@@ -8,7 +9,9 @@ ghost use Rattle.silt_hash_store.specs.Slots.{hash_rows};
 ghost use Rattle.silt_log.specs.State.{all_rows};
 ghost use Rattle.silt_log_store.specs.State.{IsHeldStore, IsIndexed};
 
+use sha1::Sha1;
 use silt_disk::Disk;
+use silt_frame::Digest;
 use silt_hash_store::{HashRegion, HashStore, Tags};
 use silt_log_store::LogStore;
 use std::alloc::{AllocError, Global};
@@ -23,8 +26,8 @@ pub enum StepError<F> {
     Write(F),
 }
 
-/// A log on its way to become a hash store: the region, the tags of the slots that were written, the next slot, and how many puts
-/// were written.
+/// A log on its way to become a hash store: the region, the tags of the slots that were written, the next slot, how many puts were
+/// written, and a hasher that was fed the bytes of the slots.
 ///
 /// It holds the bytes of one row, so that no step takes memory.
 #[derive(Drop)]
@@ -33,6 +36,7 @@ pub struct Conversion {
     tags: Tags,
     next: u32,
     puts: u32,
+    hasher: Sha1,
     row: Vec<u8>,
 }
 
@@ -42,9 +46,9 @@ impl Model for Conversion {
 
     ghost Value = { ConversionState };
 
-    ghost view = { λ a. record { shape = a.region.geometry; region = a.region.number; tags = a.tags; next = a.next; puts = a.puts } };
+    ghost view = { λ a. record { shape = a.region.geometry; region = a.region.number; tags = a.tags; next = a.next; puts = a.puts; hasher = a.hasher } };
 
-    ghost invariant = { λ a. IsHeldConversion (record { shape = a.region.geometry; region = a.region.number; tags = a.tags; next = a.next; puts = a.puts }) (vec_len a.row) };
+    ghost invariant = { λ a. IsHeldConversion (record { shape = a.region.geometry; region = a.region.number; tags = a.tags; next = a.next; puts = a.puts; hasher = a.hasher }) (vec_len a.row) };
 }
 
 // Fills the bytes of a row with zeros where its kind is unknown, and says how many puts the row then is.
@@ -102,7 +106,7 @@ fn note_entry(tags: &mut Tags, slot: u32, entry: Option<(u32, u32)>)
 
 impl Conversion {
     ghost use Rattle.silt_log_store.specs.State.{LogStoreState, IsFrozenStore};
-    ghost use Rattle.silt_conversion.specs.Conversion.{ConversionState, FailsStep, HasWritten, IsHeldConversion, Steps};
+    ghost use Rattle.silt_conversion.specs.Conversion.{ConversionState, FailsStep, HasWritten, IsDigestOf, IsHeldConversion, Steps};
     ghost use Rattle.silt_hash_store.specs.Slots.{hash_slot_at};
     ghost use Rattle.silt_hash_store.specs.State.{IsHashStore, IsHeldHash};
 
@@ -114,7 +118,15 @@ impl Conversion {
     /// Where the tags or the row find no memory.
     pub fn start(alloc: Global, log: &LogStore, region: u32) -> Result<Self, AllocError>
         requires { region < log.now.log.shape.hashes }
-        ensures start { IfOk result (λ conversion. conversion ≡ record { shape = log.now.log.shape; region = region; tags = replicate (4 * log.now.log.shape.buckets) None; next = 0; puts = 0 }) }
+        ensures start { IfOk result (λ conversion. conversion ≡ record {
+          shape = log.now.log.shape;
+          region = region;
+          tags = replicate (4 * log.now.log.shape.buckets) None;
+          next = 0;
+          puts = 0;
+          hasher = conversion.hasher;
+        }) }
+        ensures unfed { IfOk result (λ conversion. Holds conversion.hasher []) }
         ensures written { (content : Content) → IfOk result (HasWritten content log.now) }
     {
         let geometry = log.geometry();
@@ -127,6 +139,7 @@ impl Conversion {
             tags: Tags::new(alloc, region.slot_count())?,
             next: 0,
             puts: 0,
+            hasher: Sha1::new(),
             row: vec![in alloc; 0; geometry.row_len()]?,
         })
     }
@@ -181,6 +194,7 @@ impl Conversion {
         if let Err(fault) = self.region.write_slot(disk, slot, &self.row) {
             return Err(StepError::Write(fault));
         }
+        self.hasher.update(&self.row);
         note_entry(&mut self.tags, slot, log.slot(slot));
         self.next = slot + 1;
         self.puts += puts;
@@ -190,7 +204,8 @@ impl Conversion {
     /// The hash store of a conversion that is done.
     pub fn into_store(self) -> HashStore
         requires done { self.next ≡ 4 * self.shape.buckets }
-        ensures store { result ≡ record { shape = self.shape; region = self.region; tags = self.tags; puts = self.puts } }
+        ensures store { result ≡ record { shape = self.shape; region = self.region; tags = self.tags; puts = self.puts; digest = result.digest } }
+        ensures digest { IsDigestOf self.hasher result.digest }
         ensures held { IsHeldHash result }
         ensures rows { (content : Content) (log : LogStoreState) → HasWritten content log self → IsTrue content.honest
             → hash_rows self.shape self.region content.shown ≡ converted_rows self.shape log.table (all_rows content log.log) }
@@ -204,8 +219,9 @@ impl Conversion {
             tags,
             next: _,
             puts,
+            hasher,
             row: _,
         } = self;
-        HashStore::new(region, tags, puts)
+        HashStore::new(region, tags, puts, Digest(hasher.finalize()))
     }
 }

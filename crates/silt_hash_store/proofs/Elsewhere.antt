@@ -1,11 +1,12 @@
 -- What calls on other parts of the disk leave of a hash store.
 use Rattle.std.proofs.Common.{◌≡◌, ℕ, ◌+◌, ◌*◌, ◌≤◌, ◌<◌, IsTrue, List, filter, length, sym, ap, ◌∙◌, inl, inr, arith}
+use Rattle.sha1.specs.Sha1.{sha1}
 use Rattle.silt_disk.specs.Disk.{LiesOutside, Torn, size}
 use Rattle.silt_disk.specs.Layout.{Shape, device_size, gates_at, hash_at, log_len, row_len, slots_len}
 use Rattle.silt_disk.proofs.Images.{torn_slice_after, torn_slice_before}
 use Rattle.silt_disk.proofs.Regions.{regions_apart}
 use Rattle.silt_hash_store.specs.Findings.{hash_findings}
-use Rattle.silt_frame.specs.Rows.{put_count, has_known_kind, row_of, StoredRow}
+use Rattle.silt_frame.specs.Rows.{put_count, has_known_kind, row_of, rows_bytes, StoredRow}
 use Rattle.silt_hash_store.specs.Slots.{hash_rows, rows_before, hash_slot_at, slot_row, tag_of}
 use Rattle.silt_log.proofs.Bodies.{map_range_same}
 use Rattle.silt_hash_store.specs.Laws.{HashElsewhereLaw}
@@ -60,4 +61,7 @@ hash_elsewhere store old new at count held fits outside changes is =
       counted = λ honest.
           let was : IsTrue old.honest = sym changes.honest ∙ honest in
           is.counted was ∙ ap (λ (rows : List StoredRow). put_count (filter has_known_kind rows)) (sym (rows_same store.shape store.region at count old.shown new.shown inside outside (changes.shown was)));
+      digested = λ honest.
+          let was : IsTrue old.honest = sym changes.honest ∙ honest in
+          is.digested was ∙ ap (λ (rows : List StoredRow). sha1 (rows_bytes rows)) (sym (rows_same store.shape store.region at count old.shown new.shown inside outside (changes.shown was)));
     }

@@ -9,6 +9,7 @@ use Rattle.std.proofs.lemmas.List.Folds.{list_any_at}
 use Rattle.std.proofs.lemmas.List.Sums.{sum_by-append}
 use Rattle.std.proofs.lemmas.Option.{get_or_from_slice_get, slice_get_within}
 use Rattle.std.proofs.lemmas.Slice.Eq.{bytes_eq-Decides}
+use Rattle.sha1.specs.Sha1.{sha1}
 use Rattle.silt_cuckoo.specs.Keys.{first_bucket, second_bucket}
 use Rattle.silt_cuckoo.specs.Placing.{other_bucket}
 use Rattle.silt_disk.specs.Disk.{Content}
@@ -18,7 +19,7 @@ use Rattle.silt_frame.specs.declared.key.Kind.{Kind}
 use Rattle.silt_frame.specs.declared.key.Kind.TheVariants.{Put, Delete}
 use Rattle.silt_event.specs.Findings.{finding_if}
 use Rattle.silt_hash_store.specs.Findings.{hash_findings, holds_key, is_in_bucket, is_sound_hash_slot, slot_findings}
-use Rattle.silt_frame.specs.Rows.{put_count, has_known_kind, StoredRow, puts_of}
+use Rattle.silt_frame.specs.Rows.{put_count, has_known_kind, StoredRow, puts_of, rows_bytes}
 use Rattle.silt_log.specs.Parts.{Part}
 use Rattle.silt_hash_store.specs.Slots.{hash_part, hash_rows, is_row_of, is_sound_slot, rows_before, slot_row, slot_tag, tag_of}
 use Rattle.silt_event.specs.declared.damage.Finding.{Finding}
@@ -293,13 +294,23 @@ none_grown rebuilt image tags puts rows = record {
     no_tag (suc n) zero = refl
     no_tag (suc n) (suc slot) = no_tag n slot
 
+-- its digest is nothing to what was taken
+pub grown_digested : (rebuilt : Rebuilt) (digest image : List ℕ) (count : ℕ) → IsGrown rebuilt image count → IsGrown (record rebuilt { store = record rebuilt.store { digest = digest } }) image count
+grown_digested rebuilt digest image count is = record {
+  tagged = record { most = is.tagged.most; sound = is.tagged.sound; tagged = is.tagged.tagged; later = is.tagged.later };
+  charged = is.charged;
+  counted = is.counted;
+}
+
 -- a store of all slots
-pub all_grown : (content : Content) (rebuilt : Rebuilt) → IsTrue content.honest → IsGrown rebuilt content.shown (4 * rebuilt.store.shape.buckets) → IsRebuiltHash content rebuilt
-all_grown content rebuilt honest is = record {
+pub all_grown : (content : Content) (rebuilt : Rebuilt) → IsTrue content.honest → IsGrown rebuilt content.shown (4 * rebuilt.store.shape.buckets)
+    → rebuilt.store.digest ≡ sha1 (rows_bytes (rows_before rebuilt.store.shape rebuilt.store.region content.shown (4 * rebuilt.store.shape.buckets))) → IsRebuiltHash content rebuilt
+all_grown content rebuilt honest is digest = record {
   stands = record {
     sound = λ _. nothing_found rebuilt.store.shape rebuilt.store.region content.shown is.tagged.sound;
     tagged = λ _. is.tagged.tagged;
     counted = λ _. is.charged ∙ ap (λ (l : List StoredRow). put_count (filter has_known_kind l)) (sym (all_before rebuilt.store.shape rebuilt.store.region content.shown));
+    digested = λ _. digest ∙ ap (λ (l : List StoredRow). sha1 (rows_bytes l)) (sym (all_before rebuilt.store.shape rebuilt.store.region content.shown));
   };
   counted = is.counted ∙ ap (λ (l : List StoredRow). length (filter has_known_kind l)) (sym (all_before rebuilt.store.shape rebuilt.store.region content.shown));
 }

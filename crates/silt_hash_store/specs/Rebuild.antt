@@ -1,5 +1,7 @@
 -- What a rebuild finds in the slots of a hash region.
 use Rattle.std.specs.Prelude.{◌≡◌, ℕ, ◌+◌, true, false, List, filter, length, slice_get, slice_set, Option, Some, None}
+use Rattle.sha1.specs.Sha1.{Holds}
+use Rattle.sha1.specs.declared.Sha1.{Sha1}
 use Rattle.silt_cuckoo.specs.Keys.{first_bucket, second_bucket}
 use Rattle.silt_cuckoo.specs.Placing.{other_bucket}
 use Rattle.silt_disk.specs.Disk.{Content}
@@ -8,7 +10,7 @@ use Rattle.silt_frame.specs.Frame.{kind_of}
 use Rattle.silt_frame.specs.declared.key.Kind.{Kind}
 use Rattle.silt_hash_store.specs.Findings.{hash_findings, is_in_bucket}
 use Rattle.silt_log.specs.Parts.{known_rows}
-use Rattle.silt_frame.specs.Rows.{put_count, has_known_kind, StoredRow, puts_of}
+use Rattle.silt_frame.specs.Rows.{put_count, has_known_kind, StoredRow, puts_of, rows_bytes}
 use Rattle.silt_hash_store.specs.declared.region.Head.{Head}
 use Rattle.silt_hash_store.specs.Slots.{HeadSays, hash_part, is_sound_slot, rows_before, slot_row, tag_of}
 use Rattle.silt_event.specs.declared.damage.Finding.TheVariants as finding
@@ -55,3 +57,7 @@ pub record IsGrown (rebuilt : Rebuilt) (image : List ℕ) (count : ℕ) : Type 0
   pub tagged : IsTagged rebuilt.store image count
   pub charged : rebuilt.store.puts ≡ put_count (filter has_known_kind (rows_before rebuilt.store.shape rebuilt.store.region image count))
   pub counted : rebuilt.rows ≡ length (filter has_known_kind (rows_before rebuilt.store.shape rebuilt.store.region image count))
+
+-- a hasher was fed the bytes of the first slots of an image, this many
+abbrev pub IsFed : Sha1 → HashState → List ℕ → ℕ → Type 0
+IsFed hasher store image count = Holds hasher (rows_bytes (rows_before store.shape store.region image count))

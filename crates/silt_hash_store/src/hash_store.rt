@@ -11,7 +11,7 @@ use crate::region::{HashRegion, Head};
 use crate::tags::Tags;
 use silt_cuckoo::key_buckets;
 use silt_disk::{Disk, Geometry};
-use silt_frame::{HEAD_LEN, Key, Kind, Row};
+use silt_frame::{Digest, HEAD_LEN, Key, Kind, Row};
 use silt_log::{Found, ScanError};
 use std::alloc::Global;
 use std::marker::Model;
@@ -19,7 +19,7 @@ use std::marker::Model;
 /// How many bytes a row has at most that is read whole for its value.
 const WHOLE_LEN: usize = 512;
 
-/// A hash region with the tag of each of its slots and the number of its puts.
+/// A hash region with the tag of each of its slots, the number of its puts and the digest of its slots.
 ///
 /// On a disk that is not honest its calls are safe and end, but say nothing of rows. Only `rebuild` takes memory.
 #[derive(Drop)]
@@ -27,6 +27,7 @@ pub struct HashStore {
     pub(crate) region: HashRegion,
     pub(crate) tags: Tags,
     pub(crate) puts: u32,
+    pub(crate) digest: Digest,
 }
 
 impl Model for HashStore {
@@ -34,9 +35,9 @@ impl Model for HashStore {
 
     ghost Value = { HashState };
 
-    ghost view = { λ s. record { shape = s.region.geometry; region = s.region.number; tags = s.tags; puts = s.puts } };
+    ghost view = { λ s. record { shape = s.region.geometry; region = s.region.number; tags = s.tags; puts = s.puts; digest = s.digest.0 } };
 
-    ghost invariant = { λ s. IsHeldHash (record { shape = s.region.geometry; region = s.region.number; tags = s.tags; puts = s.puts }) };
+    ghost invariant = { λ s. IsHeldHash (record { shape = s.region.geometry; region = s.region.number; tags = s.tags; puts = s.puts; digest = s.digest.0 }) };
 }
 
 impl HashStore {
@@ -47,12 +48,17 @@ impl HashStore {
     ghost use Rattle.silt_hash_store.specs.Slots.{rows_before, slot_row};
     ghost use Rattle.silt_frame.specs.Frame.{head_len};
 
-    /// The store of a region whose slots have these tags and whose rows have so many puts.
-    pub fn new(region: HashRegion, tags: Tags, puts: u32) -> Self
-        requires held { IsHeldHash (record { shape = region.geometry; region = region.number; tags = tags; puts = puts }) }
-        ensures { result ≡ record { shape = region.geometry; region = region.number; tags = tags; puts = puts } }
+    /// The store of a region whose slots have these tags and this digest, and whose rows have so many puts.
+    pub fn new(region: HashRegion, tags: Tags, puts: u32, digest: Digest) -> Self
+        requires held { IsHeldHash (record { shape = region.geometry; region = region.number; tags = tags; puts = puts; digest = digest.0 }) }
+        ensures { result ≡ record { shape = region.geometry; region = region.number; tags = tags; puts = puts; digest = digest.0 } }
     {
-        HashStore { region, tags, puts }
+        HashStore {
+            region,
+            tags,
+            puts,
+            digest,
+        }
     }
 
     /// The geometry of the store.
@@ -77,6 +83,13 @@ impl HashStore {
         ensures held { IsHeldHash self.now }
     {
         self.puts
+    }
+
+    /// The SHA-1 digest of the bytes of its slots.
+    pub fn digest(&self) -> &Digest
+        ensures { result.now.0 ≡ self.now.digest }
+    {
+        &self.digest
     }
 
     // The row of a key among the slots that have tags: first those of its first bucket, then, where it differs, of its second. Of each

@@ -1,19 +1,22 @@
 // A hash store from what is on the device.
 ghost use Rattle.std.specs.Prelude.{◌≡◌, ◌+◌, ◌*◌, ◌<◌, ◌≤◌, ◌^◌, false, IsTrue, IfOk, IfErr, IfSome, OnOk, length};
+ghost use Rattle.sha1.specs.Sha1.{sha1};
 ghost use Rattle.silt_disk.specs.Disk.{GaveAny, size};
 ghost use Rattle.silt_disk.specs.Layout.{device_size, row_len};
+ghost use Rattle.silt_frame.specs.Rows.{rows_bytes};
 ghost use Rattle.silt_hash_store.specs.declared.region.Head.TheVariants as head;
-ghost use Rattle.silt_hash_store.specs.Rebuild.{AddsSound, HasHead, IsFirstUnsound, IsGrown, IsRebuiltHash, TagsKey, TakesAdded};
+ghost use Rattle.silt_hash_store.specs.Rebuild.{AddsSound, HasHead, IsFed, IsFirstUnsound, IsGrown, IsRebuiltHash, TagsKey, TakesAdded};
 ghost use Rattle.silt_log.specs.Scans.{IsScanRefused};
-ghost use Rattle.silt_hash_store.specs.Slots.{HeadSays, HoldsSlots, is_sound_slot, slot_row};
+ghost use Rattle.silt_hash_store.specs.Slots.{HeadSays, HoldsSlots, is_sound_slot, rows_before, slot_row};
 ghost use Rattle.silt_hash_store.specs.State.{IsHeldHash, IsTagged};
 
 use crate::hash_store::HashStore;
 use crate::region::{HashRegion, Head, head_in};
 use crate::tags::Tags;
+use sha1::Sha1;
 use silt_cuckoo::key_buckets;
 use silt_disk::Disk;
-use silt_frame::{HEAD_LEN, Key, Kind};
+use silt_frame::{Digest, HEAD_LEN, Key, Kind};
 use silt_log::ScanError;
 use std::alloc::Global;
 
@@ -171,7 +174,8 @@ impl Rebuilt {
         Ok(())
     }
 
-    // Reads so many slots from a slot on into a buffer of just their length, `len` bytes each, and takes what they add.
+    // Reads so many slots from a slot on into a buffer of just their length, `len` bytes each, feeds the hasher what was read, and takes
+    // what the slots add.
     fn add_read<D: Disk>(
         &mut self,
         disk: &D,
@@ -179,6 +183,7 @@ impl Rebuilt {
         count: u32,
         len: usize,
         buffer: &mut [u8],
+        hasher: &mut Sha1,
     ) -> Result<(), ScanError<D::Fault>>
         requires some { 0 < count }
         requires within { first + count ≤ 4 * self.old.store.shape.buckets }
@@ -190,16 +195,19 @@ impl Rebuilt {
         ensures region { (self.new.store.shape ≡ self.old.store.shape) × (self.new.store.region ≡ self.old.store.region) }
         ensures counts { (self.new.store.puts ≤ self.new.rows) × (self.new.rows ≤ first + count) }
         ensures ok { IsTrue (D.content disk.now).honest → IsGrown self.old (D.content disk.now).shown first → OnOk result (IsGrown self.new (D.content disk.now).shown (first + count)) }
+        ensures fed { IsTrue (D.content disk.now).honest → IsFed hasher.old self.old.store (D.content disk.now).shown first
+            → OnOk result (IsFed hasher.new self.old.store (D.content disk.now).shown (first + count)) }
         ensures err { IfErr result (IsScanRefused (λ at. IsTrue (D.content disk.now).honest → IsGrown self.old (D.content disk.now).shown first
             → IsFirstUnsound (D.content disk.now) self.old.store.shape self.old.store.region at) (GaveAny D.gave disk.now)) }
     {
         if let Err(fault) = self.store.read_slots(disk, first, count, buffer) {
             return Err(ScanError::Device(fault));
         }
+        hasher.update(buffer);
         self.add_slots(disk, first, count, len, buffer)
     }
 
-    // Takes what all slots add, read into a buffer that has room for `most` of them, `len` bytes each.
+    // Takes what all slots add, read into a buffer that has room for `most` of them, `len` bytes each. The digest of all of them.
     fn add_all<D: Disk>(
         &mut self,
         disk: &D,
@@ -207,7 +215,7 @@ impl Rebuilt {
         len: usize,
         buffer: &mut [u8],
         most: u32,
-    ) -> Result<(), ScanError<D::Fault>>
+    ) -> Result<Digest, ScanError<D::Fault>>
         requires all { count ≡ 4 * self.old.store.shape.buckets }
         requires small { count ≤ 2 ^ 17 }
         requires len { len ≡ row_len self.old.store.shape }
@@ -218,16 +226,26 @@ impl Rebuilt {
         ensures region { (self.new.store.shape ≡ self.old.store.shape) × (self.new.store.region ≡ self.old.store.region) }
         ensures counts { (self.new.store.puts ≤ self.new.rows) × (self.new.rows ≤ count) }
         ensures ok { IsTrue (D.content disk.now).honest → IsGrown self.old (D.content disk.now).shown 0 → OnOk result (IsGrown self.new (D.content disk.now).shown count) }
+        ensures digest { IsTrue (D.content disk.now).honest
+            → IfOk result (λ digest. digest.0 ≡ sha1 (rows_bytes (rows_before self.old.store.shape self.old.store.region (D.content disk.now).shown count))) }
         ensures err { IfErr result (IsScanRefused (λ at. IsTrue (D.content disk.now).honest → IsGrown self.old (D.content disk.now).shown 0
             → IsFirstUnsound (D.content disk.now) self.old.store.shape self.old.store.region at) (GaveAny D.gave disk.now)) }
     {
+        let mut hasher = Sha1::new();
         let mut slot = 0;
         while slot < count {
             let next = most.min(count - slot);
-            self.add_read(disk, slot, next, len, &mut buffer[..next as usize * len])?;
+            self.add_read(
+                disk,
+                slot,
+                next,
+                len,
+                &mut buffer[..next as usize * len],
+                &mut hasher,
+            )?;
             slot += next;
         }
-        Ok(())
+        Ok(Digest(hasher.finalize()))
     }
 }
 
@@ -253,6 +271,7 @@ pub fn rebuild_region<D: Disk>(
             region,
             tags,
             puts: 0,
+            digest: Digest([0; 20]),
         },
         rows: 0,
     };
@@ -261,6 +280,7 @@ pub fn rebuild_region<D: Disk>(
     let Ok(mut buffer) = vec![in alloc; 0u8; most as usize * len] else {
         return Err(ScanError::NoMemory);
     };
-    rebuilt.add_all(disk, count, len, &mut buffer, most)?;
+    let digest = rebuilt.add_all(disk, count, len, &mut buffer, most)?;
+    rebuilt.store.digest = digest;
     Ok(rebuilt)
 }

@@ -1,5 +1,5 @@
 use Rattle.std.proofs.Common.{◌≡◌, ◌-◌, ◌≤◌, IsTrue, length}
-use Rattle.silt_hash_store.specs.Rebuild.{IsGrown}
+use Rattle.silt_hash_store.specs.Rebuild.{IsFed, IsGrown}
 use Rattle.silt_hash_store.proofs.rebuild.Rebuilt.add_all.Given as goal
 
 -- the slots so far were taken
@@ -12,6 +12,7 @@ invariant-loop-slot g l = record {
   puts : l.self.store.puts ≤ l.self.rows;
   rows : l.self.rows ≤ l.slot;
   grown : IsTrue (g.D.Disk.content l.disk).honest → IsGrown l.initial.self (g.D.Disk.content l.disk).shown 0 → IsGrown l.self (g.D.Disk.content l.disk).shown l.slot;
+  fed : IsTrue (g.D.Disk.content l.disk).honest → IsFed l.hasher l.initial.self.store (g.D.Disk.content l.disk).shown l.slot;
 }
 
 abbrev pub decreases-loop-slot : goal.decreases-loop-slot

@@ -1,4 +1,4 @@
-use Rattle.std.proofs.Common.{◌<◌, length, arith}
+use Rattle.std.proofs.Common.{length, arith}
 use Rattle.silt_disk.specs.Disk.{size}
 use Rattle.silt_hash_store.proofs.Reading.{slots_read, slots_within}
 use Rattle.silt_hash_store.proofs.Elsewhere.{slots_inside}
