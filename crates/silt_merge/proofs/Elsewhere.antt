@@ -17,7 +17,7 @@ use Rattle.silt_event.specs.Rows.{newest_row}
 use Rattle.silt_hash_store.specs.Findings.{hash_findings}
 use Rattle.silt_log.specs.Parts.{known_rows, oldest_first, Part}
 use Rattle.silt_sorted_store.specs.Findings.{sorted_findings}
-use Rattle.silt_frame.specs.Rows.{StoredRow, has_known_kind, is_put_row, keys_of}
+use Rattle.silt_frame.specs.Rows.{StoredRow, entries_bytes, has_known_kind, is_put_row, keys_of}
 use Rattle.silt_sorted_store.specs.State.{sorted_rows, IsHeldSorted, SortedState}
 use Rattle.silt_log.proofs.Bodies.{map_range_same}
 use Rattle.silt_merge.specs.Laws.{MergedElsewhereLaw, OldestStoresLaw}
@@ -28,6 +28,7 @@ use Rattle.silt_merge.specs.Rows.{entries_in, has_row_with, rows_of_hashes, key_
 use Rattle.silt_merge.specs.State.{IsHeldMerge, MergeState, oldest_stores, source_at}
 use Rattle.silt_merge.specs.declared.source.Source.{Source}
 use Rattle.silt_trie.specs.Coded.{bytes_of}
+use Rattle.sha1.specs.Sha1.{Holds}
 use Rattle.silt_merge.proofs.Pieces.{slots_same}
 
 -- there are as many regions as stores
@@ -140,7 +141,7 @@ pub same_outside : (stores : List HashState) (sorted : SortedState) (old new : L
     → LiesOutside (sorted_at sorted.shape sorted.region) (entries_len sorted.shape) at count → All (λ store. LiesOutside (hash_at sorted.shape store.region) (slots_len sorted.shape) at count) stores → Torn at count old new → SameSources sorted.shape (regions_of stores) sorted old new
 same_outside stores sorted old new at count fits there held behind outside torn = record {
   rows = λ store slot below inside.
-      let blank : HashState = record { shape = sorted.shape; region = 0; tags = []; puts = 0 } in
+      let blank : HashState = record { shape = sorted.shape; region = 0; tags = []; puts = 0; digest = [] } in
       let within : store < length stores = omega (arith, regions_count stores) in
       let region : ℕ = (get_or stores store blank).region in
       let its : get_or (regions_of stores) store 0 ≡ region = region_of stores store blank within in
@@ -193,17 +194,23 @@ merged_elsewhere stores sorted merge old new at count held_sorted held fits own 
   shape = is.shape;
   counted = is.counted;
   apart = is.apart;
+  hashed = λ honest. subst (λ (rows : List StoredRow). Holds merge.hasher (entries_bytes rows)) (sym (kept honest)) (is.hashed (sym changes.honest ∙ honest));
   merged = λ honest sound.
       let was : IsTrue old.honest = sym changes.honest ∙ honest in
       let torn = changes.shown was in
       let same = same_outside stores sorted old.shown new.shown at count fits sound.there held_sorted behind outside torn in
       let so_far = is.merged was (sound_before old.shown new.shown stores sorted same sound) in
-      let ends = entries_inside sorted.shape merge.region held.there in
-      let kept = entries_outside merge.shape merge.region merge.written at count old.shown new.shown (subst (λ (s : Shape). sorted_at s merge.region + s.sorted_capacity * entry_len s ≤ size old) is.shape (omega (arith, ends))) held.room
-      (subst (λ (s : Shape). LiesOutside (sorted_at s merge.region) (entries_len s) at count) is.shape own) torn in
       merged_same old.shown new.shown stores sorted same merge (source_inside stores sorted merge held is.shape is.counted) (store_next stores merge held is.counted)
-      (subst (λ (s : Shape). merge.slot ≤ 4 * s.buckets) (sym is.shape) (omega (arith, held.slot))) so_far.gathered (kept ∙ so_far.writes) (ap keys_of kept ∙ so_far.keys);
+      (subst (λ (s : Shape). merge.slot ≤ 4 * s.buckets) (sym is.shape) (omega (arith, held.slot))) so_far.gathered (kept honest ∙ so_far.writes) (ap keys_of (kept honest) ∙ so_far.keys);
 }
+  where
+    -- what it wrote stays
+    kept : IsTrue new.honest → sorted_rows merge.shape merge.region merge.written new.shown ≡ sorted_rows merge.shape merge.region merge.written old.shown
+    kept honest =
+        let was : IsTrue old.honest = sym changes.honest ∙ honest in
+        let ends = entries_inside sorted.shape merge.region held.there in
+        entries_outside merge.shape merge.region merge.written at count old.shown new.shown (subst (λ (s : Shape). sorted_at s merge.region + s.sorted_capacity * entry_len s ≤ size old) is.shape (omega (arith, ends))) held.room
+        (subst (λ (s : Shape). LiesOutside (sorted_at s merge.region) (entries_len s) at count) is.shape own) (changes.shown was)
 
 -- the oldest of stores in front of which others came
 pub oldest_stores_law : OldestStoresLaw

@@ -23,13 +23,13 @@ use Rattle.std.specs.Cmp.Lexicographic.{slice_cmp}
 use Rattle.silt_event.specs.Rows.{newest_row}
 use Rattle.silt_sorted_store.specs.Findings.{sorted_findings}
 use Rattle.silt_sorted_store.specs.State.{sorted_rows, IsHeldSorted, SortedState, entries_of}
-use Rattle.silt_frame.specs.Rows.{StoredRow, entry_row, is_put_row, keys_of}
+use Rattle.silt_frame.specs.Rows.{StoredRow, entries_bytes, entry_row, is_put_row, keys_of}
 use Rattle.silt_merge.specs.Choice.{IsFirstWaiting, IsNextEntry, IsOffered, ReadsRow, choice_of, choice_puts}
 use Rattle.silt_sorted_store.specs.Region.{due_rows}
 use Rattle.silt_merge.specs.Merging.{AreSound, HasMerged, IsGatheredIn, IsMergeOf, source_row}
 use Rattle.silt_merge.specs.Pieces.{AreEntries, AreSlots, parts_after}
 use Rattle.silt_merge.specs.Rows.{entries_in, has_row_with, rows_of_hashes, key_count, merged_rows, newest_rows, regions_of, sources}
-use Rattle.silt_merge.specs.State.{AreKeysUpTo, IsHeldMerge, IsInside, MergeState, is_behind, is_done, keys_after, passed_after, source_at, steps_for, steps_of, written_after}
+use Rattle.silt_merge.specs.State.{AreKeysUpTo, IsHeldMerge, IsInside, MergeState, hashed_after, is_behind, is_done, keys_after, passed_after, source_at, steps_for, steps_of, written_after}
 use Rattle.silt_trie.specs.Building.{is_above}
 use Rattle.silt_merge.specs.declared.choice.Choice.{Choice}
 use Rattle.silt_merge.specs.declared.source.Source.{Source}
@@ -37,11 +37,13 @@ use Rattle.silt_merge.proofs.Choosing.{IsChosen, chosen}
 use Rattle.silt_merge.proofs.Deciding.{IsDecided, all_decided, cond_some, decided_with, decided_without, due_more, has_more, lowest_next, next_above, next_enters, next_waits, none_waits}
 use Rattle.silt_merge.proofs.Elsewhere.{SameSources, merged_same, regions_count, same_beside, sound_before, source_inside, store_next}
 use Rattle.silt_merge.proofs.Gathering.{all_gathered}
-use Rattle.silt_merge.proofs.Keys.{written_keys}
+use Rattle.silt_merge.proofs.Keys.{written_entry, written_keys}
 use Rattle.silt_merge.proofs.Newest.{Rises, key_itself, merged_law, rises_from, turned}
 use Rattle.silt_sorted_store.proofs.Entries.{entry_count, key_of_row}
 use Rattle.silt_sorted_store.proofs.Rising.{key_at, lower_below}
 use Rattle.silt_trie.specs.Coded.{bytes_of}
+use Rattle.sha1.specs.Sha1.{Holds}
+use Rattle.sha1.specs.declared.Sha1.{Sha1}
 
 -- entries in which nothing is found rise
 rises_of : (rows : List StoredRow) → sorted_findings rows ≡ [] → Rises rows
@@ -190,6 +192,7 @@ merged_ahead content stores sorted merge ahead there is = record {
   shape = is.shape;
   counted = is.counted;
   apart = is.apart;
+  hashed = is.hashed;
   merged = λ honest sound.
       let so_far = is.merged honest sound in
       record {
@@ -214,6 +217,7 @@ merged_slots content stores sorted merge slots there is = record {
   shape = is.shape;
   counted = is.counted;
   apart = is.apart;
+  hashed = is.hashed;
   merged = λ honest sound.
       let so_far = is.merged honest sound in
       record {
@@ -241,6 +245,7 @@ merged_behind content stores sorted merge next bytes held all some there behind 
   shape = is.shape;
   counted = is.counted;
   apart = is.apart;
+  hashed = is.hashed;
   merged = λ honest sound.
       let image : List ℕ = content.shown in
       let so_far = is.merged honest sound in
@@ -277,6 +282,7 @@ module _ (old new : Content) (stores : List HashState) (sorted : SortedState) (m
     shape = is.shape;
     counted = is.counted;
     apart = is.apart;
+    hashed = λ honest. let was : IsTrue old.honest = sym changes.honest ∙ honest in subst (λ (rows : List StoredRow). Holds merge.hasher (entries_bytes rows)) (sym (kept was)) (is.hashed was);
     merged = λ honest sound.
         let was : IsTrue old.honest = sym changes.honest ∙ honest in
         let same = sources_stay is sound was in
@@ -291,22 +297,29 @@ module _ (old new : Content) (stores : List HashState) (sorted : SortedState) (m
   still_inside choice after gone key source is = (cond_some (bytes_eq choice.key.0 key) (source_at merge.waiting key) source (sym (gone key) ∙ is)).1
 
   -- a key that is decided, with its entry where one is due
-  pub merged_step : (first : Option (Key × Source)) (next : Option Key) (choice : Choice) (bytes row_bytes : List ℕ) (after : List (Key × Source)) (count : ℕ) → merge.store ≡ merge.stores → IsFirstWaiting merge.waiting first
+  pub merged_step : (first : Option (Key × Source)) (next : Option Key) (choice : Choice) (bytes row_bytes : List ℕ) (after : List (Key × Source)) (count : ℕ) (hasher : Sha1) → merge.store ≡ merge.stores → IsFirstWaiting merge.waiting first
       → choice_of first next ≡ Some choice → is_some next ≡ nat_lt merge.passed sorted.count → (IsTrue old.honest → AreEntries (entries_of old sorted) merge.passed merge.ahead → IsNextEntry (entries_of old sorted) merge.passed bytes next)
       → (IsTrue old.honest → ReadsRow merge.shape old.shown (regions_of stores) choice.key.0 choice.source bytes row_bytes)
       → (IsTrue old.honest → sorted_rows merge.shape merge.region count new.shown ≡ take merge.shape.sorted_capacity (sorted_rows merge.shape merge.region merge.written old.shown ++ due_rows (choice_puts choice.source) row_bytes))
       → ((key : List ℕ) → source_at after key ≡ cond (bytes_eq choice.key.0 key) None (source_at merge.waiting key))
+      → ((hashed : List ℕ) → Holds merge.hasher hashed → Holds hasher (hashed_after (nat_lt merge.written count) hashed row_bytes))
       → HasMerged old stores sorted merge
-      → HasMerged new stores sorted (record merge { waiting = after; passed = passed_after choice.passes merge.passed; written = written_after (nat_lt merge.written count) merge.written; keys = keys_after (nat_lt merge.written count) merge.keys choice.key; decided = merge.decided + 1; last = Some choice.key; ahead = parts_after choice.passes merge.ahead })
+      → HasMerged new stores sorted (record merge { waiting = after; passed = passed_after choice.passes merge.passed; written = written_after (nat_lt merge.written count) merge.written; keys = keys_after (nat_lt merge.written count) merge.keys choice.key; decided = merge.decided + 1; last = Some choice.key; ahead = parts_after choice.passes merge.ahead; hasher = hasher })
   unfolding sources
-  merged_step first next choice bytes row_bytes after count all its_first made some there read written gone is = record {
+  merged_step first next choice bytes row_bytes after count hasher all its_first made some there read written gone hashes is = record {
     shape = is.shape;
     counted = is.counted;
     apart = is.apart;
+    hashed = λ honest.
+        let was : IsTrue old.honest = sym changes.honest ∙ honest in
+        let is_written : Bool = nat_lt merge.written count in
+        let entry = written_entry merge.shape.sorted_capacity merge.written count (sorted_rows merge.shape merge.region merge.written old.shown) (sorted_rows merge.shape merge.region count new.shown) (choice_puts choice.source) row_bytes
+        (entry_count merge.shape merge.region merge.written old.shown) (entry_count merge.shape merge.region count new.shown) held.room (written was) in
+        subst (Holds hasher) (sym (ap (λ n. entries_bytes (sorted_rows merge.shape merge.region n new.shown)) (sym entry.0) ∙ entry.1)) (hashes (entries_bytes (sorted_rows merge.shape merge.region merge.written old.shown)) (is.hashed was));
     merged = λ honest sound.
         let was : IsTrue old.honest = sym changes.honest ∙ honest in
         let image : List ℕ = old.shown in
-        let merge_after : MergeState = record merge { waiting = after; passed = passed_after choice.passes merge.passed; written = written_after (nat_lt merge.written count) merge.written; keys = keys_after (nat_lt merge.written count) merge.keys choice.key; decided = merge.decided + 1; last = Some choice.key; ahead = parts_after choice.passes merge.ahead } in
+        let merge_after : MergeState = record merge { waiting = after; passed = passed_after choice.passes merge.passed; written = written_after (nat_lt merge.written count) merge.written; keys = keys_after (nat_lt merge.written count) merge.keys choice.key; decided = merge.decided + 1; last = Some choice.key; ahead = parts_after choice.passes merge.ahead; hasher = hasher } in
         let same = sources_stay is sound was in
         let sound_old = sound_before old.shown new.shown stores sorted same sound in
         let so_far = is.merged was sound_old in
@@ -334,9 +347,9 @@ module _ (old new : Content) (stores : List HashState) (sorted : SortedState) (m
 
 -- ---- on any disk
 
--- a merge with others ahead
-pub held_ahead : (merge : MergeState) (slots ahead : List (List ℕ)) → IsHeldMerge merge → IsHeldMerge (record merge { slots = slots; ahead = ahead })
-held_ahead merge slots ahead held = record {
+-- a merge with others ahead and another hasher
+pub held_with : (merge : MergeState) (slots ahead : List (List ℕ)) (hasher : Sha1) → IsHeldMerge merge → IsHeldMerge (record merge { slots = slots; ahead = ahead; hasher = hasher })
+held_with merge slots ahead hasher held = record {
   there = held.there;
   store = held.store;
   slot = held.slot;

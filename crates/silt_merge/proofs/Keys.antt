@@ -11,11 +11,13 @@ use Rattle.std.proofs.lemmas.List.{append-nil, get_or-map, get_or_append_left, l
 use Rattle.std.proofs.lemmas.Map.Lookups.{exact_bytes}
 use Rattle.std.proofs.Math.Seq.{get_or-append_seam}
 use Rattle.silt_frame.specs.declared.key.Key.{Key}
-use Rattle.silt_frame.specs.Rows.{StoredRow, is_put_row, keys_of}
+use Rattle.silt_frame.specs.Rows.{StoredRow, entries_bytes, entry_row, is_put_row, keys_of}
 use Rattle.silt_sorted_store.specs.Findings.{is_key_below}
-use Rattle.silt_merge.specs.State.{AreKeysUpTo, HasKeyBytes, keys_after, written_after}
+use Rattle.silt_merge.specs.State.{AreKeysUpTo, HasKeyBytes, hashed_after, keys_after, written_after}
 use Rattle.silt_trie.specs.Building.{is_above}
 use Rattle.silt_merge.proofs.Newest.{turned}
+use Rattle.silt_sorted_store.specs.Region.{due_rows}
+use Rattle.silt_sorted_store.proofs.Digested.{bytes_more}
 use Rattle.silt_sorted_store.proofs.Rising.{is_less, not_below_itself}
 use Rattle.silt_trie.specs.Code.{Follows, IsCodable}
 use Rattle.silt_trie.specs.Coded.{bytes_of}
@@ -171,3 +173,29 @@ written_keys most written count old due new row keys key old_count new_count roo
           one_more ∙ sym (ap (λ b. written_after b written) some),
           ap keys_of is ∙ its_keys ∙ sym (map-append (λ (k : Key). k.0) keys (key ∷ [])) ∙ sym (ap (λ b. bytes_of (keys_after b keys key)) some),
         )
+
+-- an entry that is due and finds room is written, and its bytes come behind those that are there
+pub written_entry : (most written count : ℕ) (old new : List StoredRow) (due : Bool) (bytes : List ℕ) → length old ≡ written → length new ≡ count → written ≤ most → new ≡ take most (old ++ due_rows due bytes)
+    → (count ≡ written_after (nat_lt written count) written) × (entries_bytes new ≡ hashed_after (nat_lt written count) (entries_bytes old) bytes)
+written_entry most written count old new due bytes old_count new_count room made = go due made
+  where
+    stays : new ≡ old → (count ≡ written_after (nat_lt written count) written) × (entries_bytes new ≡ hashed_after (nat_lt written count) (entries_bytes old) bytes)
+    stays is =
+        let long : length new ≡ length old = ap length is in
+        let none : nat_lt written count ≡ false = le-ltb written count (omega (arith, long, old_count, new_count)) in
+        let as_before : count ≡ written = omega (arith, long, old_count, new_count) in
+        (as_before ∙ sym (ap (λ b. written_after b written) none), ap entries_bytes is ∙ sym (ap (λ b. hashed_after b (entries_bytes old) bytes) none))
+
+    grows : new ≡ old ++ entry_row bytes ∷ [] → (count ≡ written_after (nat_lt written count) written) × (entries_bytes new ≡ hashed_after (nat_lt written count) (entries_bytes old) bytes)
+    grows is =
+        let long : length new ≡ length old + 1 = ap length is ∙ length-append old (entry_row bytes ∷ []) in
+        let some : nat_lt written count ≡ true = lt-ltb written count (omega (arith, long, old_count, new_count)) in
+        let one_more : count ≡ written + 1 = omega (arith, long, old_count, new_count) in
+        (one_more ∙ sym (ap (λ b. written_after b written) some), ap entries_bytes is ∙ bytes_more old bytes ∙ sym (ap (λ b. hashed_after b (entries_bytes old) bytes) some))
+
+    go : (b : Bool) → new ≡ take most (old ++ due_rows b bytes) → (count ≡ written_after (nat_lt written count) written) × (entries_bytes new ≡ hashed_after (nat_lt written count) (entries_bytes old) bytes)
+    go false is = stays (is ∙ ap (take most) (append-nil old) ∙ take_all most old (omega (arith, old_count, room)))
+    go true is = elim (cases_lt written most) [
+      | inl below ↦ grows (is ∙ take_all most (old ++ entry_row bytes ∷ []) (omega (arith, old_count, below, length-append old (entry_row bytes ∷ []))))
+      | inr full ↦ stays (is ∙ take_at old (entry_row bytes ∷ []) most (omega (arith, old_count, room, full)))
+    ]

@@ -12,7 +12,7 @@ use Rattle.silt_merge.specs.declared.source.Source.{Source}
 
 -- some hash store
 abbrev pub blank : HashState
-blank = record { shape = record { value_len = 0; buckets = 0; log_capacity = 0; logs = 0; hashes = 0; sorted_capacity = 0 }; region = 0; tags = []; puts = 0 }
+blank = record { shape = record { value_len = 0; buckets = 0; log_capacity = 0; logs = 0; hashes = 0; sorted_capacity = 0 }; region = 0; tags = []; puts = 0; digest = [] }
 
 -- a weaker fact of a call that was answered Ok
 weaker_on_ok : {A E : Type 0} {P Q : Type 0} (result : Result A E) → (P → Q) → OnOk result P → OnOk result Q

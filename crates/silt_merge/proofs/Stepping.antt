@@ -13,7 +13,7 @@ use Rattle.silt_hash_store.specs.Slots.{slot_row}
 use Rattle.silt_hash_store.specs.State.{HashState}
 use Rattle.silt_event.specs.Rows.{newest_row}
 use Rattle.silt_sorted_store.specs.State.{sorted_rows, SortedState}
-use Rattle.silt_frame.specs.Rows.{StoredRow, keys_of}
+use Rattle.silt_frame.specs.Rows.{StoredRow, entries_bytes, keys_of}
 use Rattle.silt_merge.specs.Choice.{Gathers, own_source}
 use Rattle.silt_merge.specs.Merging.{HasMerged, decided_rows, gathered_rows, source_row}
 use Rattle.silt_merge.specs.Pieces.{AreEntries, AreSlots, parts_after}
@@ -25,6 +25,8 @@ use Rattle.silt_merge.proofs.Elsewhere.{regions_count}
 use Rattle.silt_merge.proofs.Gathering.{next_gathered, none_gathered, waits_kept}
 use Rattle.silt_merge.proofs.Reading.{store_at}
 use Rattle.silt_trie.specs.Coded.{bytes_of}
+use Rattle.sha1.specs.Sha1.{Holds}
+use Rattle.sha1.specs.declared.Sha1.{Sha1}
 
 -- ---- at the start
 
@@ -34,12 +36,13 @@ unfolding sorted_rows
 none_written s region image = refl
 
 -- nothing is gathered, and nothing is due
-pub started : (content : Content) (stores : List HashState) (sorted : SortedState) (shape : Shape) (region : ℕ) (waiting : List (Key × Source)) (written : ℕ) (keys : List Key) (slots ahead : List (List ℕ)) → shape ≡ sorted.shape → sorted.region ≢ region → waiting ≡ [] → written ≡ 0 → keys ≡ [] → slots ≡ [] → ahead ≡ []
-    → HasMerged content stores sorted (record { shape = shape; region = region; stores = length stores; store = 0; slot = 0; waiting = waiting; passed = 0; written = written; keys = keys; decided = 0; last = None; slots = slots; ahead = ahead })
-started content stores sorted shape region waiting written keys slots ahead same apart none no_entries no_keys no_slots none_ahead = record {
+pub started : (content : Content) (stores : List HashState) (sorted : SortedState) (shape : Shape) (region : ℕ) (waiting : List (Key × Source)) (written : ℕ) (keys : List Key) (slots ahead : List (List ℕ)) (hasher : Sha1) → shape ≡ sorted.shape → sorted.region ≢ region → waiting ≡ [] → written ≡ 0 → keys ≡ [] → slots ≡ [] → ahead ≡ []
+    → Holds hasher [] → HasMerged content stores sorted (record { shape = shape; region = region; stores = length stores; store = 0; slot = 0; waiting = waiting; passed = 0; written = written; keys = keys; decided = 0; last = None; slots = slots; ahead = ahead; hasher = hasher })
+started content stores sorted shape region waiting written keys slots ahead hasher same apart none no_entries no_keys no_slots none_ahead fresh = record {
   shape = sym same;
   counted = refl;
   apart = apart;
+  hashed = λ honest. subst (λ (rows : List StoredRow). Holds hasher (entries_bytes rows)) (sym nothing) fresh;
   merged = λ honest sound. record {
     gathered = record {
       most = omega arith;
@@ -165,6 +168,7 @@ gathered_step content stores sorted merge row after next held below read keeps i
   shape = so_far.shape;
   counted = so_far.counted;
   apart = so_far.apart;
+  hashed = so_far.hashed;
   merged = λ honest sound.
       let s : Shape = sorted.shape in
       let image : List ℕ = content.shown in

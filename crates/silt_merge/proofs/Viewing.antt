@@ -19,4 +19,5 @@ state_of a = record {
   last = a.last;
   slots = a.slots.parts;
   ahead = a.ahead.parts;
+  hasher = a.hasher;
 }

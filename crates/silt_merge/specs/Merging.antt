@@ -9,7 +9,7 @@ use Rattle.silt_hash_store.specs.State.{HashState}
 use Rattle.silt_event.specs.Rows.{newest_row, map_of_rows}
 use Rattle.silt_hash_store.specs.Findings.{hash_findings}
 use Rattle.silt_sorted_store.specs.Findings.{sorted_findings}
-use Rattle.silt_frame.specs.Rows.{StoredRow, has_known_kind, is_put_row, keys_of, put_count}
+use Rattle.silt_frame.specs.Rows.{StoredRow, entries_bytes, has_known_kind, is_put_row, keys_of, put_count}
 use Rattle.silt_sorted_store.specs.State.{sorted_rows, SortedState}
 use Rattle.silt_frame.specs.declared.key.Key.{Key}
 use Rattle.silt_merge.specs.Pieces.{AreEntries, AreSlots}
@@ -19,6 +19,7 @@ use Rattle.silt_merge.specs.declared.merge.StepError.{StepError}
 use Rattle.silt_merge.specs.declared.merge.StepError.TheVariants.{Read, Write, NoMemory}
 use Rattle.silt_merge.specs.declared.source.Source.{Source}
 use Rattle.silt_trie.specs.Coded.{bytes_of}
+use Rattle.sha1.specs.Sha1.{Holds}
 
 -- the stores that are merged lie in hash regions, and nothing is found in them
 pub record AreSound (image : List ℕ) (stores : List HashState) (sorted : SortedState) : Type 0 where
@@ -58,11 +59,13 @@ pub record IsMergedIn (image : List ℕ) (stores : List HashState) (sorted : Sor
       ≡ take merge.shape.sorted_capacity (filter is_put_row (decided_rows image stores sorted merge.decided))
   pub keys : keys_of (sorted_rows merge.shape merge.region merge.written image) ≡ bytes_of merge.keys
 
--- So far all that is due is gathered and written: on an honest disk, where nothing is found in the stores that are merged.
+-- So far all that is due is gathered and written: on an honest disk, where nothing is found in the stores that are merged. On any honest disk the
+-- entries that are written are hashed.
 pub record HasMerged (content : Content) (stores : List HashState) (sorted : SortedState) (merge : MergeState) : Type 0 where
   pub shape : sorted.shape ≡ merge.shape
   pub counted : length stores ≡ merge.stores
   pub apart : sorted.region ≢ merge.region
+  pub hashed : IsTrue content.honest → Holds merge.hasher (entries_bytes (sorted_rows merge.shape merge.region merge.written content.shown))
   pub merged : IsTrue content.honest → AreSound content.shown stores sorted → IsMergedIn content.shown stores sorted merge
 
 -- entries are a merge of rows: they rise by key, make the map that the rows make, and are no more than the rows' puts

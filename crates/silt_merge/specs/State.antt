@@ -13,10 +13,11 @@ use Rattle.silt_trie.specs.Building.{is_above}
 use Rattle.silt_trie.specs.Code.{IsCodable}
 use Rattle.silt_trie.specs.Coded.{bytes_of}
 use Rattle.silt_frame.specs.Frame.{key_len}
+use Rattle.sha1.specs.declared.Sha1.{Sha1}
 
 -- A merge: the sorted region that is written, how many hash stores there are, the store and the slot that are gathered next, the
 -- rows that wait for their keys to be decided, how many entries of the sorted store are passed over, how many entries are written,
--- and their keys, how many keys are decided, the last of them, and the bytes of the next slots and of the next entries, as far as they are read. An entry that is
+-- and their keys, how many keys are decided, the last of them, the bytes of the next slots and of the next entries, as far as they are read, and what hashes the entries that are written. An entry that is
 -- passed over since its key is not above the last one counts as a key that is decided.
 pub record MergeState : Type 0 where
   pub shape : Shape
@@ -32,6 +33,7 @@ pub record MergeState : Type 0 where
   pub last : Option Key
   pub slots : List (List ℕ)
   pub ahead : List (List ℕ)
+  pub hasher : Sha1
 
 -- the next entry is not above the last key that is decided
 abbrev pub is_behind : Option Key → Option Key → Bool
@@ -73,6 +75,11 @@ written_after false written = written
 abbrev pub keys_after : Bool → List Key → Key → List Key
 keys_after true keys key = keys ++ key ∷ []
 keys_after false keys key = keys
+
+-- the bytes that are hashed after this entry, which is written or not
+abbrev pub hashed_after : Bool → List ℕ → List ℕ → List ℕ
+hashed_after true bytes entry = bytes ++ entry
+hashed_after false bytes entry = bytes
 
 -- how many slots are gathered
 abbrev pub gathered_count : MergeState → ℕ

@@ -9,7 +9,7 @@
 //! any disk.
 //!
 //! It keeps the keys that it writes, and in the end makes the index of them, so that the new store finds each of its entries by one
-//! read. Their places are reserved when it begins.
+//! read. Their places are reserved when it begins. Each entry that it writes goes into a hasher, which gives the new store's digest.
 //!
 //! It writes nothing but entries of its own region. On a disk that is not honest it is safe and ends.
 #![tactic(auto)]

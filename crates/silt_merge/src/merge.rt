@@ -11,18 +11,20 @@ ghost use Rattle.silt_hash_store.specs.Lookup.{IsRowAt};
 ghost use Rattle.silt_hash_store.specs.Slots.{slot_row};
 ghost use Rattle.silt_merge.specs.Choice.{Gathers, IsNextEntry, IsOffered, ReadsRow};
 ghost use Rattle.silt_merge.specs.Rows.{regions_of};
-ghost use Rattle.silt_merge.specs.State.{AreKeysUpTo, ahead_without, keys_after, passed_after, slot_after, written_after};
+ghost use Rattle.silt_merge.specs.State.{AreKeysUpTo, ahead_without, hashed_after, keys_after, passed_after, slot_after, written_after};
 ghost use Rattle.silt_trie.specs.Building.{is_above};
 ghost use Rattle.silt_merge.specs.declared.source.Source.{Source};
 ghost use Rattle.silt_frame.specs.Rows.{StoredRow};
 ghost use Rattle.silt_merge.specs.Pieces.{AreEntries, AreSlots, parts_after};
-ghost use Rattle.silt_sorted_store.specs.State.{IsHeldSorted, SortedState, entries_of};
+ghost use Rattle.silt_sorted_store.specs.State.{HasDigest, IsHeldSorted, SortedState, entries_of};
+ghost use Rattle.sha1.specs.Sha1.{Holds, sha1};
 
 use crate::choice::{Choice, choose, is_behind};
 use crate::piece::Piece;
 use crate::source::{Source, first, keep, remove_waiting};
+use sha1::Sha1;
 use silt_disk::Disk;
-use silt_frame::{KEY_LEN, Key, Row};
+use silt_frame::{Digest, KEY_LEN, Key, Row};
 use silt_hash_store::HashStore;
 use silt_sorted_store::{SortedEntries, SortedRegion, SortedStore};
 use std::alloc::{AllocError, Global};
@@ -44,6 +46,7 @@ pub enum StepError<F> {
 ///
 /// It keeps the key and the place of each row that waits to be decided, the last key that was decided, the keys of all entries that it
 /// wrote, a piece of the next slots, and one of the next entries of the sorted store, each read together. A buffer of an entry serves each step.
+/// What it writes goes into a hasher, so that the new store has its digest with no further read.
 #[derive(Drop)]
 pub struct Merge {
     target: SortedRegion,
@@ -53,6 +56,7 @@ pub struct Merge {
     waiting: BTreeMap<Key, Source>,
     passed: u32,
     keys: Vec<Key>,
+    hasher: Sha1,
     decided: u64,
     last: Option<Key>,
     slots: Piece,
@@ -81,6 +85,7 @@ impl Model for Merge {
       last = a.last;
       slots = a.slots.parts;
       ahead = a.ahead.parts;
+      hasher = a.hasher;
     } };
 
     ghost invariant = { λ a. IsHeldMerge (record {
@@ -97,6 +102,7 @@ impl Model for Merge {
       last = a.last;
       slots = a.slots.parts;
       ahead = a.ahead.parts;
+      hasher = a.hasher;
     }) × (a.slots.len ≡ row_len a.target.geometry) × (a.ahead.len ≡ entry_len a.target.geometry) × (vec_len a.made ≡ entry_len a.target.geometry)
         × (a.target.geometry.sorted_capacity ≤ vec_capacity a.keys) × (a.target.geometry.sorted_capacity ≤ 16777216) };
 }
@@ -185,6 +191,24 @@ fn keep_key(keys: &mut Vec<Key>, key: Key, is_written: bool)
     }
 }
 
+// Hashes the bytes of an entry that is written.
+fn hash_written(hasher: &mut Sha1, entry: &[u8], is_written: bool)
+    ensures { (bytes : List ℕ) → Holds hasher.old bytes → Holds hasher.new (hashed_after is_written bytes entry.now) }
+{
+    if is_written {
+        hasher.update(entry);
+    }
+}
+
+// The digest of what is hashed so far.
+fn digest_so_far(hasher: &Sha1) -> Digest
+    ensures { (bytes : List ℕ) → Holds hasher.now bytes → result.0 ≡ sha1 bytes }
+{
+    let copy: Result<_, _> = hasher.clone();
+    let Ok(copy) = copy else { unreachable!() };
+    Digest(copy.finalize())
+}
+
 impl Merge {
     ghost use Rattle.silt_merge.specs.Merging.{AreSound, FailsMerge, HasMerged, IsMergeOf, IsSameMerge, TakesMemory};
     ghost use Rattle.silt_merge.specs.Rows.{key_count, merged_rows, sources};
@@ -221,6 +245,7 @@ impl Merge {
           last = None;
           slots = [];
           ahead = [];
+          hasher = merge.hasher;
         }) }
         ensures held { IfOk result IsHeldMerge }
         ensures merged { (content : Content) → IfOk result (HasMerged content stores.now sorted.now) }
@@ -239,6 +264,7 @@ impl Merge {
             waiting: BTreeMap::new(alloc),
             passed: 0,
             keys: Vec::with_capacity(alloc, geometry.sorted_capacity() as usize)?,
+            hasher: Sha1::new(),
             decided: 0,
             last: None,
             slots,
@@ -504,7 +530,10 @@ impl Merge {
             .target
             .write_due(disk, written, choice.is_put(), &self.made)
         {
-            Ok(count) => self.mark_decided(&choice, count > written),
+            Ok(count) => {
+                hash_written(&mut self.hasher, &self.made, count > written);
+                self.mark_decided(&choice, count > written);
+            }
             Err(fault) => return Err(StepError::Write(fault)),
         }
         Ok(())
@@ -588,7 +617,7 @@ impl Merge {
         self.decide(taken, sorted, disk)
     }
 
-    /// The sorted store of the entries that are written, with the index of their keys.
+    /// The sorted store of the entries that are written, with the index of their keys and the digest of their bytes.
     ///
     /// # Errors
     ///
@@ -602,9 +631,11 @@ impl Merge {
             → IfOk result (λ store. IsMergeOf (sources content.shown stores sorted) (entries_of content store.sorted)) }
         ensures indexed { (content : Content) (stores : List HashState) (sorted : SortedState) → is_done self.now sorted ≡ true → HasMerged content stores sorted self.now → IsTrue content.honest
             → AreSound content.shown stores sorted → IfOk result (λ store. IsIndexOf (entries_of content store.sorted) store.index) }
+        ensures digested { (content : Content) (stores : List HashState) (sorted : SortedState) → HasMerged content stores sorted self.now
+            → IfOk result (λ store. HasDigest content store.sorted store.digest) }
     {
         let written = self.keys.len() as u32;
         let entries = SortedEntries::new(self.target.geometry, self.target.number, written);
-        SortedStore::encode(alloc, entries, &self.keys)
+        SortedStore::encode(alloc, entries, &self.keys, digest_so_far(&self.hasher))
     }
 }

@@ -1,6 +1,6 @@
 //! Tests of the regions of a device: logs, hash stores, sorted stores, the manifest, the header, and merging.
 //!
-//! What no clause says stands here, seen from outside through the public calls.
+//! This crate tests what no clause says, seen from outside through the public calls.
 #![tactic(auto)]
 
 #[cfg(test)]

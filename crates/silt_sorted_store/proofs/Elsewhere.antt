@@ -6,11 +6,12 @@ use Rattle.silt_disk.specs.Layout.{Shape, device_size, entries_len, entry_len, s
 use Rattle.silt_disk.proofs.Images.{torn_slice_after, torn_slice_before}
 use Rattle.silt_disk.proofs.Regions.{next_region, regions_apart}
 use Rattle.silt_sorted_store.specs.State.{sorted_rows, sorted_entry_at}
-use Rattle.silt_frame.specs.Rows.{entry_row}
+use Rattle.silt_frame.specs.Rows.{entries_bytes, entry_row}
 use Rattle.silt_log.proofs.Bodies.{map_range_same}
-use Rattle.silt_sorted_store.specs.Laws.{EntriesElsewhereLaw, IndexedElsewhereLaw}
+use Rattle.silt_sorted_store.specs.Laws.{DigestElsewhereLaw, EntriesElsewhereLaw, IndexedElsewhereLaw}
 use Rattle.silt_sorted_store.specs.Index.{IsIndexOf}
 use Rattle.silt_sorted_store.proofs.Entries.{part_inside}
+use Rattle.sha1.specs.Sha1.{sha1}
 
 -- the entries of a sorted region lie within the device
 pub entries_inside : (s : Shape) (region : ℕ) → region < 2 → sorted_at s region + s.sorted_capacity * entry_len s ≤ device_size s
@@ -60,3 +61,8 @@ entries_elsewhere store old new at count held fits outside changes honest =
 pub indexed_elsewhere : IndexedElsewhereLaw
 indexed_elsewhere store index old new at count held fits outside changes indexed = λ honest.
     subst (λ rows. IsIndexOf rows index) (sym (entries_elsewhere store old new at count held fits outside changes honest)) (indexed (sym changes.honest ∙ honest))
+
+-- what is the digest of entries is so after a change outside them
+pub digest_elsewhere : DigestElsewhereLaw
+digest_elsewhere store digest old new at count held fits outside changes digested = λ honest.
+    digested (sym changes.honest ∙ honest) ∙ ap (λ rows. sha1 (entries_bytes rows)) (sym (entries_elsewhere store old new at count held fits outside changes honest))

@@ -1,5 +1,6 @@
 pub mod Checking
 pub mod Chunks
+pub mod Digested
 pub mod Elsewhere
 pub mod Entries
 pub mod Locating

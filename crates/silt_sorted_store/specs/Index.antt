@@ -1,14 +1,15 @@
--- The index of a sorted store: the coded tries of its keys, in memory.
+-- A sorted store with what it has in memory: its index, which is the coded tries of its keys, and its digest.
 use Rattle.std.specs.Prelude.{◌≡◌, ℕ, ◌<◌, IsTrue, List, [], length, get_or, Option, Some}
 use Rattle.silt_disk.specs.Disk.{Content}
 use Rattle.silt_frame.specs.Rows.{StoredRow, keys_of}
 use Rattle.silt_sorted_store.specs.State.{SortedState, entries_of}
 use Rattle.silt_trie.specs.Marks.{IsMadeOf, MarkedCode}
 
--- entries of a sorted region, and an index in memory
+-- entries of a sorted region, and in memory an index and the digest of their bytes
 pub record IndexedState : Type 0 where
   pub sorted : SortedState
   pub index : MarkedCode
+  pub digest : List ℕ
 
 -- the index is made of the keys of these rows
 abbrev pub IsIndexOf : List StoredRow → MarkedCode → Type 0

@@ -1,9 +1,10 @@
 -- A sorted store, and its entries on a disk.
-use Rattle.std.specs.Prelude.{ℕ, ◌+◌, ◌*◌, ◌<◌, ◌≤◌, List, map, slice_range}
+use Rattle.std.specs.Prelude.{◌≡◌, ℕ, ◌+◌, ◌*◌, ◌<◌, ◌≤◌, IsTrue, List, map, slice_range}
 use Rattle.silt_disk.specs.Disk.{Content}
 use Rattle.silt_disk.specs.Layout.{Shape, entry_len, sorted_at}
-use Rattle.silt_frame.specs.Rows.{StoredRow, entry_row}
+use Rattle.silt_frame.specs.Rows.{StoredRow, entries_bytes, entry_row}
 use Rattle.std.specs.List.{range_with_len}
+use Rattle.sha1.specs.Sha1.{sha1}
 
 -- this many entries of a sorted region, from its front on
 unfoldable pub sorted_rows : Shape → ℕ → ℕ → List ℕ → List StoredRow
@@ -29,3 +30,7 @@ sorted_entry_at shape region place = sorted_at shape region + place * entry_len 
 -- the entries that are shown, as puts
 abbrev pub entries_of : Content → SortedState → List StoredRow
 entries_of content store = sorted_rows store.shape store.region store.count content.shown
+
+-- on an honest disk the digest is that of the bytes of the entries
+abbrev pub HasDigest : Content → SortedState → List ℕ → Type 0
+HasDigest content store digest = IsTrue content.honest → digest ≡ sha1 (entries_bytes (entries_of content store))

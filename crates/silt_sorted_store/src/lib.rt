@@ -3,6 +3,8 @@
 //! [`SortedEntries`] are the entries on the device: a region and how many there are. A [`SortedStore`] has them with an index in
 //! memory, the coded tries of their keys, which names the one place at which a key can stand: a look-up reads one key, and a get
 //! reads one entry. `rebuild` reads the entries once, in large reads, and refuses those that do not rise.
+//!
+//! A store also has the SHA-1 digest of its entries' bytes. `rebuild` makes it of what it reads.
 #![tactic(auto)]
 
 mod laws;
@@ -11,7 +13,10 @@ mod region;
 mod sorted_entries;
 mod sorted_store;
 
-pub use laws::{entries_elsewhere_law, entries_law, indexed_elsewhere_law, rising_law};
+pub use laws::{
+    digest_elsewhere_law, entries_bytes_law, entries_elsewhere_law, entries_law,
+    indexed_elsewhere_law, rising_law,
+};
 pub use region::SortedRegion;
 pub use silt_log::ScanError;
 pub use sorted_entries::SortedEntries;

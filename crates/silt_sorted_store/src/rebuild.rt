@@ -1,8 +1,8 @@
-// A rebuild of a sorted store's index: a walk over the entries in large reads, which takes up each key where it rises.
+// A rebuild of a sorted store's index and digest: a walk over the entries in large reads, which takes up each key where it rises.
 ghost use Rattle.std.specs.Prelude.{◌≡◌, ◌+◌, ◌*◌, ◌<◌, ◌≤◌, ◌^◌, [], None, Ok, List, length, IsTrue, IfSome, IfOk, IfErr, OnOk};
 ghost use Rattle.silt_disk.specs.Disk.{GaveAny, size};
 ghost use Rattle.silt_disk.specs.Layout.{device_size, entry_len};
-ghost use Rattle.silt_frame.specs.Rows.{StoredRow};
+ghost use Rattle.silt_frame.specs.Rows.{StoredRow, entries_bytes};
 ghost use Rattle.silt_sorted_store.specs.Findings.{sorted_findings};
 ghost use Rattle.silt_sorted_store.specs.State.{entries_of};
 ghost use Rattle.silt_sorted_store.specs.Index.{IsIndexOf};
@@ -11,8 +11,10 @@ ghost use Rattle.silt_sorted_store.specs.Rebuild.{IsFirstOutOfOrder};
 ghost use Rattle.silt_log.specs.Scans.{IsScanRefused};
 ghost use Rattle.silt_trie.specs.Building.{IsBuildingOf};
 ghost use Rattle.silt_frame.specs.Frame.{key_len};
+ghost use Rattle.sha1.specs.Sha1.{Holds};
 
 use crate::sorted_entries::SortedEntries;
+use sha1::Sha1;
 use silt_disk::Disk;
 use silt_frame::entry_of;
 use silt_log::ScanError;
@@ -50,9 +52,10 @@ fn take_keys(
     Ok(None)
 }
 
-// Gives a builder the keys of all entries, read into a buffer that has room for `most` entries.
+// Gives a builder the keys of all entries, and a hasher their bytes, read into a buffer that has room for `most` entries.
 fn take_entries<D: Disk>(
     builder: &mut MarkedTrieBuilder,
+    hasher: &mut Sha1,
     disk: &D,
     entries: &SortedEntries,
     buffer: &mut [u8],
@@ -63,7 +66,9 @@ fn take_entries<D: Disk>(
     requires empty { IsBuildingOf [] builder.old }
     requires none { builder.old.last ≡ None }
     requires counted { builder.old.count ≡ 0 }
+    requires fresh { Holds hasher.old [] }
     requires size { device_size entries.now.shape ≤ size (D.content disk.now) }
+    ensures hashed { IsTrue (D.content disk.now).honest → OnOk result (Holds hasher.new (entries_bytes (entries_of (D.content disk.now) entries.now))) }
     ensures taken { IsTrue (D.content disk.now).honest → OnOk result (IsIndexing (entries_of (D.content disk.now) entries.now) entries.now.count builder.new) }
     ensures err { IfErr result (IsScanRefused
         (λ place. (place < entries.now.count) × (IsTrue (D.content disk.now).honest → IsFirstOutOfOrder (entries_of (D.content disk.now) entries.now) place))
@@ -78,6 +83,7 @@ fn take_entries<D: Disk>(
         if let Err(fault) = entries.read_entries(disk, place, next, chunk) {
             return Err(ScanError::Device(fault));
         }
+        hasher.update(chunk);
         match take_keys(builder, chunk, len, next, place) {
             Ok(None) => place += next,
             Ok(Some(damaged)) => return Err(ScanError::Damaged(damaged)),
@@ -87,13 +93,16 @@ fn take_entries<D: Disk>(
     Ok(())
 }
 
-// The index of entries, where they rise strictly.
+// The index of entries, where they rise strictly. It gives a hasher their bytes.
 pub fn index_entries<D: Disk>(
     alloc: Global,
     disk: &D,
     entries: &SortedEntries,
+    hasher: &mut Sha1,
 ) -> Result<MarkedTrie, ScanError<D::Fault>>
+    requires fresh { Holds hasher.old [] }
     requires size { device_size entries.now.shape ≤ size (D.content disk.now) }
+    ensures hashed { IsTrue (D.content disk.now).honest → OnOk result (Holds hasher.new (entries_bytes (entries_of (D.content disk.now) entries.now))) }
     ensures index { IsTrue (D.content disk.now).honest → IfOk result (IsIndexOf (entries_of (D.content disk.now) entries.now)) }
     ensures rising { IsTrue (D.content disk.now).honest → OnOk result (sorted_findings (entries_of (D.content disk.now) entries.now) ≡ []) }
     ensures err { IfErr result (IsScanRefused
@@ -106,7 +115,7 @@ pub fn index_entries<D: Disk>(
         return Err(ScanError::NoMemory);
     };
     let mut builder = MarkedTrieBuilder::new(alloc, entries.len() as usize);
-    take_entries(&mut builder, disk, entries, &mut buffer, most)?;
+    take_entries(&mut builder, hasher, disk, entries, &mut buffer, most)?;
     match builder.finish() {
         Ok(index) => Ok(index),
         Err(_) => Err(ScanError::NoMemory),

@@ -1,4 +1,4 @@
-// The sorted store: entries on a device, and in memory the index that finds their places.
+// The sorted store: entries on a device, and in memory the index that finds their places and the digest of their bytes.
 ghost use Rattle.std.specs.Prelude.{◌≡◌, ◌==◌, ◌<◌, ◌≤◌, [], true, false, Ok, IsTrue, IfSome, IfOk, IfErr, OnOk, List, length};
 ghost use Rattle.silt_disk.specs.Disk.{GaveAny, size};
 ghost use Rattle.silt_disk.specs.Layout.{device_size};
@@ -11,8 +11,9 @@ ghost use Rattle.silt_trie.specs.Marks.{IsMadeOf};
 
 use crate::rebuild::index_entries;
 use crate::sorted_entries::SortedEntries;
+use sha1::Sha1;
 use silt_disk::{Disk, Geometry};
-use silt_frame::Key;
+use silt_frame::{Digest, Key};
 use silt_log::ScanError;
 use silt_trie::{MarkedTrie, levels_for};
 use std::alloc::{AllocError, Global};
@@ -21,7 +22,8 @@ use std::marker::Model;
 /// By how many of a key's first bits an index is in groups.
 const GROUP_BITS: usize = 8;
 
-/// The sorted store of a device: so many entries of a sorted region, strictly rising by key, and the index of their keys.
+/// The sorted store of a device: so many entries of a sorted region, strictly rising by key, the index of their keys, and the digest of
+/// their bytes.
 ///
 /// On a disk that is not honest, where the entries do not rise, and where the index is not that of the entries, its calls are safe
 /// and end.
@@ -29,6 +31,7 @@ const GROUP_BITS: usize = 8;
 pub struct SortedStore {
     entries: SortedEntries,
     index: MarkedTrie,
+    digest: Digest,
 }
 
 impl Model for SortedStore {
@@ -36,24 +39,34 @@ impl Model for SortedStore {
 
     ghost Value = { IndexedState };
 
-    ghost view = { λ a. record { sorted = a.entries; index = a.index } };
+    ghost view = { λ a. record { sorted = a.entries; index = a.index; digest = a.digest.0 } };
 }
 
 impl SortedStore {
-    ghost use Rattle.silt_sorted_store.specs.State.{IsHeldSorted, entries_of};
+    ghost use Rattle.silt_sorted_store.specs.State.{HasDigest, IsHeldSorted, entries_of};
     ghost use Rattle.silt_sorted_store.specs.Index.{IsIndexOf, HasIndex, IsPlaceOfKey};
     ghost use Rattle.silt_sorted_store.specs.OnlyRow.{FindsEntry, HasNoEntry, HasOnlyValue, HasValue};
     ghost use Rattle.silt_sorted_store.specs.Rebuild.{IsFirstOutOfOrder};
     ghost use Rattle.silt_log.specs.Scans.{IsScanRefused};
 
-    /// The store of these entries, whose keys these are, with no look at the device.
-    pub fn encode(alloc: Global, entries: SortedEntries, keys: &[Key]) -> Result<Self, AllocError>
+    /// The store of these entries, whose keys and digest these are, with no look at the device.
+    pub fn encode(
+        alloc: Global,
+        entries: SortedEntries,
+        keys: &[Key],
+        digest: Digest,
+    ) -> Result<Self, AllocError>
         requires codable { IsCodable (bytes_of keys.now) 0 }
         ensures store { IfOk result (λ store. store.sorted ≡ entries) }
         ensures index { IfOk result (λ store. IsMadeOf (bytes_of keys.now) store.index) }
+        ensures digest { IfOk result (λ store. store.digest ≡ digest.0) }
     {
         let index = MarkedTrie::encode(alloc, keys, 0, GROUP_BITS, levels_for(keys.len()))?;
-        Ok(SortedStore { entries, index })
+        Ok(SortedStore {
+            entries,
+            index,
+            digest,
+        })
     }
 
     /// The entries.
@@ -61,6 +74,13 @@ impl SortedStore {
         ensures { result.now ≡ self.now.sorted }
     {
         &self.entries
+    }
+
+    /// The digest of the entries' bytes.
+    pub fn digest(&self) -> &Digest
+        ensures { result.now.0 ≡ self.now.digest }
+    {
+        &self.digest
     }
 
     /// The geometry of the device.
@@ -168,8 +188,8 @@ impl SortedStore {
         self.entries.read_value(disk, place, out)
     }
 
-    /// The first `count` entries of this region with their index, where they rise strictly: the entries are read once, in reads of
-    /// at most 64 KiB, up to the one that is not above the one before it.
+    /// The first `count` entries of this region with their index and their digest, where they rise strictly: the entries are read once,
+    /// in reads of at most 64 KiB, up to the one that is not above the one before it.
     ///
     /// # Errors
     ///
@@ -187,13 +207,19 @@ impl SortedStore {
         requires size { device_size geometry ≤ size (D.content disk.now) }
         ensures store { IfOk result (λ store. store.sorted ≡ record { shape = geometry; region = region; count = count }) }
         ensures indexed { IfOk result (λ store. HasIndex (D.content disk.now) store.sorted store.index) }
+        ensures digested { IfOk result (λ store. HasDigest (D.content disk.now) store.sorted store.digest) }
         ensures rising { IsTrue (D.content disk.now).honest → OnOk result (sorted_findings (sorted_rows geometry region count (D.content disk.now).shown) ≡ []) }
         ensures err { IfErr result (IsScanRefused
             (λ place. (place < count) × (IsTrue (D.content disk.now).honest → IsFirstOutOfOrder (sorted_rows geometry region count (D.content disk.now).shown) place))
             (GaveAny D.gave disk.now)) }
     {
         let entries = SortedEntries::new(geometry, region, count);
-        let index = index_entries(alloc, disk, &entries)?;
-        Ok(SortedStore { entries, index })
+        let mut hasher = Sha1::new();
+        let index = index_entries(alloc, disk, &entries, &mut hasher)?;
+        Ok(SortedStore {
+            entries,
+            index,
+            digest: Digest(hasher.finalize()),
+        })
     }
 }

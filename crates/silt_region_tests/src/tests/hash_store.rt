@@ -1,4 +1,4 @@
-// A hash region, where no clause says it: worked regions, that the calls which take memory succeed, and how many reads a look-up and a rebuild make.
+// What no clause says of a hash region: worked regions, that the calls which take memory succeed, and how many reads a look-up and a rebuild make.
 ghost use Rattle.std.specs.Prelude.{◌≡◌, ◌+◌, ◌*◌, ◌≤◌, ◌<◌, IfOk, IfSome};
 ghost use Rattle.silt_disk.specs.Disk.{size};
 ghost use Rattle.silt_disk.specs.Layout.{device_size};
@@ -7,7 +7,7 @@ ghost use Rattle.silt_device.specs.Memory.{memory_content};
 use crate::tests::{LEN, blank, eight_rows, largest, paired, shows, single, with_fault};
 use silt_conversion::{Conversion, StepError};
 use silt_device::{Call, Disk, Geometry, MemDisk};
-use silt_frame::{Key, Kind, Row};
+use silt_frame::{Digest, Key, Kind, Row};
 use silt_hash_store::{Found, HashStore, ScanError};
 use silt_log_store::LogStore;
 use std::alloc::Global;
@@ -94,6 +94,30 @@ fn rebuilt<D: Disk>(alloc: Global, disk: &D) -> Option<HashStore>
         Ok(rebuilt) => Some(rebuilt.store),
         Err(_) => None,
     }
+}
+
+// The digest of a region of eight empty slots: the SHA-1 of 184 zeros.
+const OF_ZEROS: Digest = Digest([
+    66, 15, 7, 156, 79, 166, 43, 213, 100, 66, 203, 214, 135, 150, 75, 250, 27, 66, 58, 32,
+]);
+
+// The digest of the store that stands there.
+fn digest<D: Disk>(alloc: Global, disk: &D) -> Option<Digest>
+    requires { 45056 ≤ size (D.content disk.now) }
+{
+    match rebuilt(alloc, disk) {
+        Some(store) => Some(*store.digest()),
+        None => None,
+    }
+}
+
+#[test]
+fn hashes_empty_slots(rt: HostRuntime) -> Result<(), Fail> {
+    let disk = blank(rt.alloc(), LEN)?;
+    let digest = digest(rt.alloc(), &disk);
+    drop(disk);
+    assert_eq!(rt; digest, Some(OF_ZEROS));
+    Ok(())
 }
 
 // What it has of a key.
@@ -217,7 +241,7 @@ fn the_first_wrong_slot_decides(rt: HostRuntime) -> Result<(), Fail> {
     Ok(())
 }
 
-// What a rebuild of two rows that share their buckets comes to, and whether a look-up of the second one is answered, where the read of this number fails.
+// What a rebuild of two rows that share their buckets comes to, and whether a look-up of the second one is answered if the read of this number fails.
 fn rebuild_with_fault(alloc: Global, number: u64) -> Result<(Outcome, bool), Fail> {
     let mut disk = blank(alloc, LEN)?;
     fill_slot(&mut disk, 0, 1, &paired(1))?;
@@ -252,7 +276,7 @@ fn a_failed_read_is_told(rt: HostRuntime) -> Result<(), Fail> {
     Ok(())
 }
 
-// Writes the next slot, where there is one: how many reads failed, and how many writes.
+// Writes the next slot, if there is one: how many reads failed, and how many writes.
 fn run_step<D: Disk>(conversion: &mut Conversion, log: &LogStore, disk: &mut D) -> (u32, u32)
     requires shape { conversion.old.shape ≡ log.now.log.shape }
     requires size { device_size conversion.old.shape ≤ size (D.content disk.old) }
@@ -433,7 +457,7 @@ fn writes_no_row_of_an_unknown_kind(rt: HostRuntime) -> Result<(), Fail> {
     Ok(())
 }
 
-// Converts log 0 where a call of this kind and this number fails: how many reads and writes of the steps failed, and how many puts
+// Converts log 0 if a call of this kind and this number fails: how many reads and writes of the steps failed, and how many puts
 // were counted.
 fn failed_steps(alloc: Global, call: Call, number: u64) -> Result<Option<((u32, u32), u32)>, Fail> {
     let mut disk = with_fault(prepared(alloc)?, call, number);

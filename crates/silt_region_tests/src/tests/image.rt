@@ -1,4 +1,4 @@
-// The header of a device, and how damage is told: worked headers.
+// The header of a device, and how damage is reported: worked headers.
 
 use silt_device::{Geometry, HEADER_LEN, header_bytes};
 use silt_event::{Finding, Place};

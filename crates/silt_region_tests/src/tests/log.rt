@@ -1,4 +1,4 @@
-// A log, where no clause says it: the worked bytes, how many device calls an operation makes, and that the calls which take memory
+// What no clause says of a log: the worked bytes, how many device calls an operation makes, and that the calls which take memory
 // succeed.
 ghost use Rattle.std.specs.Prelude.{◌≡◌, ◌≤◌, IfOk};
 ghost use Rattle.silt_disk.specs.Disk.{size};
@@ -103,7 +103,7 @@ fn crafted(alloc: Global, gates: &[u8; 3], body: &[u8; 23]) -> Result<MemDisk, F
     Ok(disk)
 }
 
-// Scans a log: its rows, how many it has and how many are settled. None where that is refused.
+// Scans a log: its rows, how many it has and how many are settled. None if that is refused.
 fn scanned<D: Disk>(alloc: Global, log: &mut Log, disk: &D) -> Option<(Vec<Row>, (u32, u32))>
     requires { device_size log.old.shape ≤ size (D.content disk.now) }
     ensures { log.new.shape ≡ log.old.shape }
@@ -167,7 +167,7 @@ fn an_unknown_kind_is_damage(rt: HostRuntime) -> Result<(), Fail> {
     Ok(())
 }
 
-// Scans after a sync and seals: whether the seal was answered Ok. None where an earlier call was not.
+// Scans after a sync and seals: whether the seal was answered Ok. None if an earlier call was not.
 fn seal<D: Disk>(alloc: Global, log: &mut Log, disk: &mut D) -> Option<bool>
     requires { device_size log.old.shape ≤ size (D.content disk.old) }
 {

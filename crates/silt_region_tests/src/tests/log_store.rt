@@ -1,4 +1,4 @@
-// A log with the table of its keys, where no clause says it: the worked sets of keys, that the calls which take memory succeed, and how many reads a look-up makes.
+// What no clause says of a log with the table of its keys: the worked sets of keys, that the calls which take memory succeed, and how many reads a look-up makes.
 ghost use Rattle.std.specs.Prelude.{◌≡◌, ◌≤◌, ◌<◌, OnOk, IfOk, IfSome, length};
 ghost use Rattle.silt_disk.specs.Disk.{size};
 ghost use Rattle.silt_disk.specs.Layout.{device_size};
@@ -9,7 +9,7 @@ ghost use Rattle.silt_log_store.specs.State.{IsLogStore};
 use crate::tests::{LEN, blank, eight_rows, largest, paired, shows, single, with_fault};
 use silt_device::{Call, Disk, Geometry, MemDisk};
 use silt_frame::{Key, Kind};
-use silt_log_store::{Found, LogStore, RebuildError};
+use silt_log_store::{Found, LogStore, RebuildError, TakeError};
 use std::alloc::Global;
 use std::test::Fail;
 
@@ -202,7 +202,7 @@ fn the_first_wrong_row_decides(rt: HostRuntime) -> Result<(), Fail> {
     Ok(())
 }
 
-// Whether the second of two keys that share their buckets is found, where the read of this number fails.
+// Whether the second of two keys that share their buckets is found if the read of this number fails.
 fn found_with_fault(alloc: Global, number: u64) -> Result<bool, Fail> {
     let disk = with_fault(crowded(alloc, 2, true)?, Call::Read, number);
     Ok(find(alloc, &disk, &paired(2)).is_some())
@@ -221,13 +221,13 @@ fn a_failed_read_is_told(rt: HostRuntime) -> Result<(), Fail> {
     Ok(())
 }
 
-// What a rebuild of two rows comes to where the read of this number fails.
+// What a rebuild of two rows comes to if the read of this number fails.
 fn rebuild_with_fault(alloc: Global, number: u64) -> Result<Outcome, Fail> {
     let disk = with_fault(crowded(alloc, 2, true)?, Call::Read, number);
     Ok(rebuild(alloc, &disk))
 }
 
-// A rebuild of two rows makes three reads, and the fault of each is told as such.
+// A rebuild of two rows makes three reads, and the fault of each is returned as such.
 #[test]
 fn a_failed_read_of_a_rebuild_is_told(rt: HostRuntime) -> Result<(), Fail> {
     let rebuilt = Outcome::Rebuilt(2, 2);
@@ -264,7 +264,7 @@ fn the_largest_store_is_made(rt: HostRuntime) -> Result<(), Fail> {
     Ok(())
 }
 
-// Takes a row where it can be taken: whether it was.
+// Takes a row if it can be taken: whether it was.
 fn offer<D: Disk>(
     store: &mut LogStore,
     disk: &mut D,
@@ -280,11 +280,12 @@ fn offer<D: Disk>(
     ensures shape { OnOk result (store.new.log.shape ≡ store.old.log.shape) }
     ensures store { OnOk result (IsLogStore (D.content disk.new) store.new) }
 {
-    let Some(placing) = store.placing(disk, key)? else {
-        return Ok(false);
-    };
-    store.take(disk, kind, key, value, &placing)?;
-    Ok(true)
+    match store.take(disk, kind, key, value) {
+        Ok(()) => Ok(true),
+        Err(TakeError::Full) => Ok(false),
+        Err(TakeError::Read(fault)) => Err(fault),
+        Err(TakeError::Write(fault)) => Err(fault),
+    }
 }
 
 // Puts a key, another of its buckets and the first again, and opens the gates.
@@ -314,11 +315,11 @@ fn find_first<D: Disk>(store: &LogStore, disk: &D) -> Option<(u32, [u8; 2])>
     Some((found.place, value))
 }
 
-// What a store that put three rows tells: how many puts it had before and after, how many rows it has, whether one of them waits, and
+// What a store that put three rows reports: how many puts it had before and after, how many rows it has, whether one of them waits, and
 // what is found of the first key.
 type Told = (u32, u32, u32, bool, Option<(u32, [u8; 2])>);
 
-// Prepares log 0 and puts three rows. None where there is no memory.
+// Prepares log 0 and puts three rows. None if there is no memory.
 fn put_on<D: Disk>(alloc: Global, disk: &mut D) -> Result<Option<Told>, D::Fault>
     requires { 45056 ≤ size (D.content disk.old) }
     ensures { size (D.content disk.new) ≡ size (D.content disk.old) }
@@ -355,7 +356,7 @@ fn finds_the_last_row_of_a_key(rt: HostRuntime) -> Result<(), Fail> {
     Ok(())
 }
 
-// Rebuilds log 0 after a sync and seals it: whether the seal was answered Ok. None where an earlier call was not.
+// Rebuilds log 0 after a sync and seals it: whether the seal was answered Ok. None if an earlier call was not.
 fn seal<D: Disk>(alloc: Global, disk: &mut D) -> Option<bool>
     requires { 45056 ≤ size (D.content disk.old) }
 {

@@ -1,4 +1,4 @@
-// The manifest, where no clause says it: the layout's bytes, the damaged slots, each stop of a write, and the first call of a write.
+// What no clause says of the manifest: the layout's bytes, the damaged slots, each stop of a write, and the first call of a write.
 ghost use Rattle.std.specs.Prelude.{◌≡◌, ◌+◌, ◌≤◌, ◌<◌, ◌↔◌, IsTrue, OnOk};
 ghost use Rattle.silt_disk.specs.Disk.{Rests, size};
 ghost use Rattle.silt_manifest.specs.Standing.{IsNext, Rules};
@@ -151,7 +151,7 @@ fn write_slots<D: Disk>(disk: &mut D) -> Result<(), D::Fault>
     Ok(())
 }
 
-// The body of this generation, with a number of entries that tells it from others.
+// The body of this generation, with a number of entries that distinguishes it from others.
 fn body_of(generation: u64) -> Body {
     let mut body = Body::first();
     body.generation = generation;
@@ -441,7 +441,7 @@ fn first_ones(disk: &MemDisk) -> (usize, Option<usize>) {
     (shown.len(), shown.iter().position(|byte| *byte == 0xFF))
 }
 
-// Whether the third body was written where the first call is stopped, how many bytes there are then, and the place that the stop changed.
+// Whether the third body was written if the first call is stopped, how many bytes there are then, and the place that the stop changed.
 fn changed_place(
     alloc: Global,
     geometry: Geometry,
@@ -456,7 +456,7 @@ fn changed_place(
     Ok((done, first_ones(&disk.restart())))
 }
 
-// The first call goes to the gate where that is open, and else to the last place of the slot.
+// The first call goes to the gate if that is open, and else to the last place of the slot.
 #[test]
 fn the_first_call_spares_a_closed_gate(rt: HostRuntime) -> Result<(), Fail> {
     let geometry = small(&rt);
@@ -558,14 +558,14 @@ fn the_first_gate_is_closed_by_a_zero(rt: HostRuntime) -> Result<(), Fail> {
     Ok(())
 }
 
-// Whether the manifest is read where the read of this number fails.
+// Whether the manifest is read if the read of this number fails.
 fn reads_with_fault(alloc: Global, geometry: Geometry, number: u64) -> Result<bool, Fail> {
     let disk = device(alloc, &slot_of(0xA7, 0), &slot_of(0, 0), NEVER)?.restart();
     let disk = FaultDisk::new(disk, Call::Read, number);
     Ok(ruling(&disk, geometry).is_some())
 }
 
-// Whether the next body is written where a call of this kind and this number fails.
+// Whether the next body is written if a call of this kind and this number fails.
 fn writes_with_fault(
     alloc: Global,
     geometry: Geometry,

@@ -1,4 +1,4 @@
-// A merge, where no clause says it: a worked one, that the calls which take memory succeed, and how many reads and writes the steps make.
+// What no clause says of a merge: a worked one, that the calls which take memory succeed, and how many reads and writes the steps make.
 ghost use Rattle.std.specs.Prelude.{◌≡◌, ◌+◌, ◌*◌, ◌≤◌, ◌<◌, length, IfOk};
 ghost use Rattle.std.specs.List.{All};
 ghost use Rattle.silt_disk.specs.Disk.{size};
@@ -124,7 +124,7 @@ struct Outcome {
     writes: u32,
 }
 
-// Takes one step, where the merge is not done.
+// Takes one step, if the merge is not done.
 fn run_step<D: Disk>(
     merge: &mut Merge,
     stores: &[HashStore],
@@ -186,7 +186,7 @@ fn run_steps<D: Disk>(
 }
 
 // Merges hash region 0, the newest store, hash region 1, and so many entries of sorted region 0 into sorted region 1, in so many tries: what
-// the steps came to, and the new store, none where they left the merge undone.
+// the steps came to, and the new store, none if they left the merge undone.
 fn merge_stores<D: Disk>(
     alloc: Global,
     disk: &mut D,
@@ -273,7 +273,7 @@ const MERGED: [Option<(u8, u8, u8)>; 6] = [
     Some((0, 0, 0)),
 ];
 
-// What the steps came to where none failed.
+// What the steps came to if none failed.
 fn smooth(steps: u32) -> Outcome {
     Outcome {
         steps,
@@ -330,7 +330,7 @@ fn a_key_takes_twenty_bytes(rt: HostRuntime) -> Result<(), Fail> {
     Ok(())
 }
 
-// Merges where a call of this kind and this number fails: what the steps came to, and the last entry.
+// Merges if a call of this kind and this number fails: what the steps came to, and the last entry.
 fn merge_with_fault(
     alloc: Global,
     call: Call,
@@ -345,7 +345,7 @@ fn merge_with_fault(
 
 // A step after one that failed does what the failed one was to do. The rebuilds make 11 reads; the steps read the 8 slots of each store and the 4
 // entries by one read each, and the 3 values of the rows that are written, so read 17 is the last one, and they write 5 entries. Read 18 is that
-// of the last entry afterwards. The step that reads the entries reads the first of the values too: where that fails, read 16 is of the entries again.
+// of the last entry afterwards. The step that reads the entries reads the first of the values too: if that fails, read 16 is of the entries again.
 #[test]
 fn goes_on_after_a_failed_step(rt: HostRuntime) -> Result<(), Fail> {
     for (call, number, reads, writes) in [

@@ -1,4 +1,4 @@
-// A sorted region, where no clause says it: worked entries, and how many reads a call makes.
+// What no clause says of a sorted region: worked entries, and how many reads a call makes.
 ghost use Rattle.std.specs.Prelude.{◌≡◌, ◌≤◌, ◌<◌, IfOk};
 ghost use Rattle.silt_disk.specs.Disk.{size};
 ghost use Rattle.silt_disk.specs.Layout.{device_size};
@@ -88,7 +88,7 @@ fn rebuild<D: Disk>(alloc: Global, disk: &D, region: u32, count: u32) -> Outcome
     }
 }
 
-// Where the first entries of region 1 have a key, by an index that was rebuilt. None where a read fails, or there is no memory.
+// Where the first entries of region 1 have a key, by an index that was rebuilt. None if a read fails, or there is no memory.
 fn find_in<D: Disk>(
     alloc: Global,
     disk: &D,

@@ -21,7 +21,7 @@ fn wide() -> Result<Geometry, BadGeometry>
     Geometry::new(2, 128, 4, 2, 2, 400)
 }
 
-// The key of this number: they rise, and slot `number` is in one of its buckets. The last byte tells apart keys that no store has.
+// The key of this number: they rise, and slot `number` is in one of its buckets. The last byte distinguishes keys that no store has.
 fn numbered(number: u16, last: u8) -> Key
     requires { number < 300 }
 {
@@ -109,7 +109,7 @@ fn merge_many<D: Disk>(alloc: Global, disk: &mut D, geometry: Geometry) -> Optio
     Some(store)
 }
 
-// The last byte of the value of two that a store on this disk finds for a key, none where it finds none.
+// The last byte of the value of two that a store on this disk finds for a key, none if it finds none.
 fn found_value<D: Disk>(store: &SortedStore, disk: &D, key: &Key) -> Option<Option<u8>> {
     let geometry = store.geometry();
     if geometry.value_len() != 2 || geometry.size() > disk.len() {
@@ -184,7 +184,7 @@ fn finds_each_key_of_a_merge(rt: HostRuntime) -> Result<(), Fail> {
     Ok(())
 }
 
-// The first key that is missed after a merge, where the read of this number fails.
+// The first key that is missed after a merge if the read of this number fails.
 fn missed_with_fault(alloc: Global, number: u64) -> Result<Option<u16>, Fail> {
     let (disk, store) = merged(alloc)?;
     let disk = with_fault(disk, Call::Read, number);

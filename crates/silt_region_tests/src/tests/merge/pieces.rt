@@ -33,7 +33,7 @@ fn fill_long<D: Disk>(disk: &mut D, geometry: Geometry) -> Result<(), D::Fault>
 }
 
 // Merges two hash regions and so many entries of sorted region 0 into sorted region 1, in so many tries: what the steps came to, and where the new store
-// finds the last key. None where they left the merge undone.
+// finds the last key. None if they left the merge undone.
 fn merge_long<D: Disk>(
     alloc: Global,
     disk: &mut D,
@@ -53,7 +53,7 @@ fn merge_long<D: Disk>(
     Some((outcome, found))
 }
 
-// The same where a call of this kind and this number fails.
+// The same if a call of this kind and this number fails.
 fn merges_with_fault(
     alloc: Global,
     count: u8,

@@ -1,4 +1,4 @@
-// How many reads a rebuild and a look-up make: the failed read of each number, and whether it is told.
+// How many reads a rebuild and a look-up make: the failed read of each number, and whether it is returned.
 ghost use Rattle.std.specs.Prelude.{◌≡◌, ◌<◌, ◌≤◌, IfOk};
 ghost use Rattle.silt_disk.specs.Disk.{size};
 ghost use Rattle.silt_device.specs.Memory.{memory_content};
@@ -10,13 +10,13 @@ use silt_frame::Key;
 use std::alloc::Global;
 use std::test::Fail;
 
-// Where eight entries have a key, where the read of this number fails. None where it is a read of the rebuild or of the look-up.
+// Where eight entries have a key, with one failing read. None if that is a read of the rebuild or of the look-up.
 fn finds_with_fault(alloc: Global, number: u64, key: &Key) -> Result<Option<Option<u32>>, Fail> {
     let disk = with_fault(filled(alloc, 8)?, Call::Read, number);
     Ok(find(alloc, &disk, 8, key))
 }
 
-// What a rebuild of so many of eight entries comes to, where the read of this number fails.
+// What a rebuild of so many of eight entries comes to if the read of this number fails.
 fn rebuilds_with_fault(alloc: Global, count: u32, number: u64) -> Result<Outcome, Fail>
     requires { count ≤ 8 }
 {
@@ -127,7 +127,7 @@ fn filled_long(alloc: Global) -> Result<MemDisk, Fail>
     Ok(disk)
 }
 
-// What a rebuild of so many of them comes to, where the read of this number fails.
+// What a rebuild of so many of them comes to if the read of this number fails.
 fn rebuilds_long_with_fault(alloc: Global, count: u32, number: u64) -> Result<Outcome, Fail>
     requires { count ≤ 20 }
 {
@@ -199,7 +199,7 @@ fn first_missed<D: Disk>(alloc: Global, disk: &D) -> Option<u8>
     None
 }
 
-// Keys that agree in all but their last bits are told apart, behind each read of a rebuild.
+// Keys that agree in all but their last bits differ, behind each read of a rebuild.
 #[test]
 fn finds_keys_that_differ_in_the_last_bits(rt: HostRuntime) -> Result<(), Fail> {
     let alloc = rt.alloc();

@@ -58,7 +58,7 @@ fn spread(alloc: Global) -> Result<Vec<Key>, AllocError>
     Ok(keys)
 }
 
-// The first of all keys whose look-up does not answer its place, or their number where no store is made.
+// The first of all keys whose look-up does not answer its place, or their number if no store is made.
 fn first_missed<D: Disk>(alloc: Global, disk: &D, geometry: Geometry, keys: &[Key]) -> Option<usize>
     requires count { length keys.now ≤ geometry.sorted_capacity }
     requires size { device_size geometry ≤ size (D.content disk.now) }
@@ -85,7 +85,7 @@ fn written(alloc: Global, keys: &[Key]) -> Result<MemDisk, Fail>
     Ok(disk)
 }
 
-// The first of 256 keys whose look-up does not answer its place, where the read of this number fails.
+// The first of 256 keys whose look-up does not answer its place if the read of this number fails.
 fn missed_with_fault(alloc: Global, number: u64) -> Result<Option<usize>, Fail> {
     let geometry = wide()?;
     let keys = one_a_group(alloc)?;

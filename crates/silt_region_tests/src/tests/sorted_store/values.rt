@@ -6,7 +6,7 @@ ghost use Rattle.silt_disk.specs.Layout.{device_size};
 use crate::tests::sorted_store::{filled, key};
 use crate::tests::{blank, four_rows, with_fault};
 use silt_device::{BadGeometry, Call, Disk, Geometry};
-use silt_frame::Key;
+use silt_frame::{Digest, Key};
 use silt_sorted_store::{SortedEntries, SortedStore};
 use std::alloc::Global;
 use std::test::Fail;
@@ -40,7 +40,7 @@ fn reads_values_and_entries(rt: HostRuntime) -> Result<(), Fail> {
     Ok(())
 }
 
-// What a get of a key among eight entries fills these two bytes with, where one has it. None where a read fails.
+// What a get of a key among eight entries fills these two bytes with, if one has it. None if a read fails.
 fn get<D: Disk>(alloc: Global, disk: &D, key: &Key) -> Option<(bool, [u8; 2])>
     requires { 45056 ≤ size (D.content disk.now) }
 {
@@ -86,10 +86,11 @@ fn gets_the_value_of_each_key(rt: HostRuntime) -> Result<(), Fail> {
 fn encodes_the_index_of_keys(rt: HostRuntime) -> Result<(), Fail> {
     let geometry = four_rows()?;
     let entries = SortedEntries::new(geometry, 1, 1);
-    let store = SortedStore::encode(rt.alloc(), entries, &[key(10, 0)])?;
+    let store = SortedStore::encode(rt.alloc(), entries, &[key(10, 0)], Digest([7; 20]))?;
     let told = (store.region(), store.len(), store.is_empty());
     assert_eq!(rt; told, (1, 1, false));
     assert_eq!(rt; (store.geometry(), store.entries().len()), (geometry, 1));
+    assert_eq!(rt; *store.digest(), Digest([7; 20]));
     Ok(())
 }
 
@@ -113,7 +114,7 @@ fn write_single<D: Disk>(disk: &mut D, geometry: Geometry, value: &[u8]) -> Resu
     Ok(())
 }
 
-// Whether a get among the only entry of region 1 finds the key, and fills in this value. None where a read fails.
+// Whether a get among the only entry of region 1 finds the key, and fills in this value. None if a read fails.
 fn gets_single<D: Disk>(
     alloc: Global,
     disk: &D,
@@ -132,7 +133,7 @@ fn gets_single<D: Disk>(
     Some(found && *out == *value)
 }
 
-// As `gets_single`, on a disk of its own, where the read of this number fails.
+// As `gets_single`, on a disk of its own whose read of this number fails.
 fn gets_long(alloc: Global, value_len: u32, number: u64) -> Result<Option<bool>, Fail> {
     let geometry = single(value_len)?;
     let value = vec![in alloc; 6u8; value_len as usize]?;

@@ -1,11 +1,14 @@
-use Rattle.std.proofs.Common.{◌≡◌, ℕ, ◌+◌, ◌*◌, ◌<◌, ◌≤◌, length, Option, Ok, IfSome, refl, sym, subst, ap, ◌∙◌, arith}
-use Rattle.std.proofs.lemmas.List.{length-take-le}
+use Rattle.std.proofs.Common.{◌≡◌, ℕ, ◌+◌, ◌*◌, ◌<◌, ◌≤◌, length, List, Option, Ok, IfSome, refl, sym, subst, ap, ◌∙◌, arith}
+use Rattle.std.proofs.lemmas.List.{length-take-le, take_all}
+use Rattle.sha1.specs.Sha1.{Holds}
 use Rattle.silt_disk.specs.Layout.{entry_len}
-use Rattle.silt_sorted_store.specs.Indexing.{HoldsKeys, IsIndexing, TakesKeys}
+use Rattle.silt_frame.specs.Rows.{StoredRow, entries_bytes}
+use Rattle.silt_sorted_store.specs.Indexing.{HoldsEntries, HoldsKeys, IsIndexing, TakesKeys}
 use Rattle.silt_sorted_store.specs.State.{entries_of}
 use Rattle.silt_sorted_store.proofs.Entries.{entry_count}
 use Rattle.silt_sorted_store.proofs.Checking.{indexing_none}
 use Rattle.silt_sorted_store.proofs.Chunks.{chunk_fits, written_back}
+use Rattle.silt_sorted_store.proofs.Digested.{bytes_of_chunk}
 use Rattle.silt_sorted_store.proofs.rebuild.take_entries.Goals as goal
 
 pub loop-place-init : goal.loop-place-init
@@ -13,6 +16,7 @@ loop-place-init g c = record {
   upto = omega arith;
   room = refl;
   counted = c.requires.counted;
+  hashed = λ honest. c.requires.fresh;
   taken = λ honest. indexing_none (entries_of (g.D.Disk.content c.args.disk.now) c.args.entries.now) c.args.builder.now c.requires.empty c.requires.none;
 }
 
@@ -65,6 +69,11 @@ loop-place-preserved g c =
       upto = within;
       room = written_back c.read_entries.new.out c.loop-place.buffer (next * c.entry_len-len.result) c.read_entries.auto.out ∙ c.loop-place.auto.buffer;
       counted = c.in-Ok-None.ensures.counted (ap Ok c.in-Ok-None.field-0-is);
+      hashed = λ honest.
+          let len_is = c.entry_len-len.ensures.value ∙ ap entry_len c.geometry.ensures in
+          let fits = chunk_fits store.shape next c.args.most c.entry_len-len.result (length c.loop-place.buffer) (omega (arith, c.min-next.ensures)) len_is (omega (arith, c.requires.buffer, c.loop-place.invariant.room)) in
+          let long : length c.read_entries.new.out ≡ next * entry_len store.shape = c.read_entries.auto.out ∙ length-take-le _ c.loop-place.buffer fits ∙ ap (λ (n : ℕ). next * n) len_is in
+          subst (Holds c.update.new.self) (sym (bytes_of_chunk rows place next (entry_len store.shape) c.read_entries.new.out (c.in_default.ensures.entries honest) long)) (c.update.ensures _ (c.loop-place.invariant.hashed honest));
       taken = λ honest.
           let holds = subst (λ (n : ℕ). HoldsKeys rows place next n c.read_entries.new.out) (sym (c.entry_len-len.ensures.value ∙ ap entry_len c.geometry.ensures)) (c.in_default.ensures.keys honest) in
           subst (TakesKeys rows (place + next) c.take_keys.new.builder) c.in-Ok-None.field-0-is (c.in-Ok-None.ensures.taken rows (omega (arith, within, long)) holds (c.loop-place.invariant.taken honest));
@@ -85,3 +94,12 @@ returns-in-Ok-Some-clause-err g c =
           let holds = subst (λ (n : ℕ). HoldsKeys rows place next n c.read_entries.new.out) (sym (c.entry_len-len.ensures.value ∙ ap entry_len c.geometry.ensures)) (c.in_default.ensures.keys honest) in
           subst (TakesKeys rows (place + next) c.take_keys.new.builder) c.in-Ok-Some.field-0-is (c.in-Ok-Some.ensures.taken rows (omega (arith, within, long)) holds (c.loop-place.invariant.taken honest)),
     )
+
+pub returns-clause-hashed : goal.returns-clause-hashed
+returns-clause-hashed g c = λ honest.
+    let store = c.args.entries.now in
+    let content = g.D.Disk.content c.args.disk.now in
+    let rows = entries_of content store in
+    let long = entry_count store.shape store.region store.count content.shown in
+    let all : c.loop-place.place ≡ store.count = omega (arith, c.loop-place-test.false, c.len-count.ensures.value, c.loop-place.invariant.upto) in
+    subst (λ (l : List StoredRow). Holds c.loop-place.hasher (entries_bytes l)) (take_all c.loop-place.place rows (omega (arith, all, long))) (c.loop-place.invariant.hashed honest)

@@ -1,14 +1,17 @@
-use Rattle.std.proofs.Common.{◌≡◌, ◌-◌, ◌≤◌, IsTrue, length}
+use Rattle.std.proofs.Common.{◌≡◌, ◌-◌, ◌≤◌, IsTrue, length, take}
+use Rattle.sha1.specs.Sha1.{Holds}
+use Rattle.silt_frame.specs.Rows.{entries_bytes}
 use Rattle.silt_sorted_store.specs.Indexing.{IsIndexing}
 use Rattle.silt_sorted_store.specs.State.{entries_of}
 use Rattle.silt_sorted_store.proofs.rebuild.take_entries.Given as goal
 
--- the entries so far were taken up
+-- the entries so far were taken up, and their bytes were digested
 abbrev pub invariant-loop-place : goal.invariant-loop-place
 invariant-loop-place g l = record {
   upto : l.place ≤ l.entries.count;
   room : length l.buffer ≡ length l.initial.buffer;
   counted : l.builder.count ≡ l.place;
+  hashed : IsTrue (g.D.Disk.content l.disk).honest → Holds l.hasher (entries_bytes (take l.place (entries_of (g.D.Disk.content l.disk) l.entries)));
   taken : IsTrue (g.D.Disk.content l.disk).honest → IsIndexing (entries_of (g.D.Disk.content l.disk) l.entries) l.place l.builder;
 }
 

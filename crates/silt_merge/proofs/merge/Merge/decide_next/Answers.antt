@@ -9,10 +9,11 @@ use Rattle.silt_merge.specs.Choice.{IsNextEntry, ReadsRow, choice_puts}
 use Rattle.silt_sorted_store.specs.Region.{due_rows}
 use Rattle.silt_merge.specs.Merging.{HasMerged}
 use Rattle.silt_merge.specs.Rows.{regions_of}
-use Rattle.silt_merge.specs.State.{MergeState, keys_after, passed_after, written_after}
+use Rattle.silt_merge.specs.State.{MergeState, hashed_after, keys_after, passed_after, written_after}
+use Rattle.sha1.specs.Sha1.{Holds}
 use Rattle.silt_merge.specs.declared.source.Source.{Source}
 use Rattle.silt_merge.proofs.Choosing.{offered}
-use Rattle.silt_merge.proofs.Ending.{merged_behind, merged_stays, merged_step, offered_inside}
+use Rattle.silt_merge.proofs.Ending.{held_with, merged_behind, merged_stays, merged_step, offered_inside}
 use Rattle.silt_merge.proofs.Reading.{each_source}
 use Rattle.silt_merge.proofs.Viewing.{state_of}
 use Rattle.silt_merge.proofs.merge.Merge.decide_next.Goals as goal
@@ -90,11 +91,15 @@ returns-clause-merged g c =
     ∙ ap (λ b. take merge.shape.sorted_capacity (sorted_rows merge.shape merge.region c.len-written.result old.shown ++ due_rows c.is_put.result b)) row_bytes
     ∙ ap (λ b. take merge.shape.sorted_capacity (sorted_rows merge.shape merge.region c.len-written.result old.shown ++ due_rows b c.read_row.new.out)) c.is_put.ensures
     ∙ ap (λ n. take merge.shape.sorted_capacity (sorted_rows merge.shape merge.region n old.shown ++ due_rows (choice_puts c.in-Some.choice.source) c.read_row.new.out)) c.len-written.ensures in
+    let hashed_bytes : c.deref-in-Ok.result.now ≡ c.read_row.new.out = c.deref-in-Ok.ensures.value ∙ take_at c.read_row.new.out _ _ (omega (arith, c.read_row.ensures.len, c.deref_mut-2.ensures.len)) in
+    let hashes : (hashed : List ℕ) → Holds merge.hasher hashed → Holds c.hash_written.new.hasher (hashed_after (nat_lt merge.written c.in-Ok.count) hashed c.read_row.new.out) = λ hashed holds.
+    subst (λ b. Holds c.hash_written.new.hasher (hashed_after (nat_lt merge.written c.in-Ok.count) hashed b)) hashed_bytes
+    (subst (λ n. Holds c.hash_written.new.hasher (hashed_after (nat_lt n c.in-Ok.count) hashed c.deref-in-Ok.result.now)) c.len-written.ensures (c.hash_written.ensures hashed holds)) in
     subst (λ (m : MergeState). HasMerged old c.args.stores.now c.args.sorted.now c.args.self.now → HasMerged new c.args.stores.now c.args.sorted.now m) (sym c.mark_decided.ensures.state)
     (rw (← c.self.view_is)
-    (subst (λ (n : ℕ). HasMerged old c.args.stores.now c.args.sorted.now merge → HasMerged new c.args.stores.now c.args.sorted.now (let m : MergeState = record merge { waiting = c.mark_decided.new.self.waiting; passed = passed_after c.in-Some.choice.passes merge.passed; written = written_after (nat_lt n c.in-Ok.count) merge.written; keys = keys_after (nat_lt n c.in-Ok.count) merge.keys c.in-Some.choice.key; decided = merge.decided + 1; last = Some c.in-Some.choice.key; ahead = parts_after c.in-Some.choice.passes merge.ahead } in m)) (sym c.len-written.ensures)
+    (subst (λ (n : ℕ). HasMerged old c.args.stores.now c.args.sorted.now merge → HasMerged new c.args.stores.now c.args.sorted.now (let m : MergeState = record merge { waiting = c.mark_decided.new.self.waiting; passed = passed_after c.in-Some.choice.passes merge.passed; written = written_after (nat_lt n c.in-Ok.count) merge.written; keys = keys_after (nat_lt n c.in-Ok.count) merge.keys c.in-Some.choice.key; decided = merge.decided + 1; last = Some c.in-Some.choice.key; ahead = parts_after c.in-Some.choice.passes merge.ahead; hasher = c.hash_written.new.hasher } in m)) (sym c.len-written.ensures)
     (merged_step old new c.args.stores.now c.args.sorted.now merge c.self.invariant.0 c.next_entry-next.ensures.held fits c.write_due.ensures.region c.first.result c.next_entry-next.result c.in-Some.choice c.next_entry-next.new.out c.read_row.new.out
-    c.mark_decided.new.self.waiting c.in-Ok.count all c.first.ensures (sym c.choose.ensures ∙ c.in-Some.is) c.next_entry-next.ensures.is_some there read written c.mark_decided.ensures.gone)))
+    c.mark_decided.new.self.waiting c.in-Ok.count c.hash_written.new.hasher all c.first.ensures (sym c.choose.ensures ∙ c.in-Some.is) c.next_entry-next.ensures.is_some there read written c.mark_decided.ensures.gone hashes)))
 
 pub returns-then-is_behind-clause-held : goal.returns-then-is_behind-clause-held
 returns-then-is_behind-clause-held g c = c.pass_entry.ensures.held
@@ -110,3 +115,8 @@ returns-in-Err-write_due-clause-held g c = c.self.invariant.0
 
 pub returns-clause-held : goal.returns-clause-held
 returns-clause-held g c = c.mark_decided.ensures.held
+
+pub invariant_of-self-in-Ok : goal.invariant_of-self-in-Ok
+invariant_of-self-in-Ok g c =
+    let merge : MergeState = state_of c.self.inside in
+    (held_with merge merge.slots merge.ahead c.hash_written.new.hasher c.self.invariant.0, c.self.invariant.1, c.self.invariant.2, c.self.invariant.3, c.self.invariant.4, c.self.invariant.5)
