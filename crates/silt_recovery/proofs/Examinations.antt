@@ -23,7 +23,7 @@ use Rattle.silt_manifest.specs.Standing.{ManifestState, Rules}
 use Rattle.silt_manifest.specs.declared.body.Body.{Body}
 use Rattle.silt_manifest.proofs.SoundBodies.{sound_parts}
 use Rattle.silt_sorted_store.specs.Index.{HasIndex}
-use Rattle.silt_sorted_store.specs.State.{IsHeldSorted, SortedState}
+use Rattle.silt_sorted_store.specs.State.{HasDigest, IsHeldSorted, SortedState}
 use Rattle.silt_trie.specs.Marks.{MarkedCode}
 use Rattle.silt_standing.specs.State.{IsHashOf, IsSettled, sorted_named}
 use Rattle.silt_recovery.specs.Entries.{AreSoundEntries, HasFirstEntry}
@@ -118,10 +118,10 @@ module _ (content : Content) (shape : Shape) (body : Body) (named : IsTrue conte
 
           module _ (manifest : ManifestState) (same_shape : shape ≡ manifest.shape) (same_body : body ≡ manifest.ruling) where
             -- what is held
-            pub held : (active : LogStoreState) (index : MarkedCode) (charge : ℕ) → InLimits shape → size content ≡ device_size manifest.shape → manifest.prepared ≡ None → (Rests content → Rules manifest content)
-                → IsReadLog content shape active → active.log.region ≡ body.active → HasIndex content sorted index → charge ≡ newest + older + hash_puts + sorted.count → charge ≤ shape.sorted_capacity
-                → Holds content (record { manifest = manifest; active = active; frozen = frozen; hashes = hashes; sorted = sorted; index = index; converting = None; merging = None; charge = charge })
-            held active index charge limits sized idle rules own region located total most = record {
+            pub held : (active : LogStoreState) (index : MarkedCode) (digest : List ℕ) (charge : ℕ) → InLimits shape → size content ≡ device_size manifest.shape → manifest.prepared ≡ None → (Rests content → Rules manifest content)
+                → IsReadLog content shape active → active.log.region ≡ body.active → HasIndex content sorted index → HasDigest content sorted digest → charge ≡ newest + older + hash_puts + sorted.count → charge ≤ shape.sorted_capacity
+                → Holds content (record { manifest = manifest; active = active; frozen = frozen; hashes = hashes; sorted = sorted; index = index; digest = digest; converting = None; merging = None; charge = charge })
+            held active index digest charge limits sized idle rules own region located digested total most = record {
               limits = subst InLimits same_shape limits;
               has_size = sized;
               whole = record {
@@ -145,6 +145,7 @@ module _ (content : Content) (shape : Shape) (body : Body) (named : IsTrue conte
               frozen = subst (λ (s : Shape). All (IsReadLog content s) frozen) same_shape read.each;
               hashed = All-weaker (IsReadHash content shape) (IsHashStore content) (λ store is. is.stands) hashes hashed.each;
               located = located;
+              digested = digested;
               named = λ h. named h ∙ ap Ok (same_stores manifest same_shape same_body);
               sound = λ h. subst IsSound (same_stores manifest same_shape same_body) (nothing_found (subst (λ (n : ℕ). n ≤ shape.sorted_capacity) total most) h);
               counted = λ h. total ∙ charge_is h ∙ ap charge_of (same_stores manifest same_shape same_body);

@@ -9,3 +9,4 @@ pub mod EntrySearches
 pub mod Examinations
 pub mod Takings
 pub mod Reports
+pub mod Shown

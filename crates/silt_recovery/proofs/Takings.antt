@@ -32,9 +32,9 @@ use Rattle.silt_log_store.specs.Calls.{SealsStore}
 use Rattle.silt_log_store.specs.State.{LogStoreState}
 use Rattle.silt_manifest.proofs.Laws.{rules_elsewhere}
 use Rattle.silt_merge.specs.State.{MergeState}
-use Rattle.silt_standing.specs.Standing.{HasGathered, IsFrozen, IsLocated, Stands, base_map, shown_stores}
+use Rattle.silt_standing.specs.Standing.{HasGathered, IsDigested, IsFrozen, IsLocated, Stands, base_map, shown_stores}
 use Rattle.silt_sorted_store.specs.State.{SortedState}
-use Rattle.silt_sorted_store.proofs.Elsewhere.{indexed_elsewhere}
+use Rattle.silt_sorted_store.proofs.Elsewhere.{digest_elsewhere, indexed_elsewhere}
 use Rattle.silt_standing.proofs.Places.{entries_behind_log}
 use Rattle.silt_standing.specs.State.{AreWhole, IsHashOf, IsMerging, IsUnderWay, TiersState, oldest_log, region_of}
 use Rattle.silt_recovery.specs.Logs.{IsReadLog}
@@ -146,6 +146,15 @@ index_stands between new s log exists fits changes whole located =
     indexed_elsewhere s.sorted s.index between new (gates_at s.manifest.shape log) (log_size s.manifest.shape) whole.held (subst (λ (x : Shape). device_size x ≤ size between) is_shape fits)
     (subst (λ (x : Shape). LiesOutside (sorted_at x s.sorted.region) (entries_len x) (gates_at s.manifest.shape log) (log_size s.manifest.shape)) is_shape
     (entries_behind_log s.manifest.shape log s.sorted.region exists)) changes located
+
+-- and so is their digest
+digest_stands : (between new : Content) (s : TiersState) (log : ℕ) → log < s.manifest.shape.logs → device_size s.manifest.shape ≤ size between → ChangesWithin (gates_at s.manifest.shape log) (log_size s.manifest.shape) between new
+    → AreWhole s → IsDigested between s → IsDigested new s
+digest_stands between new s log exists fits changes whole digested =
+    let is_shape : s.manifest.shape ≡ s.sorted.shape = ap (λ (t : SortedState). t.shape) (sym whole.sorted) in
+    digest_elsewhere s.sorted s.digest between new (gates_at s.manifest.shape log) (log_size s.manifest.shape) whole.held (subst (λ (x : Shape). device_size x ≤ size between) is_shape fits)
+    (subst (λ (x : Shape). LiesOutside (sorted_at x s.sorted.region) (entries_len x) (gates_at s.manifest.shape log) (log_size s.manifest.shape)) is_shape
+    (entries_behind_log s.manifest.shape log s.sorted.region exists)) changes digested
 
 -- where no conversion is under way, nothing is asked of one
 none_converts : (s : TiersState) → s.converting ≡ None → IfSome s.converting (IsUnderWay s)
@@ -299,6 +308,7 @@ module _ (old between new : Content) (s : TiersState) (settles : Settles old bet
           frozen = λ k d inside. frozen_stands between new s.manifest.shape (slice_index_or s.frozen k d) changes.honest (holds.frozen k d inside) (λ h. frozen_rows h k d inside);
           hashed = λ k d inside. hash_stands between new s.manifest.shape s.manifest.ruling.active (slice_index_or s.hashes k d) exists (omega (arith, holds.has_size)) changed (holds.whole.hashed k d inside) (holds.hashed k d inside);
           located = index_stands between new s s.manifest.ruling.active exists (omega (arith, holds.has_size)) changed holds.whole holds.located;
+          digested = digest_stands between new s s.manifest.ruling.active exists (omega (arith, holds.has_size)) changed holds.whole holds.digested;
           written = none_written new (record s { active = after }) holds.none_converted;
           merged = none_gathered new (record s { active = after }) holds.none_merged;
           named = record { each = λ honest image left. same_stores.each honest image left ∙ ap Ok (sym (shown_same (was honest))) };

@@ -10,7 +10,7 @@ use Rattle.silt_image.specs.Stores.{Stores, image_stores}
 use Rattle.silt_event.specs.declared.report.Report.{Report}
 use Rattle.silt_manifest.specs.Standing.{Rules}
 use Rattle.silt_standing.specs.Standing.{IsQuiet, SameDisk}
-use Rattle.silt_standing.specs.Standing.{IsLocated, Stands, base_map, shown_stores}
+use Rattle.silt_standing.specs.Standing.{IsDigested, IsLocated, Stands, base_map, shown_stores}
 use Rattle.silt_standing.specs.State.{TiersState, AreWhole}
 use Rattle.silt_recovery.specs.Logs.{IsReadLog}
 use Rattle.silt_recovery.specs.declared.examination.Holding.{Holding}
@@ -26,6 +26,7 @@ held_stores held = record {
   hashes = held.hashes.items;
   sorted = held.sorted.sorted;
   index = held.sorted.index;
+  digest = held.sorted.digest;
   converting = None;
   merging = None;
   charge = held.charge;
@@ -44,6 +45,7 @@ pub record Holds (content : Content) (s : TiersState) : Type 0 where
   pub frozen : All (IsReadLog content s.manifest.shape) s.frozen
   pub hashed : All (IsHashStore content) s.hashes
   pub located : IsLocated content s
+  pub digested : IsDigested content s
   pub named : IsTrue content.honest → image_stores content.shown ≡ Ok (shown_stores content s)
   pub sound : IsTrue content.honest → IsSound (shown_stores content s)
   pub counted : IsTrue content.honest → s.charge ≡ charge_of (shown_stores content s)

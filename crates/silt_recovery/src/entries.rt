@@ -5,6 +5,7 @@ ghost use Rattle.silt_disk.specs.Layout.{device_size};
 ghost use Rattle.silt_recovery.specs.Entries.{AreSoundEntries, HasFirstEntry};
 ghost use Rattle.silt_recovery.specs.Refusals.{IsRefusedLook};
 ghost use Rattle.silt_sorted_store.specs.Index.{HasIndex};
+ghost use Rattle.silt_sorted_store.specs.State.{HasDigest};
 
 use crate::fault::OpenError;
 use silt_disk::{Disk, Geometry};
@@ -12,7 +13,7 @@ use silt_event::Place;
 use silt_sorted_store::{ScanError, SortedStore};
 use std::alloc::Global;
 
-/// Reads the first `count` entries of a sorted region once, and makes the index of their keys.
+/// Reads the first `count` entries of a sorted region once, and makes the index of their keys and the digest of their bytes.
 ///
 /// # Errors
 ///
@@ -30,6 +31,7 @@ pub fn read_entries<D: Disk>(
     requires size { size (D.content disk.now) ≡ device_size geometry }
     ensures store { IfOk result (λ store. store.sorted ≡ record { shape = geometry; region = region; count = count }) }
     ensures indexed { IfOk result (λ store. HasIndex (D.content disk.now) store.sorted store.index) }
+    ensures digested { IfOk result (λ store. HasDigest (D.content disk.now) store.sorted store.digest) }
     ensures sound { IsTrue (D.content disk.now).honest → OnOk result (AreSoundEntries geometry (D.content disk.now).shown region count) }
     ensures cause { IfErr result (IsRefusedLook
         (λ finding. IsTrue (D.content disk.now).honest → HasFirstEntry geometry (D.content disk.now).shown region count finding)

@@ -21,7 +21,7 @@ mod recovery;
 mod report;
 
 pub use empty_store::format;
-pub use examination::Holding;
+pub use examination::{Holding, examine};
 pub use fault::{FormatError, FormatFault, OpenError, OpenFault};
 pub use recovery::{Opened, open};
 pub use report::check;

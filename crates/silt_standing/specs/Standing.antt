@@ -9,14 +9,15 @@ use Rattle.silt_image.specs.Stores.{Stores, image_stores, stores_named}
 use Rattle.silt_image.specs.Meaning.{IsSound, rows_of, with_log_rows}
 use Rattle.silt_event.specs.Rows.{command_of, map_of_rows}
 use Rattle.silt_frame.specs.Rows.{put_count}
-use Rattle.silt_log.specs.Rows.{open_count}
-use Rattle.silt_log.specs.State.{IsLog, all_rows, waiting_rows}
+use Rattle.silt_log.specs.Rows.{log_rows, open_count}
+use Rattle.silt_log.specs.State.{InBounds, IsLog, all_rows, settled_rows, waiting_rows}
 use Rattle.silt_log.specs.State as log
 use Rattle.silt_log_store.specs.State.{LogStoreState, IsIndexed}
 use Rattle.silt_manifest.specs.Standing.{Rules}
 use Rattle.silt_merge.specs.Merging.{HasMerged}
 use Rattle.silt_merge.specs.State.{MergeState, oldest_stores}
 use Rattle.silt_sorted_store.specs.Index.{HasIndex}
+use Rattle.silt_sorted_store.specs.State.{HasDigest}
 use Rattle.silt_standing.specs.State.{TiersState, AreWhole, oldest_log}
 
 -- ---- the disk
@@ -59,12 +60,16 @@ pub record IsFrozen (content : Content) (store : LogStoreState) : Type 0 where
 abbrev pub IsLocated : Content → TiersState → Type 0
 IsLocated content s = HasIndex content s.sorted s.index
 
+-- the digest is that of the sorted store's entries
+abbrev pub IsDigested : Content → TiersState → Type 0
+IsDigested content s = HasDigest content s.sorted s.digest
+
 -- a merge has gathered and written what is due so far, of the oldest hash stores and the sorted store
 abbrev pub HasGathered : Content → TiersState → MergeState → Type 0
 HasGathered content s merge = HasMerged content (oldest_stores merge.stores s.hashes) s.sorted merge
 
 -- The stores fit their disk: whatever a stop leaves has the stores that are shown, and nothing is found in these, also once the
--- waiting rows are settled. The tables, the tags and the index in memory are those of what is shown. A conversion and a merge have
+-- waiting rows are settled. The tables, the tags, the index and the digests in memory are those of what is shown. A conversion and a merge have
 -- written what is due so far.
 pub record Stands (content : Content) (s : TiersState) : Type 0 where
   pub has_size : size content ≡ device_size s.manifest.shape
@@ -76,11 +81,19 @@ pub record Stands (content : Content) (s : TiersState) : Type 0 where
   pub frozen : All (IsFrozen content) s.frozen
   pub hashed : All (IsHashStore content) s.hashes
   pub located : IsLocated content s
+  pub digested : IsDigested content s
   pub written : IfSome s.converting (HasWritten content (oldest_log s))
   pub merged : IfSome s.merging (HasGathered content s)
   pub named : LeavesOnly content (λ image. image_stores image ≡ Ok (shown_stores content s))
   pub sound : IsTrue content.honest → IsSound (with_log_rows s.active.log.region (all_rows content s.active.log) (shown_stores content s))
   pub counted : IsTrue content.honest → s.charge ≡ put_count (rows_of (shown_stores content s) ++ waiting_rows content s.active.log)
+
+-- The stores are those that the disk shows, with the rows that wait, whatever a crash leaves: what reading them needs.
+pub record Shows (content : Content) (s : TiersState) : Type 0 where
+  pub whole : AreWhole s
+  pub bounds : InBounds s.active.log
+  pub active : IsTrue content.honest → log_rows s.active.log.shape s.active.log.region content.shown ≡ settled_rows content s.active.log
+  pub frozen : All (IsFrozen content) s.frozen
 
 -- no command waits
 pub record IsQuiet (content : Content) (s : TiersState) : Type 0 where

@@ -12,7 +12,7 @@ use Rattle.silt_sorted_store.specs.State.{SortedState, IsHeldSorted}
 use Rattle.silt_trie.specs.Marks.{MarkedCode}
 
 -- The manifest; the log that takes writes; the full logs behind it, the newest first; the hash stores behind these, the newest
--- first; the entries of the sorted store behind them all, and their index; the oldest log's conversion and the merge of hash stores
+-- first; the entries of the sorted store behind them all, their index and their digest; the oldest log's conversion and the merge of hash stores
 -- and the sorted store, where they are under way; and how many put rows there are, those that wait included.
 pub record TiersState : Type 0 where
   pub manifest : ManifestState
@@ -21,6 +21,7 @@ pub record TiersState : Type 0 where
   pub hashes : List HashState
   pub sorted : SortedState
   pub index : MarkedCode
+  pub digest : List ℕ
   pub converting : Option ConversionState
   pub merging : Option MergeState
   pub charge : ℕ

@@ -26,7 +26,7 @@ use Rattle.silt_tiers.specs.Calls.{Advances}
 use Rattle.silt_standing.specs.Standing.{SameDisk}
 use Rattle.silt_tiers.proofs.Named.{named_body, named_shape, own_rows, rows_with_more}
 use Rattle.silt_tiers.proofs.Facts.{active_is, base_is, has_active, rows_split}
-use Rattle.silt_tiers.proofs.Standing.{Fits, after_same, fits_stand, frozen_stay, hashed_stay, located_stays, merged_stays, named_with, rules_stay, shown_are, written_stays}
+use Rattle.silt_tiers.proofs.Standing.{Fits, after_same, digested_stays, fits_stand, frozen_stay, hashed_stay, located_stays, merged_stays, named_with, rules_stay, shown_are, written_stays}
 use Rattle.silt_tiers.proofs.Wholes.{whole_with_active, written_with_active}
 
 -- the stores with another active log and another charge
@@ -77,6 +77,7 @@ module _ (old new : Content) (s : TiersState) (after : LogStoreState) (more : Li
     frozen = frozen_stay old new s stands sizes changes;
     hashed = hashed_stay old new s stands sizes changes;
     located = located_stays old new s stands sizes changes;
+    digested = digested_stays old new s stands sizes changes;
     written = written_with_active new s after charge stands.whole (written_stays old new s stands sizes changes);
     merged = merged_stays old new s stands sizes changes;
     same_shape = named_shape s.manifest.shape s.manifest.ruling old.shown;

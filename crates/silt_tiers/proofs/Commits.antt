@@ -36,7 +36,7 @@ use Rattle.silt_tiers.proofs.Elsewhere.{length-log_rows, outside_slot}
 use Rattle.silt_tiers.proofs.Standing.{Fits}
 use Rattle.silt_tiers.proofs.Wholes.{merging_in, oldest_behind, under_way_in, written_in}
 use Rattle.silt_tiers.proofs.NextBodies.{now_named, succeeds}
-use Rattle.silt_tiers.proofs.Remains.{frozen_stays, hashed_stays, located_stays, merged_stays, written_stays}
+use Rattle.silt_tiers.proofs.Remains.{digested_stays, frozen_stays, hashed_stays, located_stays, merged_stays, written_stays}
 use Rattle.silt_tiers.proofs.Holdings.{may_follow}
 use Rattle.silt_tiers.proofs.Flushes.{quiet}
 use Rattle.silt_tiers.proofs.Freezes.{below_two, store_elsewhere}
@@ -183,6 +183,7 @@ module _ (old : Content) (s : TiersState) (next : NextLog) (stands : Stands old 
       frozen = All-cons (IsFrozen new) s.active s.frozen (settled_frozen new s.active old_active is_quiet.settled) (frozen_stays old new s stands sizes now.changes);
       hashed = hashed_stays old new s stands sizes now.changes;
       located = located_stays old new s stands sizes now.changes;
+      digested = digested_stays old new s stands sizes now.changes;
       written = written_after;
       merged = merged_stays old new s stands sizes now.changes;
       same_shape = frozen_may_rule.has_shape ∙ sym now.has_shape;
@@ -211,6 +212,7 @@ module _ (old : Content) (s : TiersState) (next : NextLog) (stands : Stands old 
       hashes = refl;
       sorted = refl;
       index = refl;
+      digest = refl;
       converting = refl;
       merging = refl;
       charge = refl;

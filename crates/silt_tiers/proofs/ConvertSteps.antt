@@ -123,9 +123,9 @@ module _ (old new : Content) (s : TiersState) (log : LogStoreState) (before afte
     next_advances = step_advances old new s log before after stands (last_log s log read).1 going more wrote sizes changes steps written
 
 -- of the stores in memory with the conversion one slot on
-pub next_converts : (s : TiersState) (before after : ConversionState) (tags : List (Option ℕ)) (puts : ℕ) → s.converting ≡ Some before → convert_turn s ≡ Moved
-    → after ≡ record before { next = before.next + 1; tags = tags; puts = puts } → Converts Moved s (record s { converting = Some after })
-next_converts s before after tags puts was turn next = record {
+pub next_converts : (s : TiersState) (before after : ConversionState) (tags : List (Option ℕ)) → s.converting ≡ Some before → convert_turn s ≡ Moved
+    → after ≡ record before { next = before.next + 1; tags = tags; puts = after.puts; hasher = after.hasher } → Converts Moved s (record s { converting = Some after })
+next_converts s before after tags was turn next = record {
   due = sym turn;
   done = record {
     conversion = after;
@@ -157,7 +157,7 @@ module _ (s : TiersState) (log : LogStoreState) (ruling : Body) (hashes region :
     pub begin_turn : convert_turn s ≡ Moved
     begin_turn = moves_turn s none some (hash_free s (ruling_slot s.manifest) region whole sound lowest_here.below lowest_here.free)
 
-    module _ (started : ConversionState) (is : started ≡ record { shape = log.log.shape; region = region; tags = replicate (4 * log.log.shape.buckets) None; next = 0; puts = 0 }) (limits : InLimits s.manifest.shape) where
+    module _ (started : ConversionState) (is : started ≡ record { shape = log.log.shape; region = region; tags = replicate (4 * log.log.shape.buckets) None; next = 0; puts = 0; hasher = started.hasher }) (limits : InLimits s.manifest.shape) where
       log_shape : log.log.shape ≡ s.manifest.shape
       log_shape = ap (λ (l : LogStoreState). l.log.shape) (last_log s log read).1 ∙ (whole.settled (length s.frozen - 1) s.active (omega (arith, some))).has_shape
 
@@ -186,7 +186,7 @@ module _ (s : TiersState) (log : LogStoreState) (ruling : Body) (hashes region :
           omega (arith, least, here, started_none)
 
       -- of the stores in memory with a conversion one slot on
-      module _ (after : ConversionState) (tags : List (Option ℕ)) (next : after ≡ record started { next = started.next + 1; tags = tags; puts = after.puts }) where
+      module _ (after : ConversionState) (tags : List (Option ℕ)) (next : after ≡ record started { next = started.next + 1; tags = tags; puts = after.puts; hasher = after.hasher }) where
         pub begin_converts : Converts Moved s (record s { converting = Some after })
         begin_converts = record {
           due = sym begin_turn;

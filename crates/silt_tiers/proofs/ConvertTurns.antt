@@ -22,7 +22,7 @@ use Rattle.silt_image.specs.Stores.{Stores, stores_named}
 use Rattle.silt_image.specs.Meaning.{IsSound, rows_of, with_log_rows}
 use Rattle.silt_event.specs.Rows.{command_of}
 use Rattle.silt_image.proofs.Named.{whole_law}
-use Rattle.silt_conversion.specs.Conversion.{ConversionState, HasWritten, converted_rows}
+use Rattle.silt_conversion.specs.Conversion.{ConversionState, HasWritten, IsDigestOf, converted_rows}
 use Rattle.silt_hash_store.specs.Slots.{hash_rows}
 use Rattle.silt_hash_store.specs.State.{IsHashStore, IsHeldHash, HashState}
 use Rattle.silt_conversion.proofs.Writing.{store_stands}
@@ -34,14 +34,14 @@ use Rattle.silt_standing.specs.State.{AreWhole, IsHashOf, IsMerging, IsSettled, 
 use Rattle.silt_standing.specs.Standing.{HasGathered, IsFrozen, Stands, full_image, shown_stores}
 use Rattle.silt_tiers.specs.Calls.{Advances}
 use Rattle.silt_tiers.specs.Succession.{MayRule, NowRules}
-use Rattle.silt_tiers.specs.Conversion.{AreConverted, EndsConversion, HasConvertedRows, MayReplace, converted_body, oldest_replaced, oldest_rows, store_of}
+use Rattle.silt_tiers.specs.Conversion.{AreConverted, EndsConversion, Finishes, HasConvertedRows, MayReplace, converted_body, oldest_replaced, oldest_rows, store_of}
 use Rattle.silt_tiers.proofs.Named.{named_shape}
 use Rattle.silt_tiers.proofs.Facts.{shown_named}
 use Rattle.silt_tiers.proofs.Elsewhere.{frozen_named, indexed_same, named_below, outside_slot, scanned_all}
 use Rattle.silt_tiers.proofs.Standing.{Fits, shown_are}
 use Rattle.silt_tiers.proofs.Wholes.{merging_in}
 use Rattle.silt_tiers.proofs.ConvertCounting.{may_end}
-use Rattle.silt_tiers.proofs.Remains.{active_stays, frozen_stays, hashed_stays, located_stays, merged_stays, slot_below, waiting_stays, written_stays}
+use Rattle.silt_tiers.proofs.Remains.{active_stays, digested_stays, frozen_stays, hashed_stays, located_stays, merged_stays, slot_below, waiting_stays, written_stays}
 use Rattle.silt_tiers.proofs.NextBodies.{now_named, succeeds}
 use Rattle.silt_tiers.proofs.ConvertStores.{converted_named, converted_ruling, converted_shape}
 use Rattle.silt_tiers.proofs.ConvertDone.{ending_counted, ending_full_sound, ending_map, ending_slots, ending_sound, ending_stores, oldest_frozen, oldest_shape, oldest_stands, table_of, way}
@@ -88,10 +88,6 @@ module _ (old : Content) (s : TiersState) (body : Body) (stands : Stands old s) 
     back : IsTrue new.honest → IsTrue old.honest
     back h = subst IsTrue now.changes.honest h
 
-    -- the stores in memory afterwards
-    abbrev after : TiersState
-    after = oldest_replaced s m ends.conversion
-
     ruling_is : m.ruling ≡ converted_body s.manifest.ruling ends.conversion.region
     ruling_is = now.has_body ∙ ends.is
 
@@ -99,11 +95,11 @@ module _ (old : Content) (s : TiersState) (body : Body) (stands : Stands old s) 
     ids = ap length (sym stands.whole.frozen_regions) ∙ length-map s.frozen region_of
 
     -- they are those that the body names
-    held_of : IsHeldHash (store_of ends.conversion) → IsHashOf s.manifest.shape (store_of ends.conversion)
-    held_of held = record { has_shape = under_way.has_shape; held = held }
+    held_of : (digest : List ℕ) → IsHeldHash (store_of ends.conversion digest) → IsHashOf s.manifest.shape (store_of ends.conversion digest)
+    held_of digest held = record { has_shape = under_way.has_shape; held = held }
 
-    whole : IsHeldHash (store_of ends.conversion) → AreWhole (oldest_replaced s m ends.conversion)
-    whole held = record {
+    whole : (digest : List ℕ) → IsHeldHash (store_of ends.conversion digest) → AreWhole (oldest_replaced s m ends.conversion digest)
+    whole digest held = record {
       has_shape = stands.whole.has_shape ∙ sym now.has_shape;
       active_region = stands.whole.active_region ∙ ap (λ (b : Body). b.active) (sym ruling_is);
       frozen_regions =
@@ -113,14 +109,14 @@ module _ (old : Content) (s : TiersState) (body : Body) (stands : Stands old s) 
           ∙ ap (λ (b : Body). b.frozen) (sym ruling_is);
       settled = subst (λ (sh : Shape). All (IsSettled sh) (take (length s.frozen - 1) s.frozen)) (sym now.has_shape) (All-take (IsSettled s.manifest.shape) (length s.frozen - 1) s.frozen stands.whole.settled);
       hash_regions = ap (λ (l : List ℕ). ends.conversion.region ∷ l) stands.whole.hash_regions ∙ ap (λ (b : Body). b.hashed) (sym ruling_is);
-      hashed = subst (λ (sh : Shape). All (IsHashOf sh) (store_of ends.conversion ∷ s.hashes)) (sym now.has_shape) (All-cons (IsHashOf s.manifest.shape) (store_of ends.conversion) s.hashes (held_of held) stands.whole.hashed);
+      hashed = subst (λ (sh : Shape). All (IsHashOf sh) (store_of ends.conversion digest ∷ s.hashes)) (sym now.has_shape) (All-cons (IsHashOf s.manifest.shape) (store_of ends.conversion digest) s.hashes (held_of digest held) stands.whole.hashed);
       sorted =
           stands.whole.sorted ∙ ap (λ (sh : Shape). sorted_named sh s.manifest.ruling) (sym now.has_shape)
           ∙ ap (λ (n : ℕ). let t : SortedState = record { shape = m.shape; region = n; count = s.manifest.ruling.sorted_count } in t) (ap (λ (b : Body). b.sorted) (sym ruling_is))
           ∙ ap (λ (n : ℕ). let t : SortedState = record { shape = m.shape; region = m.ruling.sorted; count = n } in t) (ap (λ (b : Body). b.sorted_count) (sym ruling_is));
       held = stands.whole.held;
       under_way = tt;
-      merging = merging_in s after s.merging now.has_shape refl (omega arith) stands.whole.merging;
+      merging = merging_in s (oldest_replaced s m ends.conversion digest) s.merging now.has_shape refl (omega arith) stands.whole.merging;
       most = subst (λ (sh : Shape). s.charge - ((oldest_log s).puts - ends.conversion.puts) ≤ sh.sorted_capacity) (sym now.has_shape) (let most = stands.whole.most in omega (arith, most));
     }
 
@@ -169,95 +165,121 @@ module _ (old : Content) (s : TiersState) (body : Body) (stands : Stands old s) 
           index = is.indexed;
         }
 
-    -- the new hash store stands
+    -- there are as many buckets as the device has
     count : IsTrue new.honest → IsBucketCount ends.conversion.shape.buckets
     count h =
         let limits = (whole_law old.shown (shown_stores old s) (shown_named old s stands (back h))).limits in
         subst (λ (sh : Shape). IsBucketCount sh.buckets) (named_shape s.manifest.shape s.manifest.ruling old.shown ∙ sym under_way.has_shape) (bucket_count_is (shown_stores old s).shape.buckets limits.buckets)
 
-    store_is : IsHashStore new (store_of ends.conversion)
-    store_is = record {
-      sound = λ h. (store_stands new (oldest_log s) ends.conversion (count h) ends.done oldest_stays slots_stay).sound h;
-      tagged = λ h. (store_stands new (oldest_log s) ends.conversion (count h) ends.done oldest_stays slots_stay).tagged h;
-      counted = λ h. (store_stands new (oldest_log s) ends.conversion (count h) ends.done oldest_stays slots_stay).counted h;
-    }
+    -- ---- with the digest of what was written
 
-    -- a merge has gathered and written what it had: its stores are the oldest ones still
-    gathered_stays : IfSome s.merging (HasGathered new after)
-    gathered_stays = in_front s.merging stands.whole.merging (merged_stays old new s stands sizes now.changes)
-      where
-        in_front : (o : Option MergeState) → IfSome o (IsMerging s) → IfSome o (HasGathered new s) → IfSome o (HasGathered new after)
-        in_front None merging merged = tt
-        in_front (Some merge) merging merged =
-            let way : IsMerging s merge = merging in
-            subst (λ (l : List HashState). HasMerged new l s.sorted merge) (sym (oldest_stores_law (store_of ends.conversion ∷ []) s.hashes merge.stores way.most)) merged
+    module _ (digest : List ℕ) (digested : IsDigestOf ends.conversion.hasher digest) where
+      -- the stores in memory afterwards
+      abbrev after : TiersState
+      after = oldest_replaced s m ends.conversion digest
 
-    fits : AreWhole (oldest_replaced s m ends.conversion) → Fits new after converted_stores
-    unfolding converted_may_rule
-    fits is_whole = record {
-      has_size = sizes ∙ stands.has_size ∙ ap device_size (sym now.has_shape);
-      whole = is_whole;
-      idle = now.idle;
-      rules = now.rules;
-      active = record { log = keeps.stands; index = indexed_same old new s.active back (λ h. keeps.all (back h)) stands.indexed };
-      frozen = All-take (IsFrozen new) (length s.frozen - 1) s.frozen (frozen_stays old new s stands sizes now.changes);
-      hashed = All-cons (IsHashStore new) (store_of ends.conversion) s.hashes store_is (hashed_stays old new s stands sizes now.changes);
-      located = located_stays old new s stands sizes now.changes;
-      written = tt;
-      merged = gathered_stays;
-      same_shape = converted_may_rule.has_shape ∙ sym now.has_shape;
-      same_body = converted_may_rule.has_body ∙ sym now.has_body;
-      named = now_named old new s body stands converted_may_rule sizes m now;
-      sound = λ h.
-          subst (λ (n : ℕ). IsSound (with_log_rows n (all_rows new s.active.log) converted_stores)) (ap (λ (b : Body). b.active) (sym ruling_is))
-          (subst (λ (rows : List StoredRow). IsSound (with_log_rows s.manifest.ruling.active rows converted_stores)) (sym (keeps.all (back h)))
-          (ending_full_sound old s stands ends.conversion ends.was (back h)));
-      counted = λ h.
-          ending_counted old s stands ends.conversion ends.was ends.done (back h) (s.charge - ((oldest_log s).puts - ends.conversion.puts)) refl
-          ∙ ap (λ (rows : List StoredRow). put_count (rows_of converted_stores ++ rows)) (sym (waiting_stays old new s stands sizes now.changes (back h)));
-    }
+      -- the new hash store stands
+      store_is : IsHashStore new (store_of ends.conversion digest)
+      store_is = record {
+        sound = λ h. (store_stands new (oldest_log s) ends.conversion digest (count h) ends.done digested oldest_stays slots_stay).sound h;
+        tagged = λ h. (store_stands new (oldest_log s) ends.conversion digest (count h) ends.done digested oldest_stays slots_stay).tagged h;
+        counted = λ h. (store_stands new (oldest_log s) ends.conversion digest (count h) ends.done digested oldest_stays slots_stay).counted h;
+        digested = λ h. (store_stands new (oldest_log s) ends.conversion digest (count h) ends.done digested oldest_stays slots_stay).digested h;
+      }
 
-    -- and stand on
-    pub converted_advances : (finished : TiersState) → AreWhole finished → finished ≡ oldest_replaced s m ends.conversion → Advances [] old new s finished
-    unfolding converted_may_rule
-    converted_advances finished is_whole is =
-        let whole_after : AreWhole (oldest_replaced s m ends.conversion) = subst AreWhole is is_whole in
-        subst (λ (t : TiersState). Advances [] old new s t) (sym is)
-        (succeeds old new s body stands converted_may_rule sizes m now after (fits whole_after) now.has_shape (λ h. ap (map command_of) (waiting_stays old new s stands sizes now.changes h)))
+      -- a merge has gathered and written what it had: its stores are the oldest ones still
+      gathered_stays : IfSome s.merging (HasGathered new after)
+      gathered_stays = in_front s.merging stands.whole.merging (merged_stays old new s stands sizes now.changes)
+        where
+          in_front : (o : Option MergeState) → IfSome o (IsMerging s) → IfSome o (HasGathered new s) → IfSome o (HasGathered new after)
+          in_front None merging merged = tt
+          in_front (Some merge) merging merged =
+              let way : IsMerging s merge = merging in
+              subst (λ (l : List HashState). HasMerged new l s.sorted merge) (sym (oldest_stores_law (store_of ends.conversion digest ∷ []) s.hashes merge.stores way.most)) merged
 
-    -- its slots have the rows that are due
-    slots_now : AreWhole (oldest_replaced s m ends.conversion) → IsTrue old.honest
-        → hash_rows s.manifest.shape ends.conversion.region (full_image new after) ≡ converted_rows s.manifest.shape (oldest_log s).table (all_rows old (oldest_log s).log)
-    unfolding converted_may_rule
-    slots_now is_whole h =
-        let here : IsTrue new.honest = subst IsTrue (sym now.changes.honest) h in
-        let stand : Stands new after = (converted_advances after is_whole refl).stands in
-        let fit : Fits new after converted_stores = fits is_whole in
-        let front : Stores → List StoredRow = λ t. part_rows (get_or t.hashes 0 no_part) in
-        ap (λ (sh : Shape). hash_rows sh ends.conversion.region (full_image new after)) (sym now.has_shape)
-        ∙ sym (front_named m.shape s.manifest.ruling ends.conversion.region (full_image new after))
-        ∙ ap (λ (b : Body). front (stores_named m.shape b (full_image new after))) (sym ruling_is)
-        ∙ ap front (full_is new after stand here)
-        ∙ ap (λ (t : Stores). front (with_log_rows m.ruling.active (all_rows new s.active.log) t)) (shown_are new after converted_stores fit.same_shape fit.same_body fit.named here)
-        ∙ front_converted _ _ _ _ _
-        ∙ ap (λ (sh : Shape). converted_rows sh (oldest_log s).table (all_rows old (oldest_log s).log)) (named_shape s.manifest.shape s.manifest.ruling old.shown)
+      fits : AreWhole (oldest_replaced s m ends.conversion digest) → Fits new after converted_stores
+      unfolding converted_may_rule
+      fits is_whole = record {
+        has_size = sizes ∙ stands.has_size ∙ ap device_size (sym now.has_shape);
+        whole = is_whole;
+        idle = now.idle;
+        rules = now.rules;
+        active = record { log = keeps.stands; index = indexed_same old new s.active back (λ h. keeps.all (back h)) stands.indexed };
+        frozen = All-take (IsFrozen new) (length s.frozen - 1) s.frozen (frozen_stays old new s stands sizes now.changes);
+        hashed = All-cons (IsHashStore new) (store_of ends.conversion digest) s.hashes store_is (hashed_stays old new s stands sizes now.changes);
+        located = located_stays old new s stands sizes now.changes;
+        digested = digested_stays old new s stands sizes now.changes;
+        written = tt;
+        merged = gathered_stays;
+        same_shape = converted_may_rule.has_shape ∙ sym now.has_shape;
+        same_body = converted_may_rule.has_body ∙ sym now.has_body;
+        named = now_named old new s body stands converted_may_rule sizes m now;
+        sound = λ h.
+            subst (λ (n : ℕ). IsSound (with_log_rows n (all_rows new s.active.log) converted_stores)) (ap (λ (b : Body). b.active) (sym ruling_is))
+            (subst (λ (rows : List StoredRow). IsSound (with_log_rows s.manifest.ruling.active rows converted_stores)) (sym (keeps.all (back h)))
+            (ending_full_sound old s stands ends.conversion ends.was (back h)));
+        counted = λ h.
+            ending_counted old s stands ends.conversion ends.was ends.done (back h) (s.charge - ((oldest_log s).puts - ends.conversion.puts)) refl
+            ∙ ap (λ (rows : List StoredRow). put_count (rows_of converted_stores ++ rows)) (sym (waiting_stays old new s stands sizes now.changes (back h)));
+      }
 
-    -- which are the last rows of the log's keys, as the full image had them on a disk that shows the same stores
-    pub has_converted_rows : (first : Content) (finished : TiersState) → AreWhole finished → finished ≡ oldest_replaced s m ends.conversion → Stands first s → IsTrue first.honest → IsTrue old.honest
-        → shown_stores old s ≡ shown_stores first s → HasConvertedRows first new s finished
-    has_converted_rows first finished is_whole is stood was_honest h same =
-        let rows : List StoredRow = oldest_rows s.manifest.shape s.manifest.ruling (full_image first s) in
-        let log_rows_are : rows ≡ all_rows old (oldest_log s).log = oldest_same first old s stood stands ends.conversion ends.was was_honest h same in
-        let table_shape : (shown_stores old s).shape ≡ s.manifest.shape = named_shape s.manifest.shape s.manifest.ruling old.shown in
-        let converted : AreConverted s.manifest.shape rows (hash_rows s.manifest.shape ends.conversion.region (full_image new finished)) = record {
-          table = (oldest_log s).table;
-          indexed =
-              ap (λ (l : List StoredRow). index_of_keys s.manifest.shape.buckets (keys_of l)) log_rows_are
-              ∙ ap (λ (sh : Shape). index_of_keys sh.buckets (keys_of (all_rows old (oldest_log s).log))) (sym table_shape)
-              ∙ (table_of old s stands ends.conversion ends.was h).indexed;
-          are =
-              ap (λ (t : TiersState). hash_rows s.manifest.shape ends.conversion.region (full_image new t)) is
-              ∙ slots_now (subst AreWhole is is_whole) h
-              ∙ ap (converted_rows s.manifest.shape (oldest_log s).table) (sym log_rows_are);
-        } in
-        subst (λ (o : Option ConversionState). IfSome o (λ conversion. AreConverted s.manifest.shape rows (hash_rows s.manifest.shape conversion.region (full_image new finished)))) (sym ends.was) converted
+      -- and stand on
+      pub converted_advances : (finished : TiersState) → AreWhole finished → finished ≡ oldest_replaced s m ends.conversion digest → Advances [] old new s finished
+      unfolding converted_may_rule
+      converted_advances finished is_whole is =
+          let whole_after : AreWhole (oldest_replaced s m ends.conversion digest) = subst AreWhole is is_whole in
+          subst (λ (t : TiersState). Advances [] old new s t) (sym is)
+          (succeeds old new s body stands converted_may_rule sizes m now after (fits whole_after) now.has_shape (λ h. ap (map command_of) (waiting_stays old new s stands sizes now.changes h)))
+
+      -- its slots have the rows that are due
+      slots_now : AreWhole (oldest_replaced s m ends.conversion digest) → IsTrue old.honest
+          → hash_rows s.manifest.shape ends.conversion.region (full_image new after) ≡ converted_rows s.manifest.shape (oldest_log s).table (all_rows old (oldest_log s).log)
+      unfolding converted_may_rule
+      slots_now is_whole h =
+          let here : IsTrue new.honest = subst IsTrue (sym now.changes.honest) h in
+          let stand : Stands new after = (converted_advances after is_whole refl).stands in
+          let fit : Fits new after converted_stores = fits is_whole in
+          let front : Stores → List StoredRow = λ t. part_rows (get_or t.hashes 0 no_part) in
+          ap (λ (sh : Shape). hash_rows sh ends.conversion.region (full_image new after)) (sym now.has_shape)
+          ∙ sym (front_named m.shape s.manifest.ruling ends.conversion.region (full_image new after))
+          ∙ ap (λ (b : Body). front (stores_named m.shape b (full_image new after))) (sym ruling_is)
+          ∙ ap front (full_is new after stand here)
+          ∙ ap (λ (t : Stores). front (with_log_rows m.ruling.active (all_rows new s.active.log) t)) (shown_are new after converted_stores fit.same_shape fit.same_body fit.named here)
+          ∙ front_converted _ _ _ _ _
+          ∙ ap (λ (sh : Shape). converted_rows sh (oldest_log s).table (all_rows old (oldest_log s).log)) (named_shape s.manifest.shape s.manifest.ruling old.shown)
+
+      -- which are the last rows of the log's keys, as the full image had them on a disk that shows the same stores
+      pub has_converted_rows : (first : Content) (finished : TiersState) → AreWhole finished → finished ≡ oldest_replaced s m ends.conversion digest → Stands first s → IsTrue first.honest → IsTrue old.honest
+          → shown_stores old s ≡ shown_stores first s → HasConvertedRows first new s finished
+      has_converted_rows first finished is_whole is stood was_honest h same =
+          let rows : List StoredRow = oldest_rows s.manifest.shape s.manifest.ruling (full_image first s) in
+          let log_rows_are : rows ≡ all_rows old (oldest_log s).log = oldest_same first old s stood stands ends.conversion ends.was was_honest h same in
+          let table_shape : (shown_stores old s).shape ≡ s.manifest.shape = named_shape s.manifest.shape s.manifest.ruling old.shown in
+          let converted : AreConverted s.manifest.shape rows (hash_rows s.manifest.shape ends.conversion.region (full_image new finished)) = record {
+            table = (oldest_log s).table;
+            indexed =
+                ap (λ (l : List StoredRow). index_of_keys s.manifest.shape.buckets (keys_of l)) log_rows_are
+                ∙ ap (λ (sh : Shape). index_of_keys sh.buckets (keys_of (all_rows old (oldest_log s).log))) (sym table_shape)
+                ∙ (table_of old s stands ends.conversion ends.was h).indexed;
+            are =
+                ap (λ (t : TiersState). hash_rows s.manifest.shape ends.conversion.region (full_image new t)) is
+                ∙ slots_now (subst AreWhole is is_whole) h
+                ∙ ap (converted_rows s.manifest.shape (oldest_log s).table) (sym log_rows_are);
+          } in
+          subst (λ (o : Option ConversionState). IfSome o (λ conversion. AreConverted s.manifest.shape rows (hash_rows s.manifest.shape conversion.region (full_image new finished)))) (sym ends.was) converted
+
+      -- the conversion is finished
+      pub converted_finishes : (finished : TiersState) → finished ≡ oldest_replaced s m ends.conversion digest → Finishes s finished
+      converted_finishes finished is = subst (λ (t : TiersState). Finishes s t) (sym is) (record {
+        conversion = ends.conversion;
+        was = ends.was;
+        none = refl;
+        shape = now.has_shape;
+        ruling = ruling_is;
+        active = refl;
+        frozen = refl;
+        sorted = refl;
+        index = refl;
+        digest = refl;
+        merging = refl;
+      })

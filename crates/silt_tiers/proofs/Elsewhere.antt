@@ -30,9 +30,9 @@ use Rattle.silt_manifest.specs.declared.body.Body.{Body}
 use Rattle.silt_merge.specs.State.{MergeState, oldest_stores}
 use Rattle.silt_merge.proofs.Elsewhere.{merged_elsewhere}
 use Rattle.silt_sorted_store.specs.State.{SortedState}
-use Rattle.silt_sorted_store.proofs.Elsewhere.{indexed_elsewhere}
+use Rattle.silt_sorted_store.proofs.Elsewhere.{digest_elsewhere, indexed_elsewhere}
 use Rattle.silt_standing.specs.State.{IsHashOf, IsMerging, IsUnderWay, TiersState, hash_region_of, oldest_log, region_of}
-use Rattle.silt_standing.specs.Standing.{HasGathered, IsFrozen, IsLocated, Stands, shown_stores}
+use Rattle.silt_standing.specs.Standing.{HasGathered, IsDigested, IsFrozen, IsLocated, Stands, shown_stores}
 use Rattle.silt_tiers.proofs.Facts.{shown_named}
 use Rattle.silt_tiers.proofs.Named.{named_body, named_shape}
 
@@ -179,6 +179,7 @@ all_hashed_elsewhere old new s at count stands changes outside k d inside =
       sound = λ h. (stays (back h)).sound h;
       tagged = λ h. (stays (back h)).tagged h;
       counted = λ h. (stays (back h)).counted h;
+      digested = λ h. (stays (back h)).digested h;
     }
 
 -- ---- the conversion
@@ -195,7 +196,7 @@ pub log_written_elsewhere : (old new : Content) (store : LogStoreState) (convers
     → HasWritten old store conversion → HasWritten new store conversion
 log_written_elsewhere old new store conversion at count fits there most frozen changes lies is =
     let plain : LogStoreState = record store { log = record store.log { settled = store.log.used; loose = false } } in
-    let plainly : HasWritten old plain conversion = record { shape = is.shape; due = is.due; tagged = is.tagged; charged = is.charged } in
+    let plainly : HasWritten old plain conversion = record { shape = is.shape; due = is.due; tagged = is.tagged; charged = is.charged; hashed = is.hashed } in
     let inside : IsTrue old.honest → gates_at store.log.shape store.log.region + store.log.shape.log_capacity ≤ size old =
     λ h. let ends = log_inside store.log.shape store.log.region (lies h).0 in let gates = (regions_apart store.log.shape).gates store.log.region in omega (arith, ends, gates, fits) in
     let bounds : IsTrue old.honest → InBounds plain.log = λ h. record {
@@ -211,6 +212,7 @@ log_written_elsewhere old new store conversion at count fits there most frozen c
       due = λ h. (stays (subst IsTrue changes.honest h)).due h;
       tagged = is.tagged;
       charged = λ h. (stays (subst IsTrue changes.honest h)).charged h;
+      hashed = λ h. (stays (subst IsTrue changes.honest h)).hashed h;
     }
 
 -- a conversion under way has written what it had after a change outside the frozen logs and its slots
@@ -250,6 +252,18 @@ located_elsewhere old new s at count stands changes behind honest =
     (subst (λ (sh : Shape). LiesOutside (sorted_at sh s.manifest.ruling.sorted) (entries_len sh) at count) (sym is_shape) (behind (subst IsTrue changes.honest honest))))
     changes stands.located honest
 
+-- and their digest
+pub digested_elsewhere : (old new : Content) (s : TiersState) (at count : ℕ) → Stands old s → ChangesWithin at count old new
+    → (IsTrue old.honest → LiesOutside (sorted_at s.manifest.shape s.manifest.ruling.sorted) (entries_len s.manifest.shape) at count) → IsDigested new s
+digested_elsewhere old new s at count stands changes behind honest =
+    let is_shape : s.sorted.shape ≡ s.manifest.shape = ap (λ (t : SortedState). t.shape) stands.whole.sorted in
+    let is_region : s.sorted.region ≡ s.manifest.ruling.sorted = ap (λ (t : SortedState). t.region) stands.whole.sorted in
+    digest_elsewhere s.sorted s.digest old new at count stands.whole.held
+    (subst (λ (sh : Shape). device_size sh ≤ size old) (sym is_shape) (omega (arith, stands.has_size)))
+    (subst (λ (n : ℕ). LiesOutside (sorted_at s.sorted.shape n) (entries_len s.sorted.shape) at count) (sym is_region)
+    (subst (λ (sh : Shape). LiesOutside (sorted_at sh s.manifest.ruling.sorted) (entries_len sh) at count) (sym is_shape) (behind (subst IsTrue changes.honest honest))))
+    changes stands.digested honest
+
 -- ---- the merge
 
 -- a merge under way has gathered and written what it had after a change outside its entries, those of the sorted store and the slots of the hash stores
@@ -277,5 +291,6 @@ merged_all_elsewhere old new s at count (Some merge) stands changes outside behi
       shape = is.shape;
       counted = is.counted;
       apart = is.apart;
+      hashed = λ h. (stays (subst IsTrue changes.honest h)).hashed h;
       merged = λ h. (stays (subst IsTrue changes.honest h)).merged h;
     }

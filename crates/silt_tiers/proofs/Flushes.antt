@@ -23,7 +23,7 @@ use Rattle.silt_tiers.specs.Calls.{Advances, Breaks, Remaps}
 use Rattle.silt_standing.specs.Standing.{IsQuiet, SameDisk}
 use Rattle.silt_tiers.proofs.Named.{map_with_more, named_body, named_shape, rows_with_more, sound_some, with_body, with_shape}
 use Rattle.silt_tiers.proofs.Facts.{active_is, all_sound, base_is, full_map, has_active, map_with_rows, rows_split, stands_with_rows, torn_active}
-use Rattle.silt_tiers.proofs.Standing.{Fits, fits_stand, frozen_stay, full_with, hashed_stay, located_stays, merged_stays, named_with, rules_stay, shown_are, written_stays}
+use Rattle.silt_tiers.proofs.Standing.{Fits, digested_stays, fits_stand, frozen_stay, full_with, hashed_stay, located_stays, merged_stays, named_with, rules_stay, shown_are, written_stays}
 use Rattle.silt_tiers.proofs.Appends.{with_active}
 use Rattle.silt_tiers.proofs.Wholes.{whole_with_active, written_with_active}
 
@@ -101,6 +101,7 @@ module _ (old new : Content) (s : TiersState) (after : LogStoreState) (stands : 
       frozen = frozen_stay old new s stands sizes changed;
       hashed = hashed_stay old new s stands sizes changed;
       located = located_stays old new s stands sizes changed;
+      digested = digested_stays old new s stands sizes changed;
       written = written_with_active new s after s.charge stands.whole (written_stays old new s stands sizes changed);
       merged = merged_stays old new s stands sizes changed;
       same_shape = same_shape;

@@ -34,7 +34,7 @@ use Rattle.silt_standing.specs.Standing.{IsQuiet, SameDisk}
 use Rattle.silt_tiers.specs.NextLog.{names_region}
 use Rattle.silt_tiers.proofs.Named.{named_body, named_shape, region_torn}
 use Rattle.silt_tiers.proofs.Facts.{active_size, base_is, shown_named}
-use Rattle.silt_tiers.proofs.Elsewhere.{all_frozen_elsewhere, all_hashed_elsewhere, entries_behind_manifest, indexed_same, located_elsewhere, merged_all_elsewhere, not_among, outside_other, outside_slot, slots_behind_log, slots_behind_manifest, written_all_elsewhere}
+use Rattle.silt_tiers.proofs.Elsewhere.{all_frozen_elsewhere, all_hashed_elsewhere, digested_elsewhere, entries_behind_manifest, indexed_same, located_elsewhere, merged_all_elsewhere, not_among, outside_other, outside_slot, slots_behind_log, slots_behind_manifest, written_all_elsewhere}
 use Rattle.silt_standing.proofs.Places.{entries_behind_log}
 use Rattle.silt_tiers.proofs.Standing.{Fits, fits_stand, shown_are}
 use Rattle.silt_tiers.proofs.Wholes.{whole_with}
@@ -100,6 +100,7 @@ module _ (old new : Content) (s : TiersState) (at count : ℕ) (stands : Stands 
       frozen = all_frozen_elsewhere old new s at count stands changes (λ h. (apart h).frozen);
       hashed = all_hashed_elsewhere old new s at count stands changes (λ h. (apart h).hashed);
       located = located_elsewhere old new s at count stands changes (λ h. (apart h).sorted);
+      digested = digested_elsewhere old new s at count stands changes (λ h. (apart h).sorted);
       written = written;
       merged = merged;
       same_shape = t_shape;

@@ -12,7 +12,6 @@ use Rattle.std.proofs.lemmas.Option.{get_or_from_slice_get, slice_get_within}
 use Rattle.std.proofs.lemmas.Slice.Eq.{bytes_eq-Decides}
 use Rattle.silt_disk.specs.Disk.{Content}
 use Rattle.silt_disk.specs.Layout.{Shape}
-use Rattle.silt_disk.proofs.Images.{shown_left}
 use Rattle.silt_frame.specs.Frame.{is_put, kind_byte, kind_of}
 use Rattle.silt_frame.specs.declared.key.Kind.{Kind}
 use Rattle.silt_frame.specs.declared.key.Kind.TheVariants.{Put, Delete}
@@ -23,7 +22,7 @@ use Rattle.silt_hash_store.proofs.Slotting.{all_before, before_at, before_count,
 use Rattle.silt_log.specs.Rows.{log_rows, row_at}
 use Rattle.silt_frame.specs.Rows.{has_known_kind, StoredRow}
 use Rattle.silt_log.specs.State.{all_rows, settled_rows, waiting_rows}
-use Rattle.silt_log.proofs.Elsewhere.{row_of_all, all_count}
+use Rattle.silt_log.proofs.Elsewhere.{all_are_settled_and_waiting, row_of_all, all_count}
 use Rattle.silt_log_store.specs.State.{LogStoreState}
 use Rattle.silt_log_store.specs.LastRow.{FindsLast, HasNoRow, IsLastRow}
 use Rattle.silt_log.specs.declared.found.Found.{Found}
@@ -43,10 +42,11 @@ use Rattle.silt_sorted_store.proofs.Entries.{entries_law}
 use Rattle.silt_tiers.specs.declared.lookup.Holder.{Holder}
 use Rattle.silt_tiers.specs.declared.lookup.Holder.TheVariants.{Active, Frozen, Hashed}
 use Rattle.silt_standing.specs.State.{TiersState, hash_region_of, region_of}
-use Rattle.silt_standing.specs.Standing.{Stands, current_map, shown_stores, waiting_commands}
+use Rattle.silt_standing.specs.Standing.{Shows, Stands, current_map, shown_stores, waiting_commands}
+use Rattle.silt_standing.proofs.Shown.{stands_shown}
 use Rattle.silt_tiers.specs.Entries.{hashed_rows}
 use Rattle.silt_tiers.specs.Lookup.{FindsFrozen, FindsHashed, FindsNewest, frozen_at, hash_store_at, hash_rows_of, row_in, value_found}
-use Rattle.silt_tiers.proofs.Facts.{active_rows, base_is, rows_split, shown_sound}
+use Rattle.silt_tiers.proofs.Facts.{base_is, shown_sound}
 use Rattle.silt_tiers.proofs.Elsewhere.{scanned_all}
 
 -- ---- the last row of a key
@@ -257,37 +257,35 @@ named_rows shape body image =
     ∙ ap (λ (logs : List (List StoredRow)). entries ++ oldest_first (map (λ region. filter has_known_kind (hash_rows shape region image)) body.hashed) ++ (oldest_first logs ++ newest))
     (map_twice part_rows (log_part shape image) body.frozen)
 
-module _ (content : Content) (s : TiersState) (stands : Stands content s) (honest : IsTrue content.honest) where
+module _ (content : Content) (s : TiersState) (shows : Shows content s) (honest : IsTrue content.honest) where
   -- the rows of the frozen logs
   frozen_rows : map (λ region. log_rows s.manifest.shape region content.shown) s.manifest.ruling.frozen ≡ map (rows_in content) s.frozen
   frozen_rows =
-      ap (map (λ region. log_rows s.manifest.shape region content.shown)) (sym stands.whole.frozen_regions)
+      ap (map (λ region. log_rows s.manifest.shape region content.shown)) (sym shows.whole.frozen_regions)
       ∙ map_twice (λ region. log_rows s.manifest.shape region content.shown) region_of s.frozen
       ∙ map_agree (λ store. log_rows s.manifest.shape (region_of store) content.shown) (rows_in content) s.frozen
       (λ k d inside.
       let store : LogStoreState = get_or s.frozen k d in
-      ap (λ (sh : Shape). log_rows sh store.log.region content.shown) (sym (stands.whole.settled k d inside).has_shape)
-      ∙ sym (scanned_all content store.log ((stands.frozen k d inside).rows honest)))
+      ap (λ (sh : Shape). log_rows sh store.log.region content.shown) (sym (shows.whole.settled k d inside).has_shape)
+      ∙ sym (scanned_all content store.log ((shows.frozen k d inside).rows honest)))
 
   -- and those of the hash stores
   hash_store_rows : map (λ region. filter has_known_kind (hash_rows s.manifest.shape region content.shown)) s.manifest.ruling.hashed ≡ map (known_in content) s.hashes
   hash_store_rows =
-      ap (map (λ region. filter has_known_kind (hash_rows s.manifest.shape region content.shown))) (sym stands.whole.hash_regions)
+      ap (map (λ region. filter has_known_kind (hash_rows s.manifest.shape region content.shown))) (sym shows.whole.hash_regions)
       ∙ map_twice (λ region. filter has_known_kind (hash_rows s.manifest.shape region content.shown)) hash_region_of s.hashes
       ∙ map_agree (λ store. filter has_known_kind (hash_rows s.manifest.shape (hash_region_of store) content.shown)) (known_in content) s.hashes
       (λ k d inside.
       let store : HashState = get_or s.hashes k d in
-      ap (λ (sh : Shape). filter has_known_kind (hash_rows sh store.region content.shown)) (sym (stands.whole.hashed k d inside).has_shape))
+      ap (λ (sh : Shape). filter has_known_kind (hash_rows sh store.region content.shown)) (sym (shows.whole.hashed k d inside).has_shape))
 
   -- the entries
   entries_shown : sorted_rows s.manifest.shape s.manifest.ruling.sorted s.manifest.ruling.sorted_count content.shown ≡ entries_of content s.sorted
-  entries_shown = ap (entries_of content) (sym stands.whole.sorted)
+  entries_shown = ap (entries_of content) (sym shows.whole.sorted)
 
-  -- in which nothing is found
-  pub entries_sound : sorted_findings (entries_of content s.sorted) ≡ []
-  entries_sound =
-      subst (λ (rows : List StoredRow). sorted_findings rows ≡ []) (named_entries s.manifest.shape s.manifest.ruling content.shown ∙ entries_shown)
-      (finds_nothing (shown_stores content s) (shown_sound content s stands honest)).entries
+  -- the rows of the active log
+  active_shown : log_rows s.manifest.shape s.manifest.ruling.active content.shown ≡ log_rows s.active.log.shape s.active.log.region content.shown
+  active_shown = ap (λ (sh : Shape). log_rows sh s.manifest.ruling.active content.shown) (sym shows.whole.has_shape) ∙ ap (λ (n : ℕ). log_rows s.active.log.shape n content.shown) (sym shows.whole.active_region)
 
   -- all rows, the oldest first: the entries, those of the hash stores, of the frozen logs and of the active one
   pub rows_by_log : rows_of (shown_stores content s) ++ waiting_rows content s.active.log ≡ rows_behind content s ++ oldest_first (map (rows_in content) s.frozen) ++ all_rows content s.active.log
@@ -302,10 +300,10 @@ module _ (content : Content) (s : TiersState) (stands : Stands content s) (hones
       ∙ ap (λ (rows : List StoredRow). rows ++ oldest_first hash_parts ++ (oldest_first frozen_parts ++ shown)) entries_shown
       ∙ ap (λ (stores : List (List StoredRow)). entries_of content s.sorted ++ oldest_first stores ++ (oldest_first frozen_parts ++ shown)) hash_store_rows
       ∙ ap (λ (logs : List (List StoredRow)). behind ++ (oldest_first logs ++ shown)) frozen_rows
-      ∙ ap (λ (rows : List StoredRow). behind ++ (frozen ++ rows)) (active_rows content s stands content.shown ∙ stands.active.images.each honest content.shown (shown_left content))
+      ∙ ap (λ (rows : List StoredRow). behind ++ (frozen ++ rows)) (active_shown ∙ shows.active honest)
       ∙ sym (append_assoc behind frozen (settled_rows content s.active.log)))
       ∙ append_assoc (behind ++ frozen) (settled_rows content s.active.log) (waiting_rows content s.active.log)
-      ∙ ap (λ (rows : List StoredRow). behind ++ frozen ++ rows) (sym (rows_split content s stands))
+      ∙ ap (λ (rows : List StoredRow). behind ++ frozen ++ rows) (sym (all_are_settled_and_waiting content s.active.log shows.bounds.order))
 
   -- the map from which lookups answer
   pub current_is : current_map content s ≡ map_of_rows (rows_behind content s ++ oldest_first (map (rows_in content) s.frozen) ++ all_rows content s.active.log)
@@ -314,12 +312,19 @@ module _ (content : Content) (s : TiersState) (stands : Stands content s) (hones
       ∙ sym (map_law (rows_of (shown_stores content s)) (waiting_rows content s.active.log))
       ∙ ap map_of_rows rows_by_log
 
-  -- what it has for a key
+module _ (content : Content) (s : TiersState) (stands : Stands content s) (honest : IsTrue content.honest) where
+  -- nothing is found in the entries
+  pub entries_sound : sorted_findings (entries_of content s.sorted) ≡ []
+  entries_sound =
+      subst (λ (rows : List StoredRow). sorted_findings rows ≡ []) (named_entries s.manifest.shape s.manifest.ruling content.shown ∙ entries_shown content s (stands_shown content s stands) honest)
+      (finds_nothing (shown_stores content s) (shown_sound content s stands honest)).entries
+
+  -- what the map has for a key
   current_get : (key : List ℕ) → get (current_map content s) key
       ≡ option_and_then value_given (option_or (newest_row (all_rows content s.active.log) key) (option_or (newest_row (oldest_first (map (rows_in content) s.frozen)) key) (newest_row (rows_behind content s) key)))
   current_get key =
       let frozen : List StoredRow = oldest_first (map (rows_in content) s.frozen) in
-      ap (λ (m : Map). get m key) current_is
+      ap (λ (m : Map). get m key) (current_is content s (stands_shown content s stands) honest)
       ∙ newest_law (rows_behind content s ++ frozen ++ all_rows content s.active.log) key
       ∙ ap (option_and_then value_given) (newest_append (rows_behind content s ++ frozen) (all_rows content s.active.log) key
       ∙ ap (option_or (newest_row (all_rows content s.active.log) key)) (newest_append (rows_behind content s) frozen key))
@@ -394,7 +399,7 @@ module _ (content : Content) (s : TiersState) (stands : Stands content s) (hones
 
   -- the rows of a hash store, by its number
   known_at : (index : ℕ) → index < length s.hashes → get_or (map (known_in content) s.hashes) index [] ≡ known_in content (hash_store_at s index)
-  known_at index inside = get_or-map (known_in content) s.hashes index (record { shape = s.manifest.shape; region = 0; tags = []; puts = 0 }) [] inside
+  known_at index inside = get_or-map (known_in content) s.hashes index (record { shape = s.manifest.shape; region = 0; tags = []; puts = 0; digest = [] }) [] inside
 
   -- one that has no row of a key
   hash_lacks : (key : List ℕ) (index : ℕ) → index < length s.hashes → holds_key key (hash_rows_of content (hash_store_at s index)) ≡ false → newest_row (get_or (map (known_in content) s.hashes) index []) key ≡ None
@@ -405,7 +410,7 @@ module _ (content : Content) (s : TiersState) (stands : Stands content s) (hones
       → FindsHashed content s key (Some (number, found)) → get (current_map content s) key ≡ value_found content s (Hashed number) found
   found_hashed key number found inside none frozen (before, (row, there, has_key, kind)) =
       let store : HashState = hash_store_at s number in
-      let stands_there = stands.hashed number (record { shape = s.manifest.shape; region = 0; tags = []; puts = 0 }) inside in
+      let stands_there = stands.hashed number (record { shape = s.manifest.shape; region = 0; tags = []; puts = 0; digest = [] }) inside in
       past_frozen key none frozen
       ∙ ap (λ (o : Option StoredRow). option_and_then value_given (option_or o (newest_row (entries_of content s.sorted) key)))
       (walk_some (map (known_in content) s.hashes) key number row (omega (arith, inside, length-map s.hashes (known_in content)))

@@ -12,7 +12,7 @@ use Rattle.silt_log.specs.Parts.{known_rows, oldest_first, part_rows, Part}
 use Rattle.silt_event.specs.Rows.{map_of_rows}
 use Rattle.silt_sorted_store.specs.Findings.{sorted_findings}
 use Rattle.silt_image.specs.Stores.{Stores, stores_named}
-use Rattle.silt_sorted_store.specs.State.{sorted_rows, SortedState, entries_of}
+use Rattle.silt_sorted_store.specs.State.{sorted_rows, HasDigest, SortedState, entries_of}
 use Rattle.silt_event.proofs.Rows.{count_law}
 use Rattle.silt_image.proofs.Sound.{charge_law, parts_law}
 use Rattle.silt_log.specs.State.{all_rows, waiting_rows}
@@ -180,8 +180,9 @@ module _ (content : Content) (s : TiersState) (merge : MergeState) (stands : Sta
 pub may_end : (s : TiersState) (body : Body) (merge : MergeState) (store : IndexedState) → s.merging ≡ Some merge → is_done merge s.sorted ≡ true → s.manifest.ruling.generation < 2 ^ 63 - 1
     → store.sorted ≡ record { shape = merge.shape; region = merge.region; count = merge.written } → body ≡ merged_body s.manifest.ruling merge.stores merge.region merge.written
     → ((content : Content) (stores : List HashState) (sorted : SortedState) → is_done merge sorted ≡ true → HasMerged content stores sorted merge → IsTrue content.honest → AreSound content.shown stores sorted
-    → IsIndexOf (entries_of content store.sorted) store.index) → EndsMerge s body store
-may_end s body merge store was done unspent entries is indexed = record {
+    → IsIndexOf (entries_of content store.sorted) store.index)
+    → ((content : Content) (stores : List HashState) (sorted : SortedState) → HasMerged content stores sorted merge → HasDigest content store.sorted store.digest) → EndsMerge s body store
+may_end s body merge store was done unspent entries is indexed digested = record {
   merge = merge;
   was = was;
   done = done;
@@ -189,5 +190,6 @@ may_end s body merge store was done unspent entries is indexed = record {
   entries = entries;
   located = λ content stands honest.
       indexed content (oldest_stores merge.stores s.hashes) s.sorted done (gathered content s merge stands was done) honest (taken_sound content s stands honest merge.stores);
+  digested = λ content stands. digested content (oldest_stores merge.stores s.hashes) s.sorted (gathered content s merge stands was done);
   is = is;
 }

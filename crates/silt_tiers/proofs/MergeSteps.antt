@@ -128,7 +128,7 @@ pub some_stores : (stores : List HashState) (len : ℕ) (empty : Bool) → empty
 some_stores stores len empty is none same = let differ = eqb-false len 0 (sym is ∙ none) in omega (arith, differ, same)
 
 module _ (s : TiersState) (region : ℕ) (read : List HashState) (none : s.merging ≡ None) (some : 0 < length s.hashes) (whole : AreWhole s) (other : region ≡ 1 - s.sorted.region) (read_is : read ≡ s.hashes)
-    (sorted : SortedState) (sorted_is : sorted ≡ s.sorted) (started : MergeState) (is : started ≡ record { shape = sorted.shape; region = region; stores = length read; store = 0; slot = 0; waiting = []; passed = 0; written = 0; decided = 0; last = None; slots = []; ahead = []; keys = [] }) (held : IsHeldMerge started) where
+    (sorted : SortedState) (sorted_is : sorted ≡ s.sorted) (started : MergeState) (is : started ≡ record { shape = sorted.shape; region = region; stores = length read; store = 0; slot = 0; waiting = []; passed = 0; written = 0; decided = 0; last = None; slots = []; ahead = []; keys = []; hasher = started.hasher }) (held : IsHeldMerge started) where
   started_stores : started.stores ≡ length s.hashes
   started_stores = ap (λ (v : MergeState). v.stores) is ∙ ap length read_is
 

@@ -36,7 +36,7 @@ module _ (s : TiersState) (m : ManifestState) (store : IndexedState) (may : MayS
   charge_now = charge_is ∙ ap (λ (n : ℕ). s.charge - n) (dropped_is ∙ ap (λ (n : ℕ). n - written) (gone_is ∙ ap (λ (n : ℕ). s.charge - n) left_now) ∙ ap (λ (n : ℕ). (s.charge - charge_without s may.merge.stores) - n) written_is)
 
   abbrev parts : List HashState → Option MergeState → ℕ → TiersState
-  parts l o n = record s { manifest = m; hashes = l; sorted = store.sorted; index = store.index; merging = o; charge = n }
+  parts l o n = record s { manifest = m; hashes = l; sorted = store.sorted; index = store.index; digest = store.digest; merging = o; charge = n }
 
   -- the stores afterwards
   pub sorted_are : parts hashes merging charge ≡ sorted_replaced s m may.merge.stores store
@@ -46,5 +46,5 @@ module _ (s : TiersState) (m : ManifestState) (store : IndexedState) (may : MayS
       ∙ ap (parts (take (length s.hashes - may.merge.stores) s.hashes) None) charge_now
 
   -- are whole
-  pub sorted_whole : AreWhole (record s { manifest = m; hashes = hashes; sorted = store.sorted; index = store.index; merging = merging; charge = charge })
+  pub sorted_whole : AreWhole (record s { manifest = m; hashes = hashes; sorted = store.sorted; index = store.index; digest = store.digest; merging = merging; charge = charge })
   sorted_whole = subst AreWhole (sym sorted_are) may.whole

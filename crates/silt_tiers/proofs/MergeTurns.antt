@@ -21,9 +21,9 @@ use Rattle.silt_merge.specs.Rows.{merged_rows}
 use Rattle.silt_merge.specs.State.{MergeState}
 use Rattle.silt_sorted_store.specs.Index.{IndexedState}
 use Rattle.silt_sorted_store.specs.State.{IsHeldSorted, SortedState}
-use Rattle.silt_sorted_store.proofs.Elsewhere.{indexed_elsewhere}
+use Rattle.silt_sorted_store.proofs.Elsewhere.{digest_elsewhere, indexed_elsewhere}
 use Rattle.silt_standing.specs.State.{AreWhole, IsHashOf, IsMerging, IsSettled, IsUnderWay, TiersState, hash_region_of, sorted_named}
-use Rattle.silt_standing.specs.Standing.{IsLocated, Stands, shown_stores}
+use Rattle.silt_standing.specs.Standing.{IsDigested, IsLocated, Stands, shown_stores}
 use Rattle.silt_tiers.specs.Calls.{Advances}
 use Rattle.silt_tiers.specs.Succession.{MayRule, NowRules}
 use Rattle.silt_tiers.specs.Merge.{EndsMerge, EndsMerged, HasMergedEntries, MayStandFor, charge_without, merge_sources, merged_body, sorted_replaced}
@@ -135,6 +135,13 @@ module _ (old : Content) (s : TiersState) (body : Body) (store : IndexedState) (
         (entries_behind_manifest store.sorted.shape store.sorted.region (spare_slot s.manifest) (slot_below old new s stands sizes now.changes))
         now.changes (ends.located old stands)
 
+    -- and so is the digest
+    digested : IsDigested new after
+    digested = digest_elsewhere store.sorted store.digest old new (slot_at (spare_slot s.manifest)) 4096 merged_whole.held
+        (subst (λ (sh : Shape). device_size sh ≤ size old) (sym store_shape) (omega (arith, stands.has_size)))
+        (entries_behind_manifest store.sorted.shape store.sorted.region (spare_slot s.manifest) (slot_below old new s stands sizes now.changes))
+        now.changes (ends.digested old stands)
+
     fits : Fits new after now_stores
     unfolding merged_may_rule
     fits = record {
@@ -146,6 +153,7 @@ module _ (old : Content) (s : TiersState) (body : Body) (store : IndexedState) (
       frozen = frozen_stays old new s stands sizes now.changes;
       hashed = All-take (IsHashStore new) (length s.hashes - ends.merge.stores) s.hashes (hashed_stays old new s stands sizes now.changes);
       located = located;
+      digested = digested;
       written = written_stays old new s stands sizes now.changes;
       merged = tt;
       same_shape = merged_may_rule.has_shape ∙ sym now.has_shape;

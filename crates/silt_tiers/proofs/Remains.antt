@@ -10,8 +10,8 @@ use Rattle.silt_log.specs.State.{waiting_rows}
 use Rattle.silt_log.proofs.Waiting.{waiting_kept}
 use Rattle.silt_manifest.specs.Standing.{spare_slot}
 use Rattle.silt_standing.specs.State.{TiersState, oldest_log}
-use Rattle.silt_standing.specs.Standing.{HasGathered, IsFrozen, IsLocated, Stands}
-use Rattle.silt_tiers.proofs.Elsewhere.{all_frozen_elsewhere, all_hashed_elsewhere, located_elsewhere, merged_all_elsewhere, written_all_elsewhere}
+use Rattle.silt_standing.specs.Standing.{HasGathered, IsDigested, IsFrozen, IsLocated, Stands}
+use Rattle.silt_tiers.proofs.Elsewhere.{all_frozen_elsewhere, all_hashed_elsewhere, digested_elsewhere, located_elsewhere, merged_all_elsewhere, written_all_elsewhere}
 use Rattle.silt_tiers.proofs.Freezes.{IsApart, below_two, slot_apart, slot_before_conversion, slot_before_merge}
 use Rattle.silt_tiers.proofs.Turns.{active_kept}
 
@@ -39,6 +39,9 @@ module _ (old new : Content) (s : TiersState) (stands : Stands old s) (sizes : s
   -- and the index of the entries
   pub located_stays : IsLocated new s
   located_stays = located_elsewhere old new s (slot_at (spare_slot s.manifest)) 4096 stands changes (λ h. apart.sorted)
+
+  pub digested_stays : IsDigested new s
+  digested_stays = digested_elsewhere old new s (slot_at (spare_slot s.manifest)) 4096 stands changes (λ h. apart.sorted)
 
   -- and what a conversion and a merge have written
   pub written_stays : IfSome s.converting (HasWritten new (oldest_log s))

@@ -17,10 +17,10 @@ use Rattle.silt_manifest.specs.Standing.{Rules}
 use Rattle.silt_manifest.proofs.Laws.{rules_elsewhere}
 use Rattle.silt_standing.specs.State.{AreWhole, TiersState, oldest_log}
 use Rattle.silt_merge.specs.State.{MergeState}
-use Rattle.silt_standing.specs.Standing.{HasGathered, IsFrozen, IsLocated, Stands, shown_stores}
+use Rattle.silt_standing.specs.Standing.{HasGathered, IsDigested, IsFrozen, IsLocated, Stands, shown_stores}
 use Rattle.silt_tiers.proofs.Named.{named_here}
 use Rattle.silt_tiers.proofs.Facts.{active_below, full_torn, torn_active}
-use Rattle.silt_tiers.proofs.Elsewhere.{all_frozen_elsewhere, all_hashed_elsewhere, located_elsewhere, merged_all_elsewhere, not_active, outside_other, slots_behind_log, written_all_elsewhere}
+use Rattle.silt_tiers.proofs.Elsewhere.{all_frozen_elsewhere, all_hashed_elsewhere, digested_elsewhere, located_elsewhere, merged_all_elsewhere, not_active, outside_other, slots_behind_log, written_all_elsewhere}
 use Rattle.silt_standing.proofs.Places.{entries_behind_log}
 
 -- the stores that are shown are those that all images have
@@ -37,6 +37,7 @@ pub record Fits (content : Content) (s : TiersState) (t : Stores) : Type 0 where
   pub frozen : All (IsFrozen content) s.frozen
   pub hashed : All (IsHashStore content) s.hashes
   pub located : IsLocated content s
+  pub digested : IsDigested content s
   pub written : IfSome s.converting (HasWritten content (oldest_log s))
   pub merged : IfSome s.merging (HasGathered content s)
   pub same_shape : t.shape ≡ s.manifest.shape
@@ -58,6 +59,7 @@ fits_stand content s t fits =
       frozen = fits.frozen;
       hashed = fits.hashed;
       located = fits.located;
+      digested = fits.digested;
       written = fits.written;
       merged = fits.merged;
       named = record { each = λ h image left. fits.named.each h image left ∙ ap Ok (sym (is h)) };
@@ -100,6 +102,11 @@ module _ (old new : Content) (s : TiersState) (stands : Stands old s) (sizes : s
   -- and the index of the entries is theirs as before
   pub located_stays : IsLocated new s
   located_stays = located_elsewhere old new s (gates_at s.manifest.shape s.manifest.ruling.active) (log_size s.manifest.shape) stands changes_active
+      (λ h. entries_behind_log s.manifest.shape s.manifest.ruling.active s.manifest.ruling.sorted (active_below old s stands))
+
+  -- and so is the digest
+  pub digested_stays : IsDigested new s
+  digested_stays = digested_elsewhere old new s (gates_at s.manifest.shape s.manifest.ruling.active) (log_size s.manifest.shape) stands changes_active
       (λ h. entries_behind_log s.manifest.shape s.manifest.ruling.active s.manifest.ruling.sorted (active_below old s stands))
 
   -- and a conversion has written what it had

@@ -29,6 +29,7 @@ frozen_from next content first before after behind charge has = record {
   hashes = has.hashes ∙ behind.hashes;
   sorted = has.sorted ∙ behind.sorted;
   index = has.index ∙ behind.index;
+  digest = has.digest ∙ behind.digest;
   converting = has.converting ∙ behind.converting;
   merging = has.merging ∙ behind.merging;
   charge = has.charge ∙ charge;

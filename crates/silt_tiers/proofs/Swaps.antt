@@ -1,14 +1,16 @@
 -- What is exchanged in memory at the end of a conversion.
-use Rattle.std.proofs.Common.{◌≡◌, ℕ, ◌-◌, ◌++◌, ◌∷◌, List, [], get_or, length, length-append, take, Option, Some, None, refl, ap, sym, ◌∙◌, subst, arith}
+use Rattle.std.proofs.Common.{◌≡◌, ℕ, ◌+◌, ◌-◌, ◌++◌, ◌∷◌, List, [], get_or, length, length-append, take, Option, Some, None, refl, ap, sym, ◌∙◌, subst, arith}
+use Rattle.std.specs.Prelude.{IfSome}
 use Rattle.std.specs.List.{insert}
 use Rattle.std.specs.Option.{option_to_list}
+use Rattle.std.proofs.lemmas.List.{length-map}
 use Rattle.std.proofs.Math.Seq.{take-append_seam}
 use Rattle.silt_log_store.specs.State.{LogStoreState}
-use Rattle.silt_conversion.specs.Conversion.{ConversionState}
+use Rattle.silt_conversion.specs.Conversion.{ConversionState, IsDigestOf}
 use Rattle.silt_hash_store.specs.State.{HashState, IsHeldHash}
 use Rattle.silt_manifest.specs.Standing.{ManifestState}
-use Rattle.silt_standing.specs.State.{AreWhole, TiersState, oldest_log}
-use Rattle.silt_tiers.specs.Conversion.{MayReplace, oldest_replaced, store_of}
+use Rattle.silt_standing.specs.State.{AreWhole, TiersState, hash_region_of, oldest_log}
+use Rattle.silt_tiers.specs.Conversion.{MayReplace, ReplacesOldest, oldest_replaced, store_of}
 
 -- a list with an element put in front
 pub in_front : {X : Type 0} (xs : List X) (x : X) → insert xs 0 x ≡ x ∷ xs
@@ -34,9 +36,18 @@ last_off xs rest x d o both some =
 
 -- ---- the oldest log and the hash store
 
+-- the body then names one hash store more
+pub named_more : (s : TiersState) (m : ManifestState) (may : MayReplace s m) (ended : ConversionState) (taken : Option ConversionState) → taken ≡ s.converting → taken ≡ Some ended → (made : HashState) (digest : List ℕ) → made ≡ store_of ended digest → IsHeldHash made
+    → length m.ruling.hashed ≡ length s.hashes + 1
+named_more s m may ended taken taken_is taken_some made digest made_is held =
+    let same : ended ≡ may.conversion = same_conversion ended may.conversion s.converting (sym taken_is ∙ taken_some) may.was in
+    let is_store : made ≡ store_of may.conversion digest = made_is ∙ ap (λ (v : ConversionState). store_of v digest) same in
+    let whole = may.whole digest (subst IsHeldHash is_store held) in
+    omega (arith, ap length whole.hash_regions, length-map (store_of may.conversion digest ∷ s.hashes) hash_region_of)
+
 module _ (s : TiersState) (m : ManifestState) (may : MayReplace s m) (ended : ConversionState) (taken : Option ConversionState) (taken_is : taken ≡ s.converting) (taken_some : taken ≡ Some ended)
     (log : LogStoreState) (frozen : List LogStoreState) (popped : Option LogStoreState) (frozen_items : s.frozen ≡ frozen ++ option_to_list popped) (popped_some : popped ≡ Some log)
-    (made : HashState) (made_is : made ≡ record { shape = ended.shape; region = ended.region; tags = ended.tags; puts = ended.puts }) (made_held : IsHeldHash made) (hashes : List HashState) (hashes_are : hashes ≡ insert s.hashes 0 made)
+    (made : HashState) (digest : List ℕ) (made_is : made ≡ store_of ended digest) (made_digested : IsDigestOf ended.hasher digest) (made_held : IsHeldHash made) (hashes : List HashState) (hashes_are : hashes ≡ insert s.hashes 0 made)
     (converting : Option ConversionState) (converting_is : converting ≡ None) (log_puts puts dropped charge : ℕ) (log_puts_are : log_puts ≡ log.puts) (puts_are : puts ≡ ended.puts)
     (dropped_is : dropped ≡ log_puts - puts) (charge_is : charge ≡ s.charge - dropped) where
   same : ended ≡ may.conversion
@@ -45,10 +56,10 @@ module _ (s : TiersState) (m : ManifestState) (may : MayReplace s m) (ended : Co
   off : (frozen ≡ take (length s.frozen - 1) s.frozen) × (log ≡ oldest_log s)
   off = last_off s.frozen frozen log s.active popped frozen_items popped_some
 
-  is_store : made ≡ store_of may.conversion
-  is_store = made_is ∙ ap store_of same
+  is_store : made ≡ store_of may.conversion digest
+  is_store = made_is ∙ ap (λ (v : ConversionState). store_of v digest) same
 
-  hashes_now : hashes ≡ store_of may.conversion ∷ s.hashes
+  hashes_now : hashes ≡ store_of may.conversion digest ∷ s.hashes
   hashes_now = hashes_are ∙ in_front s.hashes made ∙ ap (λ (t : HashState). t ∷ s.hashes) is_store
 
   charge_now : charge ≡ s.charge - ((oldest_log s).puts - may.conversion.puts)
@@ -64,13 +75,18 @@ module _ (s : TiersState) (m : ManifestState) (may : MayReplace s m) (ended : Co
   parts f h o n = record s { manifest = m; frozen = f; hashes = h; converting = o; charge = n }
 
   -- the stores afterwards
-  pub replaced_are : parts frozen hashes converting charge ≡ oldest_replaced s m may.conversion
+  pub replaced_are : parts frozen hashes converting charge ≡ oldest_replaced s m may.conversion digest
   replaced_are =
       ap (λ (l : List LogStoreState). parts l hashes converting charge) off.0
       ∙ ap (λ (l : List HashState). parts (take (length s.frozen - 1) s.frozen) l converting charge) hashes_now
-      ∙ ap (λ (o : Option ConversionState). parts (take (length s.frozen - 1) s.frozen) (store_of may.conversion ∷ s.hashes) o charge) converting_is
-      ∙ ap (parts (take (length s.frozen - 1) s.frozen) (store_of may.conversion ∷ s.hashes) None) charge_now
+      ∙ ap (λ (o : Option ConversionState). parts (take (length s.frozen - 1) s.frozen) (store_of may.conversion digest ∷ s.hashes) o charge) converting_is
+      ∙ ap (parts (take (length s.frozen - 1) s.frozen) (store_of may.conversion digest ∷ s.hashes) None) charge_now
 
   -- are whole
   pub replaced_whole : AreWhole (record s { manifest = m; frozen = frozen; hashes = hashes; converting = converting; charge = charge })
-  replaced_whole = subst AreWhole (sym replaced_are) (may.whole (subst IsHeldHash is_store made_held))
+  replaced_whole = subst AreWhole (sym replaced_are) (may.whole digest (subst IsHeldHash is_store made_held))
+
+  -- and the hash store has the digest of its conversion
+  pub replaces : IfSome s.converting (ReplacesOldest s m (record s { manifest = m; frozen = frozen; hashes = hashes; converting = converting; charge = charge }))
+  replaces = subst (λ (o : Option ConversionState). IfSome o (ReplacesOldest s m (parts frozen hashes converting charge))) (sym may.was)
+      (record { digest = digest; digested = subst (λ (v : ConversionState). IsDigestOf v.hasher digest) same made_digested; is = replaced_are })

@@ -1,21 +1,31 @@
--- A row that is taken by the next log.
-use Rattle.std.proofs.Common.{◌≡◌, ℕ, ◌⊎◌, ◌↔◌, length, IsTrue, List, [], ◌∷◌, ◌++◌, Option, Some, None, ap, sym, ◌∙◌, subst}
+-- A row that is taken by the active log or the next one, and one that is not.
+use Rattle.std.proofs.Common.{◌≡◌, ℕ, ◌⊎◌, length, IsTrue, List, [], ◌∷◌, ◌++◌, None, is_some, inl, inr, ap, sym, ◌∙◌, subst, arith}
 use Rattle.std.proofs.lemmas.List.{append_cancel_right}
-use Rattle.silt_disk.specs.Disk.{Content}
+use Rattle.silt_disk.specs.Disk.{ChangesWithin, Content, LeavesOnly, size}
+use Rattle.silt_disk.specs.declared.disk.Disk.{Ghosts}
 use Rattle.silt_event.specs.Commands.{Command, map_after, WaitsAlone, WaitsBehind}
-use Rattle.silt_disk.specs.Layout.{Shape}
+use Rattle.silt_disk.specs.Layout.{Shape, row_len}
 use Rattle.silt_cuckoo.specs.Index.{index_of_keys}
 use Rattle.silt_frame.specs.Rows.{StoredRow, keys_of}
-use Rattle.silt_log.specs.State.{all_rows}
+use Rattle.silt_frame.specs.declared.key.Key.{Key}
+use Rattle.silt_frame.specs.declared.key.Kind.{Kind}
+use Rattle.silt_log.specs.Rows.{body_at, log_rows}
+use Rattle.silt_log.specs.State.{all_rows, settled_rows}
 use Rattle.silt_log.proofs.Elsewhere.{all_count}
+use Rattle.silt_log_store.specs.State.{LogStoreState}
+use Rattle.silt_log_store.specs.Calls.{CanTake, FailsTake, IsFullFor}
+use Rattle.silt_log_store.specs.declared.log_store.TakeError.{TakeError}
+use Rattle.silt_log_store.specs.declared.log_store.TakeError.TheVariants.{Full, Read, Write}
 use Rattle.silt_tiers.specs.declared.next_log.NextLog.{NextLog}
 use Rattle.silt_standing.specs.State.{TiersState}
 use Rattle.silt_standing.specs.Standing.{Stands, base_map, waiting_commands}
 use Rattle.silt_tiers.specs.Calls.{Advances, CannotTake, MovesIntoBase}
 use Rattle.silt_standing.specs.Standing.{SameDisk}
 use Rattle.silt_tiers.specs.NextLog.{HasFrozen, IsNextLog}
-use Rattle.silt_tiers.specs.RowWrite.{HasPlace, NeedsNext, TurnsFor}
+use Rattle.silt_tiers.specs.RowWrite.{HasPlace, NeedsNext, TakeCause, TurnsFor}
+use Rattle.silt_tiers.proofs.Appends.{not_appended, with_active}
 use Rattle.silt_tiers.proofs.Chains.{honest_after}
+use Rattle.silt_tiers.proofs.Works.{broke_off}
 
 -- what waits where none of it went into the base
 pub waits_behind : (command : Command) (old new : Content) (before after : TiersState) → MovesIntoBase (command ∷ []) old new before after
@@ -43,19 +53,37 @@ turns_for command old middle_content new before middle after next key disk needs
   waits = λ h. waits_alone command old new before after (goes.moves h) (waits (honest_after old middle_content disk h) ∙ ap (λ (cs : List Command). cs ++ command ∷ []) frozen.quiet.none_wait);
 }
 
--- the active log had a place for the row
-pub has_place : (content : Content) (s : TiersState) (key : List ℕ) {P : Type 0} (placing : Option P) (found : P) → placing ≡ Some found
-    → (Stands content s → IsTrue content.honest → ((placing ≡ None) → CannotTake s.manifest.shape (all_rows content s.active.log) key) × (CannotTake s.manifest.shape (all_rows content s.active.log) key → placing ≡ None)) → Stands content s → HasPlace content s key
-has_place content s key placing found some exactly stands honest cannot =
-    let none : placing ≡ None = (exactly stands honest).1 cannot in
-    let no : Some found ≡ None = sym some ∙ none in
-    absurd (cc)
+-- the next log has no rows when it is active
+pub next_is_empty : (content : Content) (before after : TiersState) (next : NextLog) → IsNextLog before next → HasFrozen next content before after → after.active.log.used ≡ 0
+next_is_empty content before after next is frozen = ap (λ (t : LogStoreState). t.log.used) (frozen.active ∙ is.store)
 
--- the active log cannot take a row exactly where its store has no placing
-pub cannot_take : (content : Content) (s : TiersState) (key : List ℕ) {P : Type 0} (placing : Option P) → Stands content s
-    → (placing ≡ None) ↔ ((s.active.log.used ≡ s.active.log.shape.log_capacity) ⊎ (index_of_keys s.active.log.shape.buckets (keys_of (all_rows content s.active.log) ++ key ∷ []) ≡ None))
-    → (placing ≡ None) ↔ CannotTake s.manifest.shape (all_rows content s.active.log) key
-cannot_take content s key placing stands exactly =
+-- the active log cannot take a row where its store is full for the key
+cannot_take : (content : Content) (s : TiersState) (key : List ℕ) → Stands content s → IsFullFor content s.active key → CannotTake s.manifest.shape (all_rows content s.active.log) key
+cannot_take content s key stands full =
     let rows : List StoredRow = all_rows content s.active.log in
-    subst (λ (sh : Shape). (placing ≡ None) ↔ ((length rows ≡ sh.log_capacity) ⊎ (index_of_keys sh.buckets (keys_of rows ++ key ∷ []) ≡ None))) stands.whole.has_shape
-    (subst (λ (n : ℕ). (placing ≡ None) ↔ ((n ≡ s.active.log.shape.log_capacity) ⊎ (index_of_keys s.active.log.shape.buckets (keys_of rows ++ key ∷ []) ≡ None))) (sym (all_count content s.active.log)) exactly)
+    subst (λ (sh : Shape). (length rows ≡ sh.log_capacity) ⊎ (index_of_keys sh.buckets (keys_of rows ++ key ∷ []) ≡ None)) stands.whole.has_shape
+    (subst (λ (n : ℕ). (n ≡ s.active.log.shape.log_capacity) ⊎ (index_of_keys s.active.log.shape.buckets (keys_of rows ++ key ∷ []) ≡ None)) (sym (all_count content s.active.log)) full)
+
+-- the active log had a place for a row that its store took
+pub has_place : (content : Content) (s : TiersState) (key : List ℕ) → Stands content s → CanTake content s.active key → HasPlace content s key
+has_place content s key stands can honest cannot =
+    let rows : List StoredRow = all_rows content s.active.log in
+    let full : IsFullFor content s.active key =
+    subst (λ (n : ℕ). (n ≡ s.active.log.shape.log_capacity) ⊎ (index_of_keys s.active.log.shape.buckets (keys_of rows ++ key ∷ []) ≡ None)) (all_count content s.active.log)
+    (subst (λ (sh : Shape). (length rows ≡ sh.log_capacity) ⊎ (index_of_keys sh.buckets (keys_of rows ++ key ∷ []) ≡ None)) (sym stands.whole.has_shape) cannot) in
+    absurd (elim full [
+      | inl none ↦ let room = can.room in omega (arith, none, room)
+      | inr gone ↦ let is = can.placed honest in let not_is = ap is_some gone in cc
+    ])
+
+-- why the active log did not take a row
+module _ {D F : Type 0} (facts : Ghosts D F) (old new : D) (s : TiersState) (after : LogStoreState) (kind : Kind) (key : Key) (value : List ℕ) where
+  pub not_taken : Stands (facts.content old) s → size (facts.content new) ≡ size (facts.content old)
+      → ChangesWithin (body_at s.active.log.shape s.active.log.region s.active.log.used) (row_len s.active.log.shape) (facts.content old) (facts.content new)
+      → LeavesOnly (facts.content new) (λ image. log_rows s.active.log.shape s.active.log.region image ≡ settled_rows (facts.content old) s.active.log)
+      → after ≡ s.active → (error : TakeError F) → FailsTake facts old new s.active after key.0 error → TakeCause facts old new s (with_active s after s.charge) key.0 error
+  not_taken stands sizes changes images same Full fails = ((ap (λ (l : LogStoreState). with_active s l s.charge) same, fails.0), λ h. cannot_take (facts.content old) s key.0 stands (fails.1 h))
+  not_taken stands sizes changes images same (Read fault) fails = ((ap (λ (l : LogStoreState). with_active s l s.charge) same, fails.0), fails.1)
+  not_taken stands sizes changes images same (Write fault) fails =
+      broke_off facts old new s (with_active s after s.charge) fault (record { size = sizes; honest = changes.honest }) stands fails.2
+      (not_appended (facts.content old) (facts.content new) s after kind key value 0 stands sizes fails.0.room changes images fails.1)

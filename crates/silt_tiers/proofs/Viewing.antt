@@ -11,6 +11,7 @@ state_of a = record {
   hashes = a.hashes.items;
   sorted = a.sorted.sorted;
   index = a.sorted.index;
+  digest = a.sorted.digest;
   converting = a.converting;
   merging = a.merging;
   charge = a.charge;

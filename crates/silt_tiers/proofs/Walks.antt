@@ -52,7 +52,7 @@ hash_finds : (content : Content) (s : TiersState) (items : List HashState) (numb
     → items ≡ s.hashes → number < length items → store ≡ get_or items number store → Stands content s → IsTrue content.honest
     → (IsTrue content.honest → IsHashStore content store → FindsRow (hash_rows_of content store) key o) → FindsRow (hash_rows_of content (hash_store_at s number)) key o
 hash_finds content s items number store key o are inside is stands honest finds =
-    let none : HashState = record { shape = s.manifest.shape; region = 0; tags = []; puts = 0 } in
+    let none : HashState = record { shape = s.manifest.shape; region = 0; tags = []; puts = 0; digest = [] } in
     let below : number < length s.hashes = subst (λ (l : List HashState). number < length l) are inside in
     let here : store ≡ hash_store_at s number = is ∙ ap (λ (l : List HashState). get_or l number store) are ∙ get_or_default s.hashes number store none below in
     subst (λ (t : HashState). FindsRow (hash_rows_of content t) key o) here (finds honest (subst (IsHashStore content) (sym here) (stands.hashed number none below)))
@@ -167,7 +167,7 @@ pub hashed_value : (content : Content) (s : TiersState) (items : List HashState)
     → items ≡ s.hashes → number < length items → store ≡ get_or items number store → o ≡ Some found
     → IfSome (put_place o) (λ place. out ≡ (slot_row store.shape store.region content.shown place).value) → IsItsValue content s (Hashed number) found out
 hashed_value content s items number store o found out are inside is some has =
-    let none : HashState = record { shape = s.manifest.shape; region = 0; tags = []; puts = 0 } in
+    let none : HashState = record { shape = s.manifest.shape; region = 0; tags = []; puts = 0; digest = [] } in
     let below : number < length s.hashes = subst (λ (l : List HashState). number < length l) are inside in
     let here : store ≡ hash_store_at s number = is ∙ ap (λ (l : List HashState). get_or l number store) are ∙ get_or_default s.hashes number store none below in
     its_value content s (Hashed number) found.kind found.place out (λ n. (slot_row store.shape store.region content.shown n).value)

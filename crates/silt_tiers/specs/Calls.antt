@@ -18,6 +18,7 @@ pub record StaysBehind (before after : TiersState) : Type 0 where
   pub hashes : after.hashes ≡ before.hashes
   pub sorted : after.sorted ≡ before.sorted
   pub index : after.index ≡ before.index
+  pub digest : after.digest ≡ before.digest
   pub converting : after.converting ≡ before.converting
   pub merging : after.merging ≡ before.merging
 

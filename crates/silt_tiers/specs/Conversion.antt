@@ -6,7 +6,7 @@ use Rattle.silt_disk.specs.Disk.{Content, GaveAny}
 use Rattle.silt_disk.specs.Layout.{Shape}
 use Rattle.silt_disk.specs.declared.disk.Disk.{Ghosts}
 use Rattle.silt_frame.specs.Rows.{StoredRow, keys_of}
-use Rattle.silt_conversion.specs.Conversion.{ConversionState, converted_rows}
+use Rattle.silt_conversion.specs.Conversion.{ConversionState, IsDigestOf, converted_rows}
 use Rattle.silt_hash_store.specs.Slots.{hash_rows}
 use Rattle.silt_hash_store.specs.State.{HashState, IsHeldHash}
 use Rattle.silt_conversion.specs.declared.conversion.StepError.{StepError}
@@ -79,6 +79,7 @@ pub record Finishes (before after : TiersState) : Type 0 where
   pub frozen : after.frozen ≡ take (length before.frozen - 1) before.frozen
   pub sorted : after.sorted ≡ before.sorted
   pub index : after.index ≡ before.index
+  pub digest : after.digest ≡ before.digest
   pub merging : after.merging ≡ before.merging
 
 -- what a step changes in memory
@@ -132,20 +133,21 @@ pub record EndsConversion (s : TiersState) (body : Body) : Type 0 where
   pub unspent : s.manifest.ruling.generation < 2 ^ 63 - 1
   pub is : body ≡ converted_body s.manifest.ruling conversion.region
 
--- the hash store of a conversion
-abbrev pub store_of : ConversionState → HashState
-store_of conversion = record { shape = conversion.shape; region = conversion.region; tags = conversion.tags; puts = conversion.puts }
+-- the hash store of a conversion, with this digest
+abbrev pub store_of : ConversionState → List ℕ → HashState
+store_of conversion digest = record { shape = conversion.shape; region = conversion.region; tags = conversion.tags; puts = conversion.puts; digest = digest }
 
--- in memory: under this manifest, the hash store of this conversion stands in front of the others, and the oldest log is gone with
--- the puts that the hash store does not have
-abbrev pub oldest_replaced : TiersState → ManifestState → ConversionState → TiersState
-oldest_replaced s manifest conversion = record {
+-- in memory: under this manifest, the hash store of this conversion stands in front of the others, with this digest, and the oldest log
+-- is gone with the puts that the hash store does not have
+abbrev pub oldest_replaced : TiersState → ManifestState → ConversionState → List ℕ → TiersState
+oldest_replaced s manifest conversion digest = record {
   manifest = manifest;
   active = s.active;
   frozen = take (length s.frozen - 1) s.frozen;
-  hashes = store_of conversion ∷ s.hashes;
+  hashes = store_of conversion digest ∷ s.hashes;
   sorted = s.sorted;
   index = s.index;
+  digest = s.digest;
   converting = None;
   merging = s.merging;
   charge = s.charge - ((oldest_log s).puts - conversion.puts);
@@ -156,4 +158,10 @@ pub record MayReplace (s : TiersState) (manifest : ManifestState) : Type 0 where
   pub conversion : ConversionState
   pub was : s.converting ≡ Some conversion
   pub done : conversion.next ≡ 4 * conversion.shape.buckets
-  pub whole : IsHeldHash (store_of conversion) → AreWhole (oldest_replaced s manifest conversion)
+  pub whole : (digest : List ℕ) → IsHeldHash (store_of conversion digest) → AreWhole (oldest_replaced s manifest conversion digest)
+
+-- in memory, the hash store of this conversion replaced the oldest log, with the digest of what its hasher was fed
+pub record ReplacesOldest (s : TiersState) (manifest : ManifestState) (after : TiersState) (conversion : ConversionState) : Type 0 where
+  pub digest : List ℕ
+  pub digested : IsDigestOf conversion.hasher digest
+  pub is : after ≡ oldest_replaced s manifest conversion digest

@@ -33,7 +33,7 @@ frozen_at s index = get_or s.frozen index s.active
 
 -- the hash store of this number, the newest first
 abbrev pub hash_store_at : TiersState → ℕ → HashState
-hash_store_at s index = get_or s.hashes index (record { shape = s.manifest.shape; region = 0; tags = []; puts = 0 })
+hash_store_at s index = get_or s.hashes index (record { shape = s.manifest.shape; region = 0; tags = []; puts = 0; digest = [] })
 
 -- the rows that a hash store shows, slot by slot
 abbrev pub hash_rows_of : Content → HashState → List StoredRow

@@ -22,6 +22,7 @@ use Rattle.silt_tiers.specs.Calls.{BreaksOff, IsLastGeneration}
 use Rattle.silt_tiers.specs.Conversion.{is_work}
 use Rattle.silt_standing.specs.Standing.{Stands, full_image}
 use Rattle.silt_sorted_store.specs.Index.{HasIndex, IndexedState}
+use Rattle.silt_sorted_store.specs.State.{HasDigest}
 use Rattle.silt_standing.specs.State.{AreWhole, TiersState}
 
 -- the next progress, with so many hash stores, where a merge under way has decided all keys or not: none where no merge is under way
@@ -113,8 +114,8 @@ module _ {D F : Type 0} (facts : Ghosts D F) (old new : D) (before after : Tiers
 
 -- ---- between the steps
 
--- the entries of this sorted store are those of a merge that has decided all keys, its index is theirs wherever the stores stand, and
--- this body ends the merge
+-- the entries of this sorted store are those of a merge that has decided all keys, its index and its digest are theirs wherever the
+-- stores stand, and this body ends the merge
 pub record EndsMerge (s : TiersState) (body : Body) (store : IndexedState) : Type 0 where
   pub merge : MergeState
   pub was : s.merging ≡ Some merge
@@ -122,6 +123,7 @@ pub record EndsMerge (s : TiersState) (body : Body) (store : IndexedState) : Typ
   pub unspent : s.manifest.ruling.generation < 2 ^ 63 - 1
   pub entries : store.sorted ≡ record { shape = merge.shape; region = merge.region; count = merge.written }
   pub located : (content : Content) → Stands content s → HasIndex content store.sorted store.index
+  pub digested : (content : Content) → Stands content s → HasDigest content store.sorted store.digest
   pub is : body ≡ merged_body s.manifest.ruling merge.stores merge.region merge.written
 
 -- how many of the rows of hash stores are puts
@@ -142,6 +144,7 @@ sorted_replaced s manifest count store = record {
   hashes = take (length s.hashes - count) s.hashes;
   sorted = store.sorted;
   index = store.index;
+  digest = store.digest;
   converting = s.converting;
   merging = None;
   charge = s.charge - ((s.charge - charge_without s count) - store.sorted.count);

@@ -65,6 +65,7 @@ pub record HasFrozen (next : NextLog) (content : Content) (before after : TiersS
   pub hashes : after.hashes ≡ before.hashes
   pub sorted : after.sorted ≡ before.sorted
   pub index : after.index ≡ before.index
+  pub digest : after.digest ≡ before.digest
   pub converting : after.converting ≡ before.converting
   pub merging : after.merging ≡ before.merging
   pub charge : after.charge ≡ before.charge
@@ -80,6 +81,7 @@ active_replaced s manifest log = record {
   hashes = s.hashes;
   sorted = s.sorted;
   index = s.index;
+  digest = s.digest;
   converting = s.converting;
   merging = s.merging;
   charge = s.charge;

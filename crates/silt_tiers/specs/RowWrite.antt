@@ -4,6 +4,8 @@ use Rattle.silt_disk.specs.Disk.{Content, GaveAny}
 use Rattle.silt_disk.specs.declared.disk.Disk.{Ghosts}
 use Rattle.silt_event.specs.Commands.{Command, WaitsAlone, WaitsBehind}
 use Rattle.silt_log.specs.State.{all_rows}
+use Rattle.silt_log_store.specs.declared.log_store.TakeError.{TakeError}
+use Rattle.silt_log_store.specs.declared.log_store.TakeError.TheVariants as take_error
 use Rattle.silt_tiers.specs.declared.row_write.WriteError.{WriteError}
 use Rattle.silt_tiers.specs.declared.row_write.WriteError.TheVariants.{Read, Write, NoRoom, Spent, NoMemory}
 use Rattle.silt_standing.specs.State.{TiersState}
@@ -41,6 +43,12 @@ module _ {D F : Type 0} (facts : Ghosts D F) (old new : D) (before after : Tiers
   -- nothing was changed
   abbrev pub Unchanged : Type 0
   Unchanged = (after ≡ before) × (new ≡ old)
+
+  -- why the active log did not take a row of this key, and what was changed
+  abbrev pub TakeCause : TakeError F → Type 0
+  TakeCause take_error.Full = Unchanged × NeedsNext (facts.content old) before key
+  TakeCause (take_error.Read fault) = Unchanged × GaveAny facts.gave old fault
+  TakeCause (take_error.Write fault) = BreaksOff facts old new before after fault
 
   -- why a row of this key was not taken, and what was changed
   abbrev pub WriteCause : WriteError F → Type 0

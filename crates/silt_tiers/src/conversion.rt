@@ -3,7 +3,7 @@ ghost use Rattle.std.specs.Prelude.{◌≡◌, ◌<◌, ◌*◌, ◌-◌, ◌^�
 ghost use Rattle.silt_disk.specs.Disk.{Rests};
 ghost use Rattle.silt_tiers.specs.Calls.{BreaksOff, Works};
 ghost use Rattle.silt_tiers.specs.Conversion.{AreAllHashesNamed, ConvertErrorCause, Converts, EndsConversion, Finishes, HasConvertedRows, IsLowestFreeHash};
-ghost use Rattle.silt_tiers.specs.Conversion.{MayReplace, convert_turn, converted_body, is_work, oldest_replaced};
+ghost use Rattle.silt_tiers.specs.Conversion.{MayReplace, ReplacesOldest, convert_turn, converted_body, is_work};
 ghost use Rattle.silt_event.specs.declared.progress.Progress.TheVariants.{Finished, Moved};
 ghost use Rattle.silt_standing.specs.State.{AreWhole, names_hash};
 ghost use Rattle.silt_standing.specs.Standing.{Stands, shown_stores};
@@ -158,7 +158,7 @@ impl Tiers {
     // log. The puts that went away no longer count.
     fn replace_oldest(&mut self, manifest: Manifest)
         requires { MayReplace self.old manifest }
-        ensures replaced { IfSome self.old.converting (λ conversion. self.new ≡ oldest_replaced self.old manifest conversion) }
+        ensures replaced { IfSome self.old.converting (ReplacesOldest self.old manifest self.new) }
         ensures whole { AreWhole self.new }
     {
         let Some(conversion) = self.converting.take() else {

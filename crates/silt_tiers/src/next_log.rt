@@ -7,7 +7,7 @@ use silt_manifest::Body;
 
 /// Why there is no next log.
 #[derive(Clone, Copy, Debug, PartialEq, Eq)]
-pub enum NoNextLog {
+pub(crate) enum NoNextLog {
     /// Every log region is in use.
     NoRoom,
     /// The last generation of the manifest rules.
@@ -18,7 +18,7 @@ pub enum NoNextLog {
 
 /// A new log in memory, in a region that is free, and the manifest's body that names it first.
 #[derive(Drop)]
-pub struct NextLog {
+pub(crate) struct NextLog {
     pub(crate) store: LogStore,
     pub(crate) body: Body,
 }

@@ -1,26 +1,14 @@
 // The stores of a device in memory, and their calls.
-ghost use Rattle.std.specs.Prelude.{vec_capacity, ◌≡◌, ◌+◌, ◌<◌, ◌≤◌, [], ◌∷◌, ◌++◌, ◌↔◌, ℕ, length, nat_lt, true};
-ghost use Rattle.std.specs.Prelude.{false, None, Some, Ok, IsTrue, IfOk, IfErr, IfSome, IfNone, OnOk, OnErr, if◌then◌else◌};
-ghost use Rattle.silt_disk.specs.Disk.{Content, GaveAny, LeavesOnly, size};
-ghost use Rattle.silt_disk.specs.Layout.{device_size};
-ghost use Rattle.silt_frame.specs.declared.key.Kind.{Kind};
-ghost use Rattle.silt_event.specs.Rows.{command_of};
-ghost use Rattle.silt_log.specs.Rows.{IsValueOf};
-ghost use Rattle.silt_frame.specs.Rows.{stored_row, puts_of};
-ghost use Rattle.silt_log.specs.State.{all_rows};
+ghost use Rattle.std.specs.Prelude.{vec_capacity, ◌≡◌, ◌<◌, ◌≤◌, [], nat_lt, None, IfOk, IfErr, OnOk};
 
-use crate::next_log::{NextLog, NoNextLog, lowest_free, next_body};
 use silt_conversion::Conversion;
 use silt_disk::{Disk, Geometry};
-use silt_frame::{Key, Kind};
 use silt_hash_store::HashStore;
-use silt_log_store::{LogStore, Placing};
+use silt_log_store::LogStore;
 use silt_manifest::{Body, Manifest};
 use silt_merge::Merge;
 use silt_sorted_store::SortedStore;
-use std::alloc::Global;
 use std::marker::Model;
-use std::mem;
 
 // The generation after which there is none.
 pub(crate) const LAST_GENERATION: u64 = (1 << 63) - 1;
@@ -57,6 +45,7 @@ impl Model for Tiers {
       hashes = a.hashes.items;
       sorted = a.sorted.sorted;
       index = a.sorted.index;
+      digest = a.sorted.digest;
       converting = a.converting;
       merging = a.merging;
       charge = a.charge;
@@ -69,6 +58,7 @@ impl Model for Tiers {
       hashes = a.hashes.items;
       sorted = a.sorted.sorted;
       index = a.sorted.index;
+      digest = a.sorted.digest;
       converting = a.converting;
       merging = a.merging;
       charge = a.charge;
@@ -76,13 +66,9 @@ impl Model for Tiers {
 }
 
 impl Tiers {
-    ghost use Rattle.silt_cuckoo.specs.Slots.{empty_slots};
-    ghost use Rattle.silt_log_store.specs.Calls.{IsPlacingFor};
     ghost use Rattle.silt_standing.specs.State.{TiersState, AreHeld, AreWhole};
-    ghost use Rattle.silt_standing.specs.Standing.{Stands, waiting_commands};
-    ghost use Rattle.silt_tiers.specs.Calls.{BreaksOff, CannotTake, Remaps, StaysBehind, Works};
-    ghost use Rattle.silt_standing.specs.Standing.{IsQuiet, SameDisk};
-    ghost use Rattle.silt_tiers.specs.NextLog.{HasFrozen, IsEmptied, IsNextLog, NoNextCause, active_replaced, empty_store};
+    ghost use Rattle.silt_standing.specs.Standing.{IsQuiet, SameDisk, Stands};
+    ghost use Rattle.silt_tiers.specs.Calls.{BreaksOff, Remaps, StaysBehind, Works};
     ghost use Rattle.silt_tiers.specs.Succession.{MayRule, NowRules};
 
     /// The stores with these parts, where the frozen logs and the hash stores stand the newest first, in `Vec`s with room for seven
@@ -102,6 +88,7 @@ impl Tiers {
           hashes = hashes.items;
           sorted = sorted.sorted;
           index = sorted.index;
+          digest = sorted.digest;
           converting = None;
           merging = None;
           charge = charge;
@@ -115,6 +102,7 @@ impl Tiers {
           hashes = hashes.items;
           sorted = sorted.sorted;
           index = sorted.index;
+          digest = sorted.digest;
           converting = None;
           merging = None;
           charge = charge;
@@ -155,54 +143,6 @@ impl Tiers {
         self.active.has_waiting()
     }
 
-    // Where a row of this key goes in the table of the active log, none where that log cannot take it.
-    pub(crate) fn placing<D: Disk>(&self, disk: &D, key: &Key) -> Result<Option<Placing>, D::Fault>
-        requires size { device_size self.now.manifest.shape ≤ size (D.content disk.now) }
-        ensures none { Stands (D.content disk.now) self.now → IsTrue (D.content disk.now).honest
-            → IfOk result (λ placing. (placing ≡ None) ↔ CannotTake self.now.manifest.shape (all_rows (D.content disk.now) self.now.active.log) key.now.0) }
-        ensures some { IfOk result (λ placing. IfSome placing (IsPlacingFor (D.content disk.now) self.now.active key.now.0)) }
-        ensures fault { IfErr result (GaveAny D.gave disk.now) }
-    {
-        self.active.placing(disk, key)
-    }
-
-    // Where a row of this key goes in the table of an active log that has no rows.
-    pub(crate) fn placing_in_empty(&self, key: &Key) -> Placing
-        requires used { self.now.active.log.used ≡ 0 }
-        requires table { self.now.active.table ≡ empty_slots self.now.active.log.shape.buckets }
-        ensures { (content : Content) → IsPlacingFor content self.now.active key.now.0 result }
-    {
-        self.active.placing_in_empty(key)
-    }
-
-    // Writes a row behind the others of the active log. It waits there for a flush.
-    pub(crate) fn write_active<D: Disk>(
-        &mut self,
-        disk: &mut D,
-        kind: Kind,
-        key: &Key,
-        value: &[u8],
-        placing: &Placing,
-    ) -> Result<(), D::Fault>
-        requires stands { Stands (D.content disk.old) self.old }
-        requires placing { IsPlacingFor (D.content disk.old) self.old.active key.now.0 placing.now }
-        requires value { length value.now ≡ self.old.manifest.shape.value_len }
-        requires zeros { IsValueOf kind value.now }
-        requires charge { self.old.charge + puts_of kind ≤ self.old.manifest.shape.sorted_capacity }
-        ensures works { Works D.Disk (command_of (stored_row kind key.now value.now) ∷ []) disk.old disk.new self.old self.new result }
-        ensures waits { IsTrue (D.content disk.old).honest
-            → OnOk result (waiting_commands (D.content disk.new) self.new ≡ waiting_commands (D.content disk.old) self.old ++ command_of (stored_row kind key.now value.now) ∷ []) }
-        ensures behind { OnOk result (StaysBehind self.old self.new) }
-        ensures charge { OnOk result (self.new.charge ≡ self.old.charge + puts_of kind) }
-        ensures err { IfErr result (BreaksOff D.Disk disk.old disk.new self.old self.new) }
-        ensures unchanged { OnErr result (self.new ≡ self.old) }
-    {
-        let _limits = self.manifest.geometry().sorted_capacity(); // so the charge fits its word
-        self.active.take(disk, kind, key, value, placing)?;
-        self.charge += kind.puts();
-        Ok(())
-    }
-
     /// Settles the rows that wait: a sync, one write over their gates, a sync.
     ///
     /// # Errors
@@ -218,59 +158,6 @@ impl Tiers {
         ensures err { IfErr result (BreaksOff D.Disk disk.old disk.new self.old self.new) }
     {
         self.active.open_gates(disk)?;
-        Ok(())
-    }
-
-    // A new log in memory, in the lowest log region that is free, with the body that names it. It makes no device call.
-    // What refuses one is decided in this order: `NoRoom`, `Spent`, `NoMemory`.
-    pub(crate) fn next_log(&self, alloc: Global) -> Result<NextLog, NoNextLog>
-        ensures ok { IfOk result (IsNextLog self.now) }
-        ensures err { IfErr result (NoNextCause self.now) }
-    {
-        let geometry = self.manifest.geometry();
-        let ruling = self.manifest.ruling();
-        let Some(region) = lowest_free(geometry.logs(), &ruling) else {
-            return Err(NoNextLog::NoRoom);
-        };
-        if ruling.generation == LAST_GENERATION {
-            return Err(NoNextLog::Spent);
-        }
-        match LogStore::new(alloc, geometry, region) {
-            Ok(store) => Ok(NextLog {
-                store,
-                body: next_body(&ruling, region),
-            }),
-            Err(_) => Err(NoNextLog::NoMemory),
-        }
-    }
-
-    // Settles the rows that wait, if any do.
-    fn settle<D: Disk>(&mut self, disk: &mut D) -> Result<(), D::Fault>
-        requires { Stands (D.content disk.old) self.old }
-        ensures works { Works D.Disk [] disk.old disk.new self.old self.new result }
-        ensures quiet { OnOk result (IsQuiet (D.content disk.new) self.new) }
-        ensures behind { StaysBehind self.old self.new }
-        ensures charge { self.new.charge ≡ self.old.charge }
-        ensures err { IfErr result (BreaksOff D.Disk disk.old disk.new self.old self.new) }
-    {
-        if !self.has_waiting() {
-            return Ok(());
-        }
-        self.flush(disk)
-    }
-
-    // Closes all gates of the new log's region, which no log has.
-    fn clear_region<D: Disk>(&self, disk: &mut D, next: &mut NextLog) -> Result<(), D::Fault>
-        requires stands { Stands (D.content disk.old) self.now }
-        requires quiet { IsQuiet (D.content disk.old) self.now }
-        requires next { IsNextLog self.now next.old }
-        ensures works { Works D.Disk [] disk.old disk.new self.now self.now result }
-        ensures quiet { OnOk result (IsQuiet (D.content disk.new) self.now) }
-        ensures emptied { OnOk result (IsEmptied (D.content disk.new) self.now next.new) }
-        ensures next { next.new ≡ next.old }
-        ensures err { IfErr result (BreaksOff D.Disk disk.old disk.new self.now self.now) }
-    {
-        next.store.prepare(disk)?;
         Ok(())
     }
 
@@ -294,37 +181,5 @@ impl Tiers {
         manifest.prepare_next(disk, *next)?;
         manifest.commit_next(disk)?;
         Ok(manifest)
-    }
-
-    // Takes a manifest and the log that it names first, which then is the active one.
-    fn replace_active(&mut self, manifest: Manifest, log: LogStore)
-        requires { AreWhole (active_replaced self.old manifest log) }
-        ensures { self.new ≡ active_replaced self.old manifest log }
-    {
-        self.manifest = manifest;
-        let full = mem::replace(&mut self.active, log);
-        let Ok(()) = self.frozen.insert(0, full) else {
-            unreachable!()
-        };
-    }
-
-    // Freezes the active log: settles what waits, closes the gates of the new log's region, and writes the manifest's next body,
-    // which names the new log first. Then that is the active log.
-    pub(crate) fn freeze<D: Disk>(
-        &mut self,
-        disk: &mut D,
-        mut next: NextLog,
-    ) -> Result<(), D::Fault>
-        requires stands { Stands (D.content disk.old) self.old }
-        requires next { IsNextLog self.old next }
-        ensures works { Works D.Disk [] disk.old disk.new self.old self.new result }
-        ensures frozen { OnOk result (HasFrozen next (D.content disk.new) self.old self.new) }
-        ensures err { IfErr result (BreaksOff D.Disk disk.old disk.new self.old self.new) }
-    {
-        self.settle(disk)?;
-        self.clear_region(disk, &mut next)?;
-        let manifest = self.change_manifest(disk, &next.body)?;
-        self.replace_active(manifest, next.store);
-        Ok(())
     }
 }

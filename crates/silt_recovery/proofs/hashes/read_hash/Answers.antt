@@ -13,5 +13,6 @@ returns-in-Ok-clause-read g c = record {
     sound = λ h. let rebuilt = c.in-Ok.ensures.rebuilt h in rebuilt.stands.sound h;
     tagged = λ h. let rebuilt = c.in-Ok.ensures.rebuilt h in rebuilt.stands.tagged h;
     counted = λ h. let rebuilt = c.in-Ok.ensures.rebuilt h in rebuilt.stands.counted h;
+    digested = λ h. let rebuilt = c.in-Ok.ensures.rebuilt h in rebuilt.stands.digested h;
   };
 }

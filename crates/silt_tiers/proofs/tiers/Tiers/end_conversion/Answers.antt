@@ -1,10 +1,10 @@
-use Rattle.std.proofs.Common.{◌≡◌, [], Option, Ok, subst}
+use Rattle.std.proofs.Common.{[], Option, Ok, subst}
 use Rattle.std.specs.Prelude.{IfSome, ⊤}
 use Rattle.silt_conversion.specs.Conversion.{ConversionState}
-use Rattle.silt_tiers.specs.Conversion.{oldest_replaced}
+use Rattle.silt_tiers.specs.Conversion.{ReplacesOldest}
 use Rattle.silt_tiers.proofs.Chains.{honest_after}
 use Rattle.silt_tiers.proofs.Exits.{on_error}
-use Rattle.silt_tiers.proofs.ConvertTurns.{converted_advances, converted_may_rule, has_converted_rows, may_replace}
+use Rattle.silt_tiers.proofs.ConvertTurns.{converted_advances, converted_finishes, converted_may_rule, has_converted_rows, may_replace}
 use Rattle.silt_tiers.proofs.Works.{both_went, then_broke_off, went}
 use Rattle.silt_tiers.proofs.tiers.Tiers.end_conversion.Goals as goal
 
@@ -21,15 +21,21 @@ replace_oldest-requires g c = may_replace (g.D.Disk.content c.settle_work.new.di
 
 pub returns-clause-works : goal.returns-clause-works
 returns-clause-works g c =
-    let is = subst (λ (o : Option ConversionState). IfSome o (λ conversion. c.replace_oldest.new.self ≡ oldest_replaced c.args.self.now c.in_ok-manifest.manifest conversion)) c.requires.ends.was c.replace_oldest.ensures.replaced in
+    let is = subst (λ (o : Option ConversionState). IfSome o (ReplacesOldest c.args.self.now c.in_ok-manifest.manifest c.replace_oldest.new.self)) c.requires.ends.was c.replace_oldest.ensures.replaced in
     let two = converted_advances (g.D.Disk.content c.settle_work.new.disk) c.args.self.now c.args.body.now c.in_ok-settle_work.ensures.works.advances.stands c.in_ok-settle_work.ensures.rests c.requires.ends
-    (g.D.Disk.content c.change_manifest.new.disk) c.change_manifest.ensures.same.size c.in_ok-manifest.manifest c.in_ok-manifest.ensures.ok c.replace_oldest.new.self c.replace_oldest.ensures.whole is in
+    (g.D.Disk.content c.change_manifest.new.disk) c.change_manifest.ensures.same.size c.in_ok-manifest.manifest c.in_ok-manifest.ensures.ok is.digest is.digested c.replace_oldest.new.self c.replace_oldest.ensures.whole is.is in
     let rest = went {E = ⊤} g.D.Disk [] c.settle_work.new.disk c.change_manifest.new.disk c.args.self.now c.replace_oldest.new.self (Ok c.in_ok-manifest.manifest) c.change_manifest.ensures.same c.in_ok-settle_work.ensures.works.advances.stands c.in_ok-manifest.ensures.failures two in
     both_went g.D.Disk [] [] c.args.disk.now c.settle_work.new.disk c.change_manifest.new.disk c.args.self.now c.args.self.now c.replace_oldest.new.self _ c.in_ok-manifest.manifest _ c.in_ok-settle_work.ensures.works rest
 
 pub returns-clause-rows : goal.returns-clause-rows
 returns-clause-rows g c = λ honest.
-    let is = subst (λ (o : Option ConversionState). IfSome o (λ conversion. c.replace_oldest.new.self ≡ oldest_replaced c.args.self.now c.in_ok-manifest.manifest conversion)) c.requires.ends.was c.replace_oldest.ensures.replaced in
+    let is = subst (λ (o : Option ConversionState). IfSome o (ReplacesOldest c.args.self.now c.in_ok-manifest.manifest c.replace_oldest.new.self)) c.requires.ends.was c.replace_oldest.ensures.replaced in
     has_converted_rows (g.D.Disk.content c.settle_work.new.disk) c.args.self.now c.args.body.now c.in_ok-settle_work.ensures.works.advances.stands c.in_ok-settle_work.ensures.rests c.requires.ends
-    (g.D.Disk.content c.change_manifest.new.disk) c.change_manifest.ensures.same.size c.in_ok-manifest.manifest c.in_ok-manifest.ensures.ok (g.D.Disk.content c.args.disk.now) c.replace_oldest.new.self c.replace_oldest.ensures.whole is c.requires.stands honest
+    (g.D.Disk.content c.change_manifest.new.disk) c.change_manifest.ensures.same.size c.in_ok-manifest.manifest c.in_ok-manifest.ensures.ok is.digest is.digested (g.D.Disk.content c.args.disk.now) c.replace_oldest.new.self c.replace_oldest.ensures.whole is.is c.requires.stands honest
     (honest_after (g.D.Disk.content c.args.disk.now) (g.D.Disk.content c.settle_work.new.disk) c.settle_work.ensures.works.same honest) (c.in_ok-settle_work.ensures.stores honest)
+
+pub returns-clause-finishes : goal.returns-clause-finishes
+returns-clause-finishes g c =
+    let is = subst (λ (o : Option ConversionState). IfSome o (ReplacesOldest c.args.self.now c.in_ok-manifest.manifest c.replace_oldest.new.self)) c.requires.ends.was c.replace_oldest.ensures.replaced in
+    converted_finishes (g.D.Disk.content c.settle_work.new.disk) c.args.self.now c.args.body.now c.in_ok-settle_work.ensures.works.advances.stands c.in_ok-settle_work.ensures.rests c.requires.ends
+    (g.D.Disk.content c.change_manifest.new.disk) c.change_manifest.ensures.same.size c.in_ok-manifest.manifest c.in_ok-manifest.ensures.ok is.digest is.digested c.replace_oldest.new.self is.is

@@ -19,7 +19,7 @@ loop-index-preserved g c = λ honest.
     (c.loop-index.invariant honest) (c.in_ok-do_log.ensures.ok honest)
 
 pub returns-clause-entries : goal.returns-clause-entries
-returns-clause-entries g c = rw (← c.self.view_is) (λ stands honest.
+returns-clause-entries g c = rw (← c.self.view_is) (λ shows honest.
     let content = g.D.Disk.content c.args.disk.now in
     let none : c.loop-index.index ≡ 0 = omega (arith, c.loop-index-test.false) in
     let entries : List StoredRow = entries_of content c.self.inside.sorted.sorted in
@@ -34,5 +34,5 @@ returns-clause-entries g c = rw (← c.self.view_is) (λ stands honest.
     subst (λ (n : ℕ). DoesRows (oldest_first (map (rows_in content) (drop n c.self.inside.frozen.items))) c.do_hash_stores.new.entries c.loop-index.entries) none (c.loop-index.invariant honest) in
     let both = does_more (entries ++ hashed) logs c.new-entries.result c.do_hash_stores.new.entries c.loop-index.entries behind older in
     let all = does_more (entries ++ hashed ++ logs) (all_rows content c.self.inside.active.log) c.new-entries.result c.loop-index.entries c.do_log-2.new.entries both (c.in_ok-do_log-2.ensures.ok honest) in
-    subst (λ (m : Map). AreEntriesOf m c.do_log-2.new.entries) (sym (current_is content _ stands honest))
+    subst (λ (m : Map). AreEntriesOf m c.do_log-2.new.entries) (sym (current_is content _ shows honest))
     (does_all (entries ++ hashed ++ logs ++ all_rows content c.self.inside.active.log) c.new-entries.result c.do_log-2.new.entries c.new-entries.ensures.empty all))

@@ -22,7 +22,7 @@ end_merge-requires-clause-ends g c κs within =
     ∙ ap (λ n. merged_body stores.manifest.ruling n c.region.result c.len.result) count
     ∙ ap (λ n. merged_body stores.manifest.ruling c.in-Some.merge.stores n c.len.result) region
     ∙ ap (λ n. merged_body stores.manifest.ruling c.in-Some.merge.stores c.in-Some.merge.region n) written in
-    rw (← c.self.view_is) (may_end stores c.merged_body-body.result c.in-Some.merge c.in-Ok.sorted c.in-Some.is (is_finished stores c.in-Some.merge c.in-Some.is turn) unspent c.in-Ok.ensures.store body c.in-Ok.ensures.indexed)
+    rw (← c.self.view_is) (may_end stores c.merged_body-body.result c.in-Some.merge c.in-Ok.sorted c.in-Some.is (is_finished stores c.in-Some.merge c.in-Some.is turn) unspent c.in-Ok.ensures.store body c.in-Ok.ensures.indexed c.in-Ok.ensures.digested)
 
 pub merged_body-body-requires-clause-count : goal.merged_body-body-requires-clause-count
 merged_body-body-requires-clause-count g c =

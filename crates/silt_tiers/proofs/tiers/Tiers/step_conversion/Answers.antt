@@ -62,4 +62,4 @@ pub returns-clause-converts : goal.returns-clause-converts
 returns-clause-converts g c =
     let stores : TiersState = state_of c.self.inside in
     let turn = subst (λ (v : TiersState). convert_turn v ≡ Moved) (sym c.self.view_is) c.requires.turn in
-    rw (← c.self.view_is) (next_converts stores c.in-Some.conversion c.step.new.self _ _ c.in-Some.is turn c.in_ok-step.ensures.ok.next)
+    rw (← c.self.view_is) (next_converts stores c.in-Some.conversion c.step.new.self _ c.in-Some.is turn c.in_ok-step.ensures.ok.next)

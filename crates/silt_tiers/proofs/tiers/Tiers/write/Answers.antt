@@ -1,12 +1,12 @@
 use Rattle.std.proofs.Common.{inl, ap}
 use Rattle.silt_event.specs.Rows.{command_of}
 use Rattle.silt_frame.specs.Rows.{stored_row}
-use Rattle.silt_tiers.proofs.Takes.{has_place, waits_behind}
+use Rattle.silt_tiers.proofs.Takes.{waits_behind}
 use Rattle.silt_tiers.proofs.tiers.Tiers.write.Goals as goal
 
 pub returns-in-Ok-clause-ruling : goal.returns-in-Ok-clause-ruling
 returns-in-Ok-clause-ruling g c = inl (record {
-  has_place = has_place (g.D.Disk.content c.args.disk.now) c.args.self.now c.args.key.now.0 c.in-Ok-Some.field-0 c.in-Ok-Some.placing c.in-Ok-Some.field-0-is c.in-Ok-Some.ensures.none c.requires.stands;
+  has_place = c.in-Ok.ensures.place;
   ruling = ap (λ m. m.ruling) c.in-Ok.ensures.behind.manifest;
   waits = λ h. waits_behind (command_of (stored_row c.args.kind c.args.key.now c.args.value.now)) (g.D.Disk.content c.args.disk.now) (g.D.Disk.content c.write_active.new.disk) c.args.self.now c.write_active.new.self
       (c.in-Ok.ensures.works.advances.moves h) (c.in-Ok.ensures.waits h);

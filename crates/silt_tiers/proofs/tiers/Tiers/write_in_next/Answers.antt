@@ -5,9 +5,6 @@ use Rattle.silt_tiers.proofs.Takes.{turns_for}
 use Rattle.silt_tiers.proofs.Works.{both_went, then_broke_off}
 use Rattle.silt_tiers.proofs.tiers.Tiers.write_in_next.Goals as goal
 
-pub write_active-requires-clause-placing : goal.write_active-requires-clause-placing
-write_active-requires-clause-placing g c κs within = c.placing_in_empty-placing.ensures (g.D.Disk.content c.freeze.new.disk)
-
 pub returns-in-Ok-write_active-clause-works : goal.returns-in-Ok-write_active-clause-works
 returns-in-Ok-write_active-clause-works g c =
     both_went g.D.Disk [] (command_of (stored_row c.args.kind c.args.key.now c.args.value.now) ∷ []) c.args.disk.now c.freeze.new.disk c.write_active.new.disk c.args.self.now c.freeze.new.self c.write_active.new.self _ _ _
@@ -19,6 +16,6 @@ returns-in-Ok-write_active-clause-ruling g c =
     c.args.self.now c.freeze.new.self c.write_active.new.self c.in-Ok.next c.args.key.now.0 c.freeze.ensures.works.same c.requires.needs c.in-Ok.ensures.ok c.in_default.ensures.frozen c.in-Ok-write_active.ensures.behind.manifest
     (returns-in-Ok-write_active-clause-works g c).advances c.in-Ok-write_active.ensures.waits
 
-pub returns-in-Err-write_active-clause-err : goal.returns-in-Err-write_active-clause-err
-returns-in-Err-write_active-clause-err g c = then_broke_off g.D.Disk c.args.disk.now c.freeze.new.disk c.write_active.new.disk c.args.self.now c.freeze.new.self c.write_active.new.self _ c.in-Err-write_active.fault
-    c.in_default.ensures.works c.write_active.ensures.works.same c.in-Err-write_active.ensures.err
+pub returns-in-Err-Write-clause-err : goal.returns-in-Err-Write-clause-err
+returns-in-Err-Write-clause-err g c = then_broke_off g.D.Disk c.args.disk.now c.freeze.new.disk c.write_active.new.disk c.args.self.now c.freeze.new.self c.write_active.new.self _ c.in-Err-Write.fault
+    c.in_default.ensures.works c.write_active.ensures.works.same (rw c.in-Err-Write.field-0-is at c.in-Err-Write.ensures.err)

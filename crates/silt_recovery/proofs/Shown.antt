@@ -1,0 +1,44 @@
+-- What a device shows in which nothing is found.
+use Rattle.std.proofs.Common.{◌≡◌, IsTrue, List, [], map, slice_index_or, ap, sym, ◌∙◌}
+use Rattle.silt_disk.specs.Disk.{Content}
+use Rattle.silt_event.specs.Commands.{Command, Map, map_after}
+use Rattle.silt_event.specs.Rows.{command_of, map_of_rows}
+use Rattle.silt_frame.specs.Rows.{StoredRow}
+use Rattle.silt_image.specs.Meaning.{IsGood, image_map}
+use Rattle.silt_image.proofs.Verdict.{rows_law, sound_law}
+use Rattle.silt_log.specs.Rows.{first_rows, log_rows}
+use Rattle.silt_log.specs.State.{settled_rows}
+use Rattle.silt_log.proofs.Waiting.{none_waiting}
+use Rattle.silt_log_store.specs.State.{LogStoreState}
+use Rattle.silt_standing.specs.Standing.{IsFrozen, Shows, base_map, current_map, shown_stores}
+use Rattle.silt_standing.specs.State.{TiersState}
+use Rattle.silt_recovery.specs.Logs.{IsReadLog}
+use Rattle.silt_recovery.specs.Opening.{Holds}
+
+module _ (content : Content) (s : TiersState) (holds : Holds content s) where
+  -- the active log has the rows that are shown
+  active_shown : IsTrue content.honest → log_rows s.active.log.shape s.active.log.region content.shown ≡ settled_rows content s.active.log
+  unfolding log_rows
+  active_shown h = ap (first_rows s.active.log.shape s.active.log.region content.shown) (sym (holds.active.scanned h).settled)
+
+  -- the stores that are held are those that are shown
+  pub held_shown : Shows content s
+  held_shown = record {
+    whole = holds.whole;
+    bounds = holds.active.bounds;
+    active = active_shown;
+    frozen = λ k d inside.
+        let read : IsReadLog content s.manifest.shape (slice_index_or s.frozen k d) = holds.frozen k d inside in
+        record { rows = λ h. (read.scanned h).used; indexed = read.indexed };
+  }
+
+  -- their map is that of the image that is shown
+  pub held_map : IsTrue content.honest → current_map content s ≡ image_map content.shown
+  unfolding base_map image_map
+  held_map h =
+      ap (λ (rows : List StoredRow). map_after (base_map content s) (map command_of rows)) (none_waiting content s.active.log holds.active.settled)
+      ∙ ap map_of_rows (sym (rows_law content.shown (shown_stores content s) (holds.named h)))
+
+  -- which is good
+  pub held_good : IsTrue content.honest → IsGood content.shown
+  held_good h = (sound_law content.shown (shown_stores content s) (holds.named h)).1 (holds.sound h)

@@ -1,0 +1,14 @@
+-- What a disk shows of stores that stand on it.
+use Rattle.silt_disk.specs.Disk.{Content}
+use Rattle.silt_disk.proofs.Images.{shown_left}
+use Rattle.silt_standing.specs.State.{TiersState}
+use Rattle.silt_standing.specs.Standing.{Shows, Stands}
+
+-- stores that stand on a disk are shown by it
+pub stands_shown : (content : Content) (s : TiersState) → Stands content s → Shows content s
+stands_shown content s stands = record {
+  whole = stands.whole;
+  bounds = stands.active.bounds;
+  active = λ h. stands.active.images.each h content.shown (shown_left content);
+  frozen = stands.frozen;
+}
