@@ -1,4 +1,4 @@
--- A book and a share name no thread, so they, and a reference to one, may go to another thread, and a desk with them.
+-- A book and a share name no thread, so a reference to one may go to another thread, and one to a desk too.
 use mathlib.Core.List.{List, [], ◌∷◌}
 use Prim.Native.Nat.{ℕ, zero, suc}
 use base.Shift.{Keyless}
@@ -19,8 +19,9 @@ use Rattle.silt_desk.specs.contracts.seat.CallsOf as CallsOf
 use Rattle.silt_desk.specs.contracts.seat.AcceptedOf as AcceptedOf
 use Rattle.silt_desk.specs.contracts.seat.CallsOfLedger.TheImpl as calls
 use Rattle.silt_desk.specs.contracts.seat.AcceptedOfLedger.TheImpl as accepted
-use denote.Param.Send.{AllSend, AllSync, sendable, view_send, view_sync, struct_send, struct_sync, recorded_send, recorded_sync}
-use Rattle.silt_store_set.proofs.Shares.{core_send, core_sync}
+use denote.Param.Send.{AllSync, sendable, view_sync, struct_sync, recorded_sync}
+use Rattle.silt_store_set.proofs.store_core.Core.TheSendSync.{the_sync as core_sync}
+use Rattle.silt_desk.proofs.desk.Desk.TheSendSync.{the_send}
 use Rattle.std.specs.contracts.sync.ledger.Book as Book
 use Rattle.std.specs.contracts.sync.ledger.Share as Share
 
@@ -56,16 +57,6 @@ module _ (T : RattleType) (g : Ghosts T.Denot) where
   pub share_sync : IsSync (Share.the_row T g)
   share_sync = record { shared = λ d b o κ. λ q. part_keyless (Share.the_row T g) share_send q d b o }
 
-ledgers_inside_send : (N : RattleType) (h : Naming.Ghosts N.Denot) → IsSend (LedgersInside.the_row N h)
-ledgers_inside_send N h =
-    let L = LedgersInside.the_type N h in
-    let k = calls.ghosts N h calls.no_dict in
-    let a = accepted.ghosts N h accepted.no_dict in
-    let all : AllSend (fields L) = (search sendable, (book_send (CallsOf.the_row N) k, (book_send (AcceptedOf.the_row N) a, (share_send (CallsOf.the_row N) k, (share_send (AcceptedOf.the_row N) a, tt))))) in recorded_send (Struct (shape L)) L.D L.to L.to_one (struct_send (shape L) all)
-
-pub ledgers_send : (N : RattleType) (h : Naming.Ghosts N.Denot) → IsSend (Ledgers.the_row N h)
-ledgers_send N h = view_send _ _ _ _ _ (ledgers_inside_send N h)
-
 ledgers_inside_sync : (N : RattleType) (h : Naming.Ghosts N.Denot) → IsSync (LedgersInside.the_row N h)
 ledgers_inside_sync N h =
     let L = LedgersInside.the_type N h in
@@ -85,10 +76,5 @@ module _ (D T N F : RattleType) (d : Disk.Ghosts D.Denot F.Denot) (t : Trace.Gho
   pub desk_sync : IsSync D → IsSync T → IsSync (Desk.the_row D T N F d t n)
   desk_sync x y = view_sync _ _ _ _ _ (inside_sync x y)
 
-  inside_send : IsSend D → IsSend T → IsSend (DeskInside.the_row D T N F d t n)
-  inside_send x y =
-      let I = DeskInside.the_type D T N F d t n in
-      let all : AllSend (fields I) = (core_send D F d x, (y, (ledgers_send N n, tt))) in recorded_send (Struct (shape I)) I.D I.to I.to_one (struct_send (shape I) all)
-
   pub desk_send : IsSend D → IsSend T → IsSend (Desk.the_row D T N F d t n)
-  desk_send x y = view_send _ _ _ _ _ (inside_send x y)
+  desk_send = the_send D T N F d t n

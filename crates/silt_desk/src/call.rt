@@ -1,6 +1,5 @@
 // A call at a desk, with its answer.
 ghost use Rattle.std.specs.Prelude.{◌≡◌, ℕ, List};
-ghost use Rattle.silt_event.specs.Events.{plain_refusal};
 ghost use Rattle.silt_store_set.specs.Replies.{get_reply};
 ghost use Rattle.silt_event.specs.declared.reply.Reply.TheVariants as reply_case;
 ghost use Rattle.silt_desk.specs.History.{accepted_by, is_recorded};
@@ -88,30 +87,11 @@ fn found(answer: Result<bool, Refusal<()>>, bytes: Vec<u8>) -> Reply<()>
 }
 
 /// An answer without its fault.
-pub fn plain<A: Copy, F>(answer: &Result<A, Refusal<F>>) -> Result<A, Refusal<()>>
+pub fn plain<A: Copy, F: Drop>(answer: &Result<A, Refusal<F>>) -> Result<A, Refusal<()>>
     ensures { result ≡ plain_answer answer.now }
 {
     match answer {
         Ok(answered) => Ok(*answered),
-        Err(refusal) => Err(without_fault(refusal)),
-    }
-}
-
-// A refusal without its fault.
-fn without_fault<F>(refusal: &Refusal<F>) -> Refusal<()>
-    ensures { result ≡ plain_refusal refusal.now }
-{
-    match refusal {
-        Refusal::NotFormatted => Refusal::NotFormatted,
-        Refusal::BadGeometry => Refusal::BadGeometry,
-        Refusal::Damaged(place) => Refusal::Damaged(*place),
-        Refusal::Crowded => Refusal::Crowded,
-        Refusal::Device(_) => Refusal::Device(()),
-        Refusal::NoMemory => Refusal::NoMemory,
-        Refusal::StoreFull => Refusal::StoreFull,
-        Refusal::NoRoom => Refusal::NoRoom,
-        Refusal::Failed => Refusal::Failed,
-        Refusal::Spent => Refusal::Spent,
-        Refusal::HistoryFull => Refusal::HistoryFull,
+        Err(refusal) => Err(refusal.plain()),
     }
 }

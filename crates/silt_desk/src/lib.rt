@@ -23,7 +23,7 @@ mod trace;
 mod wakes;
 mod worker;
 
-pub use call::{Note, RecordedCall};
+pub use call::{Note, RecordedCall, plain};
 pub use count::Count;
 pub use desk::{Desk, NotMade};
 pub use kept::Kept;
@@ -36,4 +36,6 @@ pub use silt_inbox::{
 };
 pub use trace::{NotPrepared, Trace};
 pub use wakes::Wakes;
-pub use worker::{Gate, Hears, Spot, Turn, Wake, convert_once, converter, merge_once, merger};
+pub use worker::{
+    Gate, Hears, OpenGate, Spot, Turn, Wake, convert_once, converter, merge_once, merger,
+};

@@ -43,6 +43,14 @@ pub trait Gate {
     fn pass(&self, spot: Spot);
 }
 
+/// A gate that is always open: who passes it waits for nothing but the store.
+#[derive(Drop)]
+pub struct OpenGate;
+
+impl Gate for OpenGate {
+    fn pass(&self, _spot: Spot) {}
+}
+
 /// What a worker does after a turn.
 #[derive(Clone, Copy, Debug, PartialEq, Eq)]
 pub enum Turn {

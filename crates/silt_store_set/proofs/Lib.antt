@@ -1,7 +1,6 @@
 pub mod Maps
 pub mod Calls
 pub mod Runs
-pub mod Shares
 pub mod Keeps
 pub mod Failures
 pub mod Openings

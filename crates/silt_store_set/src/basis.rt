@@ -2,16 +2,16 @@
 ghost use Rattle.std.specs.Prelude.{◌≡◌};
 ghost use Rattle.silt_store_set.specs.Basis.{basis_of};
 
+use crate::remembered::Remembered;
 use silt_disk::Disk;
 use silt_tiers::Tiers;
 use std::marker::Model;
-use std::snapshot::Snapshot;
 
 // The map that the images of a store stand for, and the commands that wait, as they were when it was taken. It has no bytes.
 #[derive(Drop)]
 pub struct Basis<D: Disk> {
-    disk: Snapshot<D>,
-    tiers: Snapshot<Tiers>,
+    disk: Remembered<D>,
+    tiers: Remembered<Tiers>,
 }
 
 impl<D: Disk> Model for Basis<D> {
@@ -32,8 +32,8 @@ impl<D: Disk> Basis<D> {
         ensures { result ≡ basis_of (D.content disk.now) tiers.now }
     {
         Basis {
-            disk: Snapshot::of(disk),
-            tiers: Snapshot::of(tiers),
+            disk: Remembered::of(disk),
+            tiers: Remembered::of(tiers),
         }
     }
 }

@@ -23,6 +23,8 @@ mod answerer;
 mod basis;
 mod laws;
 mod life;
+mod reading;
+mod remembered;
 mod replies;
 mod store_core;
 
@@ -30,6 +32,7 @@ pub use crate::store_core::{Core, OpenFault};
 pub use answerer::Served;
 pub use laws::failed_law;
 pub use life::lives;
+pub use reading::read_entries;
 pub use replies::{accepted, progressed};
 pub use silt_device::{FileDisk, MemDisk};
 pub use silt_disk::{BadGeometry, Disk, Geometry};

@@ -47,17 +47,17 @@ invariant_of-self g c =
     core_went [] (g.D.Disk.content c.self.inside.disk) (g.D.Disk.content c.merge.new.disk) c.self.inside.tiers c.merge.new.self c.self.inside.count c.self.inside.count c.self.inside.failed c.self.inside.basis c.self.invariant
     c.if-self.false c.merge.ensures.works.same c.in-Ok.ensures.works.advances (omega arith) c.self.invariant.count_most
 
-pub invariant_of-self-in-Read-1 : goal.invariant_of-self-in-Read-1
-invariant_of-self-in-Read-1 g c =
+pub invariant_of-self-in-Err-Read : goal.invariant_of-self-in-Err-Read
+invariant_of-self-in-Err-Read g c =
     let err = rw c.in-Err-Read.field-0-is at c.in-Err-Read.ensures.err in
     core_stays g.D.Disk.content c.self.inside.disk c.merge.new.disk c.self.inside.tiers c.merge.new.self c.self.inside.count c.self.inside.failed c.self.inside.basis c.self.invariant err.0 err.1
 
-pub invariant_of-self-in-Spent-1 : goal.invariant_of-self-in-Spent-1
-invariant_of-self-in-Spent-1 g c =
+pub invariant_of-self-in-Err-Spent : goal.invariant_of-self-in-Err-Spent
+invariant_of-self-in-Err-Spent g c =
     let err = rw c.in-Err-Spent.field-0-is at c.in-Err-Spent.ensures.err in
     core_stays g.D.Disk.content c.self.inside.disk c.merge.new.disk c.self.inside.tiers c.merge.new.self c.self.inside.count c.self.inside.failed c.self.inside.basis c.self.invariant err.0 err.1
 
-pub invariant_of-self-in-NoMemory-1 : goal.invariant_of-self-in-NoMemory-1
-invariant_of-self-in-NoMemory-1 g c =
+pub invariant_of-self-in-Err-NoMemory : goal.invariant_of-self-in-Err-NoMemory
+invariant_of-self-in-Err-NoMemory g c =
     let err = rw c.in-Err-NoMemory.field-0-is at c.in-Err-NoMemory.ensures.err in
     core_stays g.D.Disk.content c.self.inside.disk c.merge.new.disk c.self.inside.tiers c.merge.new.self c.self.inside.count c.self.inside.failed c.self.inside.basis c.self.invariant err.0 err.1

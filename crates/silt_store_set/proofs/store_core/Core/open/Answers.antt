@@ -1,4 +1,4 @@
-use Rattle.std.proofs.Common.{false, subst, sym}
+use Rattle.std.proofs.Common.{subst, sym}
 use Rattle.silt_recovery.specs.Opening.{held_stores}
 use Rattle.silt_standing.specs.State.{TiersState}
 use Rattle.silt_store_set.specs.CoreState.{Opens}

@@ -64,22 +64,22 @@ invariant_of-self g c =
     core_went (_ ∷ []) (g.D.Disk.content c.self.inside.disk) (g.D.Disk.content c.write.new.disk) c.self.inside.tiers c.write.new.self c.self.inside.count (c.self.inside.count + 1) c.self.inside.failed c.self.inside.basis
     c.self.invariant (may_working c.args.kind before may) c.write.ensures.works.same c.in-Ok.ensures.works.advances (omega arith) (may_count c.args.kind before may)
 
-pub invariant_of-self-in-Read-1 : goal.invariant_of-self-in-Read-1
-invariant_of-self-in-Read-1 g c =
+pub invariant_of-self-in-Err-Read : goal.invariant_of-self-in-Err-Read
+invariant_of-self-in-Err-Read g c =
     let err = rw c.in-Err-Read.field-0-is at c.in-Err-Read.ensures.err in
     core_stays g.D.Disk.content c.self.inside.disk c.write.new.disk c.self.inside.tiers c.write.new.self c.self.inside.count c.self.inside.failed c.self.inside.basis c.self.invariant err.0.0 err.0.1
 
-pub invariant_of-self-in-NoRoom-1 : goal.invariant_of-self-in-NoRoom-1
-invariant_of-self-in-NoRoom-1 g c =
+pub invariant_of-self-in-Err-NoRoom : goal.invariant_of-self-in-Err-NoRoom
+invariant_of-self-in-Err-NoRoom g c =
     let err = rw c.in-Err-NoRoom.field-0-is at c.in-Err-NoRoom.ensures.err in
     core_stays g.D.Disk.content c.self.inside.disk c.write.new.disk c.self.inside.tiers c.write.new.self c.self.inside.count c.self.inside.failed c.self.inside.basis c.self.invariant err.0.0 err.0.1
 
-pub invariant_of-self-in-Spent-1 : goal.invariant_of-self-in-Spent-1
-invariant_of-self-in-Spent-1 g c =
+pub invariant_of-self-in-Err-Spent : goal.invariant_of-self-in-Err-Spent
+invariant_of-self-in-Err-Spent g c =
     let err = rw c.in-Err-Spent.field-0-is at c.in-Err-Spent.ensures.err in
     core_stays g.D.Disk.content c.self.inside.disk c.write.new.disk c.self.inside.tiers c.write.new.self c.self.inside.count c.self.inside.failed c.self.inside.basis c.self.invariant err.0.0 err.0.1
 
-pub invariant_of-self-in-NoMemory-1 : goal.invariant_of-self-in-NoMemory-1
-invariant_of-self-in-NoMemory-1 g c =
+pub invariant_of-self-in-Err-NoMemory : goal.invariant_of-self-in-Err-NoMemory
+invariant_of-self-in-Err-NoMemory g c =
     let err = rw c.in-Err-NoMemory.field-0-is at c.in-Err-NoMemory.ensures.err in
     core_stays g.D.Disk.content c.self.inside.disk c.write.new.disk c.self.inside.tiers c.write.new.self c.self.inside.count c.self.inside.failed c.self.inside.basis c.self.invariant err.0.0 err.0.1

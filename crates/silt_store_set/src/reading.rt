@@ -1,0 +1,45 @@
+// What a store has, read from its device with no opening.
+ghost use Rattle.std.specs.Prelude.{IsTrue, IfOk, IfErr, OnOk};
+ghost use Rattle.silt_disk.specs.Disk.{GaveAny};
+ghost use Rattle.silt_image.specs.Meaning.{IsGood, image_map};
+ghost use Rattle.silt_recovery.specs.Refusals.{IsFound, IsRefusedLook};
+ghost use Rattle.silt_tiers.specs.Lookup.{AreEntriesOf};
+
+use silt_disk::Disk;
+use silt_frame::{Key, Value};
+use silt_recovery::{OpenError, examine};
+use silt_tiers::{EntriesError, Tiers};
+use std::alloc::Global;
+use std::collections::BTreeMap;
+
+/// All keys with their values, of the store that a device shows. It looks at the device as `check` does, and then reads each row and
+/// each entry once. It makes no write and no sync.
+///
+/// # Errors
+///
+/// As of `check`.
+pub fn read_entries<D: Disk>(
+    alloc: Global,
+    disk: &D,
+) -> Result<BTreeMap<Key, Value>, OpenError<D::Fault>>
+    ensures entries { IsTrue (D.content disk.now).honest → IfOk result (AreEntriesOf (image_map (D.content disk.now).shown)) }
+    ensures good { IsTrue (D.content disk.now).honest → OnOk result (IsGood (D.content disk.now).shown) }
+    ensures cause { IfErr result (IsRefusedLook
+        (λ finding. IsTrue (D.content disk.now).honest → IsFound (D.content disk.now).shown finding)
+        (GaveAny D.gave disk.now)) }
+{
+    let held = examine(alloc, disk)?;
+    let tiers = Tiers::new(
+        held.manifest,
+        held.active,
+        held.frozen,
+        held.hashes,
+        held.sorted,
+        held.charge,
+    );
+    match tiers.entries(alloc, disk) {
+        Ok(entries) => Ok(entries),
+        Err(EntriesError::Device(fault)) => Err(OpenError::Device(fault)),
+        Err(EntriesError::NoMemory) => Err(OpenError::NoMemory),
+    }
+}
