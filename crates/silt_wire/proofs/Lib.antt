@@ -1,5 +1,6 @@
 pub mod Answering
 pub mod Cuts
 pub mod Digits
+pub mod Http
 pub mod Statuses
 pub mod Streams

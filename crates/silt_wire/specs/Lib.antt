@@ -1,3 +1,4 @@
+pub mod Http
 pub mod Lines
 pub mod Numbers
 pub mod LineBuffer

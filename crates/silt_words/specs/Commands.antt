@@ -1,12 +1,14 @@
 -- The commands of the program, as clap reads them.
-use Rattle.std.specs.Prelude.{◌≡◌, ℕ, List, [], ◌∷◌, Option, Some, None, true, codes, ◌==◌, nat_le, if◌then◌else◌, option_map, option_and_then}
+use Rattle.std.specs.Prelude.{◌≡◌, ℕ, Bool, List, [], ◌∷◌, Option, Some, None, true, false, codes, ◌==◌, nat_le, if◌then◌else◌, option_map, option_and_then}
+use Rattle.std.specs.Option.{option_map_or}
 use Rattle.std.specs.Str.{bytes_eq}
 use Rattle.clap.specs.Words.{AddsSubcommand, App, Row, Rule, Text, app_of, Kinds, fault_of, first_of, new_app, new_rule, subcommand_of, with_rule, with_subcommand}
 use Rattle.clap.specs.declared.builder.Command.{Command}
-use Rattle.clap.specs.declared.builder.ArgAction.TheVariants.{Set}
+use Rattle.clap.specs.declared.builder.ArgAction.TheVariants.{Set, SetTrue}
 use Rattle.silt_wire.specs.Numbers.{number_of}
-use Rattle.silt_words.specs.Jobs.{Named, NamedService, format, script, run, check, serve}
+use Rattle.silt_words.specs.Jobs.{Named, NamedService, format, script, run, tend, check, dump, plan, serve}
 use Rattle.silt_words.specs.declared.job.Numbers.{Numbers}
+use Rattle.silt_words.specs.declared.job.PlanRequest.{PlanRequest}
 
 -- a value that has to be given
 abbrev pub value_rule : Text → Rule
@@ -16,8 +18,18 @@ value_rule name = record (new_rule name) { required = true; action = Some Set }
 abbrev pub option_rule : Text → Rule
 option_rule name = record (new_rule name) { long = Some name; action = Some Set }
 
+-- an option without a value, by its long name
+abbrev pub flag_rule : Text → Rule
+flag_rule name = record (new_rule name) { long = Some name; action = Some SetTrue }
+
 abbrev pub with_value : App → Text → App
 with_value app name = with_rule app (value_rule name)
+
+abbrev pub with_option : App → Text → App
+with_option app name = with_rule app (option_rule name)
+
+abbrev pub with_flag : App → Text → App
+with_flag app name = with_rule app (flag_rule name)
 
 abbrev pub with_file : App → App
 with_file app = with_value app (codes "FILE")
@@ -27,18 +39,36 @@ abbrev pub with_numbers : App → App
 with_numbers app =
     with_value (with_value (with_value (with_value (with_value (with_value app (codes "V")) (codes "B")) (codes "CAP")) (codes "NL")) (codes "NH")) (codes "S")
 
--- the command with two options
+-- the commands, each with its values and options
+abbrev pub format_app : App
+format_app = with_flag (with_numbers (with_file (new_app (codes "format")))) (codes "force")
+
+abbrev pub script_app : App
+script_app = with_numbers (new_app (codes "script"))
+
+abbrev pub run_app : App
+run_app = with_flag (with_file (new_app (codes "run"))) (codes "tend")
+
+abbrev pub tend_app : App
+tend_app = with_file (new_app (codes "tend"))
+
+abbrev pub check_app : App
+check_app = with_file (new_app (codes "check"))
+
+abbrev pub dump_app : App
+dump_app = with_file (new_app (codes "dump"))
+
+abbrev pub plan_app : App
+plan_app = with_option (with_value (with_value (new_app (codes "plan")) (codes "KEYS")) (codes "V")) (codes "memory")
+
 abbrev pub serve_app : App
-serve_app = with_rule (with_rule (with_value (with_file (new_app (codes "serve"))) (codes "PORT")) (option_rule (codes "audit"))) (option_rule (codes "sessions"))
+serve_app =
+    with_option (with_option (with_option (with_value (with_file (new_app (codes "serve"))) (codes "PORT")) (codes "audit")) (codes "sessions")) (codes "idle")
 
 -- the program
 abbrev pub silt : App
-silt = with_subcommand (with_subcommand (with_subcommand (with_subcommand (with_subcommand (new_app (codes "silt"))
-    (with_numbers (with_file (new_app (codes "format")))).top)
-    (with_numbers (new_app (codes "script"))).top)
-    (with_file (new_app (codes "run"))).top)
-    (with_file (new_app (codes "check"))).top)
-    serve_app.top
+silt = with_subcommand (with_subcommand (with_subcommand (with_subcommand (with_subcommand (with_subcommand (with_subcommand (with_subcommand (new_app (codes "silt"))
+    format_app.top) script_app.top) run_app.top) tend_app.top) check_app.top) dump_app.top) plan_app.top) serve_app.top
 
 -- the command joins others as this one
 abbrev pub JoinsAs : App → Command → Type 0
@@ -74,24 +104,38 @@ option_in rows name = number_given (first_of name rows)
 abbrev pub port_in : List Row → Option ℕ
 port_in rows = option_and_then (λ port. if nat_le port 65535 then Some port else None) (number_in rows (codes "PORT"))
 
--- the number of sessions that a server ends after: 0 says that it does not end
-abbrev pub sessions_in : List Row → Option (Option ℕ)
-sessions_in rows = option_map (option_and_then (λ sessions. if sessions == 0 then None else Some sessions)) (option_in rows (codes "sessions"))
+-- the number of an option that sets a limit: 0 says that there is none
+abbrev pub limit_in : List Row → Text → Option (Option ℕ)
+limit_in rows name = option_map (option_and_then (λ limit. if limit == 0 then None else Some limit)) (option_in rows name)
+
+-- whether an option without a value is given
+abbrev pub flag_in : List Row → Text → Bool
+flag_in rows name = option_map_or (λ text. bytes_eq text (codes "true")) (first_of name rows) false
 
 -- how a file is to be served
 abbrev pub service_in : List Row → Option NamedService
 service_in rows =
-    option_and_then (λ file. option_and_then (λ port. option_and_then (λ audit. option_map (λ sessions.
-    record { file = file; port = port; audit = audit; sessions = sessions })
-    (sessions_in rows)) (option_in rows (codes "audit"))) (port_in rows)) (file_in rows)
+    option_and_then (λ file. option_and_then (λ port. option_and_then (λ audit. option_and_then (λ sessions. option_map (λ idle.
+    record { file = file; port = port; audit = audit; sessions = sessions; idle = idle })
+    (limit_in rows (codes "idle"))) (limit_in rows (codes "sessions"))) (option_in rows (codes "audit"))) (port_in rows)) (file_in rows)
+
+-- what a store is to be planned for
+abbrev pub request_in : List Row → Option PlanRequest
+request_in rows =
+    option_and_then (λ keys. option_and_then (λ value_len. option_map (λ memory.
+    record { keys = keys; value_len = value_len; memory = memory })
+    (option_in rows (codes "memory"))) (number_in rows (codes "V"))) (number_in rows (codes "KEYS"))
 
 -- the job of the command that was met
 abbrev pub job_in : Text → List Row → Option Named
 job_in name rows =
-    if bytes_eq name (codes "format") then option_and_then (λ file. option_map (format file) (numbers_in rows)) (file_in rows)
+    if bytes_eq name (codes "format") then option_and_then (λ file. option_map (λ numbers. format file numbers (flag_in rows (codes "force"))) (numbers_in rows)) (file_in rows)
     else if bytes_eq name (codes "script") then option_map script (numbers_in rows)
-    else if bytes_eq name (codes "run") then option_map run (file_in rows)
+    else if bytes_eq name (codes "run") then option_map (λ file. run file (flag_in rows (codes "tend"))) (file_in rows)
+    else if bytes_eq name (codes "tend") then option_map tend (file_in rows)
     else if bytes_eq name (codes "check") then option_map check (file_in rows)
+    else if bytes_eq name (codes "dump") then option_map dump (file_in rows)
+    else if bytes_eq name (codes "plan") then option_map plan (request_in rows)
     else if bytes_eq name (codes "serve") then option_map serve (service_in rows)
     else None
 

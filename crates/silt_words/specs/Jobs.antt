@@ -1,8 +1,9 @@
 -- The jobs that the words of a command line may name.
-use Rattle.std.specs.Prelude.{ℕ, List, Option}
+use Rattle.std.specs.Prelude.{ℕ, Bool, List, Option}
 use Rattle.silt_words.specs.declared.job.Job.{Job}
-use Rattle.silt_words.specs.declared.job.Job.TheVariants.{Format, Script, Run, Check, Serve}
+use Rattle.silt_words.specs.declared.job.Job.TheVariants.{Format, Script, Run, Tend, Check, Dump, Plan, Serve}
 use Rattle.silt_words.specs.declared.job.Numbers.{Numbers}
+use Rattle.silt_words.specs.declared.job.PlanRequest.{PlanRequest}
 use Rattle.silt_words.specs.declared.job.Service.{Service}
 
 -- how a file is to be served, by the text of its name
@@ -11,23 +12,30 @@ pub record NamedService : Type 0 where
   pub port : ℕ
   pub audit : Option ℕ
   pub sessions : Option ℕ
+  pub idle : Option ℕ
 
 -- what a service is by that text
 abbrev pub named_service : Service → NamedService
-named_service service = record { file = service.file.now; port = service.port; audit = service.audit; sessions = service.sessions }
+named_service service = record { file = service.file.now; port = service.port; audit = service.audit; sessions = service.sessions; idle = service.idle }
 
 -- a job, by the text of its file's name
 pub data Named : Type 0 where
-  format : List ℕ → Numbers → Named
+  format : List ℕ → Numbers → Bool → Named
   script : Numbers → Named
-  run : List ℕ → Named
+  run : List ℕ → Bool → Named
+  tend : List ℕ → Named
   check : List ℕ → Named
+  dump : List ℕ → Named
+  plan : PlanRequest → Named
   serve : NamedService → Named
 
 -- what a job is by that text
 abbrev pub named : Job → Named
-named (Format file numbers) = format file.now numbers
+named (Format file numbers force) = format file.now numbers force
 named (Script numbers) = script numbers
-named (Run file) = run file.now
+named (Run file tending) = run file.now tending
+named (Tend file) = tend file.now
 named (Check file) = check file.now
+named (Dump file) = dump file.now
+named (Plan request) = plan request
 named (Serve service) = serve (named_service service)

@@ -1,7 +1,7 @@
 // The commands, as they are told to clap.
-ghost use Rattle.std.specs.Prelude.{◌≡◌, IfOk, IsOkAnd, false, codes};
+ghost use Rattle.std.specs.Prelude.{◌≡◌, IfOk, IsOkAnd, false};
 ghost use Rattle.clap.specs.Words.{AddsArg, AddsSubcommand, app_of, new_app, rule_of};
-ghost use Rattle.silt_words.specs.Commands.{JoinsAs, option_rule, serve_app, silt, value_rule, with_file, with_numbers};
+ghost use Rattle.silt_words.specs.Commands.{JoinsAs, check_app, dump_app, flag_rule, format_app, option_rule, plan_app, run_app, script_app, serve_app, silt, tend_app, value_rule, with_file};
 
 use clap::{Arg, ArgAction, Command};
 use std::alloc::{AllocError, Global};
@@ -22,6 +22,14 @@ fn option<'a>(alloc: Global, name: &'a str) -> Arg<'a>
     ensures local { result.global ≡ false }
 {
     Arg::new(alloc, name).long(name).action(ArgAction::Set)
+}
+
+// An option without a value, by its long name.
+fn flag<'a>(alloc: Global, name: &'a str) -> Arg<'a>
+    ensures rule { rule_of result ≡ flag_rule name.entry.now }
+    ensures local { result.global ≡ false }
+{
+    Arg::new(alloc, name).long(name).action(ArgAction::SetTrue)
 }
 
 // A command with a file as its value.
@@ -45,8 +53,15 @@ fn add_option<'a>(made: Made<'a>, alloc: Global, name: &'a str) -> Made<'a>
     made?.arg(option(alloc, name))
 }
 
+// What was made so far, with one more flag.
+fn add_flag<'a>(made: Made<'a>, alloc: Global, name: &'a str) -> Made<'a>
+    ensures { IfOk result (λ new. IsOkAnd made.entry (λ old. (arg : _) × (rule_of arg ≡ flag_rule name.entry.now) × (arg.global ≡ false) × AddsArg old arg new)) }
+{
+    made?.arg(flag(alloc, name))
+}
+
 fn format<'a>(alloc: Global) -> Result<Command<'a>, AllocError>
-    ensures { IfOk result (JoinsAs (with_numbers (with_file (new_app (codes "format"))))) }
+    ensures { IfOk result (JoinsAs format_app) }
 {
     let with_file = add_value(Ok(Command::new(alloc, "format")), alloc, "FILE");
     let with_v = add_value(with_file, alloc, "V");
@@ -54,11 +69,12 @@ fn format<'a>(alloc: Global) -> Result<Command<'a>, AllocError>
     let with_cap = add_value(with_b, alloc, "CAP");
     let with_nl = add_value(with_cap, alloc, "NL");
     let with_nh = add_value(with_nl, alloc, "NH");
-    add_value(with_nh, alloc, "S")
+    let with_s = add_value(with_nh, alloc, "S");
+    add_flag(with_s, alloc, "force")
 }
 
 fn script<'a>(alloc: Global) -> Result<Command<'a>, AllocError>
-    ensures { IfOk result (JoinsAs (with_numbers (new_app (codes "script")))) }
+    ensures { IfOk result (JoinsAs script_app) }
 {
     let with_v = add_value(Ok(Command::new(alloc, "script")), alloc, "V");
     let with_b = add_value(with_v, alloc, "B");
@@ -68,13 +84,29 @@ fn script<'a>(alloc: Global) -> Result<Command<'a>, AllocError>
     add_value(with_nh, alloc, "S")
 }
 
+fn run<'a>(alloc: Global) -> Result<Command<'a>, AllocError>
+    ensures { IfOk result (JoinsAs run_app) }
+{
+    let with_file = add_value(Ok(Command::new(alloc, "run")), alloc, "FILE");
+    add_flag(with_file, alloc, "tend")
+}
+
+fn plan<'a>(alloc: Global) -> Result<Command<'a>, AllocError>
+    ensures { IfOk result (JoinsAs plan_app) }
+{
+    let with_keys = add_value(Ok(Command::new(alloc, "plan")), alloc, "KEYS");
+    let with_v = add_value(with_keys, alloc, "V");
+    add_option(with_v, alloc, "memory")
+}
+
 fn serve<'a>(alloc: Global) -> Result<Command<'a>, AllocError>
     ensures { IfOk result (JoinsAs serve_app) }
 {
     let with_file = add_value(Ok(Command::new(alloc, "serve")), alloc, "FILE");
     let with_port = add_value(with_file, alloc, "PORT");
     let with_audit = add_option(with_port, alloc, "audit");
-    add_option(with_audit, alloc, "sessions")
+    let with_sessions = add_option(with_audit, alloc, "sessions");
+    add_option(with_sessions, alloc, "idle")
 }
 
 // The command with one more below it, where that one was made.
@@ -93,7 +125,10 @@ pub fn command<'a>(alloc: Global) -> Result<Command<'a>, AllocError>
 {
     let with_format = add_command(Command::new(alloc, "silt"), format(alloc))?;
     let with_script = add_command(with_format, script(alloc))?;
-    let with_run = add_command(with_script, on_file(alloc, "run"))?;
-    let with_check = add_command(with_run, on_file(alloc, "check"))?;
-    add_command(with_check, serve(alloc))
+    let with_run = add_command(with_script, run(alloc))?;
+    let with_tend = add_command(with_run, on_file(alloc, "tend"))?;
+    let with_check = add_command(with_tend, on_file(alloc, "check"))?;
+    let with_dump = add_command(with_check, on_file(alloc, "dump"))?;
+    let with_plan = add_command(with_dump, plan(alloc))?;
+    add_command(with_plan, serve(alloc))
 }

@@ -22,19 +22,51 @@ pub struct Service<'a> {
     pub audit: Option<u32>,
     /// How many sessions the server ends after, at least one, where it ends.
     pub sessions: Option<u32>,
+    /// After how many seconds a silent connection is closed, at least one, if it ever is.
+    pub idle: Option<u32>,
+}
+
+/// What a store is to be planned for.
+#[derive(Clone, Copy, Debug, PartialEq, Eq)]
+pub struct PlanRequest {
+    /// How many keys have values at one time.
+    pub keys: u32,
+    /// The bytes of a value.
+    pub value_len: u32,
+    /// The bytes of memory that the store may take, if they are limited.
+    pub memory: Option<u32>,
 }
 
 /// What the words ask for.
 #[derive(Clone, Copy, Debug)]
 pub enum Job<'a> {
-    /// Makes an empty store in a file.
-    Format { file: &'a str, numbers: Numbers },
+    /// Makes an empty store in a file. With `force` the file may hold anything.
+    Format {
+        file: &'a str,
+        numbers: Numbers,
+        force: bool,
+    },
     /// Answers lines over a new store in memory.
     Script(Numbers),
-    /// Answers lines over the store in a file.
-    Run { file: &'a str },
+    /// Answers lines over the store in a file. With `tend` it does the background work between them.
+    Run {
+        file: &'a str,
+        tend: bool,
+    },
+    /// Does all background work that is due in the store in a file.
+    Tend {
+        file: &'a str,
+    },
     /// Tells what the store in a file consists of.
-    Check { file: &'a str },
+    Check {
+        file: &'a str,
+    },
+    /// Prints a line for each key that has a value, which puts it.
+    Dump {
+        file: &'a str,
+    },
+    /// Prints the numbers of a store for so many keys.
+    Plan(PlanRequest),
     /// Answers the sessions of a port over the store in a file.
     Serve(Service<'a>),
 }

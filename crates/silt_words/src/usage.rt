@@ -7,22 +7,30 @@ use std::fmt;
 pub const VERSION: &str = "0.1.0";
 
 /// The forms of all jobs, with what each value may be.
-pub const FORMS: &str =
-    "silt format FILE V B CAP NL NH S                 makes an empty store in a file
-silt run FILE                                    answers the lines of the standard input
-silt check FILE                                  tells what the store in a file consists of
-silt script V B CAP NL NH S                      runs the lives of the standard input in memory
-silt serve FILE PORT [--audit N] [--sessions M]  answers the lines of a port's connections
+pub const FORMS: &str = "silt format FILE V B CAP NL NH S [--force]  makes an empty store in a file
+silt run FILE [--tend]                      replies to the lines of the standard input
+silt tend FILE                              does all background work that is due
+silt check FILE                             prints what the store in a file consists of
+silt dump FILE                              prints a line for each key that puts its value
+silt plan KEYS V [--memory BYTES]           prints the six numbers of a store for so many keys
+silt script V B CAP NL NH S                 runs the lives of the standard input in memory
+silt serve FILE PORT [OPTION]...            replies to the lines of a port's connections
 
-V    bytes of a value, 1 to 4096
-B    buckets of a log's table, a power of two, 2 to 32768
-CAP  rows of a log, 1 to 4 times B
-NL   log regions, 2 to 8
-NH   hash regions, 1 to 16
-S    put rows of the store, and entries of a sorted region, 1 to 16777216
-PORT a port of this machine, at most 65535; 0 lets the system choose
-N    calls that are recorded, at most 4294967295
-M    sessions to serve, at most 4294967295; 0 has no end
+V     bytes of a value, 1 to 4096
+B     buckets of a log's table, a power of two, 2 to 32768
+CAP   rows of a log, 1 to 4 times B
+NL    log regions, 2 to 8
+NH    hash regions, 1 to 16
+S     put rows of the store, and entries of a sorted region, 1 to 16777216
+KEYS  keys that have values at one time
+PORT  a port of this machine, at most 65535; 0 lets the system choose
+
+--force           formats a file that holds other data; they are lost
+--tend            converts and merges between the lines, as long as work is due
+--memory BYTES    what the store may take of memory, merge included
+--audit N         records up to N calls in memory and refuses all later ones; the record is not printed
+--sessions M      ends after M sessions; 0 has no end
+--idle SECONDS    closes a connection that sends nothing for so long; 0 never does
 ";
 
 /// What is wrong with words that name no job.
@@ -38,6 +46,10 @@ pub enum Complaint<'a> {
     TooMany(&'a str),
     /// There is no such option, or it stands where none may stand.
     UnknownOption(&'a str),
+    /// No number comes behind this option.
+    LacksNumber(&'a str),
+    /// This option is given a second time.
+    Twice(&'a str),
     /// The word for this value is no number, or one that is too great.
     NoNumber { name: &'a str, word: &'a str },
 }
@@ -50,9 +62,36 @@ impl fmt::Display for Complaint<'_> {
             Complaint::Missing(name) => write!(f, "{name} is missing"),
             Complaint::TooMany(word) => write!(f, "'{word}' is one word too many"),
             Complaint::UnknownOption(word) => write!(f, "'{word}' is no option here"),
-            Complaint::NoNumber { name, word } => write!(f, "{name} cannot be '{word}'"),
+            Complaint::LacksNumber(name) => write!(f, "{name} needs a number behind it"),
+            Complaint::Twice(name) => write!(f, "{name} is given twice"),
+            Complaint::NoNumber { name, word } => {
+                write!(
+                    f,
+                    "{name} cannot be '{word}': {}",
+                    why_no_number(name, word)
+                )
+            }
         }
     }
+}
+
+// Why a word cannot be the number of this name.
+fn why_no_number(name: &str, word: &str) -> &'static str {
+    if !word.is_empty() && word.bytes().all(|byte| byte.is_ascii_digit()) {
+        if name == "PORT" {
+            return "a port is at most 65535";
+        }
+        return "a number has at most ten digits, and is at most 4294967295";
+    }
+    if !word.is_empty() && word.bytes().all(is_digit_or_separator) {
+        return "a number is written without separators";
+    }
+    "a number is written in digits alone"
+}
+
+// Whether a byte is a digit, or divides digits in a number that people write.
+fn is_digit_or_separator(byte: u8) -> bool {
+    byte.is_ascii_digit() || matches!(byte, b'_' | b',' | b'.' | b'\'')
 }
 
 /// Whether the words, of which the first is the program's own, ask for the version.
@@ -67,60 +106,188 @@ pub fn complaint_of(words: &[String]) -> Option<Complaint<'_>> {
     let Some(job) = words.get(1) else {
         return Some(Complaint::NoJob);
     };
-    match job.as_str() {
-        "--help" | "-h" | "--version" | "-V" | "help" => None,
-        "format" => values_complaint(words, &["FILE", "V", "B", "CAP", "NL", "NH", "S"]),
-        "script" => values_complaint(words, &["V", "B", "CAP", "NL", "NH", "S"]),
-        "run" | "check" => values_complaint(words, &["FILE"]),
-        "serve" => values_complaint(words, &["FILE", "PORT"]),
-        job => Some(Complaint::UnknownJob(job)),
+    if matches!(job.as_str(), "--version" | "-V" | "help") || asks_help(words) {
+        return None;
+    }
+    match form_of(job) {
+        Some(form) => form_complaint(form, words),
+        None => Some(Complaint::UnknownJob(job)),
     }
 }
 
-// What is wrong with the words behind the job's, which are to be these values, and for a service its options.
-fn values_complaint<'a>(words: &'a [String], names: &[&'a str]) -> Option<Complaint<'a>> {
-    let mut place = 0;
-    let mut awaited = None;
-    for word in words.iter().skip(2) {
-        let word = word.as_str();
-        let name = match awaited {
-            Some(name) => {
-                awaited = None;
-                name
-            }
-            None if word == "--help" || word == "-h" => return None,
-            None if word.len() > 1 && word.starts_with('-') => {
-                match option_named(word, names.len() == 2) {
-                    Some(name) => awaited = Some(name),
-                    None => return Some(Complaint::UnknownOption(word)),
-                }
-                continue;
-            }
-            None => {
-                let Some(name) = names.get(place) else {
-                    return Some(Complaint::TooMany(word));
-                };
-                place += 1;
-                *name
-            }
-        };
-        if !is_value(name, word) {
-            return Some(Complaint::NoNumber { name, word });
+// Whether one of the words before the first word `--` asks for help.
+fn asks_help(words: &[String]) -> bool {
+    for word in words.iter().skip(1) {
+        match word.as_str() {
+            "--help" | "-h" => return true,
+            "--" => return false,
+            _ => {}
         }
     }
-    match awaited {
-        Some(name) => Some(Complaint::Missing(name)),
-        None => names.get(place).map(|name| Complaint::Missing(*name)),
+    false
+}
+
+/// An option of a job.
+#[derive(Clone, Copy, Debug)]
+struct Choice {
+    name: &'static str,
+    has_number: bool,
+}
+
+/// What may stand behind the word for a job: its values in order, and its options, at most three.
+#[derive(Clone, Copy, Debug)]
+struct Form {
+    values: &'static [&'static str],
+    options: &'static [Choice],
+}
+
+const FORCE: Choice = Choice {
+    name: "--force",
+    has_number: false,
+};
+
+const TEND: Choice = Choice {
+    name: "--tend",
+    has_number: false,
+};
+
+const MEMORY: Choice = Choice {
+    name: "--memory",
+    has_number: true,
+};
+
+const AUDIT: Choice = Choice {
+    name: "--audit",
+    has_number: true,
+};
+
+const SESSIONS: Choice = Choice {
+    name: "--sessions",
+    has_number: true,
+};
+
+const IDLE: Choice = Choice {
+    name: "--idle",
+    has_number: true,
+};
+
+// What may stand behind this word for a job.
+fn form_of(job: &str) -> Option<Form> {
+    let (values, options): (&'static [&'static str], &'static [Choice]) = match job {
+        "format" => (&["FILE", "V", "B", "CAP", "NL", "NH", "S"], &[FORCE]),
+        "script" => (&["V", "B", "CAP", "NL", "NH", "S"], &[]),
+        "run" => (&["FILE"], &[TEND]),
+        "tend" | "check" | "dump" => (&["FILE"], &[]),
+        "plan" => (&["KEYS", "V"], &[MEMORY]),
+        "serve" => (&["FILE", "PORT"], &[AUDIT, SESSIONS, IDLE]),
+        _ => return None,
+    };
+    Some(Form { values, options })
+}
+
+// What is wrong with the words behind the job's, which are to have this form.
+fn form_complaint(form: Form, words: &[String]) -> Option<Complaint<'_>> {
+    let mut walk = Walk::new(form);
+    for word in words.iter().skip(2) {
+        if let Some(complaint) = walk.take(word) {
+            return Some(complaint);
+        }
+    }
+    walk.missing()
+}
+
+/// A walk over the words behind a job's.
+#[derive(Drop)]
+struct Walk {
+    form: Form,
+    /// How many values were met.
+    place: usize,
+    /// The option whose number is the next word.
+    awaited: Option<&'static str>,
+    /// Which options of the form were met.
+    met: [bool; 3],
+    /// Whether the word `--` was met, behind which every word is a value.
+    is_past_options: bool,
+}
+
+impl Walk {
+    fn new(form: Form) -> Walk {
+        Walk {
+            form,
+            place: 0,
+            awaited: None,
+            met: [false; 3],
+            is_past_options: false,
+        }
+    }
+
+    // What is wrong with the next word.
+    fn take<'a>(&mut self, word: &'a str) -> Option<Complaint<'a>> {
+        let is_option = word.len() > 1 && word.starts_with('-');
+        match self.awaited.take() {
+            Some(name) if is_option => Some(Complaint::LacksNumber(name)),
+            Some(name) => value_complaint(name, word),
+            None if is_option && !self.is_past_options => self.take_option(word),
+            None => self.take_value(word),
+        }
+    }
+
+    fn take_value<'a>(&mut self, word: &'a str) -> Option<Complaint<'a>> {
+        let Some(name) = self.form.values.get(self.place) else {
+            return Some(Complaint::TooMany(word));
+        };
+        self.place += 1;
+        value_complaint(*name, word)
+    }
+
+    fn take_option<'a>(&mut self, word: &'a str) -> Option<Complaint<'a>> {
+        if word == "--" {
+            self.is_past_options = true;
+            return None;
+        }
+        let (name, number) = match word.split_once('=') {
+            Some((name, number)) => (name, Some(number)),
+            None => (word, None),
+        };
+        for (option, met) in self.form.options.iter().zip(self.met.iter_mut()) {
+            if option.name != name {
+                continue;
+            }
+            if *met {
+                return Some(Complaint::Twice(option.name));
+            }
+            *met = true;
+            return match number {
+                Some(number) if option.has_number => value_complaint(option.name, number),
+                Some(_) => Some(Complaint::UnknownOption(word)),
+                None => {
+                    self.awaited = option.has_number.then_some(option.name);
+                    None
+                }
+            };
+        }
+        Some(Complaint::UnknownOption(word))
+    }
+
+    // What is missing behind the last word.
+    fn missing(&self) -> Option<Complaint<'static>> {
+        match self.awaited {
+            Some(name) => Some(Complaint::LacksNumber(name)),
+            None => self
+                .form
+                .values
+                .get(self.place)
+                .map(|name| Complaint::Missing(*name)),
+        }
     }
 }
 
-// The option of a service that a word names, whose value is the next word.
-fn option_named(word: &str, is_service: bool) -> Option<&'static str> {
-    match word {
-        "--audit" if is_service => Some("--audit"),
-        "--sessions" if is_service => Some("--sessions"),
-        _ => None,
+// What is wrong with a word as the value of this name.
+fn value_complaint<'a>(name: &'static str, word: &'a str) -> Option<Complaint<'a>> {
+    if is_value(name, word) {
+        return None;
     }
+    Some(Complaint::NoNumber { name, word })
 }
 
 // Whether a word may be the value of this name.

@@ -1,12 +1,12 @@
 // The words of the command line.
 ghost use Rattle.std.specs.Prelude.{◌≡◌, Some, None, MatchResult, map, option_map, string_bytes};
 ghost use Rattle.clap.specs.Words.{found_of, rows_of, subcommand_rows_of};
-ghost use Rattle.silt_words.specs.Commands.{file_in, job_in, job_met, job_named, number_in, numbers_in, option_in, port_in, service_in, sessions_in};
+ghost use Rattle.silt_words.specs.Commands.{file_in, flag_in, job_in, job_met, job_named, limit_in, number_in, numbers_in, option_in, port_in, request_in, service_in};
 ghost use Rattle.silt_words.specs.Jobs.{named, named_service};
 ghost use Rattle.silt_words.specs.declared.job.WordsError.TheVariants.{Usage};
 
 use crate::command::command;
-use crate::job::{Job, Numbers, Service, WordsError};
+use crate::job::{Job, Numbers, PlanRequest, Service, WordsError};
 use clap::ArgMatches;
 use clap::error::ErrorKind;
 use silt_wire::number_of;
@@ -53,13 +53,23 @@ fn option_at(matches: &ArgMatches<'_>, name: &str) -> Option<Option<u32>>
     }
 }
 
-// After how many sessions the server is to end, which 0 says of none.
-fn sessions_of(matches: &ArgMatches<'_>) -> Option<Option<u32>>
-    ensures { result ≡ sessions_in (rows_of (found_of matches.now)) }
+// The number of an option that sets a limit, which 0 says there is none of.
+fn limit_at(matches: &ArgMatches<'_>, name: &str) -> Option<Option<u32>>
+    ensures { result ≡ limit_in (rows_of (found_of matches.now)) name.now }
 {
-    match option_at(matches, "sessions")? {
+    match option_at(matches, name)? {
         Some(0) => Some(None),
-        sessions => Some(sessions),
+        limit => Some(limit),
+    }
+}
+
+// Whether an option without a value is given.
+fn is_given(matches: &ArgMatches<'_>, name: &str) -> bool
+    ensures { result ≡ flag_in (rows_of (found_of matches.now)) name.now }
+{
+    match matches.get_str(name) {
+        Some(text) => text == "true",
+        None => false,
     }
 }
 
@@ -70,7 +80,18 @@ fn service_of<'a>(matches: &ArgMatches<'a>) -> Option<Service<'a>>
         file: file_of(matches)?,
         port: port_of(matches)?,
         audit: option_at(matches, "audit")?,
-        sessions: sessions_of(matches)?,
+        sessions: limit_at(matches, "sessions")?,
+        idle: limit_at(matches, "idle")?,
+    })
+}
+
+fn request_of(matches: &ArgMatches<'_>) -> Option<PlanRequest>
+    ensures { result ≡ request_in (rows_of (found_of matches.now)) }
+{
+    Some(PlanRequest {
+        keys: number_at(matches, "KEYS")?,
+        value_len: number_at(matches, "V")?,
+        memory: option_at(matches, "memory")?,
     })
 }
 
@@ -78,18 +99,26 @@ fn job_of<'a>(name: &str, matches: &ArgMatches<'a>) -> Option<Job<'a>>
     ensures { option_map named result ≡ job_in name.now (rows_of (found_of matches.now)) }
 {
     match name {
-        "format" => {
-            let file = file_of(matches)?;
-            let numbers = numbers_of(matches)?;
-            Some(Job::Format { file, numbers })
-        }
+        "format" => Some(Job::Format {
+            file: file_of(matches)?,
+            numbers: numbers_of(matches)?,
+            force: is_given(matches, "force"),
+        }),
         "script" => Some(Job::Script(numbers_of(matches)?)),
         "run" => Some(Job::Run {
+            file: file_of(matches)?,
+            tend: is_given(matches, "tend"),
+        }),
+        "tend" => Some(Job::Tend {
             file: file_of(matches)?,
         }),
         "check" => Some(Job::Check {
             file: file_of(matches)?,
         }),
+        "dump" => Some(Job::Dump {
+            file: file_of(matches)?,
+        }),
+        "plan" => Some(Job::Plan(request_of(matches)?)),
         "serve" => Some(Job::Serve(service_of(matches)?)),
         _ => None,
     }

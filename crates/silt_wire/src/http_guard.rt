@@ -1,0 +1,145 @@
+// A session for a client, which answers no HTTP request. A web page can make a browser send one to a port of its own machine, and each
+// line of its body would be a line of ours.
+ghost use Rattle.std.specs.Prelude.{◌≡◌, true, ◌≤◌, ◌<◌, ◌++◌, ℕ, List, Option, [], IfSome, length, take};
+ghost use Rattle.std.specs.Io.KnownBytes.{Appends};
+ghost use Rattle.silt_wire.specs.Http.{Guards, IsHttp, guard_remaining, handed_on, is_passed, is_refused, line_after, open_after};
+ghost use Rattle.silt_wire.specs.Sessions.{Ends};
+
+use crate::sessions::{SessionEnd, session};
+use silt_event::Answerer;
+use std::alloc::Global;
+use std::io::{self, Read, Write};
+
+/// The first line of an HTTP request has these bytes. No line that asks for something has them, as no key and no value begins so.
+const MARK: [u8; 6] = *b" HTTP/";
+
+/// What is known of the first line of a client.
+#[derive(Clone, Copy)]
+pub enum FirstLine {
+    /// It goes on, and ends in so many bytes of the mark so far.
+    Open(usize),
+    /// It has ended without the mark.
+    Passed,
+    /// It has the mark.
+    Refused,
+}
+
+impl FirstLine {
+    // What is known after one more byte.
+    fn after(self, byte: u8) -> FirstLine
+        ensures { result ≡ line_after self byte }
+    {
+        match self {
+            FirstLine::Open(matched) => open_after(matched, byte),
+            FirstLine::Passed => FirstLine::Passed,
+            FirstLine::Refused => FirstLine::Refused,
+        }
+    }
+
+    fn is_refused(self) -> bool
+        ensures { result ≡ is_refused self }
+    {
+        matches!(self, FirstLine::Refused)
+    }
+
+    fn is_passed(self) -> bool
+        ensures { result ≡ is_passed self }
+    {
+        matches!(self, FirstLine::Passed)
+    }
+}
+
+// What is known of a first line that ended in so many bytes of the mark, after one more byte.
+fn open_after(matched: usize, byte: u8) -> FirstLine
+    ensures { result ≡ open_after matched byte }
+{
+    if byte == b'\n' {
+        return FirstLine::Passed;
+    }
+    if byte == b' ' {
+        return FirstLine::Open(1);
+    }
+    if matched >= MARK.len() || byte != MARK[matched] {
+        return FirstLine::Open(0);
+    }
+    if matched == 5 {
+        FirstLine::Refused
+    } else {
+        FirstLine::Open(matched + 1)
+    }
+}
+
+// What is known after these bytes, and how many of them are handed on.
+fn look_through(line: FirstLine, bytes: &[u8]) -> (FirstLine, usize)
+    ensures given { (rest : List ℕ) → handed_on line (bytes.now ++ rest) ≡ take result.1 bytes.now ++ handed_on result.0 rest }
+    ensures count { result.1 ≤ length bytes.now }
+    ensures none { result.1 ≡ 0 → 0 < length bytes.now → is_refused result.0 ≡ true }
+{
+    if line.is_passed() {
+        return (line, bytes.len());
+    }
+    let mut line = line;
+    for at in 0..bytes.len() {
+        line = line.after(bytes[at]);
+        if line.is_refused() {
+            return (line, at);
+        }
+    }
+    (line, bytes.len())
+}
+
+/// Hands on what a reader gives, but ends at an HTTP request, before any line of it has ended.
+#[derive(Drop)]
+pub(crate) struct HttpGuard<R> {
+    inner: R,
+    line: FirstLine,
+}
+
+impl<R: Read> HttpGuard<R> {
+    ghost use Rattle.silt_wire.specs.Http.{Guards, guard_remaining};
+
+    // In front of a reader that has given nothing yet.
+    fn new(inner: R) -> HttpGuard<R>
+        ensures { Guards (R.remaining inner) (guard_remaining R.remaining result) }
+    {
+        HttpGuard {
+            inner,
+            line: FirstLine::Open(0),
+        }
+    }
+}
+
+impl<R: Read> Read for HttpGuard<R> {
+    ghost use Rattle.silt_wire.specs.Http.{guard_remaining};
+
+    ghost remaining = { guard_remaining R.remaining };
+
+    fn read(&mut self, buf: &mut [u8]) -> io::Result<usize> {
+        if self.line.is_refused() {
+            return Ok(0);
+        }
+        let count = self.inner.read(buf)?;
+        let (line, given) = look_through(self.line, &buf[..count]);
+        self.line = line;
+        Ok(given)
+    }
+}
+
+/// Answers the lines of a client as `session` does. Of an HTTP request it answers no line, writes nothing, and ends at the first line.
+pub fn client_session<A: Answerer, R: Read + Drop, W: Write>(
+    alloc: Global,
+    value_len: usize,
+    reader: R,
+    writer: &mut W,
+    answerer: &mut A,
+) -> SessionEnd
+    requires { A.value_len answerer.old ≡ value_len }
+    ensures ends { (given : Option (List ℕ)) × (left : Option (List ℕ)) × Guards (R.remaining reader) given
+        × Ends A.answers result value_len
+        (record { answerer = answerer.old; remaining = given; contents = W.contents writer.old })
+        (record { answerer = answerer.new; remaining = left; contents = W.contents writer.new }) }
+    ensures http { IfSome (R.remaining reader) (λ bytes. IsHttp bytes → (answerer.new ≡ answerer.old) × Appends (W.contents writer.old) (W.contents writer.new) []) }
+{
+    let mut guard = HttpGuard::new(reader);
+    session(alloc, value_len, &mut guard, writer, answerer)
+}
