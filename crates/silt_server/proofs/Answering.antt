@@ -1,10 +1,10 @@
 -- Replies to gets, and the text of a want of memory.
-use Rattle.std.proofs.Common.{◌≡◌, ◌⊎◌, ℕ, ◌%◌, ◌^◌, Option, Some, None, List, [], ◌∷◌, ◌++◌, ap, arith, codes, inl, inr, subst, sym}
+use Rattle.std.proofs.Common.{◌≡◌, ◌⊎◌, ℕ, ◌%◌, ◌^◌, Option, Some, None, List, [], ◌∷◌, ◌++◌, ap, arith, codes, inl, inr, refl, subst, sym, take, drop, take-append-drop}
 use Rattle.std.specs.Prelude.{IfOk, IfSome, OnOk, Result, Ok, Err}
-use Rattle.silt_wire.proofs.Streams.{Appends-append}
+use Rattle.silt_wire.proofs.Streams.{Appends-append, Appends-keeps, Appends-none}
 use Rattle.silt_server.specs.Serving.{BreaksServing, TellsCalls, TellsServed, head_text, network_text, no_memory_text}
 use Rattle.std.proofs.lemmas.Fmt.{decimal_digit}
-use Rattle.std.specs.Io.KnownBytes.{Appends}
+use Rattle.std.specs.Io.KnownBytes.{Appends, WriteAppends}
 use Rattle.silt_disk.specs.declared.disk.Disk.{Ghosts}
 use Rattle.silt_frame.specs.declared.key.Key.{Key}
 use Rattle.silt_event.specs.Events.{PlainReply}
@@ -13,6 +13,7 @@ use Rattle.silt_event.specs.declared.refusal.Refusal.{Refusal}
 use Rattle.silt_event.specs.declared.refusal.Refusal.TheVariants.{NoMemory}
 use Rattle.silt_store_set.specs.CoreState.{CoreState}
 use Rattle.silt_server.specs.Sessions.{AnswersGet, IsAnswer}
+use Rattle.silt_wire.specs.Sessions.{IsBeginning}
 use Rattle.silt_server.specs.Texts.{calls_text, listening_text, refused_text}
 
 module _ {D F : Type 0} (facts : Ghosts D F) where
@@ -54,6 +55,12 @@ served_written {T} {X} {E} has_port counts old new port before mid after head x 
       subst (λ (t : T). counts t told.0 told.1) (sym same) told.2,
       Appends-append before mid after (head_text port) (calls_text (told.0 % 2 ^ 64)) first told.3,
     )
+
+-- one write took a beginning of a text, or nothing
+pub wrote_some : {E : Type 0} (result : Result ℕ E) (text : List ℕ) (before after : Option (List ℕ)) → WriteAppends before after result text
+    → (written : List ℕ) × IsBeginning written text × Appends before after written
+wrote_some (Ok n) text before after wrote = (take n text, (drop n text, take-append-drop n text), wrote)
+wrote_some (Err e) text before after kept = ([], (text, refl), Appends-keeps before before after [] (Appends-none before) kept)
 
 -- ---- a server that did not serve to its end
 

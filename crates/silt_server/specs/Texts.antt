@@ -9,6 +9,10 @@ use Rattle.silt_wire.specs.Replies.{reply_text}
 abbrev pub listening_text : ℕ → List ℕ
 listening_text port = codes "listening " ++ (decimal port ++ codes "\n")
 
+-- why a connection is closed that finds all places taken: no reply begins so
+abbrev pub busy_text : List ℕ
+busy_text = codes "busy: 64 connections are served already\n"
+
 -- how many calls are recorded
 abbrev pub calls_text : ℕ → List ℕ
 calls_text calls = codes "calls " ++ (decimal calls ++ codes "\n")

@@ -1,17 +1,15 @@
 // Connections, each served in a thread of its own.
-ghost use Rattle.std.specs.Prelude.{◌≡◌, ◌≤◌, IfOk};
+ghost use Rattle.std.specs.Prelude.{◌≡◌, ◌<◌, ◌≤◌, length, IfOk, IfSome};
 
-use crate::answers::answer;
 use crate::client::{AskBy, Asking, Client};
 use crate::entrance::{Entrance, Listens};
-use crate::job::Job;
+use crate::limits::{Limits, limit_silence};
 use crate::outlet::Outlet;
 use crate::places::{Place, free_place};
-use silt_desk::{Naming, Shared, Trace};
-use silt_disk::Disk;
+use crate::written::turn_away;
 use silt_event::{Event, Reply};
-use silt_inbox::{Inbox, Post};
-use silt_wire::{SessionEnd, session};
+use silt_inbox::Post;
+use silt_wire::{SessionEnd, client_session};
 use std::alloc::Global;
 use std::io::{self, ErrorKind};
 use std::net::TcpStream;
@@ -28,31 +26,64 @@ fn is_passing(kind: ErrorKind) -> bool {
     )
 }
 
-// Serves so many sessions, or without end at 0, each in a thread and a place of its own, and returns when all have ended. A connection
-// for which there is no place, or no thread, is closed and not counted. `serve` serves the connection of the place with a number.
-fn accept_sessions<
+// Writes to a connection that there is no place for it. The listener waits for no client: what the system does not take at once is not
+// written.
+fn turn_connection_away(stream: &TcpStream) {
+    if stream.set_nonblocking(true).is_ok() {
+        let mut out = stream;
+        turn_away(&mut out);
+    }
+}
+
+// Gives a connection to a free place, and answers its number. Where there is none the connection is told so and closed.
+fn admit<P: Post, R: Wait>(rt: &R, places: &[Mutex<Place<P>>], stream: TcpStream) -> Option<usize>
+    ensures { IfSome result (λ number. number < length places.now) }
+{
+    match free_place(rt, places) {
+        Some(number) => {
+            places[number].lock(rt).connect(stream);
+            Some(number)
+        }
+        None => {
+            turn_connection_away(&stream);
+            None
+        }
+    }
+}
+
+/// Serves the connections of a listener, as many sessions as the limits say, each in a thread and a place of its own, and returns when
+/// all have ended. A connection for which there is no place, or no thread, is closed and not counted. `reply` gives the reply to an
+/// event of the session in the place with a number.
+///
+/// # Errors
+///
+/// The listener's.
+pub fn accept_clients<
     'a,
     L: Listens,
     S: Sync,
     P: Post + Send + Sync,
-    C: Fn(&S, usize) + Sync,
+    C: Fn(&S, usize, Event) -> Option<Reply<()>> + Sync,
     R: Threads + Wait + Sync,
 >(
     rt: &R,
+    alloc: Global,
     listener: &'a L,
-    places: &[Mutex<Place<P>>],
     shared: &S,
-    serve: &C,
-    sessions: u32,
+    places: &[Mutex<Place<P>>],
+    reply: &C,
+    value_len: usize,
+    limits: Limits,
 ) -> io::Result<Entrance<'a, L>>
-    requires { C.IsAlwaysCallable serve.now }
-    ensures { IfOk result (λ entrance. sessions ≤ entrance.accepted) }
+    requires { C.IsAlwaysCallable reply.now }
+    ensures { IfOk result (λ entrance. limits.sessions ≤ entrance.accepted) }
 {
+    let Limits { sessions, idle, .. } = limits;
     thread::scope(
         thread::scope_env(),
         rt,
         |scope| -> io::Result<Entrance<'_, L>>
-            requires { C.IsAlwaysCallable serve.now }
+            requires { C.IsAlwaysCallable reply.now }
             ensures { IfOk result (λ entrance. sessions ≤ entrance.accepted) }
         {
             let mut entrance = Entrance::new(listener);
@@ -63,17 +94,17 @@ fn accept_sessions<
                     Err(error) if is_passing(error.kind()) => continue,
                     Err(error) => return Err(error),
                 };
-                let Some(number) = free_place(rt, places) else {
+                let Some(number) = admit(rt, places, stream) else {
                     continue;
                 };
-                places[number].lock(rt).connect(stream);
+                let place = &places[number];
                 let started = scope.spawn(
                     move ||
-                        requires { C.IsAlwaysCallable serve.now }
-                    { serve(shared, number) },
+                        requires { C.IsAlwaysCallable reply.now }
+                    { serve_session(rt, alloc, shared, place, number, reply, value_len, idle) },
                 );
                 if started.is_err() {
-                    places[number].lock(rt).leave();
+                    place.lock(rt).leave();
                     continue;
                 }
                 count = count.saturating_add(1);
@@ -86,70 +117,46 @@ fn accept_sessions<
     )
 }
 
-/// Serves the connections of a listener. At least as many were accepted as sessions were asked for.
-///
-/// # Errors
-///
-/// The listener's.
-pub fn accept_clients<
-    'a,
-    L: Listens,
-    D: Disk,
-    T: Trace + Send + Sync,
-    N: Naming + Send + Sync,
-    P: Post + Send + Sync,
-    R: Threads + Wait + Sync,
->(
-    rt: &R,
-    alloc: Global,
-    listener: &'a L,
-    shared: &Shared<D, T, N>,
-    inbox: &Inbox<Job, P>,
-    places: &[Mutex<Place<P>>],
-    value_len: usize,
-    sessions: u32,
-) -> io::Result<Entrance<'a, L>>
-    ensures { IfOk result (λ entrance. sessions ≤ entrance.accepted) }
-{
-    let serve = |desk: &Shared<D, T, N>, number: usize| {
-        if let Some(place) = places.get(number) {
-            serve_session(rt, alloc, desk, inbox, value_len, place);
-        }
-    };
-    accept_sessions(rt, listener, places, shared, &serve, sessions)
-}
-
 // One session in its place, which it gives back in the end.
-fn serve_session<D: Disk, T: Trace, N: Naming, P: Post, R: Wait>(
+fn serve_session<S, P: Post, C: Fn(&S, usize, Event) -> Option<Reply<()>>, R: Wait>(
     rt: &R,
     alloc: Global,
-    shared: &Shared<D, T, N>,
-    inbox: &Inbox<Job, P>,
-    value_len: usize,
+    shared: &S,
     place: &Mutex<Place<P>>,
-) {
+    number: usize,
+    reply: &C,
+    value_len: usize,
+    idle: Option<u32>,
+)
+    requires { C.IsAlwaysCallable reply.now }
+{
     let stream = place.lock(rt).connection();
     if let Some(stream) = stream {
-        let _ = stream.set_nodelay(true); // without it replies come later
-        let _ = answer_lines(rt, alloc, shared, inbox, value_len, place, &stream);
+        answer_lines(alloc, shared, number, reply, value_len, idle, &stream);
     }
     place.lock(rt).leave();
 }
 
 // Answers the lines of a connection.
-fn answer_lines<D: Disk, T: Trace, N: Naming, P: Post, R: Wait>(
-    rt: &R,
+fn answer_lines<S, C: Fn(&S, usize, Event) -> Option<Reply<()>>>(
     alloc: Global,
-    shared: &Shared<D, T, N>,
-    inbox: &Inbox<Job, P>,
+    shared: &S,
+    number: usize,
+    reply: &C,
     value_len: usize,
-    place: &Mutex<Place<P>>,
+    idle: Option<u32>,
     stream: &TcpStream,
-) -> SessionEnd {
-    let ask = |event: Event| -> Option<Reply<()>> {
-        answer(rt, alloc, shared, inbox, value_len, place, event)
-    };
-    answer_by(alloc, value_len, stream, AskBy { ask })
+)
+    requires { C.IsAlwaysCallable reply.now }
+{
+    let _ = stream.set_nodelay(true); // without it replies come later
+    if limit_silence(stream, idle).is_err() {
+        return;
+    }
+    let ask = |event: Event| -> Option<Reply<()>>
+        requires { C.IsAlwaysCallable reply.now }
+    { reply(shared, number, event) };
+    let _ = answer_by(alloc, value_len, stream, AskBy { ask });
 }
 
 // Answers the lines of a connection, where events are asked so.
@@ -164,6 +171,5 @@ fn answer_by<A: Asking>(
     let cut = AtomicU64::new(0);
     let mut client = Client::new(value_len, asking, &cut);
     let mut outlet = Outlet { stream, cut: &cut };
-    let mut reader = stream;
-    session(alloc, value_len, &mut reader, &mut outlet, &mut client)
+    client_session(alloc, value_len, stream, &mut outlet, &mut client)
 }

@@ -10,16 +10,18 @@ ghost use Rattle.silt_server.specs.Serving.{BreaksServing, ServesAt, ServesKept,
 ghost use Rattle.silt_server.specs.Serving.{TellsServed, head_text, network_text, no_memory_text};
 
 use crate::admission::accept_clients;
+use crate::answers::answer;
 use crate::crew::Crew;
 use crate::entrance::Listens;
 use crate::job::Job;
+use crate::limits::Limits;
 use crate::places::{Place, places_of};
-use crate::threads::{beside, write_beside};
+use crate::threads::run_beside;
 use crate::work::writer;
 use crate::written::{refuse, write_calls, write_listening, write_network_fault, write_opened};
 use silt_desk::{Count, Desk, Gate, Kept, Naming, Seat, Shared, Trace, converter, merger};
 use silt_disk::Disk;
-use silt_event::Refusal;
+use silt_event::{Event, Refusal, Reply};
 use silt_inbox::{Inbox, Post, Taker};
 use silt_store_set::Core;
 use std::alloc::Global;
@@ -35,8 +37,7 @@ const MOST_SESSIONS: u64 = 64;
 /// How many seats the workers have.
 const WORKERS: u64 = 3;
 
-/// Serves a store to the connections of a listener: so many sessions, or without end at 0. With `audit` every call is recorded, at
-/// most so many; without it they are counted.
+/// Serves a store to the connections of a listener within these limits.
 ///
 /// Writes `opened` and `listening` with the listener's port. When the last session has ended, the converter ends once no step of it is due, and
 /// then the merger; a log that waits for a hash region may be left frozen. Then it writes `calls` with the number of recorded calls.
@@ -51,19 +52,18 @@ pub fn serve_on<L: Listens, D: Disk, G: Gate + Sync, R: Threads + Wait + Sync, W
     alloc: Global,
     listener: &L,
     core: Core<D>,
-    audit: Option<u64>,
-    sessions: u32,
+    limits: Limits,
     gate: &G,
     out: &mut W,
 ) -> (D, io::Result<u8>)
     ensures served { result.1 ≡ Ok 0 → ServesAt (L.has_port listener.now) (D.content result.0) (W.contents out.old) (W.contents out.new) }
-    ensures kept { result.1 ≡ Ok 0 → IfSome audit (λ _. ServesKept D.Disk (L.has_port listener.now) result.0 (W.contents out.old) (W.contents out.new)) }
+    ensures kept { result.1 ≡ Ok 0 → IfSome limits.audit (λ _. ServesKept D.Disk (L.has_port listener.now) result.0 (W.contents out.old) (W.contents out.new)) }
     ensures told { IfOk result.1 (IsStatus (TellsNotServed D.Disk (L.has_port listener.now) core result.0 (W.contents out.old) (W.contents out.new))) }
     ensures left { (shape : Shape) × LeavesBegun (D.content result.0) shape }
 {
-    match audit {
-        Some(most) => serve_kept(rt, alloc, listener, core, most, sessions, gate, out),
-        None => serve_counted(rt, alloc, listener, core, sessions, gate, out),
+    match limits.audit {
+        Some(most) => serve_kept(rt, alloc, listener, core, most, limits, gate, out),
+        None => serve_counted(rt, alloc, listener, core, limits, gate, out),
     }
 }
 
@@ -93,7 +93,7 @@ fn serve_counted<L: Listens, D: Disk, G: Gate + Sync, R: Threads + Wait + Sync, 
     alloc: Global,
     listener: &L,
     core: Core<D>,
-    sessions: u32,
+    limits: Limits,
     gate: &G,
     out: &mut W,
 ) -> (D, io::Result<u8>)
@@ -104,7 +104,7 @@ fn serve_counted<L: Listens, D: Disk, G: Gate + Sync, R: Threads + Wait + Sync, 
     let trace = Count::new();
     let blanks = Blanks::new();
     serve_traced::<L, D, Count, Brand, Brand, G, R, W>(
-        rt, alloc, listener, core, trace, blanks, sessions, gate, out,
+        rt, alloc, listener, core, trace, blanks, limits, gate, out,
     )
 }
 
@@ -115,7 +115,7 @@ fn serve_kept<L: Listens, D: Disk, G: Gate + Sync, R: Threads + Wait + Sync, W: 
     listener: &L,
     core: Core<D>,
     most: u64,
-    sessions: u32,
+    limits: Limits,
     gate: &G,
     out: &mut W,
 ) -> (D, io::Result<u8>)
@@ -128,7 +128,7 @@ fn serve_kept<L: Listens, D: Disk, G: Gate + Sync, R: Threads + Wait + Sync, W: 
         Ok(trace) => {
             let blanks = Blanks::new();
             serve_traced::<L, D, Kept, Brand, Brand, G, R, W>(
-                rt, alloc, listener, core, trace, blanks, sessions, gate, out,
+                rt, alloc, listener, core, trace, blanks, limits, gate, out,
             )
         }
         Err(refusal) => {
@@ -178,7 +178,7 @@ fn serve_traced<
     core: Core<D>,
     trace: T,
     blanks: Blanks,
-    sessions: u32,
+    limits: Limits,
     gate: &G,
     out: &mut W,
 ) -> (D, io::Result<u8>)
@@ -204,7 +204,7 @@ fn serve_traced<
                 let status = refuse(alloc, &Refusal::<()>::NoMemory, out);
                 return (desk.close(), status);
             };
-            let (desk, status) = serve_desk(rt, alloc, listener, desk, hall, sessions, gate, out);
+            let (desk, status) = serve_desk(rt, alloc, listener, desk, hall, limits, gate, out);
             let _ = desk.trace(); // it agrees with the store
             (desk.close(), status)
         }
@@ -242,8 +242,8 @@ impl<N: Naming, P: Post> Hall<N, P> {
     }
 }
 
-/// Serves the store of a desk to the listener's connections, so many sessions or without end where that is 0, and gives the desk back with the status: its
-/// trace has every call that a session made.
+/// Serves the store of a desk to the listener's connections within these limits, and gives the desk back with the status: its trace has
+/// every call that a session made.
 pub fn serve_desk<
     L: Listens,
     D: Disk,
@@ -259,7 +259,7 @@ pub fn serve_desk<
     listener: &L,
     desk: Desk<D, T, N>,
     hall: Hall<N, P>,
-    sessions: u32,
+    limits: Limits,
     gate: &G,
     out: &mut W,
 ) -> (Desk<D, T, N>, io::Result<u8>)
@@ -275,9 +275,7 @@ pub fn serve_desk<
     }
     let value_len = desk.geometry().value_len() as usize;
     let shared: Shared<D, T, N> = RwLock::new(desk);
-    let served = run_threads(
-        rt, alloc, listener, &shared, hall, value_len, sessions, gate,
-    );
+    let served = run_threads(rt, alloc, listener, &shared, hall, value_len, limits, gate);
     let mut desk = shared.into_inner();
     let status = end(alloc, &mut desk, served, out);
     (desk, status)
@@ -356,7 +354,7 @@ fn run_threads<
     shared: &Shared<D, T, N>,
     hall: Hall<N, P>,
     value_len: usize,
-    sessions: u32,
+    limits: Limits,
     gate: &G,
 ) -> Option<Served<N>> {
     let Hall {
@@ -374,9 +372,15 @@ fn run_threads<
     } = crew;
     let inbox = &inbox;
     let places = places.as_slice();
-    let (merged, (converted, written)) = beside(
+    let reply = |desk: &Shared<D, T, N>, number: usize, event: Event| -> Option<Reply<()>> {
+        let place = places.get(number)?;
+        answer(rt, alloc, desk, inbox, value_len, place, event)
+    };
+    let reply = &reply;
+    let (merged, converted, written) = run_beside(
         rt,
         shared,
+        inbox,
         move |desk: &Shared<D, T, N>| {
             merger(
                 rt,
@@ -389,31 +393,13 @@ fn run_threads<
             )
         },
         move |desk: &Shared<D, T, N>| {
-            beside(
-                rt,
-                desk,
-                move |desk: &Shared<D, T, N>| {
-                    converter(rt, alloc, desk, first.seat, gate, first.wakes, first.other)
-                },
-                move |desk: &Shared<D, T, N>| {
-                    write_beside(
-                        rt,
-                        desk,
-                        inbox,
-                        move |desk: &Shared<D, T, N>| {
-                            writer(rt, alloc, desk, seat, gate, inbox, taker, wakes)
-                        },
-                        move |desk: &Shared<D, T, N>| {
-                            accept_clients(
-                                rt, alloc, listener, desk, inbox, places, value_len, sessions,
-                            )
-                        },
-                    )
-                },
-                stops.converter,
-            )
+            converter(rt, alloc, desk, first.seat, gate, first.wakes, first.other)
         },
-        stops.merger,
+        move |desk: &Shared<D, T, N>| writer(rt, alloc, desk, seat, gate, inbox, taker, wakes),
+        move |desk: &Shared<D, T, N>| {
+            accept_clients(rt, alloc, listener, desk, places, reply, value_len, limits)
+        },
+        stops,
     );
     let ((writer, _taker), accepted) = written?;
     Some(Served {

@@ -3,13 +3,13 @@ ghost use Rattle.std.specs.Prelude.{◌≡◌};
 
 use crate::job::Job;
 use crossbeam_channel::Sender;
-use silt_desk::Wake;
+use silt_desk::{Wake, Wakes};
 use silt_inbox::{Inbox, Post};
 use std::sync::Wait;
 use std::thread;
 use std::thread::Threads;
 
-/// Two calls on one value, by two threads, until both are done. Where no thread can be made the first call is made last.
+// Two calls on one value, by two threads, until both are done. Where no thread can be made the first call is made last.
 fn join_over<S: Sync, X: Send, Y, A: FnOnce(&S) -> X + Send, B: FnOnce(&S) -> Y, R: Threads>(
     rt: &R,
     shared: &S,
@@ -30,8 +30,8 @@ fn join_over<S: Sync, X: Send, Y, A: FnOnce(&S) -> X + Send, B: FnOnce(&S) -> Y,
     )
 }
 
-/// A worker beside other work, until it is done. Then the worker is stopped, and its seat comes back too.
-pub fn beside<
+// A worker beside other work, until it is done. Then the worker is stopped, and its seat comes back too.
+fn beside<
     S: Sync,
     X: Send,
     Y,
@@ -56,9 +56,9 @@ pub fn beside<
     )
 }
 
-/// The writer in a thread of its own beside the sessions, until they have ended. Then the inbox is closed, and the writer ends when it
-/// is empty. None where the writer's thread cannot be started, and then there are no sessions.
-pub fn write_beside<
+// The writer in a thread of its own beside the sessions, until they have ended. Then the inbox is closed, and the writer ends when it
+// is empty. None where the writer's thread cannot be started, and then there are no sessions.
+fn write_beside<
     S: Sync,
     P: Post + Send + Sync,
     X: Send + Drop,
@@ -88,4 +88,58 @@ pub fn write_beside<
             Some((handle.join(rt), ended))
         },
     )
+}
+
+/// The merger, the converter and the writer beside the sessions, until these have ended and all that they asked is done. Then each worker
+/// is stopped. What the merger, the converter, and the writer and the sessions gave: None of the last two where the writer has no thread.
+pub fn run_beside<
+    S: Sync,
+    P: Post + Send + Sync,
+    X: Send,
+    V: Send + Drop,
+    Y,
+    A: FnOnce(&S) -> X + Send,
+    B: FnOnce(&S) -> X + Send,
+    C: FnOnce(&S) -> V + Send + Drop,
+    F: FnOnce(&S) -> Y,
+    R: Threads + Wait + Sync,
+>(
+    rt: &R,
+    shared: &S,
+    inbox: &Inbox<Job, P>,
+    merger: A,
+    converter: B,
+    writer: C,
+    sessions: F,
+    stops: Wakes,
+) -> (X, X, Option<(V, Y)>)
+    requires merger { A.IsAlwaysCallable merger }
+    requires converter { B.IsAlwaysCallable converter }
+    requires writer { C.IsAlwaysCallable writer }
+    requires sessions { F.IsAlwaysCallable sessions }
+{
+    let Wakes {
+        converter: stop_converter,
+        merger: stop_merger,
+    } = stops;
+    let (merged, (converted, written)) = beside(
+        rt,
+        shared,
+        merger,
+        move |shared: &S| -> (X, Option<(V, Y)>)
+            requires { B.IsAlwaysCallable converter × C.IsAlwaysCallable writer × F.IsAlwaysCallable sessions }
+        {
+            beside(
+                rt,
+                shared,
+                converter,
+                move |shared: &S| -> Option<(V, Y)>
+                    requires { C.IsAlwaysCallable writer × F.IsAlwaysCallable sessions }
+                { write_beside(rt, shared, inbox, writer, sessions) },
+                stop_converter,
+            )
+        },
+        stop_merger,
+    );
+    (merged, converted, written)
 }

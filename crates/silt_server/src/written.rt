@@ -1,8 +1,9 @@
 // What a server writes.
-ghost use Rattle.std.specs.Prelude.{◌≡◌, OnOk, IfOk, codes};
+ghost use Rattle.std.specs.Prelude.{◌≡◌, ℕ, List, OnOk, IfOk, codes};
 ghost use Rattle.std.specs.Io.KnownBytes.{Appends};
 ghost use Rattle.silt_server.specs.Serving.{network_text};
-ghost use Rattle.silt_server.specs.Texts.{calls_text, listening_text, refused_text};
+ghost use Rattle.silt_wire.specs.Sessions.{IsBeginning};
+ghost use Rattle.silt_server.specs.Texts.{busy_text, calls_text, listening_text, refused_text};
 
 use silt_event::Refusal;
 use silt_wire::write_refusal;
@@ -34,6 +35,13 @@ pub fn write_calls<W: Write>(alloc: Global, calls: u64, out: &mut W) -> io::Resu
     out.write_all(line.as_bytes())?;
     out.flush()?;
     Ok(0)
+}
+
+/// Writes why a connection is closed that finds all places taken, or as much of it as is taken at once.
+pub fn turn_away<W: Write>(out: &mut W)
+    ensures { (written : List ℕ) × IsBeginning written busy_text × Appends (W.contents out.old) (W.contents out.new) written }
+{
+    let _ = out.write(b"busy: 64 connections are served already\n");
 }
 
 /// Writes that the network failed, and answers the status.

@@ -1,5 +1,5 @@
 use Rattle.std.proofs.Common.{◌≤◌}
-use Rattle.silt_server.proofs.admission.fn.accept_sessions.scope.Given as goal
+use Rattle.silt_server.proofs.admission.fn.accept_clients.scope.Given as goal
 
 -- no more sessions are counted than connections were accepted
 abbrev pub invariant-loop : goal.invariant-loop

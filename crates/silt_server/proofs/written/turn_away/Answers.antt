@@ -1,0 +1,6 @@
+use Rattle.silt_server.specs.Texts.{busy_text}
+use Rattle.silt_server.proofs.Answering.{wrote_some}
+use Rattle.silt_server.proofs.written.turn_away.Goals as goal
+
+pub returns : goal.returns
+returns g c = wrote_some c.write.result busy_text _ _ c.write.ensures.bytes

@@ -1,0 +1,40 @@
+// What a server keeps to.
+ghost use Rattle.std.specs.Prelude.{◌≡◌, option_map};
+ghost use Rattle.std.specs.Duration.{as_nanos};
+ghost use Rattle.silt_server.specs.Limits.{longest_silence};
+
+use std::io;
+use std::net::TcpStream;
+use std::time::Duration;
+
+/// What a server keeps to.
+#[derive(Clone, Copy, Debug, PartialEq, Eq)]
+pub struct Limits {
+    /// How many sessions there are in all, or 0 for no end.
+    pub sessions: u32,
+    /// How many calls are recorded at most. With None they are only counted.
+    pub audit: Option<u64>,
+    /// After how many seconds a silent connection is closed. With None or 0 it may stay.
+    pub idle: Option<u32>,
+}
+
+// How long a client may be waited for. None is without end.
+fn longest_silence(idle: Option<u32>) -> Option<Duration>
+    ensures { option_map as_nanos result ≡ longest_silence idle }
+{
+    match idle {
+        None | Some(0) => None,
+        Some(seconds) => Some(Duration::from_secs(u64::from(seconds))),
+    }
+}
+
+/// Limits how long each read and each write of a connection waits for its client.
+///
+/// # Errors
+///
+/// The system's.
+pub fn limit_silence(stream: &TcpStream, idle: Option<u32>) -> io::Result<()> {
+    let longest = longest_silence(idle);
+    stream.set_read_timeout(longest)?;
+    stream.set_write_timeout(longest)
+}
