@@ -1,9 +1,13 @@
+pub mod Dumps
 pub mod FileRefusals
 pub mod Fits
 pub mod Lives
 pub mod NewStores
 pub mod Outcomes
+pub mod Plans
 pub mod Readings
 pub mod Refusals
 pub mod Stops
+pub mod Tallies
+pub mod Tendings
 pub mod Texts

@@ -1,12 +1,13 @@
 -- Where the parts of a disk lie.
-use Rattle.std.specs.Prelude.{◌≢◌, ◌+◌, ◌*◌, ℕ, nat_lt, if◌then◌else◌, IsTrue, Option, Some, None, Err}
-use Rattle.silt_disk.specs.Disk.{Content, size}
+use Rattle.std.specs.Prelude.{◌≡◌, ◌⊎◌, ◌+◌, ◌*◌, ℕ, nat_lt, if◌then◌else◌, IsTrue, Option, Some, None, Ok, Err}
+use Rattle.silt_disk.specs.Disk.{Content, GaveAny, size}
+use Rattle.silt_disk.specs.Header.{header_of}
 use Rattle.silt_disk.specs.Layout.{Shape, bodies_at, entry_len, hash_at, row_len, slot_at, sorted_at}
+use Rattle.silt_disk.specs.declared.disk.Disk.{Ghosts}
+use Rattle.silt_event.specs.declared.damage.Finding.{Finding}
 use Rattle.silt_event.specs.declared.place.Place.{Place}
 use Rattle.silt_event.specs.declared.place.Place.TheVariants.{Header, Length, Slot, NoSlot, Log, Hash, Sorted, Charge}
-use Rattle.silt_disk.specs.Header.{header_of}
 use Rattle.silt_image.specs.Stores.{shape_found}
-use Rattle.silt_event.specs.declared.damage.Finding.TheVariants.{NotFormatted}
 
 -- a row, a slot or an entry of a region, if the region has it
 abbrev pub part_at : ℕ → ℕ → ℕ → ℕ → Option ℕ
@@ -24,6 +25,12 @@ offset_of s sorted (Hash region slot) = if nat_lt region s.hashes then part_at (
 offset_of s sorted (Sorted entry) = part_at (sorted_at s sorted) (entry_len s) s.sorted_capacity entry
 offset_of s sorted Charge = None
 
--- the header of a store of this format stands on the disk, its gate open
-abbrev pub HoldsStore : Content → Type 0
-HoldsStore content = IsTrue content.honest × (shape_found (size content) (header_of content.shown) ≢ Err NotFormatted)
+-- the header of a device is whole, and these are its six numbers
+abbrev pub HasShape : Content → Shape → Type 0
+HasShape content shape = IsTrue content.honest → shape_found (size content) (header_of content.shown) ≡ Ok shape
+
+-- the header of a device could not be read, or something is wrong with it
+abbrev pub LacksShape : {D F : Type 0} → Ghosts D F → D → Type 0
+LacksShape {D} {F} facts disk =
+    ((fault : F) × GaveAny facts.gave disk fault)
+    ⊎ ((finding : Finding) × (IsTrue (facts.content disk).honest → shape_found (size (facts.content disk)) (header_of (facts.content disk).shown) ≡ Err finding))

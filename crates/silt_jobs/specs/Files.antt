@@ -1,15 +1,19 @@
 -- What the jobs on the disk of a path do.
-use Rattle.std.specs.Prelude.{◌≡◌, ◌⊎◌, ℕ, List, Option, Some}
+use Rattle.std.specs.Prelude.{◌≡◌, ◌⊎◌, ℕ, Bool, List, Option, Some, Result}
 use Rattle.std.specs.Option.{IsSomeAnd}
-use Rattle.silt_disk.specs.Disk.{GaveAny, size}
+use Rattle.silt_disk.specs.Disk.{size}
 use Rattle.silt_disk.specs.Layout.{InLimits, Shape, device_size}
 use Rattle.silt_disk.specs.declared.disk.Disk.{Ghosts}
 use Rattle.silt_event.specs.declared.refusal.Refusal.{Refusal}
 use Rattle.silt_event.specs.declared.refusal.Refusal.TheVariants.{BadGeometry, Device}
 use Rattle.silt_wire.specs.declared.sessions.SessionEnd.{SessionEnd}
 use Rattle.silt_wire.specs.declared.sessions.SessionEnd.TheVariants.{End}
-use Rattle.silt_jobs.specs.Damage.{HoldsStore}
-use Rattle.silt_jobs.specs.Jobs.{EndsCheck, EndsFormat, EndsRun, Tells, TellsCheck, TellsFormat, TellsRun}
+use Rattle.silt_words.specs.declared.job.Numbers.{Numbers}
+use Rattle.silt_jobs.specs.Jobs.{EndsCheck, EndsFormat, EndsRun, EndsTend, Tells, TellsCheck, TellsFormat, TellsRun, TellsTend}
+use Rattle.silt_jobs.specs.Numbers.{shape_asked}
+use Rattle.silt_jobs.specs.Overwriting.{Looks, MayOverwrite, MustStay}
+use Rattle.silt_jobs.specs.declared.notes.Notes.{Ghosts as NotesOf}
+use Rattle.silt_jobs.specs.declared.overwriting.Holding.{Holding}
 
 -- it was written that the source gave no disk, and for a cause
 abbrev pub TellsNoDisk : {E : Type 0} → (E → Type 0) → Option (List ℕ) → Option (List ℕ) → Type 0
@@ -17,16 +21,26 @@ TellsNoDisk {E} IsCause before after = (error : E) × IsCause error × Tells (De
 
 module _ {D F : Type 0} (facts : Ghosts D F) where
   -- one life on a disk that the source opened, which is given back as the store left it; people were told which calls of it failed
-  abbrev pub RunsFile : (SessionEnd → D → Type 0) → (D → Type 0) → Option D → Option (List ℕ) → Option (List ℕ) → Option (List ℕ) → Option (List ℕ) → Type 0
-  RunsFile told_session Opened given remaining left before after =
-      (old : D) × Opened old × IsSomeAnd given (λ new. EndsRun facts told_session End old new remaining left before after)
+  abbrev pub RunsFile : Bool → (SessionEnd → D → Type 0) → (D → Type 0) → Option D → Option (List ℕ) → Option (List ℕ) → Option (List ℕ) → Option (List ℕ) → Type 0
+  RunsFile tend told_session Opened given remaining left before after =
+      (old : D) × Opened old × IsSomeAnd given (λ new. EndsRun facts tend told_session End old new remaining left before after)
 
   -- it was written that the source opened no disk, or why the store was not taken up from the one that it opened, or the session on it broke off
-  abbrev pub TellsRunFile : {E : Type 0} → (Refusal F → Type 0) → (SessionEnd → D → Type 0) → (D → Type 0) → (E → Type 0)
+  abbrev pub TellsRunFile : {E : Type 0} → Bool → (Refusal F → Type 0) → (SessionEnd → D → Type 0) → (D → Type 0) → (E → Type 0)
       → Option D → Option (List ℕ) → Option (List ℕ) → Option (List ℕ) → Option (List ℕ) → Type 0
-  TellsRunFile told_refusal told_session Opened NotOpened given remaining left before after =
+  TellsRunFile tend told_refusal told_session Opened NotOpened given remaining left before after =
       TellsNoDisk NotOpened before after ⊎ ((old : D) × Opened old
-      × IsSomeAnd given (λ new. TellsRun facts told_refusal told_session old new remaining left before after))
+      × IsSomeAnd given (λ new. TellsRun facts tend told_refusal told_session old new remaining left before after))
+
+  -- all background work was done on a disk that the source opened, which is given back as the store left it; people were told which calls of it failed
+  abbrev pub TendsFile : (D → Type 0) → (D → Type 0) → Option D → Option (List ℕ) → Option (List ℕ) → Type 0
+  TendsFile told_failures Opened given before after = (old : D) × Opened old × IsSomeAnd given (λ new. EndsTend facts told_failures old new before after)
+
+  -- it was written that the source opened no disk, why the store was not taken up from the one that it opened, or why a step was refused
+  abbrev pub TellsTendFile : {E : Type 0} → (Refusal F → Type 0) → (D → Type 0) → (D → Type 0) → (E → Type 0) → Option D → Option (List ℕ) → Option (List ℕ) → Type 0
+  TellsTendFile told_refusal told_failures Opened NotOpened given before after =
+      TellsNoDisk NotOpened before after ⊎ ((old : D) × Opened old
+      × IsSomeAnd given (λ new. TellsTend facts told_refusal told_failures old new before after))
 
 module _ {D F E : Type 0} (facts : Ghosts D F) (told : Refusal F → Type 0) (Opened : D → Type 0) (NotOpened : E → Type 0) where
   -- it was written that the source opened no disk, or what is wrong with the one that it opened, which is given back
@@ -35,24 +49,41 @@ module _ {D F E : Type 0} (facts : Ghosts D F) (told : Refusal F → Type 0) (Op
       TellsNoDisk NotOpened before after ⊎ ((disk : D) × Opened disk × (given ≡ Some disk) × TellsCheck facts told disk before after)
 
 -- the report of a disk that the source opened was written, and the disk is given back
-abbrev pub ChecksFile : {D F : Type 0} → Ghosts D F → (D → Type 0) → Option D → Option (List ℕ) → Option (List ℕ) → Type 0
-ChecksFile {D} facts Opened given before after = (disk : D) × Opened disk × (given ≡ Some disk) × EndsCheck facts disk before after
+abbrev pub ChecksFile : {D F : Type 0} → Ghosts D F → (Shape → ℕ → Type 0) → (D → Type 0) → Option D → Option (List ℕ) → Option (List ℕ) → Type 0
+ChecksFile {D} facts told_charge Opened given before after = (disk : D) × Opened disk × (given ≡ Some disk) × EndsCheck facts told_charge disk before after
 
--- where the disk held a store, people were told that it is gone, or the disk could not be read
-abbrev pub TellsStore : {D F : Type 0} → Ghosts D F → Type 0 → D → Type 0
-TellsStore {D} {F} facts told_store disk = HoldsStore (facts.content disk) → told_store ⊎ ((fault : F) × GaveAny facts.gave disk fault)
+module _ {N D F : Type 0} (facts : Ghosts D F) (notes : NotesOf N) (told_refusal : N → N → List ℕ → Refusal F → Type 0) (Resized : D → ℕ → D → Type 0)
+    (file : List ℕ) (shape : Shape) (force : Bool) (old new : N) (found : D) (look : Result Holding F) where
+  -- A disk that was found and looked at was given the length of this shape, as what it held may be overwritten, and now it is an empty store, and is given
+  -- back. People were told of a store that it held.
+  abbrev pub FormatsFound : Option D → Option (List ℕ) → Option (List ℕ) → Type 0
+  FormatsFound given before after =
+      MayOverwrite notes told_refusal file force look old new × ((sized : D) × Resized found (device_size shape) sized)
+      × IsSomeAnd given (λ disk. EndsFormat facts shape disk before after)
 
--- a disk that the source made at exactly the length of this shape is an empty store, and is given back; people were told of a store that it held
-abbrev pub FormatsFile : {D F : Type 0} → Ghosts D F → Type 0 → (ℕ → D → Type 0) → Shape → Option D → Option (List ℕ) → Option (List ℕ) → Type 0
-FormatsFile {D} facts told_store Created shape given before after =
-    (old : D) × Created (device_size shape) old × TellsStore facts told_store old × IsSomeAnd given (λ new. EndsFormat facts shape new before after)
+  -- it stays and is given back as it was found, it was not given the length, or it was not formatted
+  abbrev pub TellsFound : {E : Type 0} → (N → N → List ℕ → E → Type 0) → (D → ℕ → E → Type 0) → Option D → Option (List ℕ) → Option (List ℕ) → Type 0
+  TellsFound told_error NotResized given before after =
+      ((given ≡ Some found) × MustStay notes told_refusal file force look old new × Tells {F = Unit {0}} (Device tt) before after)
+      ⊎ ((mid : N) × MayOverwrite notes told_refusal file force look old mid
+      × (TellsNoDisk (λ error. NotResized found (device_size shape) error × told_error mid new file error) before after
+      ⊎ ((sized : D) × Resized found (device_size shape) sized × (size (facts.content sized) ≡ device_size shape)
+      × IsSomeAnd given (λ disk. TellsFormat facts (told_refusal mid new file) shape sized disk before after))))
 
-module _ {D F E : Type 0} (facts : Ghosts D F) (told : Refusal F → Type 0) (Created : ℕ → D → Type 0) (NotCreated : ℕ → E → Type 0) (shape : Shape) where
-  -- it was written that a number is out of its limits, that the source made no disk of the length of this shape, or why the one that it made was
-  -- not formatted
-  abbrev pub TellsFormatFile : Option D → Option (List ℕ) → Option (List ℕ) → Type 0
-  TellsFormatFile given before after =
-      ((¬ InLimits shape) × Tells {F = Unit {0}} BadGeometry before after)
-      ⊎ ((InLimits shape × TellsNoDisk (NotCreated (device_size shape)) before after)
-      ⊎ (InLimits shape × ((old : D) × Created (device_size shape) old × (size (facts.content old) ≡ device_size shape)
-      × IsSomeAnd given (λ new. TellsFormat facts told shape old new before after))))
+module _ {N D F : Type 0} (facts : Ghosts D F) (notes : NotesOf N) (told_refusal : N → N → List ℕ → Refusal F → Type 0) (Resized : D → ℕ → D → Type 0)
+    (Found : List ℕ → D → Type 0) (file : List ℕ) (numbers : Numbers) (force : Bool) (old new : N) where
+  -- the disk of this file was found, looked at and formatted
+  abbrev pub FormatsFile : Option D → Option (List ℕ) → Option (List ℕ) → Type 0
+  FormatsFile given before after =
+      (found : D) × Found file found × (look : Result Holding F) × Looks facts found look
+      × FormatsFound facts notes told_refusal Resized file (shape_asked numbers) force old new found look given before after
+
+  -- it was written that a number is out of its limits, that the source has no disk of this file, or what became of the one that was found
+  abbrev pub TellsFormatFile : {E : Type 0} → (N → N → List ℕ → E → Type 0) → (List ℕ → E → Type 0) → (D → ℕ → E → Type 0)
+      → Option D → Option (List ℕ) → Option (List ℕ) → Type 0
+  TellsFormatFile told_error NotFound NotResized given before after =
+      ((¬ InLimits (shape_asked numbers)) × notes.told_numbers old new numbers × Tells {F = Unit {0}} BadGeometry before after)
+      ⊎ (InLimits (shape_asked numbers)
+      × (TellsNoDisk (λ error. NotFound file error × told_error old new file error) before after
+      ⊎ ((found : D) × Found file found × (look : Result Holding F) × Looks facts found look
+      × TellsFound facts notes told_refusal Resized file (shape_asked numbers) force old new found look told_error NotResized given before after)))

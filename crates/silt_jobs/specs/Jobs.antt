@@ -1,5 +1,5 @@
 -- What the jobs on a disk do, and what they write.
-use Rattle.std.specs.Prelude.{◌≡◌, ◌≢◌, ◌⊎◌, ℕ, IsTrue, List, ◌++◌, Option, codes}
+use Rattle.std.specs.Prelude.{◌≡◌, ◌≢◌, ◌⊎◌, ℕ, Bool, true, false, IsTrue, List, ◌++◌, Option, codes}
 use Rattle.std.specs.FinMap.{empty}
 use Rattle.std.specs.Fmt.{decimal}
 use Rattle.std.specs.Io.KnownBytes.{Appends}
@@ -22,7 +22,10 @@ use Rattle.silt_wire.specs.Reports.{report_text}
 use Rattle.silt_wire.specs.Sessions.{Ends}
 use Rattle.silt_wire.specs.declared.sessions.SessionEnd.{SessionEnd}
 use Rattle.silt_wire.specs.declared.sessions.SessionEnd.TheVariants.{End}
+use Rattle.silt_jobs.specs.Damage.{HasShape, LacksShape}
 use Rattle.silt_jobs.specs.Scripts.{reply_line}
+use Rattle.silt_jobs.specs.Tending.{TakesSteps, TendsAll, TendsThenDoes}
+use Rattle.silt_jobs.specs.declared.tending.Steps.{Steps}
 
 -- the length of a device that was formatted, in bytes
 abbrev pub formatted_line : ℕ → List ℕ
@@ -37,30 +40,66 @@ abbrev pub status_of : SessionEnd → ℕ
 status_of End = 0
 status_of end = 1
 
-module _ {D F : Type 0} (facts : Ghosts D F) where
-  -- `opened` was written, and then the store's session with the reader and the writer ended so
-  abbrev pub AnswersReader : SessionEnd → CoreState D → CoreState D → Option (List ℕ) → Option (List ℕ) → Option (List ℕ) → Option (List ℕ) → Type 0
-  AnswersReader end old new remaining left before after =
-      (opened : Option (List ℕ)) × Appends before opened (codes "opened\n")
-      × Ends (DoesPlain facts) end old.shape.value_len
-      (record { answerer = old; remaining = remaining; contents = opened })
-      (record { answerer = new; remaining = left; contents = after })
+-- how many steps were taken, on the line of a store whose background work was done
+abbrev pub tended_line : Steps → List ℕ
+tended_line steps = codes "converted " ++ (decimal steps.converted ++ (codes " steps, merged " ++ (decimal steps.merged ++ codes " steps\n")))
 
-module _ {D F : Type 0} (facts : Ghosts D F) (told_session : SessionEnd → D → Type 0) where
+module _ {D F : Type 0} (facts : Ghosts D F) where
+  -- The store's session with the reader and the writer ended so. Where it tends, the background work that is due comes before each line.
+  abbrev pub AnswersLines : Bool → SessionEnd → CoreState D → CoreState D → Option (List ℕ) → Option (List ℕ) → Option (List ℕ) → Option (List ℕ) → Type 0
+  AnswersLines false end old new remaining left before after =
+      Ends (DoesPlain facts) end old.shape.value_len
+      (record { answerer = old; remaining = remaining; contents = before })
+      (record { answerer = new; remaining = left; contents = after })
+  AnswersLines true end old new remaining left before after =
+      (tends : Bool) × Ends (TendsThenDoes facts) end old.shape.value_len
+      (record { answerer = record { core = old; tends = true }; remaining = remaining; contents = before })
+      (record { answerer = record { core = new; tends = tends }; remaining = left; contents = after })
+
+  -- `opened` was written, and then the store's session with the reader and the writer ended so
+  abbrev pub AnswersReader : Bool → SessionEnd → CoreState D → CoreState D → Option (List ℕ) → Option (List ℕ) → Option (List ℕ) → Option (List ℕ) → Type 0
+  AnswersReader tend end old new remaining left before after =
+      (opened : Option (List ℕ)) × Appends before opened (codes "opened\n") × AnswersLines tend end old new remaining left opened after
+
+module _ {D F : Type 0} (facts : Ghosts D F) (tend : Bool) (told_session : SessionEnd → D → Type 0) where
   -- one life on a disk: the store was taken up from it, its session ended so, the disk is as the store then left it, and people were told
   abbrev pub EndsRun : SessionEnd → D → D → Option (List ℕ) → Option (List ℕ) → Option (List ℕ) → Option (List ℕ) → Type 0
   EndsRun end old new remaining left before after =
       (first : CoreState D) × (last : CoreState D) × Opens facts (facts.content old) first
-      × AnswersReader facts end first last remaining left before after × (new ≡ last.disk) × told_session end new
+      × AnswersReader facts tend end first last remaining left before after × (new ≡ last.disk) × told_session end new
 
   -- one life whose session did not reach the end of the lines
   abbrev pub BreaksRun : D → D → Option (List ℕ) → Option (List ℕ) → Option (List ℕ) → Option (List ℕ) → Type 0
   BreaksRun old new remaining left before after = (end : SessionEnd) × (end ≢ End) × EndsRun end old new remaining left before after
 
--- the report of what the disk shows was written
-abbrev pub EndsCheck : {D F : Type 0} → Ghosts D F → D → Option (List ℕ) → Option (List ℕ) → Type 0
-EndsCheck facts disk before after =
+module _ {D F : Type 0} (facts : Ghosts D F) where
+  -- all background work of a store was done, and how many steps it took was written; or a step was refused, and that was written
+  abbrev pub EndsTending : CoreState D → CoreState D → ℕ → Option (List ℕ) → Option (List ℕ) → Type 0
+  EndsTending old new status before after =
+      ((status ≡ 0) × ((steps : Steps) × TendsAll facts old new steps × Appends before after (tended_line steps)))
+      ⊎ ((status ≡ 1) × ((refusal : Refusal F) × TakesSteps facts old new × Tells refusal before after))
+
+module _ {D F : Type 0} (facts : Ghosts D F) (told_failures : D → Type 0) where
+  -- The store was taken up from a disk, `opened` was written, its background work ended with this status, and the disk is as the store then left it.
+  abbrev pub TendsTo : ℕ → D → D → Option (List ℕ) → Option (List ℕ) → Type 0
+  TendsTo status old new before after =
+      (first : CoreState D) × (last : CoreState D) × Opens facts (facts.content old) first
+      × ((opened : Option (List ℕ)) × Appends before opened (codes "opened\n") × EndsTending facts first last status opened after)
+      × (new ≡ last.disk) × told_failures new
+
+  -- all background work was done, and how many steps it took was written
+  abbrev pub EndsTend : D → D → Option (List ℕ) → Option (List ℕ) → Type 0
+  EndsTend = TendsTo 0
+
+  -- steps were taken until one was refused, and that was written
+  abbrev pub BreaksTend : D → D → Option (List ℕ) → Option (List ℕ) → Type 0
+  BreaksTend = TendsTo 1
+
+-- the report of what the disk shows was written, and people were told its six numbers, if they could be read again, and its charge
+abbrev pub EndsCheck : {D F : Type 0} → Ghosts D F → (Shape → ℕ → Type 0) → D → Option (List ℕ) → Option (List ℕ) → Type 0
+EndsCheck facts told_charge disk before after =
     (report : Report) × (IsTrue (facts.content disk).honest → IsReported (facts.content disk).shown report) × Appends before after (report_text report)
+    × (((shape : Shape) × HasShape (facts.content disk) shape × told_charge shape report.charge) ⊎ LacksShape facts disk)
 
 -- an empty store of this shape was made of the disk, and its length was written
 abbrev pub EndsFormat : {D F : Type 0} → Ghosts D F → Shape → D → Option (List ℕ) → Option (List ℕ) → Type 0
@@ -85,7 +124,12 @@ module _ {D F : Type 0} (facts : Ghosts D F) (told : Refusal F → Type 0) where
       × told (refusal_of_formatting error)
 
 -- it was written that the store was not taken up from the disk, or the session on it broke off, and people were told
-abbrev pub TellsRun : {D F : Type 0} → Ghosts D F → (Refusal F → Type 0) → (SessionEnd → D → Type 0)
+abbrev pub TellsRun : {D F : Type 0} → Ghosts D F → Bool → (Refusal F → Type 0) → (SessionEnd → D → Type 0)
     → D → D → Option (List ℕ) → Option (List ℕ) → Option (List ℕ) → Option (List ℕ) → Type 0
-TellsRun facts told_refusal told_session old new remaining left before after =
-    TellsOpening facts told_refusal old new before after ⊎ BreaksRun facts told_session old new remaining left before after
+TellsRun facts tend told_refusal told_session old new remaining left before after =
+    TellsOpening facts told_refusal old new before after ⊎ BreaksRun facts tend told_session old new remaining left before after
+
+-- it was written that the store was not taken up from the disk, or that a step of its background work was refused, and people were told
+abbrev pub TellsTend : {D F : Type 0} → Ghosts D F → (Refusal F → Type 0) → (D → Type 0) → D → D → Option (List ℕ) → Option (List ℕ) → Type 0
+TellsTend facts told_refusal told_failures old new before after =
+    TellsOpening facts told_refusal old new before after ⊎ BreaksTend facts told_failures old new before after

@@ -1,8 +1,13 @@
 pub mod Damage
+pub mod Dump
 pub mod Files
 pub mod Jobs
 pub mod NewStores
 pub mod Notes
 pub mod Numbers
+pub mod Overwriting
+pub mod Plans
 pub mod Scripts
 pub mod Stops
+pub mod Tally
+pub mod Tending

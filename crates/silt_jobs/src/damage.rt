@@ -1,10 +1,10 @@
-// Where a damaged part of a disk lies, and whether a disk holds a store.
-ghost use Rattle.std.specs.Prelude.{◌≡◌, ◌+◌, ◌*◌, ◌<◌, ◌≤◌, ◌^◌, ◌⊎◌, true, IsTrue, IfOk, IfSome, IfNone};
+// Where a damaged part of a disk lies, and what its header says.
+ghost use Rattle.std.specs.Prelude.{◌≡◌, ◌+◌, ◌*◌, ◌<◌, ◌≤◌, ◌^◌, IsTrue, IfOk, IfSome, IfNone};
 ghost use Rattle.silt_disk.specs.Disk.{GaveAny, size};
 ghost use Rattle.silt_disk.specs.Layout.{device_size, entry_len, row_len};
 ghost use Rattle.silt_disk.specs.Header.{header_of};
 ghost use Rattle.silt_image.specs.Stores.{shape_found};
-ghost use Rattle.silt_jobs.specs.Damage.{HoldsStore, part_at, offset_of};
+ghost use Rattle.silt_jobs.specs.Damage.{HasShape, LacksShape, part_at, offset_of};
 
 use silt_disk::{Disk, Geometry, HEADER_LEN, slot_start};
 use silt_event::{Finding, Place, Refusal};
@@ -26,16 +26,6 @@ pub fn damage_at<D: Disk, F: Drop>(disk: &D, refusal: &Refusal<F>) -> Option<u64
     }
 }
 
-/// Whether a store of this format stands on a disk, whole or not. A disk that cannot be read holds none.
-pub fn holds_store<D: Disk>(disk: &D) -> bool
-    ensures { HoldsStore (D.content disk.now) → (result ≡ true) ⊎ ((fault : D.Fault) × GaveAny D.gave disk.now fault) }
-{
-    match header_on(disk) {
-        None | Some(Err(Finding::NotFormatted)) => false,
-        Some(_) => true,
-    }
-}
-
 // What the header of a disk says. None where it cannot be read.
 fn header_on<D: Disk>(disk: &D) -> Option<Result<Geometry, Finding>>
     ensures found { IsTrue (D.content disk.now).honest → IfSome result (λ found. shape_found (size (D.content disk.now)) (header_of (D.content disk.now).shown) ≡ found) }
@@ -52,13 +42,15 @@ fn header_on<D: Disk>(disk: &D) -> Option<Result<Geometry, Finding>>
     }
 }
 
-// The geometry of a disk, if its header is whole.
-fn geometry_on<D: Disk>(disk: &D) -> Option<Geometry>
-    ensures { IfSome result (λ geometry. size (D.content disk.now) ≡ device_size geometry) }
+/// The geometry of a disk, if its header is whole and can be read.
+pub fn geometry_on<D: Disk>(disk: &D) -> Option<Geometry>
+    ensures size { IfSome result (λ geometry. size (D.content disk.now) ≡ device_size geometry) }
+    ensures found { IfSome result (HasShape (D.content disk.now)) }
+    ensures none { IfNone result (LacksShape D.Disk disk.now) }
 {
-    match header_on(disk) {
-        Some(Ok(geometry)) => Some(geometry),
-        _ => None,
+    match header_on(disk)? {
+        Ok(geometry) => Some(geometry),
+        Err(_) => None,
     }
 }
 

@@ -1,29 +1,33 @@
 // The jobs on the disk of a path.
-ghost use Rattle.std.specs.Prelude.{◌≡◌, ◌≢◌, Ok, true, IfOk, codes};
+ghost use Rattle.std.specs.Prelude.{◌≡◌, Ok, IfOk, Result as ResultOf, codes};
 ghost use Rattle.std.specs.Io.KnownBytes.{Appends};
 ghost use Rattle.silt_disk.specs.Layout.{InLimits};
 ghost use Rattle.silt_wire.specs.Statuses.{IsStatus};
-ghost use Rattle.silt_jobs.specs.Files.{ChecksFile, FormatsFile, RunsFile, TellsCheckFile, TellsFormatFile, TellsRunFile};
-ghost use Rattle.silt_jobs.specs.Notes.{NotMadeTold, NotOpenedTold, ToldRefusal, ToldSession};
+ghost use Rattle.silt_jobs.specs.Files.{ChecksFile, FormatsFile, FormatsFound, RunsFile, TellsCheckFile, TellsFormatFile, TellsFound, TellsRunFile, TellsTendFile, TendsFile};
+ghost use Rattle.silt_jobs.specs.Notes.{NotOpenedTold, ToldFailures, ToldRefusal, ToldSession};
 ghost use Rattle.silt_jobs.specs.Numbers.{shape_asked};
+ghost use Rattle.silt_jobs.specs.Overwriting.{Looks};
+ghost use Rattle.silt_jobs.specs.declared.overwriting.Holding.{Holding as HoldingOf};
 
-use crate::damage::holds_store;
 use crate::failure::Watched;
 use crate::geometry::geometry_of;
-use crate::jobs::{check_on, format_on, run_on};
+use crate::jobs::{check_on, format_on, run_on, tend_on};
 use crate::notes::{FaultNotes, Notes, SourceNotes};
+use crate::overwriting::may_overwrite;
 use crate::refusal::refuse;
-use crate::streams::KeepsError;
+use crate::streams::{KeepsError, KeepsLines, KeepsTally};
 use silt_device::DiskSource;
-use silt_disk::Disk;
+use silt_disk::{Disk, Geometry};
 use silt_store_set::{Refusal, Served};
 use silt_words::Numbers;
 use std::alloc::Global;
 use std::io::{self, Read, Write};
 
-/// Makes the disk of a path, or takes the one that is there, at the length that the geometry of these numbers asks for, and formats
-/// it. Answers the disk and the status: 0 after the length was written, 1 where it is refused. Numbers out of their limits are
-/// refused before the source is asked. People are told where the disk held a store.
+/// Takes the disk of a path, or makes it, gives it the length that the geometry of these numbers asks for, and formats it. Answers the disk
+/// and the status: 0 after the length was written, 1 where it is refused. Numbers out of their limits are refused before the source is
+/// asked. What the disk holds is looked at before it is given its length: without `force` only a store of this program or nothing is
+/// overwritten, and a disk that holds other data is refused and given back as it was found. People are told of a store before it is
+/// overwritten.
 ///
 /// # Errors
 ///
@@ -37,25 +41,58 @@ pub fn format_file<
     source: S,
     path: &str,
     numbers: &Numbers,
+    force: bool,
     writer: &mut W,
     notes: &mut N,
 ) -> (Option<S::Disk>, io::Result<u8>)
     ensures refused { ¬ InLimits (shape_asked numbers.now) → IfOk result.1 (λ status. (status ≡ 1) × Appends (W.contents writer.old) (W.contents writer.new) (codes "refused 2 BadGeometry\n")) }
-    ensures told { IfOk result.1 (IsStatus (TellsFormatFile S.Disk.Disk
-        (ToldRefusal N.told_fault N.told_damage notes.old notes.new path.now)
-        (S.created source path.now) (NotMadeTold (S.not_created source) (N.told_error notes.old notes.new) path.now)
-        (shape_asked numbers.now) result.0 (W.contents writer.old) (W.contents writer.new))) }
-    ensures formatted { result.1 ≡ Ok 0 → FormatsFile S.Disk.Disk (N.told_store notes.old notes.new path.now)
-        (S.created source path.now) (shape_asked numbers.now) result.0 (W.contents writer.old) (W.contents writer.new) }
+    ensures told { IfOk result.1 (IsStatus (TellsFormatFile S.Disk.Disk N.Notes (ToldRefusal N.told_fault N.told_damage N.told_no_store) S.resized
+        (S.found source) path.now numbers.now force notes.old notes.new N.told_error (S.not_found source) S.not_resized
+        result.0 (W.contents writer.old) (W.contents writer.new))) }
+    ensures formatted { result.1 ≡ Ok 0 → FormatsFile S.Disk.Disk N.Notes (ToldRefusal N.told_fault N.told_damage N.told_no_store) S.resized
+        (S.found source) path.now numbers.now force notes.old notes.new
+        result.0 (W.contents writer.old) (W.contents writer.new) }
 {
     let Ok(geometry) = geometry_of(numbers) else {
+        notes.tell_numbers(numbers);
         return (None, refuse(alloc, &Refusal::<()>::BadGeometry, writer));
     };
-    match source.create(path, geometry.size()) {
+    match source.find(path) {
+        Ok(disk) => format_found::<S, W, N>(alloc, disk, path, geometry, force, writer, notes),
+        Err(error) => {
+            notes.tell_error(path, &error);
+            (None, refuse(alloc, &Refusal::Device(()), writer))
+        }
+    }
+}
+
+// Formats a disk that was found, if what it holds may be overwritten.
+fn format_found<
+    S: DiskSource,
+    W: Write,
+    N: Notes + SourceNotes<S::Error> + FaultNotes<<S::Disk as Disk>::Fault>,
+>(
+    alloc: Global,
+    disk: S::Disk,
+    path: &str,
+    geometry: Geometry,
+    force: bool,
+    writer: &mut W,
+    notes: &mut N,
+) -> (Option<S::Disk>, io::Result<u8>)
+    ensures told { IfOk result.1 (IsStatus ((look : ResultOf HoldingOf S.Disk.Fault) × Looks S.Disk.Disk disk look
+        × TellsFound S.Disk.Disk N.Notes (ToldRefusal N.told_fault N.told_damage N.told_no_store) S.resized
+        path.now geometry force notes.old notes.new disk look N.told_error S.not_resized result.0 (W.contents writer.old) (W.contents writer.new))) }
+    ensures formatted { result.1 ≡ Ok 0 → (look : ResultOf HoldingOf S.Disk.Fault) × Looks S.Disk.Disk disk look
+        × FormatsFound S.Disk.Disk N.Notes (ToldRefusal N.told_fault N.told_damage N.told_no_store) S.resized
+        path.now geometry force notes.old notes.new disk look result.0 (W.contents writer.old) (W.contents writer.new) }
+{
+    if !may_overwrite(alloc, &disk, path, force, notes) {
+        return (Some(disk), refuse(alloc, &Refusal::Device(()), writer));
+    }
+    match S::resize(alloc, disk, geometry.size()) {
         Ok(disk) => {
-            let held_store = holds_store(&disk);
             let (disk, status) = format_on(alloc, disk, geometry, path, writer, notes);
-            tell_gone(held_store, &status, path, notes);
             (Some(disk), status)
         }
         Err(error) => {
@@ -65,51 +102,83 @@ pub fn format_file<
     }
 }
 
-// Tells that the store is gone which a file held, where it was formatted.
-fn tell_gone<N: Notes>(held_store: bool, status: &io::Result<u8>, file: &str, notes: &mut N)
-    ensures gone { status.now ≡ Ok 0 → held_store ≡ true → N.told_store notes.old notes.new file.now }
-    ensures same { status.now ≢ Ok 0 → notes.new ≡ notes.old }
-{
-    if held_store && matches!(status, Ok(0)) {
-        notes.tell_store(file);
-    }
-}
-
 /// One life of the store on the disk of a path, from the reader's lines. Answers the disk and the status: 0 at the end of the lines,
-/// 1 where the disk is not opened, the store is not taken up, or its session ends before.
+/// 1 where the disk is not opened, the store is not taken up, or its session ends before. With `tend` the background work that is due is
+/// done before each line.
 ///
 /// # Errors
 ///
 /// The writer's, before the first line is read, and want of memory for the text of a refusal.
 pub fn run_file<
     S: DiskSource,
-    R: Read + KeepsError,
-    W: Write + KeepsError,
+    R: Read + KeepsError + KeepsLines,
+    W: Write + KeepsError + KeepsTally,
     N: Notes + SourceNotes<S::Error> + FaultNotes<<S::Disk as Disk>::Fault>,
 >(
     alloc: Global,
     source: S,
     path: &str,
+    tend: bool,
     reader: &mut R,
     writer: &mut W,
     notes: &mut N,
 ) -> (Option<S::Disk>, io::Result<u8>)
 where
     S::Disk: Served + Watched,
-    ensures told { IfOk result.1 (IsStatus (TellsRunFile S.Disk.Disk
-        (ToldRefusal N.told_fault N.told_damage notes.old notes.new path.now)
-        (ToldSession N.told_failure S.Disk.Watched.kept_read S.Disk.Watched.last_failure N.told_end notes.old notes.new
-        (R.kept_error reader.new) (W.kept_error writer.new) path.now)
+    ensures told { IfOk result.1 (IsStatus (TellsRunFile S.Disk.Disk tend
+        (ToldRefusal N.told_fault N.told_damage N.told_no_store notes.old notes.new path.now)
+        (ToldSession N.told_failure S.Disk.Watched.kept_read S.Disk.Watched.last_failure N.told_end N.told_tally notes.old notes.new
+        (R.kept_error reader.new) (W.kept_error writer.new) (R.kept_lines reader.new) (W.kept_tally writer.new) path.now)
         (S.opened source path.now) (NotOpenedTold (S.not_opened source) (N.told_error notes.old notes.new) path.now)
         result.0 (R.remaining reader.old) (R.remaining reader.new) (W.contents writer.old) (W.contents writer.new))) }
-    ensures answered { result.1 ≡ Ok 0 → RunsFile S.Disk.Disk
-        (ToldSession N.told_failure S.Disk.Watched.kept_read S.Disk.Watched.last_failure N.told_end notes.old notes.new
-        (R.kept_error reader.new) (W.kept_error writer.new) path.now)
+    ensures answered { result.1 ≡ Ok 0 → RunsFile S.Disk.Disk tend
+        (ToldSession N.told_failure S.Disk.Watched.kept_read S.Disk.Watched.last_failure N.told_end N.told_tally notes.old notes.new
+        (R.kept_error reader.new) (W.kept_error writer.new) (R.kept_lines reader.new) (W.kept_tally writer.new) path.now)
         (S.opened source path.now) result.0 (R.remaining reader.old) (R.remaining reader.new) (W.contents writer.old) (W.contents writer.new) }
 {
     match source.open(path) {
         Ok(disk) => {
-            let (disk, status) = run_on(alloc, disk, path, reader, writer, notes);
+            let (disk, status) = run_on(alloc, disk, path, tend, reader, writer, notes);
+            (Some(disk), status)
+        }
+        Err(error) => {
+            notes.tell_error(path, &error);
+            (None, refuse(alloc, &Refusal::Device(()), writer))
+        }
+    }
+}
+
+/// Does all background work of the store on the disk of a path. Answers the disk and the status: 0 after the line that says how many steps
+/// it took, 1 where the disk is not opened, the store is not taken up, or a step is refused.
+///
+/// # Errors
+///
+/// The writer's, and want of memory for the text of a line.
+pub fn tend_file<
+    S: DiskSource,
+    W: Write,
+    N: Notes + SourceNotes<S::Error> + FaultNotes<<S::Disk as Disk>::Fault>,
+>(
+    alloc: Global,
+    source: S,
+    path: &str,
+    writer: &mut W,
+    notes: &mut N,
+) -> (Option<S::Disk>, io::Result<u8>)
+where
+    S::Disk: Watched,
+    ensures told { IfOk result.1 (IsStatus (TellsTendFile S.Disk.Disk
+        (ToldRefusal N.told_fault N.told_damage N.told_no_store notes.old notes.new path.now)
+        (ToldFailures N.told_failure S.Disk.Watched.kept_read S.Disk.Watched.last_failure notes.old notes.new path.now)
+        (S.opened source path.now) (NotOpenedTold (S.not_opened source) (N.told_error notes.old notes.new) path.now)
+        result.0 (W.contents writer.old) (W.contents writer.new))) }
+    ensures tended { result.1 ≡ Ok 0 → TendsFile S.Disk.Disk
+        (ToldFailures N.told_failure S.Disk.Watched.kept_read S.Disk.Watched.last_failure notes.old notes.new path.now)
+        (S.opened source path.now) result.0 (W.contents writer.old) (W.contents writer.new) }
+{
+    match source.open(path) {
+        Ok(disk) => {
+            let (disk, status) = tend_on(alloc, disk, path, writer, notes);
             (Some(disk), status)
         }
         Err(error) => {
@@ -128,7 +197,7 @@ where
 pub fn check_file<
     S: DiskSource,
     W: Write,
-    N: SourceNotes<S::Error> + FaultNotes<<S::Disk as Disk>::Fault>,
+    N: Notes + SourceNotes<S::Error> + FaultNotes<<S::Disk as Disk>::Fault>,
 >(
     alloc: Global,
     source: S,
@@ -137,10 +206,10 @@ pub fn check_file<
     notes: &mut N,
 ) -> (Option<S::Disk>, io::Result<u8>)
     ensures told { IfOk result.1 (IsStatus (TellsCheckFile S.Disk.Disk
-        (ToldRefusal N.told_fault N.told_damage notes.old notes.new path.now)
+        (ToldRefusal N.told_fault N.told_damage N.told_no_store notes.old notes.new path.now)
         (S.shared source path.now) (NotOpenedTold (S.not_shared source) (N.told_error notes.old notes.new) path.now)
         result.0 (W.contents writer.old) (W.contents writer.new))) }
-    ensures reported { result.1 ≡ Ok 0 → ChecksFile S.Disk.Disk (S.shared source path.now) result.0 (W.contents writer.old) (W.contents writer.new) }
+    ensures reported { result.1 ≡ Ok 0 → ChecksFile S.Disk.Disk (N.told_charge notes.old notes.new path.now) (S.shared source path.now) result.0 (W.contents writer.old) (W.contents writer.new) }
 {
     match source.open_shared(path) {
         Ok(disk) => {

@@ -1,18 +1,22 @@
 // The jobs on a disk of any kind.
-ghost use Rattle.std.specs.Prelude.{◌≡◌, Ok, IfOk};
+ghost use Rattle.std.specs.Prelude.{◌≡◌, ◌⊎◌, ℕ, List, Ok, IfOk, Option as OptionOf, codes};
 ghost use Rattle.std.specs.Io.KnownBytes.{Appends};
-ghost use Rattle.silt_disk.specs.Layout.{device_size};
+ghost use Rattle.silt_disk.specs.Layout.{Shape, device_size};
 ghost use Rattle.silt_wire.specs.Statuses.{IsStatus};
 ghost use Rattle.silt_wire.specs.declared.sessions.SessionEnd.{SessionEnd as SessionEndOf};
 ghost use Rattle.silt_wire.specs.declared.sessions.SessionEnd.TheVariants.{End};
-ghost use Rattle.silt_jobs.specs.Jobs.{AnswersReader, EndsCheck, EndsFormat, EndsRun, Tells, TellsCheck, TellsFormat, TellsRun, formatted_line, status_of};
-ghost use Rattle.silt_jobs.specs.Notes.{ToldEnd, ToldRefusal, ToldSession};
+ghost use Rattle.silt_jobs.specs.Damage.{HasShape, LacksShape};
+ghost use Rattle.silt_jobs.specs.Jobs.{AnswersLines, AnswersReader, EndsCheck, EndsFormat, EndsRun, EndsTend, EndsTending, Tells};
+ghost use Rattle.silt_jobs.specs.Jobs.{TellsCheck, TellsFormat, TellsRun, TellsTend, formatted_line, status_of, tended_line};
+ghost use Rattle.silt_jobs.specs.Notes.{ToldFailures, ToldLines, ToldRefusal, ToldSession};
 
-use crate::damage::damage_at;
+use crate::damage::{damage_at, geometry_on};
 use crate::failure::Watched;
 use crate::notes::{FaultNotes, Notes, tell_end, tell_failures, tell_refusal};
+use crate::output::write_out;
 use crate::refusal::refuse;
-use crate::streams::KeepsError;
+use crate::streams::{KeepsError, KeepsLines, KeepsTally};
+use crate::tending::{Steps, Tending, tend_all};
 use silt_disk::{Disk, Geometry};
 use silt_recovery::{check, format};
 use silt_store_set::{Core, OpenFault, Refusal, Served};
@@ -22,36 +26,40 @@ use std::io::{self, Read, Write};
 
 /// One life of the store on the disk of a file: it is taken up, and answers the reader's lines to their end. Nothing is flushed at the end.
 /// Gives the disk back, and the status: 0 at the end of the lines, 1 where the store is not taken up, and where its session ends
-/// before: where a read or write fails, or memory is wanted for a line or for the text of a reply. People are told why it ended before, and
-/// which calls of the disk failed in it.
+/// before: where a read or write fails, or memory is wanted for a line or for the text of a reply. With `tend` the background work that is
+/// due is done before each line. People are told why the session ended before, which lines were refused, and which calls of the disk
+/// failed in it.
 ///
 /// # Errors
 ///
 /// The writer's, before the first line is read, and want of memory for the text of a refusal.
 pub fn run_on<
     D: Served + Watched,
-    R: Read + KeepsError,
-    W: Write + KeepsError,
+    R: Read + KeepsError + KeepsLines,
+    W: Write + KeepsError + KeepsTally,
     N: Notes + FaultNotes<D::Fault>,
 >(
     alloc: Global,
     disk: D,
     file: &str,
+    tend: bool,
     reader: &mut R,
     writer: &mut W,
     notes: &mut N,
 ) -> (D, io::Result<u8>)
-    ensures told { IfOk result.1 (IsStatus (TellsRun D.Disk
-        (ToldRefusal N.told_fault N.told_damage notes.old notes.new file.now)
-        (ToldSession N.told_failure D.kept_read D.last_failure N.told_end notes.old notes.new (R.kept_error reader.new) (W.kept_error writer.new) file.now)
+    ensures told { IfOk result.1 (IsStatus (TellsRun D.Disk tend
+        (ToldRefusal N.told_fault N.told_damage N.told_no_store notes.old notes.new file.now)
+        (ToldSession N.told_failure D.kept_read D.last_failure N.told_end N.told_tally notes.old notes.new
+        (R.kept_error reader.new) (W.kept_error writer.new) (R.kept_lines reader.new) (W.kept_tally writer.new) file.now)
         disk result.0 (R.remaining reader.old) (R.remaining reader.new) (W.contents writer.old) (W.contents writer.new))) }
-    ensures answered { result.1 ≡ Ok 0 → EndsRun D.Disk
-        (ToldSession N.told_failure D.kept_read D.last_failure N.told_end notes.old notes.new (R.kept_error reader.new) (W.kept_error writer.new) file.now)
+    ensures answered { result.1 ≡ Ok 0 → EndsRun D.Disk tend
+        (ToldSession N.told_failure D.kept_read D.last_failure N.told_end N.told_tally notes.old notes.new
+        (R.kept_error reader.new) (W.kept_error writer.new) (R.kept_lines reader.new) (W.kept_tally writer.new) file.now)
         End disk result.0 (R.remaining reader.old) (R.remaining reader.new) (W.contents writer.old) (W.contents writer.new) }
 {
     match Core::open(alloc, disk) {
-        Ok(mut core) => {
-            let status = answer_reader(alloc, &mut core, reader, writer, notes);
+        Ok(core) => {
+            let (core, status) = answer_reader(alloc, core, tend, reader, writer, notes);
             let disk = core.close();
             tell_failures(file, &disk, notes);
             (disk, status)
@@ -74,7 +82,7 @@ pub fn refuse_opening<D: Disk, W: Write, N: FaultNotes<D::Fault>>(
 ) -> (D, io::Result<u8>)
     ensures disk { result.0 ≡ fault.disk }
     ensures told { IfOk result.1 (λ status. (status ≡ 1) × (Tells fault.refusal (W.contents writer.old) (W.contents writer.new)
-        × ToldRefusal N.told_fault N.told_damage notes.old notes.new file.now fault.refusal)) }
+        × ToldRefusal N.told_fault N.told_damage N.told_no_store notes.old notes.new file.now fault.refusal)) }
 {
     let at = damage_at(&fault.disk, &fault.refusal);
     tell_refusal(file, &fault.refusal, at, notes);
@@ -82,25 +90,56 @@ pub fn refuse_opening<D: Disk, W: Write, N: FaultNotes<D::Fault>>(
     (fault.disk, status)
 }
 
-// Writes that the store is taken up, answers the reader's lines to their end, tells why they ended before, and answers the status.
-fn answer_reader<D: Served, R: Read + KeepsError, W: Write + KeepsError, N: Notes>(
+// Writes that the store is taken up, answers the reader's lines to their end, tells why they ended before and which were refused, and gives
+// the store back with the status.
+fn answer_reader<
+    D: Served,
+    R: Read + KeepsError + KeepsLines,
+    W: Write + KeepsError + KeepsTally,
+    N: Notes,
+>(
     alloc: Global,
-    core: &mut Core<D>,
+    core: Core<D>,
+    tend: bool,
     reader: &mut R,
     writer: &mut W,
     notes: &mut N,
-) -> io::Result<u8>
-    ensures { IfOk result (λ status. (end : SessionEndOf) × (status ≡ status_of end)
-        × AnswersReader D.Disk end core.old core.new
+) -> (Core<D>, io::Result<u8>)
+    ensures { IfOk result.1 (λ status. (end : SessionEndOf) × (status ≡ status_of end)
+        × AnswersReader D.Disk tend end core result.0
         (R.remaining reader.old) (R.remaining reader.new) (W.contents writer.old) (W.contents writer.new)
-        × ToldEnd N.told_end (R.kept_error reader.new) (W.kept_error writer.new) end notes.old notes.new) }
+        × ToldLines N.told_end N.told_tally (R.kept_error reader.new) (W.kept_error writer.new) (R.kept_lines reader.new) (W.kept_tally writer.new) end notes.old notes.new) }
+{
+    match write_out(b"opened\n", writer) {
+        Ok(()) => {
+            let (core, end) = answer_lines(alloc, core, tend, reader, writer);
+            tell_end(end, reader, writer, notes);
+            notes.tell_tally(reader.lines(), writer.tally());
+            (core, Ok(status_of(end)))
+        }
+        Err(error) => (core, Err(error)),
+    }
+}
+
+// Answers the reader's lines to their end, or until a call or a growth of memory fails.
+fn answer_lines<D: Served, R: Read, W: Write>(
+    alloc: Global,
+    mut core: Core<D>,
+    tend: bool,
+    reader: &mut R,
+    writer: &mut W,
+) -> (Core<D>, SessionEnd)
+    ensures { AnswersLines D.Disk tend result.1 core result.0
+        (R.remaining reader.old) (R.remaining reader.new) (W.contents writer.old) (W.contents writer.new) }
 {
     let value_len = core.geometry().value_len() as usize;
-    writer.write_all(b"opened\n")?;
-    writer.flush()?;
-    let end = session(alloc, value_len, reader, writer, core);
-    tell_end(end, reader, writer, notes);
-    Ok(status_of(end))
+    if tend {
+        let mut tending = Tending::new(core);
+        let end = session(alloc, value_len, reader, writer, &mut tending);
+        return (tending.into_core(), end);
+    }
+    let end = session(alloc, value_len, reader, writer, &mut core);
+    (core, end)
 }
 
 // The status of a job by the end of its session.
@@ -118,7 +157,7 @@ fn status_of(end: SessionEnd) -> u8
 /// # Errors
 ///
 /// The writer's, and want of memory for the text.
-pub fn check_on<D: Disk, W: Write, N: FaultNotes<D::Fault>>(
+pub fn check_on<D: Disk, W: Write, N: Notes + FaultNotes<D::Fault>>(
     alloc: Global,
     disk: &D,
     file: &str,
@@ -126,13 +165,14 @@ pub fn check_on<D: Disk, W: Write, N: FaultNotes<D::Fault>>(
     notes: &mut N,
 ) -> io::Result<u8>
     ensures told { IfOk result (IsStatus (TellsCheck D.Disk
-        (ToldRefusal N.told_fault N.told_damage notes.old notes.new file.now) disk.now (W.contents writer.old) (W.contents writer.new))) }
-    ensures reported { result ≡ Ok 0 → EndsCheck D.Disk disk.now (W.contents writer.old) (W.contents writer.new) }
+        (ToldRefusal N.told_fault N.told_damage N.told_no_store notes.old notes.new file.now) disk.now (W.contents writer.old) (W.contents writer.new))) }
+    ensures reported { result ≡ Ok 0 → EndsCheck D.Disk (N.told_charge notes.old notes.new file.now) disk.now (W.contents writer.old) (W.contents writer.new) }
 {
     match check(alloc, disk) {
         Ok(report) => {
             write_report(alloc, &report, writer)?;
             writer.flush()?;
+            tell_charge(file, disk, report.charge, notes);
             Ok(0)
         }
         Err(error) => {
@@ -141,6 +181,69 @@ pub fn check_on<D: Disk, W: Write, N: FaultNotes<D::Fault>>(
             refuse(alloc, &refusal, writer)
         }
     }
+}
+
+// Tells the six numbers of the store on the disk of a file, if they can be read again, and its charge.
+fn tell_charge<D: Disk, N: Notes>(file: &str, disk: &D, charge: u32, notes: &mut N)
+    ensures { ((shape : Shape) × HasShape (D.content disk.now) shape × N.told_charge notes.old notes.new file.now shape charge) ⊎ LacksShape D.Disk disk.now }
+{
+    if let Some(geometry) = geometry_on(disk) {
+        notes.tell_charge(file, &geometry, charge);
+    }
+}
+
+/// Does all background work of the store on the disk of a file. Gives the disk back, and the status: 0 after the line that says how many
+/// steps it took, 1 where the store is not taken up or a step is refused. People are told which calls of the disk failed.
+///
+/// # Errors
+///
+/// The writer's, and want of memory for the text of a line.
+pub fn tend_on<D: Watched, W: Write, N: Notes + FaultNotes<D::Fault>>(
+    alloc: Global,
+    disk: D,
+    file: &str,
+    writer: &mut W,
+    notes: &mut N,
+) -> (D, io::Result<u8>)
+    ensures told { IfOk result.1 (IsStatus (TellsTend D.Disk
+        (ToldRefusal N.told_fault N.told_damage N.told_no_store notes.old notes.new file.now)
+        (ToldFailures N.told_failure D.kept_read D.last_failure notes.old notes.new file.now)
+        disk result.0 (W.contents writer.old) (W.contents writer.new))) }
+    ensures tended { result.1 ≡ Ok 0 → EndsTend D.Disk
+        (ToldFailures N.told_failure D.kept_read D.last_failure notes.old notes.new file.now)
+        disk result.0 (W.contents writer.old) (W.contents writer.new) }
+{
+    match Core::open(alloc, disk) {
+        Ok(mut core) => {
+            let status = tend_core(alloc, &mut core, writer);
+            let disk = core.close();
+            tell_failures(file, &disk, notes);
+            (disk, status)
+        }
+        Err(fault) => refuse_opening(alloc, fault, file, writer, notes),
+    }
+}
+
+// Writes that the store is taken up, does all its background work, and writes how many steps it took, or why one was refused.
+fn tend_core<D: Disk, W: Write>(alloc: Global, core: &mut Core<D>, writer: &mut W) -> io::Result<u8>
+    ensures { IfOk result (λ status. (opened : OptionOf (List ℕ)) × Appends (W.contents writer.old) opened (codes "opened\n")
+        × EndsTending D.Disk core.old core.new status opened (W.contents writer.new)) }
+{
+    write_out(b"opened\n", writer)?;
+    match tend_all(alloc, core) {
+        Ok(steps) => write_steps(alloc, steps, writer),
+        Err(refusal) => refuse(alloc, &refusal, writer),
+    }
+}
+
+// Writes how many steps were taken, and answers the status.
+fn write_steps<W: Write>(alloc: Global, steps: Steps, writer: &mut W) -> io::Result<u8>
+    ensures { IfOk result (λ status. (status ≡ 0) × Appends (W.contents writer.old) (W.contents writer.new) (tended_line steps)) }
+{
+    let Steps { converted, merged } = steps;
+    let line = format!(in alloc; "converted {converted} steps, merged {merged} steps\n")?;
+    write_out(line.as_bytes(), writer)?;
+    Ok(0)
 }
 
 /// Makes an empty store of this geometry of the disk of a file, and writes the disk's length. Gives the disk back, and the status: 0 after
@@ -158,7 +261,7 @@ pub fn format_on<D: Disk, W: Write, N: FaultNotes<D::Fault>>(
     notes: &mut N,
 ) -> (D, io::Result<u8>)
     ensures told { IfOk result.1 (IsStatus (TellsFormat D.Disk
-        (ToldRefusal N.told_fault N.told_damage notes.old notes.new file.now) geometry disk result.0 (W.contents writer.old) (W.contents writer.new))) }
+        (ToldRefusal N.told_fault N.told_damage N.told_no_store notes.old notes.new file.now) geometry disk result.0 (W.contents writer.old) (W.contents writer.new))) }
     ensures formatted { result.1 ≡ Ok 0 → EndsFormat D.Disk geometry result.0 (W.contents writer.old) (W.contents writer.new) }
     ensures quiet { result.1 ≡ Ok 0 → notes.new ≡ notes.old }
 {
@@ -178,7 +281,6 @@ fn write_formatted<W: Write>(alloc: Global, bytes: u64, writer: &mut W) -> io::R
     ensures { IfOk result (λ status. (status ≡ 0) × Appends (W.contents writer.old) (W.contents writer.new) (formatted_line bytes)) }
 {
     let line = format!(in alloc; "formatted {bytes}\n")?;
-    writer.write_all(line.as_bytes())?;
-    writer.flush()?;
+    write_out(line.as_bytes(), writer)?;
     Ok(0)
 }

@@ -1,36 +1,49 @@
 //! The jobs of the program that need no server.
 //!
-//! `format_file`, `run_file` and `check_file` work on the disk of a path, `run_script` on a new store in memory. They are functions over any
+//! `format_file`, `run_file`, `tend_file` and `check_file` work on the disk of a path, `run_script` on a new store in memory, and `write_plan`
+//! on numbers alone. They are functions over any
 //! source of disks, reader and writer, whose contracts say what is written for what the disk shows. `Notes`, `SourceNotes` and `FaultNotes`
 //! take what people are told beside that; `NoteLines` makes lines of it. `WatchedFiles` are the files of a source as disks that keep which
 //! of their calls failed, and that show how far an opening is (`Progress`).
 #![tactic(auto)]
 
 mod damage;
+mod dump;
 mod failure;
 mod files;
 mod geometry;
+mod input_lines;
 mod jobs;
 mod note_lines;
 mod notes;
+mod output;
+mod overwriting;
+mod plan;
 mod progress;
 mod refusal;
 mod script;
 mod script_lines;
 mod stop;
 mod streams;
+mod tally;
+mod tending;
 #[cfg(test)]
 mod tests;
 mod transcript;
 mod watched_file;
 
+pub use dump::dump_file;
 pub use failure::{Failure, Watched};
-pub use files::{check_file, format_file, run_file};
+pub use files::{check_file, format_file, run_file, tend_file};
+pub use input_lines::InputLines;
 pub use jobs::refuse_opening;
 pub use note_lines::NoteLines;
 pub use notes::{FaultNotes, Notes, SourceNotes, tell_error_of, tell_failures};
+pub use overwriting::HeldStore;
+pub use plan::write_plan;
 pub use progress::{AfterProgress, Progress};
 pub use refusal::refuse;
 pub use script::run_script;
-pub use streams::{KeepsError, StreamError, WatchedReader, WatchedWriter};
+pub use streams::{KeepsError, KeepsLines, KeepsTally, StreamError, WatchedReader, WatchedWriter};
+pub use tally::Tally;
 pub use watched_file::{WatchedFile, WatchedFiles};

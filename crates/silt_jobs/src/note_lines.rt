@@ -2,11 +2,16 @@
 ghost use Rattle.std.specs.Prelude.{◌≡◌, ⊤};
 
 use crate::failure::Failure;
+use crate::geometry::{NumbersText, out_of_limits};
+use crate::input_lines::InputLines;
 use crate::notes::{FaultNotes, Notes, SourceNotes};
+use crate::overwriting::HeldStore;
 use crate::streams::StreamError;
+use crate::tally::{KINDS, Refusals, Tally};
+use silt_disk::Geometry;
 use silt_store_set::Place;
 use silt_wire::SessionEnd;
-use silt_words::{FORMS, VERSION, asks_version, complaint_of};
+use silt_words::{FORMS, Numbers, VERSION, asks_version, complaint_of};
 use std::fmt::Display;
 use std::io::{self, ErrorKind, Write};
 
@@ -29,7 +34,15 @@ impl<W> NoteLines<W> {
 impl<W: Write> Notes for NoteLines<W> {
     ghost told_port = { λ _ _ _. ⊤ };
 
-    ghost told_store = { λ _ _ _. ⊤ };
+    ghost told_store = { λ _ _ _ _. ⊤ };
+
+    ghost told_other = { λ _ _ _. ⊤ };
+
+    ghost told_numbers = { λ _ _ _. ⊤ };
+
+    ghost told_charge = { λ _ _ _ _ _. ⊤ };
+
+    ghost told_tally = { λ _ _ _ _. ⊤ };
 
     ghost told_failure = { λ _ _ _ _. ⊤ };
 
@@ -45,8 +58,48 @@ impl<W: Write> Notes for NoteLines<W> {
         let _ = writeln!(self.writer, "silt: 127.0.0.1:{port}: {error}");
     }
 
-    fn tell_store(&mut self, file: &str) {
-        let _ = writeln!(self.writer, "silt: {file} held a store; it is gone");
+    fn tell_store(&mut self, file: &str, store: &HeldStore) {
+        let _ = writeln!(
+            self.writer,
+            "silt: {file} holds a store{store}; it is overwritten"
+        );
+    }
+
+    fn tell_other(&mut self, file: &str) {
+        let _ = writeln!(
+            self.writer,
+            "silt: {file}: it holds other data; --force overwrites it"
+        );
+    }
+
+    fn tell_numbers(&mut self, numbers: &Numbers) {
+        if let Some(number) = out_of_limits(numbers) {
+            let _ = writeln!(self.writer, "silt: {number}");
+        }
+    }
+
+    fn tell_charge(&mut self, file: &str, geometry: &Geometry, charge: u32) {
+        let most = geometry.sorted_capacity();
+        let numbers = NumbersText::of(geometry);
+        let _ = writeln!(
+            self.writer,
+            "silt: {file}: {numbers}; charge {charge} of {most}"
+        );
+    }
+
+    fn tell_tally(&mut self, lines: &InputLines, tally: &Tally) {
+        for kind in 1..KINDS {
+            let refusals = tally.refusals(kind);
+            if refusals.count > 0 {
+                let _ = write_refusals(&mut self.writer, kind, refusals, lines);
+            }
+        }
+        if lines.has_rest() {
+            let _ = writeln!(
+                self.writer,
+                "silt: the last line has no line feed, and is not answered"
+            );
+        }
     }
 
     fn tell_failure(&mut self, file: &str, failure: &Failure) {
@@ -101,6 +154,8 @@ impl<W: Write, F: Display> FaultNotes<F> for NoteLines<W> {
 
     ghost told_damage = { λ _ _ _ _ _. ⊤ };
 
+    ghost told_no_store = { λ _ _ _. ⊤ };
+
     fn tell_fault(&mut self, file: &str, fault: &F) {
         let _ = writeln!(self.writer, "silt: {file}: {fault}");
     }
@@ -110,5 +165,59 @@ impl<W: Write, F: Display> FaultNotes<F> for NoteLines<W> {
             Some(at) => writeln!(self.writer, "silt: {file}: {place}, at byte {at}"),
             None => writeln!(self.writer, "silt: {file}: {place}"),
         };
+    }
+
+    fn tell_no_store(&mut self, file: &str) {
+        let _ = writeln!(
+            self.writer,
+            "silt: {file}: it is not a silt store; make one with silt format"
+        );
+    }
+}
+
+// Writes how many lines of an input were refused with this number, which is the first, and what helps. The first reply is to no line.
+fn write_refusals<W: Write>(
+    writer: &mut W,
+    kind: usize,
+    refusals: Refusals,
+    lines: &InputLines,
+) -> io::Result<()> {
+    let Refusals { count, first } = refusals;
+    let name = name_of(kind);
+    let help = help_for(kind);
+    let noun = if count == 1 { "line" } else { "lines" };
+    write!(writer, "silt: {count} {noun} refused {kind} {name}, ")?;
+    match lines.number_of(first.saturating_sub(1)) {
+        Some(line) => writeln!(writer, "first line {line}{help}"),
+        None => writeln!(writer, "first far behind many blank lines{help}"),
+    }
+}
+
+// The name of a refusal of a line, by its number.
+fn name_of(kind: usize) -> &'static str {
+    match kind {
+        5 => "Device",
+        6 => "NoMemory",
+        7 => "StoreFull",
+        8 => "NoRoom",
+        9 => "Failed",
+        10 => "Spent",
+        20 => "BadLine",
+        21 => "BadKey",
+        22 => "BadValue",
+        23 => "LineTooLong",
+        _ => "",
+    }
+}
+
+// What helps against a refusal, behind its name.
+fn help_for(kind: usize) -> &'static str {
+    match kind {
+        7 => {
+            "; merging drops what was overwritten or deleted (run with --tend, or silt tend), and more keys need a larger S"
+        }
+        8 => "; background work makes room: run with --tend, or silt tend",
+        9 => "; an earlier write or sync failed, and running again opens the store anew",
+        _ => "",
     }
 }

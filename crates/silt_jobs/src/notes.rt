@@ -3,13 +3,23 @@ ghost use Rattle.std.specs.Prelude.{◌≡◌, ℕ, IsErr, IsOk, List, Option, m
 ghost use Rattle.silt_event.specs.declared.place.Place.{Place as PlaceOf};
 ghost use Rattle.silt_wire.specs.declared.sessions.SessionEnd.{SessionEnd as SessionEndOf};
 ghost use Rattle.silt_jobs.specs.Notes.{ToldCall, ToldEnd, ToldFailures, ToldRefusal};
+ghost use Rattle.silt_disk.specs.Layout.{Shape};
+ghost use Rattle.silt_words.specs.declared.job.Numbers.{Numbers as NumbersOf};
 ghost use Rattle.silt_jobs.specs.declared.failure.Failure.{Failure as FailureOf};
+ghost use Rattle.silt_jobs.specs.declared.input_lines.InputLines.{InputLines as InputLinesOf};
+ghost use Rattle.silt_jobs.specs.declared.overwriting.HeldStore.{HeldStore as HeldStoreOf};
+ghost use Rattle.silt_jobs.specs.declared.tally.Tally.{Tally as TallyOf};
 ghost use Rattle.silt_jobs.specs.declared.streams.StreamError.{StreamError as StreamErrorOf};
 
 use crate::failure::{Failure, Watched};
+use crate::input_lines::InputLines;
+use crate::overwriting::HeldStore;
 use crate::streams::{KeepsError, StreamError};
+use crate::tally::Tally;
+use silt_disk::Geometry;
 use silt_store_set::{Place, Refusal};
 use silt_wire::SessionEnd;
+use silt_words::Numbers;
 use std::io;
 
 /// Where people are told what does not concern one disk or its source. Nothing that is written for programs depends on a note.
@@ -17,8 +27,20 @@ pub trait Notes {
     /// It was told why this port of this machine cannot be listened on.
     ghost told_port: { Self → Self → ℕ → Type 0 };
 
-    /// It was told that a file of this name held a store, which is gone.
-    ghost told_store: { Self → Self → List ℕ → Type 0 };
+    /// It was told that the file of this name holds this store, which is to be overwritten.
+    ghost told_store: { Self → Self → List ℕ → HeldStoreOf → Type 0 };
+
+    /// It was told that the file of this name holds other data, which stays.
+    ghost told_other: { Self → Self → List ℕ → Type 0 };
+
+    /// It was told which of these numbers is out of its limits.
+    ghost told_numbers: { Self → Self → NumbersOf → Type 0 };
+
+    /// It was told which six numbers the store in the file of this name has, and its charge.
+    ghost told_charge: { Self → Self → List ℕ → Shape → ℕ → Type 0 };
+
+    /// It was told which lines of this input were refused, by these replies.
+    ghost told_tally: { Self → Self → InputLinesOf → TallyOf → Type 0 };
 
     /// It was told that this call failed on the disk of a file of this name.
     ghost told_failure: { Self → Self → List ℕ → FailureOf → Type 0 };
@@ -39,14 +61,27 @@ pub trait Notes {
     fn tell_port(&mut self, port: u16, error: &io::Error)
         ensures { told_port self.old self.new port };
 
-    /// Tells that the file of this name held a store, which is gone.
-    fn tell_store(&mut self, file: &str)
-        ensures { told_store self.old self.new file.now };
+    /// Tells that the file of this name holds this store, which is to be overwritten.
+    fn tell_store(&mut self, file: &str, store: &HeldStore)
+        ensures { told_store self.old self.new file.now store.now };
+    /// Tells that the file of this name holds other data, which stays.
+    fn tell_other(&mut self, file: &str)
+        ensures { told_other self.old self.new file.now };
+
+    /// Tells which of these numbers is out of its limits.
+    fn tell_numbers(&mut self, numbers: &Numbers)
+        ensures { told_numbers self.old self.new numbers.now };
+    /// Tells which six numbers the store in the file of this name has, and its charge.
+    fn tell_charge(&mut self, file: &str, geometry: &Geometry, charge: u32)
+        ensures { told_charge self.old self.new file.now geometry.now charge };
+
+    /// Tells which lines of this input were refused, by these replies, of which the first is of no line.
+    fn tell_tally(&mut self, lines: &InputLines, tally: &Tally)
+        ensures { told_tally self.old self.new lines.now tally.now };
 
     /// Tells that this call failed on the disk of the file of this name.
     fn tell_failure(&mut self, file: &str, failure: &Failure)
         ensures { told_failure self.old self.new file.now failure.now };
-
     /// Tells that this call failed, and with it the store.
     fn tell_failed_store(&mut self, failure: &Failure)
         ensures { told_failed_store self.old self.new failure.now };
@@ -54,7 +89,6 @@ pub trait Notes {
     /// Tells why a session broke off, with the error of its reader or its writer, if that is why.
     fn tell_end(&mut self, end: SessionEnd, error: Option<StreamError>)
         ensures { told_end self.old self.new end error };
-
     /// Tells why the reader or the writer failed.
     fn tell_broken(&mut self, error: &io::Error)
         ensures { told_broken self.old self.new };
@@ -127,6 +161,9 @@ pub trait FaultNotes<F> {
     /// It was told that this part of the disk of a file of this name is damaged, and where it begins, if that is known.
     ghost told_damage: { Self → Self → List ℕ → PlaceOf → Option ℕ → Type 0 };
 
+    /// It was told that the disk of a file of this name holds no store.
+    ghost told_no_store: { Self → Self → List ℕ → Type 0 };
+
     /// Tells why a call of the disk of the file of this name failed.
     fn tell_fault(&mut self, file: &str, fault: &F)
         ensures { told_fault self.old self.new file.now fault.now };
@@ -134,20 +171,25 @@ pub trait FaultNotes<F> {
     /// Tells which part of the disk of the file of this name is damaged, and where it begins, if that is known.
     fn tell_damage(&mut self, file: &str, place: Place, at: Option<u64>)
         ensures { told_damage self.old self.new file.now place at };
+
+    /// Tells that the disk of the file of this name holds no store.
+    fn tell_no_store(&mut self, file: &str)
+        ensures { told_no_store self.old self.new file.now };
 }
 
-/// Tells the fault of a disk, or the damage that begins there, where a refusal has one of them.
+/// Tells the fault of a disk, the damage that begins there, or that there is no store, where a refusal says one of them.
 pub fn tell_refusal<F, N: FaultNotes<F>>(
     file: &str,
     refusal: &Refusal<F>,
     at: Option<u64>,
     notes: &mut N,
 )
-    ensures { ToldRefusal N.told_fault N.told_damage notes.old notes.new file.now refusal.now }
+    ensures { ToldRefusal N.told_fault N.told_damage N.told_no_store notes.old notes.new file.now refusal.now }
 {
     match refusal {
         Refusal::Device(fault) => notes.tell_fault(file, fault),
         Refusal::Damaged(place) => notes.tell_damage(file, *place, at),
+        Refusal::NotFormatted => notes.tell_no_store(file),
         _ => {}
     }
 }

@@ -19,6 +19,8 @@ pub struct Progress {
     terminal: Option<Stderr>,
     bytes: AtomicU64,
     cost: AtomicU64,
+    // The length of the file, as far as it was shown.
+    len: AtomicU64,
     is_shown: AtomicBool,
     is_over: AtomicBool,
 }
@@ -30,6 +32,7 @@ impl Progress {
             terminal,
             bytes: AtomicU64::new(0),
             cost: AtomicU64::new(0),
+            len: AtomicU64::new(0),
             is_shown: AtomicBool::new(false),
             is_over: AtomicBool::new(false),
         }
@@ -60,18 +63,20 @@ impl Progress {
     fn show(&self, bytes: u64, len: u64) {
         if let Some(mut terminal) = self.terminal {
             let _ = write_line(&mut terminal, bytes, len);
+            self.len.store(len, Ordering::SeqCst);
             self.is_shown.store(true, Ordering::SeqCst);
         }
     }
 
-    /// The opening is over. The line is ended, where there is one, and none is shown from now on.
+    /// The opening is over. The line is written anew and ended, where there is one, and none is shown from now on.
     pub fn end(&self) {
         if self.is_over.load(Ordering::SeqCst) {
             return;
         }
         self.is_over.store(true, Ordering::SeqCst);
         if let (Some(mut terminal), true) = (self.terminal, self.is_shown.load(Ordering::SeqCst)) {
-            let _ = terminal.write_all(b"\n");
+            let bytes = self.bytes.load(Ordering::SeqCst);
+            let _ = write_end(&mut terminal, bytes, self.len.load(Ordering::SeqCst));
         }
     }
 }
@@ -90,6 +95,12 @@ pub(crate) fn write_line<W: Write>(to: &mut W, bytes: u64, len: u64) -> io::Resu
         to,
         "\rsilt: opening: {read} MiB read of a file of {whole} MiB"
     )
+}
+
+// Writes how many bytes were read in all, and ends the line.
+pub(crate) fn write_end<W: Write>(to: &mut W, bytes: u64, len: u64) -> io::Result<()> {
+    write_line(to, bytes, len)?;
+    to.write_all(b", 100 percent of what it needs\n")
 }
 
 /// A writer before whose first bytes the line of an opening is ended.

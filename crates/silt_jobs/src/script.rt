@@ -13,6 +13,7 @@ ghost use Rattle.silt_jobs.specs.Numbers.{shape_asked};
 ghost use Rattle.silt_jobs.specs.Scripts.{EndsScript, RunsLives, TellsRefusal};
 
 use crate::geometry::geometry_of;
+use crate::notes::Notes;
 use crate::refusal::refuse;
 use crate::script_lines::read_script;
 use crate::transcript::write_script;
@@ -25,22 +26,26 @@ use std::alloc::Global;
 use std::io::{self, ErrorKind, Read, Write};
 
 /// Reads a script to its end, runs its lives over a new store of these numbers on a disk in memory, and then writes the
-/// replies. Answers the status: 0 at the end of the replies, 1 where the script or the store is refused.
+/// replies. Answers the status: 0 at the end of the replies, 1 where the script or the store is refused. People are told of numbers out of
+/// their limits.
 ///
 /// # Errors
 ///
 /// The reader's or the writer's, and want of memory for the text of a reply.
-pub fn run_script<R: Read, W: Write>(
+pub fn run_script<R: Read, W: Write, N: Notes>(
     alloc: Global,
     numbers: &Numbers,
     reader: &mut R,
     writer: &mut W,
+    notes: &mut N,
 ) -> io::Result<u8>
+    ensures numbers { ¬ InLimits (shape_asked numbers.now) → N.told_numbers notes.old notes.new numbers.now }
     ensures refused { ¬ InLimits (shape_asked numbers.now) → IfOk result (λ status. (status ≡ 1) × Appends (W.contents writer.old) (W.contents writer.new) (codes "refused 2 BadGeometry\n")) }
     ensures told { IfOk result (IsStatus (TellsRefusal (shape_asked numbers.now) (W.contents writer.old) (W.contents writer.new))) }
     ensures answered { result ≡ Ok 0 → EndsScript (shape_asked numbers.now) (R.remaining reader.old) (R.remaining reader.new) (W.contents writer.old) (W.contents writer.new) }
 {
     let Ok(geometry) = geometry_of(numbers) else {
+        notes.tell_numbers(numbers);
         return refuse(alloc, &Refusal::<MemFault>::BadGeometry, writer);
     };
     let script = match read_script(alloc, geometry.value_len() as usize, reader) {

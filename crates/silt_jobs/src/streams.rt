@@ -1,9 +1,15 @@
-// Readers and writers that keep the error of their last call.
-ghost use Rattle.std.specs.Prelude.{◌≡◌, Option, Some, None, IfErr};
+// Readers and writers that keep the error of their last call, and what notes need of the lines that pass.
+ghost use Rattle.std.specs.Prelude.{◌≡◌, Option, Some, None, IfErr, IfOk, take};
 ghost use Rattle.std.specs.Io.KnownBytes.{Keeps, ReadConsumes, WriteAppends};
 ghost use Rattle.std.specs.Io.{ReadsAtMost, WritesAtMost};
+ghost use Rattle.silt_jobs.specs.Tally.{tally_of, untold};
+ghost use Rattle.silt_jobs.specs.declared.input_lines.InputLines.{InputLines as InputLinesOf};
 ghost use Rattle.silt_jobs.specs.declared.streams.StreamError.{StreamError as StreamErrorOf};
+ghost use Rattle.silt_jobs.specs.declared.tally.Tally.{Tally as TallyOf};
 
+use crate::input_lines::InputLines;
+use crate::tally::Tally;
+use std::alloc::Global;
 use std::io::{self, Read, Write};
 
 /// Why a reader or a writer failed.
@@ -22,21 +28,43 @@ pub trait KeepsError {
         ensures { result ≡ kept_error self.now };
 }
 
-/// A reader that keeps the error of its last read.
+/// A reader that keeps what is known of its lines.
+pub trait KeepsLines {
+    /// The lines that were read.
+    ghost kept_lines: { Self → InputLinesOf };
+
+    /// The lines that were read.
+    fn lines(&self) -> &InputLines
+        ensures { result.now ≡ kept_lines self.now };
+}
+
+/// A writer that keeps which of its lines are refusals.
+pub trait KeepsTally {
+    /// The lines that were written.
+    ghost kept_tally: { Self → TallyOf };
+
+    /// The lines that were written.
+    fn tally(&self) -> &Tally
+        ensures { result.now ≡ kept_tally self.now };
+}
+
+/// A reader that keeps the error of its last read, and passes on what it reads as it is.
 #[derive(Drop)]
 pub struct WatchedReader<R> {
     reader: R,
     error: Option<StreamError>,
+    lines: InputLines,
 }
 
 impl<R> WatchedReader<R> {
     /// This reader, of which no read has failed.
-    pub fn new(reader: R) -> Self
+    pub fn new(alloc: Global, reader: R) -> Self
         ensures { (result.reader ≡ reader) × (result.error ≡ None) }
     {
         WatchedReader {
             reader,
             error: None,
+            lines: InputLines::new(alloc),
         }
     }
 }
@@ -49,9 +77,17 @@ impl<R: Read> Read for WatchedReader<R> {
         ensures bytes { ReadConsumes (R.remaining self.old.reader) (R.remaining self.new.reader) result buf.new }
         ensures kept { IfErr result (λ error. self.new.error ≡ Some (record { error = error })) }
     {
-        let read = self.reader.read(buf);
-        self.error = read.err().map(|error| StreamError { error });
-        read
+        match self.reader.read(buf) {
+            Ok(count) => {
+                self.error = None;
+                self.lines.take(&buf[..count]);
+                Ok(count)
+            }
+            Err(error) => {
+                self.error = Some(StreamError { error });
+                Err(error)
+            }
+        }
     }
 }
 
@@ -63,21 +99,31 @@ impl<R> KeepsError for WatchedReader<R> {
     }
 }
 
-/// A writer that keeps the error of its last write or flush.
+impl<R> KeepsLines for WatchedReader<R> {
+    ghost kept_lines = { λ watched. watched.lines };
+
+    fn lines(&self) -> &InputLines {
+        &self.lines
+    }
+}
+
+/// A writer that keeps the error of its last write or flush, and passes on what it is given as it is.
 #[derive(Drop)]
 pub struct WatchedWriter<W> {
     writer: W,
     error: Option<StreamError>,
+    tally: Tally,
 }
 
 impl<W> WatchedWriter<W> {
     /// This writer, of which no write has failed.
     pub fn new(writer: W) -> Self
-        ensures { (result.writer ≡ writer) × (result.error ≡ None) }
+        ensures { (result.writer ≡ writer) × (result.error ≡ None) × (result.tally ≡ untold) }
     {
         WatchedWriter {
             writer,
             error: None,
+            tally: Tally::new(),
         }
     }
 }
@@ -88,11 +134,20 @@ impl<W: Write> Write for WatchedWriter<W> {
     fn write(&mut self, buf: &[u8]) -> io::Result<usize>
         ensures bound { WritesAtMost result buf.now }
         ensures bytes { WriteAppends (W.contents self.old.writer) (W.contents self.new.writer) result buf.now }
+        ensures tallied { IfOk result (λ count. self.new.tally ≡ tally_of self.old.tally (take count buf.now)) }
         ensures kept { IfErr result (λ error. self.new.error ≡ Some (record { error = error })) }
     {
-        let written = self.writer.write(buf);
-        self.error = written.err().map(|error| StreamError { error });
-        written
+        match self.writer.write(buf) {
+            Ok(count) => {
+                self.error = None;
+                self.tally.take(&buf[..count]);
+                Ok(count)
+            }
+            Err(error) => {
+                self.error = Some(StreamError { error });
+                Err(error)
+            }
+        }
     }
 
     fn flush(&mut self) -> io::Result<()>
@@ -110,5 +165,13 @@ impl<W> KeepsError for WatchedWriter<W> {
 
     fn kept_error(&self) -> Option<StreamError> {
         self.error
+    }
+}
+
+impl<W> KeepsTally for WatchedWriter<W> {
+    ghost kept_tally = { λ watched. watched.tally };
+
+    fn tally(&self) -> &Tally {
+        &self.tally
     }
 }

@@ -1,16 +1,24 @@
 // What no contract says of the jobs: their texts, letter for letter, over memory.
 
 mod damage;
+mod formats;
 mod jobs;
+mod notes;
+mod plans;
 mod progress;
+mod tending;
 
 use crate::failure::{Failure, Watched};
+use crate::input_lines::InputLines;
 use crate::notes::{FaultNotes, Notes, SourceNotes};
+use crate::overwriting::HeldStore;
 use crate::script_lines::read_script;
-use crate::streams::{KeepsError, StreamError};
-use silt_device::{FaultDisk, MemDisk};
+use crate::streams::StreamError;
+use crate::tally::Tally;
+use silt_device::{FaultDisk, Geometry, MemDisk};
 use silt_event::Place;
 use silt_wire::SessionEnd;
+use silt_words::Numbers;
 use std::io::{self, Cursor, ErrorKind};
 use std::process::Abort;
 use std::test::Fail;
@@ -38,7 +46,15 @@ impl Notes for Counted {
 
     ghost told_port = { λ _ _ _. ⊤ };
 
-    ghost told_store = { λ _ _ _. ⊤ };
+    ghost told_store = { λ _ _ _ _. ⊤ };
+
+    ghost told_other = { λ _ _ _. ⊤ };
+
+    ghost told_numbers = { λ _ _ _. ⊤ };
+
+    ghost told_charge = { λ _ _ _ _ _. ⊤ };
+
+    ghost told_tally = { λ _ _ _ _. ⊤ };
 
     ghost told_failure = { λ _ _ _ _. ⊤ };
 
@@ -54,7 +70,23 @@ impl Notes for Counted {
         self.others = self.others.wrapping_add(1);
     }
 
-    fn tell_store(&mut self, _file: &str) {
+    fn tell_store(&mut self, _file: &str, _store: &HeldStore) {
+        self.others = self.others.wrapping_add(1);
+    }
+
+    fn tell_other(&mut self, _file: &str) {
+        self.others = self.others.wrapping_add(1);
+    }
+
+    fn tell_numbers(&mut self, _numbers: &Numbers) {
+        self.others = self.others.wrapping_add(1);
+    }
+
+    fn tell_charge(&mut self, _file: &str, _geometry: &Geometry, _charge: u32) {
+        self.others = self.others.wrapping_add(1);
+    }
+
+    fn tell_tally(&mut self, _lines: &InputLines, _tally: &Tally) {
         self.others = self.others.wrapping_add(1);
     }
 
@@ -116,27 +148,6 @@ impl Watched for FaultDisk {
     fn tell_at_once(&mut self) {}
 }
 
-// Readers and writers that keep no error.
-impl KeepsError for Cursor<&[u8]> {
-    ghost use Rattle.std.specs.Prelude.{None};
-
-    ghost kept_error = { λ _. None };
-
-    fn kept_error(&self) -> Option<StreamError> {
-        None
-    }
-}
-
-impl KeepsError for Vec<u8> {
-    ghost use Rattle.std.specs.Prelude.{None};
-
-    ghost kept_error = { λ _. None };
-
-    fn kept_error(&self) -> Option<StreamError> {
-        None
-    }
-}
-
 impl<E> SourceNotes<E> for Counted {
     ghost use Rattle.std.specs.Prelude.{⊤};
 
@@ -154,11 +165,17 @@ impl<F> FaultNotes<F> for Counted {
 
     ghost told_damage = { λ _ _ _ _ _. ⊤ };
 
+    ghost told_no_store = { λ _ _ _. ⊤ };
+
     fn tell_fault(&mut self, _file: &str, _fault: &F) {
         self.faults = self.faults.wrapping_add(1);
     }
 
     fn tell_damage(&mut self, _file: &str, _place: Place, _at: Option<u64>) {
+        self.others = self.others.wrapping_add(1);
+    }
+
+    fn tell_no_store(&mut self, _file: &str) {
         self.others = self.others.wrapping_add(1);
     }
 }

@@ -8,7 +8,7 @@ use crate::note_lines::NoteLines;
 use crate::notes::Notes;
 use crate::progress::Progress;
 use silt_device::{DiskSource, FileDisk};
-use silt_disk::{Call, CallAt, Disk};
+use silt_disk::Disk;
 use silt_event::{Event, Reply};
 use silt_store_set::{Core, Served};
 use std::alloc::Global;
@@ -54,7 +54,7 @@ impl<N: Notes + Send + Sync + Drop> Disk for WatchedFile<'_, N> {
                 Ok(())
             }
             Err(fault) => {
-                let _ = self.first_read.try_set(failure_of(Call::Read, at, &fault));
+                let _ = self.first_read.try_set(failure_of(&fault));
                 Err(fault)
             }
         }
@@ -68,11 +68,11 @@ impl<N: Notes + Send + Sync + Drop> Disk for WatchedFile<'_, N> {
         ensures failures { MatchResult result (λ _. self.new.disk.inner.failures ≡ self.old.disk.inner.failures)
             (λ fault. (self.new.disk.inner.failures ≡ (self.old.disk.inner.failures + 1) % 2 ^ 64)
             × buffered_gave file_gave self.new.disk.inner fault Write at (length buf.now)) }
-        ensures last { IfErr result (λ fault. self.new.last ≡ Some (record { call = record { call = Write; at = at }; error = fault.inner.error })) }
+        ensures last { IfErr result (λ fault. self.new.last ≡ Some (record { call = record { call = fault.inner.call; at = fault.inner.at }; error = fault.inner.error })) }
     {
         match self.disk.write(at, buf) {
             Ok(()) => Ok(()),
-            Err(fault) => Err(self.keep(Call::Write, at, fault)),
+            Err(fault) => Err(self.keep(fault)),
         }
     }
 
@@ -83,23 +83,23 @@ impl<N: Notes + Send + Sync + Drop> Disk for WatchedFile<'_, N> {
         ensures failures { MatchResult result (λ _. self.new.disk.inner.failures ≡ self.old.disk.inner.failures)
             (λ fault. (self.new.disk.inner.failures ≡ (self.old.disk.inner.failures + 1) % 2 ^ 64)
             × buffered_gave file_gave self.new.disk.inner fault Sync 0 (size (buffered_content file_content self.new.disk.inner))) }
-        ensures last { IfErr result (λ fault. self.new.last ≡ Some (record { call = record { call = Sync; at = 0 }; error = fault.inner.error })) }
+        ensures last { IfErr result (λ fault. self.new.last ≡ Some (record { call = record { call = fault.inner.call; at = fault.inner.at }; error = fault.inner.error })) }
     {
         match self.disk.sync() {
             Ok(()) => Ok(()),
-            Err(fault) => Err(self.keep(Call::Sync, 0, fault)),
+            Err(fault) => Err(self.keep(fault)),
         }
     }
 }
 
 impl<N: Notes> WatchedFile<'_, N> {
-    // Keeps what failed with this fault, and gives the fault back.
-    fn keep(&mut self, call: Call, at: u64, fault: FileFault) -> FileFault
+    // Keeps which call on the file failed with this fault, and gives the fault back.
+    fn keep(&mut self, fault: FileFault) -> FileFault
         ensures fault { result ≡ fault }
         ensures disk { self.new.disk ≡ self.old.disk }
-        ensures last { self.new.last ≡ Some (record { call = record { call = call; at = at }; error = fault.inner.error }) }
+        ensures last { self.new.last ≡ Some (record { call = record { call = fault.inner.call; at = fault.inner.at }; error = fault.inner.error }) }
     {
-        let failure = failure_of(call, at, &fault);
+        let failure = failure_of(&fault);
         if self.tells_at_once && self.last.is_none() {
             self.progress.end();
             self.notes.tell_failed_store(&failure);
@@ -109,12 +109,12 @@ impl<N: Notes> WatchedFile<'_, N> {
     }
 }
 
-// The call that failed with this fault.
-fn failure_of(call: Call, at: u64, fault: &FileFault) -> Failure
-    ensures { result ≡ record { call = record { call = call; at = at }; error = fault.now.inner.error } }
+// The call on the file that failed with this fault: it may be the write of bytes that were buffered before.
+fn failure_of(fault: &FileFault) -> Failure
+    ensures { result ≡ record { call = record { call = fault.now.inner.call; at = fault.now.inner.at }; error = fault.now.inner.error } }
 {
     Failure {
-        call: CallAt { call, at },
+        call: fault.inner().call(),
         error: fault.inner().error(),
     }
 }
@@ -195,9 +195,13 @@ impl<'a, S: DiskSource<Disk = FileDisk>, N: Notes + Send + Sync + Drop> DiskSour
 
     ghost not_shared = { λ source path error. S.not_shared source.files path error };
 
-    ghost created = { λ source path len watched. S.created source.files path len watched.disk };
+    ghost found = { λ source path watched. S.found source.files path watched.disk };
 
-    ghost not_created = { λ source path len error. S.not_created source.files path len error };
+    ghost not_found = { λ source path error. S.not_found source.files path error };
+
+    ghost resized = { λ old len new. S.resized old.disk len new.disk };
+
+    ghost not_resized = { λ old len error. S.not_resized old.disk len error };
 
     fn open(self, path: &str) -> Result<WatchedFile<'a, N>, S::Error> {
         match self.files.open(path) {
@@ -213,9 +217,20 @@ impl<'a, S: DiskSource<Disk = FileDisk>, N: Notes + Send + Sync + Drop> DiskSour
         }
     }
 
-    fn create(self, path: &str, len: u64) -> Result<WatchedFile<'a, N>, S::Error> {
-        match self.files.create(path, len) {
+    fn find(self, path: &str) -> Result<WatchedFile<'a, N>, S::Error> {
+        match self.files.find(path) {
             Ok(disk) => Ok(watched(disk, self.notes, self.progress)),
+            Err(error) => Err(error),
+        }
+    }
+
+    fn resize(
+        alloc: Global,
+        disk: WatchedFile<'a, N>,
+        len: u64,
+    ) -> Result<WatchedFile<'a, N>, S::Error> {
+        match S::resize(alloc, disk.disk, len) {
+            Ok(file) => Ok(watched(file, disk.notes, disk.progress)),
             Err(error) => Err(error),
         }
     }

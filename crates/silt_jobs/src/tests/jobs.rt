@@ -3,6 +3,7 @@
 use crate::failure::Watched;
 use crate::files::{check_file, format_file, run_file};
 use crate::jobs::{check_on, format_on, run_on};
+use crate::streams::{WatchedReader, WatchedWriter};
 use crate::tests::{Counted, compare};
 use silt_device::{Call, Disk, FaultDisk, Geometry, MemDisk, NamedDisk};
 use silt_store_set::Served;
@@ -40,14 +41,14 @@ fn runs<S: AllocGlobal + Abort, D: Served + Watched>(
     status: u8,
     output: &[u8],
 ) -> D {
-    let mut reader = Cursor::new(text);
     let mut out = Vec::new(rt.alloc());
     let (disk, code) = run_on(
         rt.alloc(),
         disk,
         "disk",
-        &mut reader,
-        &mut out,
+        false,
+        &mut WatchedReader::new(rt.alloc(), Cursor::new(text)),
+        &mut WatchedWriter::new(&mut out),
         &mut Counted::new(),
     );
     compare(rt, "run", code.ok(), &out, status, output);
@@ -167,6 +168,7 @@ fn formats_path<S: AllocGlobal + Abort>(
         source,
         path,
         &numbers,
+        true,
         &mut out,
         &mut Counted::new(),
     );
@@ -176,14 +178,15 @@ fn formats_path<S: AllocGlobal + Abort>(
 
 // Runs one life on the disk of the path.
 fn runs_path<S: AllocGlobal + Abort>(rt: &S, source: NamedDisk<MemDisk>) -> Option<MemDisk> {
-    let mut reader = Cursor::new(b"put =abc 0102\nflush\n".as_slice());
+    let reader = Cursor::new(b"put =abc 0102\nflush\n".as_slice());
     let mut out = Vec::new(rt.alloc());
     let (disk, code) = run_file(
         rt.alloc(),
         source,
         "disk",
-        &mut reader,
-        &mut out,
+        false,
+        &mut WatchedReader::new(rt.alloc(), reader),
+        &mut WatchedWriter::new(&mut out),
         &mut Counted::new(),
     );
     compare(

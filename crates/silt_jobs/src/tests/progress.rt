@@ -1,6 +1,6 @@
 // When the line of a long opening is shown, and what it says.
 
-use crate::progress::{Progress, write_line};
+use crate::progress::{Progress, write_end, write_line};
 use std::process::Abort;
 use std::test::Fail;
 
@@ -39,14 +39,14 @@ fn shows_long_openings(rt: HostRuntime) -> Result<(), Fail> {
     Ok(())
 }
 
-// The line begins anew where the last one stands.
+// The line begins anew where the last one stands, and ends with all that was read.
 #[test]
 fn writes_the_line_anew(rt: HostRuntime) -> Result<(), Fail> {
     let mut text = Vec::new(rt.alloc());
     write_line(&mut text, 16_777_216, 1 << 30)?;
-    write_line(&mut text, (1 << 30) - 1, 1 << 30)?;
+    write_end(&mut text, (1 << 30) - 1, 1 << 30)?;
     let lines =
-        b"\rsilt: opening: 16 MiB read of a file of 1024 MiB\rsilt: opening: 1023 MiB read of a file of 1024 MiB";
+        b"\rsilt: opening: 16 MiB read of a file of 1024 MiB\rsilt: opening: 1023 MiB read of a file of 1024 MiB, 100 percent of what it needs\n";
     assert_eq!(rt; text.as_slice(), lines.as_slice());
     Ok(())
 }

@@ -1,34 +1,39 @@
 use Rattle.silt_wire.specs.declared.sessions.SessionEnd.{SessionEnd}
-use Rattle.silt_jobs.specs.Notes.{ToldEnd, ToldRefusal, ToldSession}
+use Rattle.silt_jobs.specs.Notes.{ToldLines, ToldRefusal, ToldSession}
 use Rattle.silt_jobs.proofs.Outcomes.{ran_done, ran_told, unopened_told}
 use Rattle.silt_wire.proofs.Statuses.{never_done}
 use Rattle.silt_jobs.proofs.jobs.run_on.Goals as goal
 
 pub returns-in-Ok-clause-told : goal.returns-in-Ok-clause-told
 returns-in-Ok-clause-told g c =
-    let reading = g.R.KeepsError.kept_error c.answer_reader-status.new.reader in
-    let writing = g.W.KeepsError.kept_error c.answer_reader-status.new.writer in
-    ran_told g.D.Disk (ToldRefusal g.N.FaultNotes.told_fault g.N.FaultNotes.told_damage c.args.notes.now c.tell_failures.new.notes c.args.file.now)
-    (ToldSession g.N.Notes.told_failure g.D.Watched.kept_read g.D.Watched.last_failure g.N.Notes.told_end c.args.notes.now c.tell_failures.new.notes reading writing c.args.file.now)
-    (λ (end : SessionEnd). ToldEnd g.N.Notes.told_end reading writing end c.args.notes.now c.answer_reader-status.new.notes)
-    c.answer_reader-status.result c.args.disk c.close-disk.result c.in-Ok.core c.answer_reader-status.new.core _ _ _ _
-    c.in-Ok.ensures.ok c.close-disk.ensures.disk (λ end heard. (c.answer_reader-status.new.notes, heard, c.tell_failures.ensures)) c.answer_reader-status.ensures
+    let reading = g.R.KeepsError.kept_error c.answer_reader-core.new.reader in
+    let writing = g.W.KeepsError.kept_error c.answer_reader-core.new.writer in
+    let lines = g.R.KeepsLines.kept_lines c.answer_reader-core.new.reader in
+    let tally = g.W.KeepsTally.kept_tally c.answer_reader-core.new.writer in
+    ran_told g.D.Disk c.args.tend (ToldRefusal g.N.FaultNotes.told_fault g.N.FaultNotes.told_damage g.N.FaultNotes.told_no_store c.args.notes.now c.tell_failures.new.notes c.args.file.now)
+    (ToldSession g.N.Notes.told_failure g.D.Watched.kept_read g.D.Watched.last_failure g.N.Notes.told_end g.N.Notes.told_tally c.args.notes.now c.tell_failures.new.notes reading writing lines tally c.args.file.now)
+    (λ (end : SessionEnd). ToldLines g.N.Notes.told_end g.N.Notes.told_tally reading writing lines tally end c.args.notes.now c.answer_reader-core.new.notes)
+    c.answer_reader-core.result.1 c.args.disk c.close-disk.result c.in-Ok.core c.answer_reader-core.result.0 _ _ _ _
+    c.in-Ok.ensures.ok c.close-disk.ensures.disk (λ end heard. (c.answer_reader-core.new.notes, heard, c.tell_failures.ensures)) c.answer_reader-core.ensures
 
 pub returns-in-Ok-clause-answered : goal.returns-in-Ok-clause-answered
 returns-in-Ok-clause-answered g c =
-    let reading = g.R.KeepsError.kept_error c.answer_reader-status.new.reader in
-    let writing = g.W.KeepsError.kept_error c.answer_reader-status.new.writer in
-    ran_done g.D.Disk (ToldRefusal g.N.FaultNotes.told_fault g.N.FaultNotes.told_damage c.args.notes.now c.tell_failures.new.notes c.args.file.now)
-    (ToldSession g.N.Notes.told_failure g.D.Watched.kept_read g.D.Watched.last_failure g.N.Notes.told_end c.args.notes.now c.tell_failures.new.notes reading writing c.args.file.now)
-    (λ (end : SessionEnd). ToldEnd g.N.Notes.told_end reading writing end c.args.notes.now c.answer_reader-status.new.notes)
-    c.answer_reader-status.result c.args.disk c.close-disk.result c.in-Ok.core c.answer_reader-status.new.core _ _ _ _
-    c.in-Ok.ensures.ok c.close-disk.ensures.disk (λ end heard. (c.answer_reader-status.new.notes, heard, c.tell_failures.ensures)) c.answer_reader-status.ensures
+    let reading = g.R.KeepsError.kept_error c.answer_reader-core.new.reader in
+    let writing = g.W.KeepsError.kept_error c.answer_reader-core.new.writer in
+    let lines = g.R.KeepsLines.kept_lines c.answer_reader-core.new.reader in
+    let tally = g.W.KeepsTally.kept_tally c.answer_reader-core.new.writer in
+    ran_done g.D.Disk c.args.tend (ToldRefusal g.N.FaultNotes.told_fault g.N.FaultNotes.told_damage g.N.FaultNotes.told_no_store c.args.notes.now c.tell_failures.new.notes c.args.file.now)
+    (ToldSession g.N.Notes.told_failure g.D.Watched.kept_read g.D.Watched.last_failure g.N.Notes.told_end g.N.Notes.told_tally c.args.notes.now c.tell_failures.new.notes reading writing lines tally c.args.file.now)
+    (λ (end : SessionEnd). ToldLines g.N.Notes.told_end g.N.Notes.told_tally reading writing lines tally end c.args.notes.now c.answer_reader-core.new.notes)
+    c.answer_reader-core.result.1 c.args.disk c.close-disk.result c.in-Ok.core c.answer_reader-core.result.0 _ _ _ _
+    c.in-Ok.ensures.ok c.close-disk.ensures.disk (λ end heard. (c.answer_reader-core.new.notes, heard, c.tell_failures.ensures)) c.answer_reader-core.ensures
 
 pub returns-in-Err-clause-told : goal.returns-in-Err-clause-told
 returns-in-Err-clause-told g c =
-    unopened_told g.D.Disk (ToldRefusal g.N.FaultNotes.told_fault g.N.FaultNotes.told_damage c.args.notes.now c.refuse_opening.new.notes c.args.file.now)
-    (ToldSession g.N.Notes.told_failure g.D.Watched.kept_read g.D.Watched.last_failure g.N.Notes.told_end c.args.notes.now c.refuse_opening.new.notes
-    (g.R.KeepsError.kept_error c.args.reader.now) (g.W.KeepsError.kept_error c.refuse_opening.new.writer) c.args.file.now)
+    unopened_told g.D.Disk c.args.tend (ToldRefusal g.N.FaultNotes.told_fault g.N.FaultNotes.told_damage g.N.FaultNotes.told_no_store c.args.notes.now c.refuse_opening.new.notes c.args.file.now)
+    (ToldSession g.N.Notes.told_failure g.D.Watched.kept_read g.D.Watched.last_failure g.N.Notes.told_end g.N.Notes.told_tally c.args.notes.now c.refuse_opening.new.notes
+    (g.R.KeepsError.kept_error c.args.reader.now) (g.W.KeepsError.kept_error c.refuse_opening.new.writer)
+    (g.R.KeepsLines.kept_lines c.args.reader.now) (g.W.KeepsTally.kept_tally c.refuse_opening.new.writer) c.args.file.now)
     c.refuse_opening.result.1 c.args.disk c.refuse_opening.result.0 c.in-Err.fault.refusal _ _ _ _
     (rw (← c.refuse_opening.ensures.disk) at c.in-Err.ensures.cause) c.refuse_opening.ensures.told
 

@@ -1,0 +1,100 @@
+-- The first bucket count that can be planned, one after another.
+use Rattle.std.proofs.Common.{◌≡◌, ◌+◌, ◌*◌, ◌<◌, ◌≤◌, ◌&&◌, ℕ, Bool, true, false, drop, get_or, length, List, [], ◌∷◌, Option, Some, None, codes, refl, sym, ap, ◌∙◌, subst}
+use Rattle.std.specs.Prelude.{if◌then◌else◌}
+use Rattle.std.specs.Io.KnownBytes.{Appends}
+use Rattle.std.specs.Option.{option_map}
+use Rattle.std.proofs.lemmas.List.{drop_all, drop_more}
+use Rattle.silt_disk.specs.Layout.{Shape}
+use Rattle.silt_words.specs.declared.job.PlanRequest.{PlanRequest}
+use Rattle.silt_jobs.specs.Plans.{TellsPlan, first_planned, is_needed, is_planned, is_possible, plan_text, shape_planned}
+
+-- what was chosen where it is possible
+chosen : (possible : Bool) (shape geometry : Shape) → Some geometry ≡ (if possible then Some shape else None) → (possible ≡ true) × (geometry ≡ shape)
+chosen true shape geometry is = (refl, cc)
+chosen false shape geometry is = absurd (cc)
+
+not_chosen : (possible : Bool) (shape : Shape) → None ≡ (if possible then Some shape else None) → possible ≡ false
+not_chosen true shape is = absurd (cc)
+not_chosen false shape is = refl
+
+first_more : (r : PlanRequest) (buckets : ℕ) (more : List ℕ) → first_planned r (buckets ∷ more) ≡ (if is_planned r buckets then Some buckets else first_planned r more)
+unfolding first_planned
+first_more r buckets more = refl
+
+-- the first of the counts from here on
+first_here : (r : PlanRequest) (counts : List ℕ) (at : ℕ) → at < length counts
+    → first_planned r (drop at counts) ≡ (if is_planned r (get_or counts at 0) then Some (get_or counts at 0) else first_planned r (drop (at + 1) counts))
+first_here r counts at inside = ap (first_planned r) (drop_more counts at 0 inside) ∙ first_more r (get_or counts at 0) (drop (at + 1) counts)
+
+if_true : (b : Bool) (x y : Option ℕ) → b ≡ true → (if b then x else y) ≡ x
+if_true true x y is = refl
+if_true false x y is = absurd (cc)
+
+if_false : (b : Bool) (x y : Option ℕ) → b ≡ false → (if b then x else y) ≡ y
+if_false true x y is = absurd (cc)
+if_false false x y is = refl
+
+and_both : (a b : Bool) → a ≡ true → b ≡ true → (a && b) ≡ true
+and_both true true x y = refl
+and_both true false x y = absurd (cc)
+and_both false b x y = absurd (cc)
+
+and_first : (a b : Bool) → a ≡ false → (a && b) ≡ false
+and_first true b x = absurd (cc)
+and_first false b x = refl
+
+and_second : (a b : Bool) → b ≡ false → (a && b) ≡ false
+and_second true true x = absurd (cc)
+and_second true false x = refl
+and_second false b x = refl
+
+-- a count that can be planned is the first one
+pub planned_here : (r : PlanRequest) (whole counts : List ℕ) (at : ℕ) (geometry : Shape) → at < length counts → first_planned r whole ≡ first_planned r (drop at counts)
+    → is_needed r (get_or counts at 0) ≡ true → Some geometry ≡ (if is_possible r (get_or counts at 0) then Some (shape_planned r (get_or counts at 0)) else None)
+    → Some geometry ≡ option_map (shape_planned r) (first_planned r whole)
+planned_here r whole counts at geometry inside rest needed is =
+    let buckets = get_or counts at 0 in
+    let it = chosen (is_possible r buckets) (shape_planned r buckets) geometry is in
+    let found : first_planned r whole ≡ Some buckets = rest ∙ first_here r counts at inside ∙ if_true (is_planned r buckets) _ _ (and_both (is_needed r buckets) (is_possible r buckets) needed it.0) in
+    ap (λ (s : Shape). Some s) it.1 ∙ ap (option_map (shape_planned r)) (sym found)
+
+-- one that is not needed is passed over
+pub not_needed : (r : PlanRequest) (whole counts : List ℕ) (at : ℕ) → at < length counts → first_planned r whole ≡ first_planned r (drop at counts)
+    → is_needed r (get_or counts at 0) ≡ false → first_planned r whole ≡ first_planned r (drop (at + 1) counts)
+not_needed r whole counts at inside rest none =
+    let buckets = get_or counts at 0 in
+    rest ∙ first_here r counts at inside ∙ if_false (is_planned r buckets) _ _ (and_first (is_needed r buckets) (is_possible r buckets) none)
+
+-- and so is one that is not possible
+pub not_possible : (r : PlanRequest) (whole counts : List ℕ) (at : ℕ) → at < length counts → first_planned r whole ≡ first_planned r (drop at counts)
+    → None ≡ (if is_possible r (get_or counts at 0) then Some (shape_planned r (get_or counts at 0)) else None) → first_planned r whole ≡ first_planned r (drop (at + 1) counts)
+not_possible r whole counts at inside rest none =
+    let buckets = get_or counts at 0 in
+    let not = not_chosen (is_possible r buckets) (shape_planned r buckets) none in
+    rest ∙ first_here r counts at inside ∙ if_false (is_planned r buckets) _ _ (and_second (is_needed r buckets) (is_possible r buckets) not)
+
+first_none : (r : PlanRequest) → first_planned r [] ≡ None
+unfolding first_planned
+first_none r = refl
+
+-- behind the last one there is none
+pub none_left : (r : PlanRequest) (whole counts : List ℕ) (at : ℕ) → length counts ≤ at → first_planned r whole ≡ first_planned r (drop at counts)
+    → None ≡ option_map (shape_planned r) (first_planned r whole)
+none_left r whole counts at past rest = ap (option_map (shape_planned r)) (sym (rest ∙ ap (first_planned r) (drop_all at counts past) ∙ first_none r))
+
+-- ---- what is written
+
+pub tells_plan : (r : PlanRequest) (found : Option ℕ) (geometry : Shape) (memory : ℕ) (before after : Option (List ℕ)) → Some geometry ≡ option_map (shape_planned r) found
+    → memory ≡ 1043 * geometry.buckets + 21 * r.keys → Appends before after (plan_text geometry memory) → TellsPlan r found 0 before after
+tells_plan r (Some buckets) geometry memory before after is takes told =
+    let same : geometry ≡ shape_planned r buckets = cc in (
+      refl,
+      subst (λ (s : Shape). Appends before after (plan_text s (1043 * s.buckets + 21 * r.keys))) same
+          (subst (λ (m : ℕ). Appends before after (plan_text geometry m)) takes told),
+    )
+tells_plan r None geometry memory before after is takes told = absurd (cc)
+
+pub tells_none : (r : PlanRequest) (found : Option ℕ) (before after : Option (List ℕ)) → None ≡ option_map (shape_planned r) found → Appends before after (codes "no plan\n")
+    → TellsPlan r found 1 before after
+tells_none r (Some buckets) before after is told = absurd (cc)
+tells_none r None before after is told = (refl, told)

@@ -1,0 +1,9 @@
+-- Bytes one after another.
+use Rattle.std.proofs.Common.{◌≡◌, ℕ, List, [], ◌∷◌, ◌++◌, refl}
+use Rattle.silt_jobs.specs.Tally.{tally_after, tally_of}
+use Rattle.silt_jobs.specs.declared.tally.Tally.{Tally}
+
+-- one byte more
+pub tally_more : (t : Tally) (bytes : List ℕ) (byte : ℕ) → tally_of t (bytes ++ byte ∷ []) ≡ tally_after (tally_of t bytes) byte
+tally_more t [] byte = refl
+tally_more t (b ∷ bytes) byte = tally_more (tally_after t b) bytes byte

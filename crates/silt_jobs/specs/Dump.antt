@@ -1,0 +1,31 @@
+-- What a dump writes.
+use Rattle.std.specs.Prelude.{◌≡◌, ◌⊎◌, ℕ, IsTrue, List, ◌++◌, Option, Some, codes, flat_map}
+use Rattle.std.specs.BTreeMap.{BTreeMap, IsOrdered}
+use Rattle.std.specs.Io.KnownBytes.{Appends}
+use Rattle.hex.specs.Hex.{encode_lower}
+use Rattle.silt_disk.specs.declared.disk.Disk.{Ghosts}
+use Rattle.silt_event.specs.declared.refusal.Refusal.{Refusal}
+use Rattle.silt_frame.specs.Rows.{key_cmp}
+use Rattle.silt_frame.specs.declared.key.Key.{Key}
+use Rattle.silt_image.specs.Meaning.{image_map}
+use Rattle.silt_tiers.specs.Lookup.{AreEntriesOf}
+use Rattle.silt_jobs.specs.Files.{TellsNoDisk}
+use Rattle.silt_jobs.specs.Jobs.{TellsCheck}
+
+-- the line that puts this value at this key
+abbrev pub put_line : Key → List ℕ → List ℕ
+put_line key value = codes "put " ++ (encode_lower key.0 ++ (codes " " ++ (encode_lower value ++ codes "\n")))
+
+-- the lines that put these entries
+abbrev pub entry_lines : List (Key × List ℕ) → List ℕ
+entry_lines entries = flat_map (λ (e : Key × List ℕ). put_line e.0 e.1) entries
+
+-- the lines that put all entries of the map of what the disk shows were written, in the order of their keys
+abbrev pub EndsDump : {D F : Type 0} → Ghosts D F → D → Option (List ℕ) → Option (List ℕ) → Type 0
+EndsDump facts disk before after =
+    (entries : BTreeMap Key (List ℕ)) × IsOrdered key_cmp entries × (IsTrue (facts.content disk).honest → AreEntriesOf (image_map (facts.content disk).shown) entries)
+    × Appends before after (entry_lines entries.entries)
+
+-- that was done with a disk that the source opened, which is given back
+abbrev pub DumpsFile : {D F : Type 0} → Ghosts D F → (D → Type 0) → Option D → Option (List ℕ) → Option (List ℕ) → Type 0
+DumpsFile {D} facts Opened given before after = (disk : D) × Opened disk × (given ≡ Some disk) × EndsDump facts disk before after

@@ -1,0 +1,54 @@
+-- What a disk holds that is to be formatted, and whether that may be overwritten.
+use Rattle.std.specs.Prelude.{◌≡◌, ℕ, ◌==◌, nat_le, Bool, true, false, ◌&&◌, IsTrue, IfSome, List, Result, Ok, Err, slice_range}
+use Rattle.std.specs.Str.{bytes_eq}
+use Rattle.silt_disk.specs.Disk.{Content, GaveAny, size}
+use Rattle.silt_disk.specs.Header.{header_len, header_of, magic}
+use Rattle.silt_disk.specs.declared.disk.Disk.{Ghosts}
+use Rattle.silt_event.specs.declared.refusal.Refusal.{Refusal}
+use Rattle.silt_event.specs.declared.refusal.Refusal.TheVariants.{Device}
+use Rattle.silt_event.specs.declared.report.Report.{Report}
+use Rattle.silt_recovery.specs.Opening.{IsReported}
+use Rattle.silt_jobs.specs.Damage.{HasShape}
+use Rattle.silt_jobs.specs.declared.notes.Notes.{Ghosts as NotesOf}
+use Rattle.silt_jobs.specs.declared.overwriting.HeldStore.{HeldStore}
+use Rattle.silt_jobs.specs.declared.overwriting.Holding.{Holding}
+use Rattle.silt_jobs.specs.declared.overwriting.Holding.TheVariants.{Nothing, Store, Other}
+
+-- these bytes of a header, behind its gate, are those of a store of this program: whole, damaged, or formatted in part
+abbrev pub has_magic : List ℕ → Bool
+has_magic header = bytes_eq (slice_range header 1 9) magic
+
+-- a disk holds such a store
+abbrev pub is_ours : Content → Bool
+is_ours content = nat_le header_len (size content) && has_magic (header_of content.shown)
+
+-- what is known of the store that a disk holds: its six numbers, and what a report says of its charge
+pub record IsHeldStore (content : Content) (store : HeldStore) : Type 0 where
+  pub geometry : IfSome store.geometry (HasShape content)
+  pub charge : IfSome store.charge (λ charge. (report : Report) × IsReported content.shown report × (charge ≡ report.charge))
+
+-- what a disk holds
+abbrev pub Holds : Content → Holding → Type 0
+Holds content Nothing = size content ≡ 0
+Holds content (Store store) = (is_ours content ≡ true) × IsHeldStore content store
+Holds content Other = ((size content == 0) ≡ false) × (is_ours content ≡ false)
+
+module _ {D F : Type 0} (facts : Ghosts D F) where
+  -- a disk was looked at: it holds this, or a read failed
+  abbrev pub Looks : D → Result Holding F → Type 0
+  Looks disk (Ok holding) = IsTrue (facts.content disk).honest → Holds (facts.content disk) holding
+  Looks disk (Err fault) = GaveAny facts.gave disk fault
+
+module _ {N F : Type 0} (notes : NotesOf N) (told_refusal : N → N → List ℕ → Refusal F → Type 0) (file : List ℕ) (force : Bool) where
+  -- What was found on the disk of this file may be overwritten: nothing, a store of which people were told, or by force anything.
+  abbrev pub MayOverwrite : Result Holding F → N → N → Type 0
+  MayOverwrite (Ok Nothing) old new = new ≡ old
+  MayOverwrite (Ok (Store store)) old new = notes.told_store old new file store
+  MayOverwrite (Ok Other) old new = (force ≡ true) × (new ≡ old)
+  MayOverwrite (Err fault) old new = (force ≡ true) × (new ≡ old)
+
+  -- What was found stays without force, and people were told why: it is other data, or it could not be read.
+  abbrev pub MustStay : Result Holding F → N → N → Type 0
+  MustStay (Ok Other) old new = (force ≡ false) × notes.told_other old new file
+  MustStay (Err fault) old new = (force ≡ false) × told_refusal old new file (Device fault)
+  MustStay found old new = ⊥

@@ -1,0 +1,65 @@
+-- The six numbers of a store that is planned for so many keys.
+use Rattle.std.specs.Prelude.{◌≡◌, ℕ, ◌+◌, ◌*◌, ◌/◌, ◌==◌, nat_le, nat_lt, ◌&&◌, ◌||◌, Bool, true, List, [], ◌∷◌, ◌++◌, Option, Some, None, if◌then◌else◌, codes}
+use Rattle.std.specs.Fmt.{decimal}
+use Rattle.std.specs.Io.KnownBytes.{Appends}
+use Rattle.silt_disk.specs.Header.{is_in_limits}
+use Rattle.silt_disk.specs.Layout.{Shape, device_size}
+use Rattle.silt_words.specs.declared.job.PlanRequest.{PlanRequest}
+
+-- the bucket counts of a geometry, the greatest first
+abbrev pub bucket_counts : List ℕ
+bucket_counts = 32768 ∷ 16384 ∷ 8192 ∷ 4096 ∷ 2048 ∷ 1024 ∷ 512 ∷ 256 ∷ 128 ∷ 64 ∷ 32 ∷ 16 ∷ 8 ∷ 4 ∷ 2 ∷ []
+
+-- Half a bucket takes seven rows. There are three logs and eight hash regions, and room for all keys beside all that these hold.
+abbrev pub shape_planned : PlanRequest → ℕ → Shape
+shape_planned r buckets =
+    let rows = 7 * (buckets / 2) in
+    record { value_len = r.value_len; buckets = buckets; log_capacity = rows; logs = 3; hashes = 8; sorted_capacity = r.keys + 11 * rows }
+
+-- The bytes of memory that it takes at most, while four hash stores are merged: 1,043 a bucket, and 21 a key.
+abbrev pub memory_planned : PlanRequest → ℕ → ℕ
+memory_planned r buckets = 1043 * buckets + 21 * r.keys
+
+-- the bytes of memory fit under the limit, if there is one
+abbrev pub fits_memory : Option ℕ → ℕ → Bool
+fits_memory None bytes = true
+fits_memory (Some most) bytes = nat_le bytes most
+
+-- No more buckets than are needed: with half as many, four logs have fewer rows than a ninth of the keys.
+abbrev pub is_needed : PlanRequest → ℕ → Bool
+is_needed r buckets = buckets == 2 || nat_lt (63 * buckets) r.keys
+
+-- this many buckets give numbers in their limits, and fit the memory
+abbrev pub is_possible : PlanRequest → ℕ → Bool
+is_possible r buckets = is_in_limits (shape_planned r buckets) && fits_memory r.memory (memory_planned r buckets)
+
+-- and they are needed
+abbrev pub is_planned : PlanRequest → ℕ → Bool
+is_planned r buckets = is_needed r buckets && is_possible r buckets
+
+-- the first of these bucket counts that can be planned
+unfoldable pub first_planned : PlanRequest → List ℕ → Option ℕ
+first_planned r [] = None
+first_planned r (buckets ∷ more) = if is_planned r buckets then Some buckets else first_planned r more
+
+-- a number behind a word
+unfoldable pub number_after : List ℕ → ℕ → List ℕ
+number_after word number = word ++ decimal number
+
+-- the six numbers in the order of the command line, and what they take on disk and in memory
+abbrev pub plan_text : Shape → ℕ → List ℕ
+plan_text s memory =
+    number_after (codes "") s.value_len
+    ++ (number_after (codes " ") s.buckets
+    ++ (number_after (codes " ") s.log_capacity
+    ++ (number_after (codes " ") s.logs
+    ++ (number_after (codes " ") s.hashes
+    ++ (number_after (codes " ") s.sorted_capacity
+    ++ (number_after (codes "\ndisk ") (device_size s)
+    ++ (number_after (codes "\nmemory ") memory ++ codes "\n")))))))
+
+-- the plan of the most buckets that can be planned was written, or that there is none
+abbrev pub TellsPlan : PlanRequest → Option ℕ → ℕ → Option (List ℕ) → Option (List ℕ) → Type 0
+TellsPlan r (Some buckets) status before after =
+    (status ≡ 0) × Appends before after (plan_text (shape_planned r buckets) (memory_planned r buckets))
+TellsPlan r None status before after = (status ≡ 1) × Appends before after (codes "no plan\n")

@@ -1,0 +1,46 @@
+-- Which lines of an output are refusals.
+use Rattle.std.specs.Prelude.{ℕ, ◌+◌, ◌-◌, ◌*◌, ◌%◌, ◌^◌, ◌==◌, nat_lt, if◌then◌else◌, cond, List, [], ◌∷◌, ◌++◌, codes, get_or, length, replicate, slice_index, slice_set, take}
+use Rattle.std.specs.Str.{bytes_eq}
+use Rattle.silt_jobs.specs.declared.tally.Refusals.{Refusals}
+use Rattle.silt_jobs.specs.declared.tally.Tally.{Tally}
+
+-- the number of one digit before a space, or of two digits
+abbrev pub number_in : ℕ → ℕ → ℕ
+number_in first second = if second == 32 then first - 48 else 10 * (first - 48) + (second - 48)
+
+-- the number of the refusal on a line that begins so, or 0
+abbrev pub refusal_in : List ℕ → ℕ
+refusal_in begun =
+    if nat_lt (length begun) 10 then 0
+    else if bytes_eq (take 8 begun) (codes "refused ") then number_in (slice_index begun 8) (slice_index begun 9) else 0
+
+-- with one more refusal, on this line
+abbrev pub counted : Refusals → ℕ → Refusals
+counted refusals line = record { count = (refusals.count + 1) % 2 ^ 64; first = cond (refusals.count == 0) line refusals.first }
+
+-- no refusal
+abbrev pub none_refused : Refusals
+none_refused = record { count = 0; first = 0 }
+
+-- one more refusal of this number, if there is such a number
+abbrev pub counted_in : List Refusals → ℕ → ℕ → List Refusals
+counted_in refused kind line = cond (nat_lt kind 24) (slice_set refused kind (counted (get_or refused kind none_refused) line)) refused
+
+-- no line yet
+abbrev pub untold : Tally
+untold = record { ended = 0; begun = []; refused = replicate 24 none_refused }
+
+-- a line has ended
+abbrev pub line_ended : Tally → Tally
+line_ended t =
+    let ended = (t.ended + 1) % 2 ^ 64 in
+    record { ended = ended; begun = []; refused = counted_in t.refused (refusal_in t.begun) ended }
+
+-- after one more byte: of a line that goes on the first ten bytes are kept
+abbrev pub tally_after : Tally → ℕ → Tally
+tally_after t byte = cond (byte == 10) (line_ended t) (record t { begun = cond (nat_lt (length t.begun) 10) (t.begun ++ byte ∷ []) t.begun })
+
+-- after more bytes
+abbrev pub tally_of : Tally → List ℕ → Tally
+tally_of t [] = t
+tally_of t (byte ∷ bytes) = tally_of (tally_after t byte) bytes

@@ -1,0 +1,91 @@
+// The lines of an input: how many there are, and which of them are blank.
+use std::alloc::Global;
+
+/// How many blank lines are kept at most, by their numbers.
+const MOST_BLANK: usize = 65_536;
+
+/// What a line that has not ended has.
+#[derive(Clone, Copy, Debug, PartialEq, Eq)]
+pub enum Begun {
+    Nothing,
+    /// A carriage return alone, so that it is blank if it ends.
+    Return,
+    Something,
+}
+
+/// How many lines an input has, and the numbers of its blank lines, which are not answered. The first line is number 1.
+#[derive(Drop)]
+pub struct InputLines {
+    ended: u64,
+    begun: Begun,
+    blank: Vec<u64>,
+    // Whether not all blank lines are kept.
+    is_cut: bool,
+}
+
+impl InputLines {
+    /// Of an input of which nothing was read.
+    pub fn new(alloc: Global) -> Self {
+        InputLines {
+            ended: 0,
+            begun: Begun::Nothing,
+            blank: Vec::new(alloc),
+            is_cut: false,
+        }
+    }
+
+    /// Takes what was read next.
+    pub fn take(&mut self, bytes: &[u8]) {
+        for byte in bytes {
+            self.take_byte(*byte);
+        }
+    }
+
+    // Takes the next byte.
+    fn take_byte(&mut self, byte: u8) {
+        if byte == b'\n' {
+            self.end_line();
+            return;
+        }
+        self.begun = match self.begun {
+            Begun::Nothing if byte == b'\r' => Begun::Return,
+            _ => Begun::Something,
+        };
+    }
+
+    // Ends a line, and keeps its number if it is blank.
+    fn end_line(&mut self) {
+        self.ended = self.ended.wrapping_add(1);
+        if self.begun != Begun::Something {
+            self.keep_blank();
+        }
+        self.begun = Begun::Nothing;
+    }
+
+    // Keeps the number of the last line, which is blank.
+    fn keep_blank(&mut self) {
+        if self.blank.len() >= MOST_BLANK || self.blank.push(self.ended).is_err() {
+            self.is_cut = true;
+        }
+    }
+
+    /// Whether bytes came behind the last line feed.
+    pub fn has_rest(&self) -> bool {
+        self.begun != Begun::Nothing
+    }
+
+    /// The number of the line that is answered by this reply. None if that is not known.
+    pub fn number_of(&self, reply: u64) -> Option<u64> {
+        let mut number = reply;
+        for blank in &self.blank {
+            if *blank > number {
+                return Some(number);
+            }
+            number = number.wrapping_add(1);
+        }
+        if self.is_cut {
+            return None;
+        }
+        Some(number)
+    }
+}

@@ -1,0 +1,18 @@
+// Texts that go out at once.
+ghost use Rattle.std.specs.Prelude.{OnOk};
+ghost use Rattle.std.specs.Io.KnownBytes.{Appends};
+
+use std::io::{self, Write};
+
+/// Writes a text and flushes it.
+///
+/// # Errors
+///
+/// The writer's.
+pub fn write_out<W: Write>(text: &[u8], writer: &mut W) -> io::Result<()>
+    ensures { OnOk result (Appends (W.contents writer.old) (W.contents writer.new) text.now) }
+{
+    writer.write_all(text)?;
+    writer.flush()?;
+    Ok(())
+}

@@ -1,0 +1,125 @@
+// What a disk holds that is to be formatted, and whether that may be overwritten.
+ghost use Rattle.std.specs.Prelude.{◌≡◌, IsTrue, IfSome, MatchBool, Result as ResultOf};
+ghost use Rattle.silt_event.specs.declared.report.Report.{Report as ReportOf};
+ghost use Rattle.silt_recovery.specs.Opening.{IsReported};
+ghost use Rattle.silt_jobs.specs.Notes.{ToldRefusal};
+ghost use Rattle.silt_jobs.specs.Overwriting.{IsHeldStore, Looks, MayOverwrite, MustStay, has_magic};
+ghost use Rattle.silt_jobs.specs.declared.overwriting.Holding.{Holding as HoldingOf};
+
+use crate::damage::geometry_on;
+use crate::geometry::NumbersText;
+use crate::notes::{FaultNotes, Notes};
+use silt_disk::{Disk, Geometry, HEADER_LEN};
+use silt_recovery::check;
+use std::alloc::Global;
+use std::fmt;
+
+/// What is known of a store that a disk holds.
+#[derive(Clone, Copy, Debug, PartialEq, Eq)]
+pub struct HeldStore {
+    /// Its six numbers, if its header is whole and can be read.
+    pub geometry: Option<Geometry>,
+    /// How many put rows and sorted entries it has, if nothing of it is damaged and all of it can be read: no fewer than its keys.
+    pub charge: Option<u32>,
+}
+
+// Its numbers in brackets, and how many keys it has at most, or that something is wrong with it.
+impl fmt::Display for HeldStore {
+    fn fmt<W: fmt::Write>(&self, f: &mut fmt::Formatter<W>) -> fmt::Result {
+        if let Some(geometry) = &self.geometry {
+            let numbers = NumbersText::of(geometry);
+            write!(f, " ({numbers})")?;
+        }
+        match self.charge {
+            Some(charge) => write!(f, " of at most {charge} keys"),
+            None => f.write_str(" that is damaged or cannot be read"),
+        }
+    }
+}
+
+/// What a disk holds.
+#[derive(Clone, Copy, Debug, PartialEq, Eq)]
+pub enum Holding {
+    /// It has no bytes.
+    Nothing,
+    /// A store of this program, whole or not.
+    Store(HeldStore),
+    /// Something else.
+    Other,
+}
+
+/// Looks at what a disk holds that is to be formatted, before anything of it is changed. Whether it may be overwritten: without force only
+/// a store of this program, of which people are told, or nothing. Else they are told why it stays.
+pub fn may_overwrite<D: Disk, N: Notes + FaultNotes<D::Fault>>(
+    alloc: Global,
+    disk: &D,
+    file: &str,
+    force: bool,
+    notes: &mut N,
+) -> bool
+    ensures { (look : ResultOf HoldingOf D.Fault) × Looks D.Disk disk.now look
+        × MatchBool result (MayOverwrite N.Notes (ToldRefusal N.told_fault N.told_damage N.told_no_store) file.now force look notes.old notes.new)
+        (MustStay N.Notes (ToldRefusal N.told_fault N.told_damage N.told_no_store) file.now force look notes.old notes.new) }
+{
+    match look(alloc, disk) {
+        Ok(Holding::Nothing) => true,
+        Ok(Holding::Store(store)) => {
+            notes.tell_store(file, &store);
+            true
+        }
+        Ok(Holding::Other) | Err(_) if force => true,
+        Ok(Holding::Other) => {
+            notes.tell_other(file);
+            false
+        }
+        Err(fault) => {
+            notes.tell_fault(file, &fault);
+            false
+        }
+    }
+}
+
+// What a disk holds, or the fault of the read that would say it.
+fn look<D: Disk>(alloc: Global, disk: &D) -> Result<Holding, D::Fault>
+    ensures { Looks D.Disk disk.now result }
+{
+    if disk.len() == 0 {
+        return Ok(Holding::Nothing);
+    }
+    if disk.len() < HEADER_LEN as u64 {
+        return Ok(Holding::Other);
+    }
+    let mut header = [0; HEADER_LEN];
+    disk.read(0, &mut header)?;
+    if !has_magic(&header) {
+        return Ok(Holding::Other);
+    }
+    Ok(Holding::Store(held_store(alloc, disk)))
+}
+
+// Whether the bytes behind the gate of a header are those of a store of this program.
+fn has_magic(header: &[u8; HEADER_LEN]) -> bool
+    ensures { result ≡ has_magic header.now }
+{
+    &header[1..9] == b"SILTFLSH".as_slice()
+}
+
+// What is known of the store that a disk holds.
+fn held_store<D: Disk>(alloc: Global, disk: &D) -> HeldStore
+    ensures { IsTrue (D.content disk.now).honest → IsHeldStore (D.content disk.now) result }
+{
+    HeldStore {
+        geometry: geometry_on(disk),
+        charge: charge_on(alloc, disk),
+    }
+}
+
+// The charge of the store that a disk holds, if nothing of it is damaged and all of it can be read.
+fn charge_on<D: Disk>(alloc: Global, disk: &D) -> Option<u32>
+    ensures { IsTrue (D.content disk.now).honest → IfSome result (λ charge. (report : ReportOf) × IsReported (D.content disk.now).shown report × (charge ≡ report.charge)) }
+{
+    match check(alloc, disk) {
+        Ok(report) => Some(report.charge),
+        Err(_) => None,
+    }
+}

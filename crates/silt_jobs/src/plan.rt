@@ -1,0 +1,114 @@
+// The six numbers of a store that is planned for so many keys.
+ghost use Rattle.std.specs.Prelude.{◌≡◌, ◌≤◌, ◌+◌, ◌*◌, if◌then◌else◌, Some, None, IfOk, string_bytes};
+ghost use Rattle.std.specs.Option.{option_map};
+ghost use Rattle.silt_jobs.specs.Plans.{TellsPlan, bucket_counts, first_planned, fits_memory, is_needed, is_possible, number_after, plan_text, shape_planned};
+
+use crate::output::write_out;
+use silt_disk::Geometry;
+use silt_words::PlanRequest;
+use std::alloc::{AllocError, Global};
+use std::io::{self, Write};
+
+// The bucket counts of a geometry, the greatest first.
+const BUCKET_COUNTS: [u32; 15] = [
+    32_768, 16_384, 8192, 4096, 2048, 1024, 512, 256, 128, 64, 32, 16, 8, 4, 2,
+];
+
+/// Writes the six numbers of a store for so many keys, and what it takes on disk and in memory: of as many buckets as four logs need for a
+/// ninth of the keys, or fewer, where the numbers or the memory are limited. Answers the status: 1 where there is no such store.
+///
+/// # Errors
+///
+/// The writer's, and want of memory for the text.
+pub fn write_plan<W: Write>(alloc: Global, request: &PlanRequest, writer: &mut W) -> io::Result<u8>
+    ensures { IfOk result (λ status. TellsPlan request.now (first_planned request.now bucket_counts) status (W.contents writer.old) (W.contents writer.new)) }
+{
+    match plan(request) {
+        Some(geometry) => {
+            let memory = memory_planned(request.keys, geometry.buckets());
+            let text = print_plan(alloc, &geometry, memory)?;
+            write_out(text.as_bytes(), writer)?;
+            Ok(0)
+        }
+        None => {
+            write_out(b"no plan\n", writer)?;
+            Ok(1)
+        }
+    }
+}
+
+// The geometry of the most buckets that can be planned.
+fn plan(request: &PlanRequest) -> Option<Geometry>
+    ensures { result ≡ option_map (shape_planned request.now) (first_planned request.now bucket_counts) }
+{
+    for buckets in BUCKET_COUNTS {
+        if is_needed(request, buckets) {
+            match planned(request, buckets) {
+                Some(geometry) => return Some(geometry),
+                None => {}
+            }
+        }
+    }
+    None
+}
+
+// Whether half as many buckets were too few.
+fn is_needed(request: &PlanRequest, buckets: u32) -> bool
+    requires { buckets ≤ 32768 }
+    ensures { result ≡ is_needed request.now buckets }
+{
+    buckets == 2 || 63 * buckets < request.keys
+}
+
+// The geometry of this many buckets, if its numbers are in their limits and it fits the memory.
+fn planned(request: &PlanRequest, buckets: u32) -> Option<Geometry>
+    requires { buckets ≤ 32768 }
+    ensures { result ≡ (if is_possible request.now buckets then Some (shape_planned request.now buckets) else None) }
+{
+    if !fits_memory(request.memory, memory_planned(request.keys, buckets)) {
+        return None;
+    }
+    let rows = 7 * (buckets / 2);
+    let most = request.keys.checked_add(11 * rows)?;
+    Geometry::new(request.value_len, buckets, rows, 3, 8, most).ok()
+}
+
+// The bytes of memory that a store of this many buckets takes at most.
+fn memory_planned(keys: u32, buckets: u32) -> u64
+    ensures { result ≡ 1043 * buckets + 21 * keys }
+{
+    1043 * u64::from(buckets) + 21 * u64::from(keys)
+}
+
+// Whether so many bytes fit under the limit, if there is one.
+fn fits_memory(memory: Option<u32>, bytes: u64) -> bool
+    ensures { result ≡ fits_memory memory bytes }
+{
+    match memory {
+        Some(most) => bytes <= u64::from(most),
+        None => true,
+    }
+}
+
+// A number behind a word.
+#[tactic(auto, unfolding(crate::specs::Plans::number_after))]
+fn number_after(alloc: Global, word: &str, number: u64) -> Result<String, AllocError>
+    ensures { IfOk result (λ text. string_bytes text ≡ number_after word.now number) }
+{
+    format!(in alloc; "{word}{number}")
+}
+
+// The six numbers of a geometry, its length and what it takes in memory.
+fn print_plan(alloc: Global, geometry: &Geometry, memory: u64) -> Result<String, AllocError>
+    ensures { IfOk result (λ text. string_bytes text ≡ plan_text geometry.now memory) }
+{
+    let value_len = number_after(alloc, "", u64::from(geometry.value_len()))?;
+    let buckets = number_after(alloc, " ", u64::from(geometry.buckets()))?;
+    let rows = number_after(alloc, " ", u64::from(geometry.log_capacity()))?;
+    let logs = number_after(alloc, " ", u64::from(geometry.logs()))?;
+    let hashes = number_after(alloc, " ", u64::from(geometry.hashes()))?;
+    let most = number_after(alloc, " ", u64::from(geometry.sorted_capacity()))?;
+    let disk = number_after(alloc, "\ndisk ", geometry.size())?;
+    let memory = number_after(alloc, "\nmemory ", memory)?;
+    format!(in alloc; "{value_len}{buckets}{rows}{logs}{hashes}{most}{disk}{memory}\n")
+}

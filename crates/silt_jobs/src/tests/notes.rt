@@ -1,0 +1,138 @@
+// What people are told, letter for letter.
+
+use crate::geometry::out_of_limits;
+use crate::input_lines::InputLines;
+use crate::note_lines::NoteLines;
+use crate::notes::Notes;
+use crate::tally::Tally;
+use silt_words::Numbers;
+use std::process::Abort;
+use std::test::Fail;
+
+// What is told of an input and of the output that answers it.
+fn told<S: AllocGlobal>(rt: &S, input: &[u8], output: &[u8]) -> Vec<u8> {
+    let mut lines = InputLines::new(rt.alloc());
+    lines.take(input);
+    let mut tally = Tally::new();
+    tally.take(output);
+    let mut text = Vec::new(rt.alloc());
+    NoteLines::new(&mut text).tell_tally(&lines, &tally);
+    text
+}
+
+// Refusals are counted by their numbers, and their lines are those of the input, blank ones included. A value that looks like a refusal
+// is none, and the order is that of the numbers.
+#[test]
+fn tells_refused_lines(rt: HostRuntime) -> Result<(), Fail> {
+    let input = b"get =a\n\nput =b 01\n\r\n\r\nput =c 01\nput =d 01\nnone\n";
+    let output =
+        b"opened\nabsent\nrefused 8 NoRoom\nrefused 22 BadValue\nrefused 8 NoRoom\nrefused 20 BadLine\n";
+    let text =
+        b"silt: 2 lines refused 8 NoRoom, first line 3; background work makes room: run with --tend, or silt tend
+silt: 1 line refused 20 BadLine, first line 8
+silt: 1 line refused 22 BadValue, first line 6
+";
+    assert_eq!(rt; told(&rt, input, output).as_slice(), text.as_slice());
+    Ok(())
+}
+
+#[test]
+fn tells_of_a_full_store_and_of_a_rest(rt: HostRuntime) -> Result<(), Fail> {
+    let text =
+        b"silt: 1 line refused 7 StoreFull, first line 1; merging drops what was overwritten or deleted (run with --tend, or silt tend), and more keys need a larger S
+silt: the last line has no line feed, and is not answered
+";
+    let output = b"opened\nrefused 7 StoreFull\n";
+    assert_eq!(rt;
+        told(&rt, b"put =a 01\nput", output).as_slice(),
+        text.as_slice()
+    );
+    assert_eq!(rt; told(&rt, b"put =a 01\n", b"opened\naccepted 1\n").len(), 0);
+    Ok(())
+}
+
+// Lines that are written in pieces are counted as those that are not.
+#[test]
+fn counts_lines_in_pieces(rt: HostRuntime) -> Result<(), Fail> {
+    let mut lines = InputLines::new(rt.alloc());
+    let mut tally = Tally::new();
+    for byte in b"opened\nrefused 10 Spent\nvalue 72656675736564\n" {
+        lines.take(&[*byte]);
+        tally.take(&[*byte]);
+    }
+    assert!(rt; tally.refusals(10).count == 1 && tally.refusals(10).first == 2);
+    assert!(rt; tally.refusals(1).count == 0 && lines.number_of(1) == Some(1));
+    Ok(())
+}
+
+// Behind more blank lines than are kept the number of a line is not known.
+#[test]
+fn knows_where_it_lost_count(rt: HostRuntime) -> Result<(), Fail> {
+    let mut lines = InputLines::new(rt.alloc());
+    lines.take(b"get =a\n");
+    for _ in 0..65_537 {
+        lines.take(b"\n");
+    }
+    lines.take(b"get =a\n");
+    assert!(rt; lines.number_of(1) == Some(1) && lines.number_of(2).is_none());
+    Ok(())
+}
+
+// A store's numbers, in their order.
+fn numbers(of: [u32; 6]) -> Numbers {
+    Numbers {
+        value_len: of[0],
+        buckets: of[1],
+        log_capacity: of[2],
+        logs: of[3],
+        hashes: of[4],
+        sorted_capacity: of[5],
+    }
+}
+
+// What is told of these numbers.
+fn complaint<S: AllocGlobal>(rt: &S, numbers: &Numbers) -> Vec<u8> {
+    let mut text = Vec::new(rt.alloc());
+    NoteLines::new(&mut text).tell_numbers(numbers);
+    text
+}
+
+fn is_told<S: AllocGlobal + Abort>(rt: &S, numbers: &Numbers, text: &[u8]) {
+    assert_eq!(rt; complaint(rt, numbers).as_slice(), text);
+}
+
+#[test]
+fn names_a_number_out_of_limits(rt: HostRuntime) -> Result<(), Fail> {
+    is_told(
+        &rt,
+        &numbers([4097, 2, 4, 2, 2, 8]),
+        b"silt: V is 4097, and may be 1 to 4096\n",
+    );
+    is_told(
+        &rt,
+        &numbers([2, 12, 4, 2, 2, 8]),
+        b"silt: B is 12, and may be 2 to 32768, a power of two\n",
+    );
+    is_told(
+        &rt,
+        &numbers([2, 2, 9, 2, 2, 8]),
+        b"silt: CAP is 9, and may be 1 to 8, four times B at most\n",
+    );
+    is_told(
+        &rt,
+        &numbers([2, 2, 4, 1, 2, 8]),
+        b"silt: NL is 1, and may be 2 to 8\n",
+    );
+    is_told(
+        &rt,
+        &numbers([2, 2, 4, 2, 0, 8]),
+        b"silt: NH is 0, and may be 1 to 16\n",
+    );
+    is_told(
+        &rt,
+        &numbers([2, 2, 4, 2, 2, 0]),
+        b"silt: S is 0, and may be 1 to 16777216\n",
+    );
+    assert!(rt; out_of_limits(&numbers([2, 2, 4, 2, 16, 8])).is_none());
+    Ok(())
+}
