@@ -1,12 +1,14 @@
 -- How the program ends.
-use Rattle.std.proofs.Common.{◌≡◌, ◌∙◌, ◌⊎◌, ℕ, List, None, Option, Result, Ok, Err, ap, arith, refl, sym, subst, inl, inr, codes}
-use Rattle.std.specs.Prelude.{IfOk}
+use Rattle.std.proofs.Common.{◌≡◌, ◌∙◌, ◌⊎◌, ℕ, List, None, Some, true, true≢false, Option, Result, Ok, Err, ap, arith, refl, sym, subst, inl, inr, codes}
+use Rattle.std.specs.Prelude.{IfOk, IfSome, is_some}
 use Rattle.std.specs.Result.{IsOk, result_unwrap_or}
 use Rattle.std.specs.Io.KnownBytes.{Appends}
 use Rattle.silt_wire.specs.Statuses.{IsStatus}
 use Rattle.silt_words.specs.Commands.{job_named}
 use Rattle.silt_words.specs.declared.job.WordsError.{WordsError}
 use Rattle.silt_words.specs.declared.job.WordsError.TheVariants.{Usage, NoMemory}
+use Rattle.silt_words.specs.declared.job.PlanRequest.{PlanRequest}
+use Rattle.silt_jobs.specs.Plans.{TellsPlan}
 use Rattle.silt.specs.Programs.{NamesNoJob, TellsWords}
 
 -- a job that ended well or was told to be refused, and what is known of each
@@ -49,3 +51,24 @@ usage_at_2 Named Done Told told_words words status before after is (inl (job, na
 usage_at_2 Named Done Told told_words words status before after is (inl (job, named, inr h)) = absurd (omega (arith, is, h.0))
 usage_at_2 Named Done Told told_words words status before after is (inr (Usage, cause, told)) = (cause.0, cause.1, told.1)
 usage_at_2 Named Done Told told_words words status before after is (inr (NoMemory, cause, told)) = absurd (omega (arith, is, told.0))
+
+-- what holds where a value was made
+pub if_made : {A P : Type 0} (made : Option A) → IfSome made (λ _. P) → is_some made ≡ true → P
+if_made (Some value) holds is = holds
+if_made None holds is = absurd (true≢false (sym is))
+
+-- nothing was told where a value was made, and else this
+pub may_tell : {A N Told : Type 0} (made : Option A) (old new : N) → IfSome made (λ _. new ≡ old) → (made ≡ None → Told) → (new ≡ old) ⊎ Told
+may_tell (Some value) old new same told = inl same
+may_tell None old new same told = inr (told refl)
+
+-- what holds at each status holds at this one
+pub ok_at : {E : Type 0} (P : ℕ → Type 0) (result : Result ℕ E) (status : ℕ) → result ≡ Ok status → IfOk result P → P status
+ok_at {E} P result status is holds = subst (λ (r : Result ℕ E). IfOk r P) is holds
+
+-- a plan was written, or that there is none with status 1
+pub plan_told : {E : Type 0} (before after : Option (List ℕ)) (request : PlanRequest) (planned : Option ℕ) (result : Result ℕ E)
+    → IfOk result (λ status. TellsPlan request planned status before after) → IfOk result (IsStatus (TellsPlan request planned 1 before after))
+plan_told before after request (Some buckets) (Ok status) told = inl told.0
+plan_told before after request None (Ok status) told = inr (told.0, (refl, told.1))
+plan_told before after request planned (Err error) told = tt

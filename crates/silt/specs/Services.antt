@@ -1,5 +1,5 @@
 -- What serving the disk of a path does.
-use Rattle.std.specs.Prelude.{◌⊎◌, ℕ, List, IfSome, Option}
+use Rattle.std.specs.Prelude.{◌≡◌, ◌⊎◌, ℕ, List, IfSome, Option}
 use Rattle.std.specs.Option.{IsSomeAnd}
 use Rattle.silt_disk.specs.Layout.{Shape}
 use Rattle.silt_disk.specs.declared.disk.Disk.{Ghosts}
@@ -10,6 +10,14 @@ use Rattle.silt_store_set.specs.CoreInvariant.{LeavesBegun}
 use Rattle.silt_store_set.specs.CoreState.{CoreState, Opens}
 use Rattle.silt_jobs.specs.Files.{TellsNoDisk}
 use Rattle.silt_jobs.specs.Jobs.{TellsOpening}
+
+-- people were told that this port cannot be listened on, or nothing
+abbrev pub MayTellPort : {N : Type 0} → (N → N → ℕ → Type 0) → ℕ → N → N → Type 0
+MayTellPort told_port port old new = (new ≡ old) ⊎ told_port old new port
+
+-- people were told so much of the port, and then what a refusal says of the disk of a file
+abbrev pub ToldUnserved : {N F : Type 0} → (N → N → ℕ → Type 0) → (N → N → List ℕ → Refusal F → Type 0) → N → N → ℕ → List ℕ → Refusal F → Type 0
+ToldUnserved {N} told_port told old new port file refusal = (mid : N) × MayTellPort told_port port old mid × told mid new file refusal
 
 -- the store on a disk was served to the end; where its calls were kept, they are a history of the store that is left
 abbrev pub EndsServe : {D F : Type 0} → Ghosts D F → Option ℕ → D → Option (List ℕ) → Option (List ℕ) → Type 0

@@ -1,13 +1,16 @@
 //! The program silt.
 //!
-//! - `silt format FILE V B CAP NL NH S` makes an empty store of this geometry in a file, and tells the file's length.
-//! - `silt run FILE` is one life of the store in a file: it reads lines to the end, and answers them, one reply line for each. Nothing
-//!   is flushed by itself at the end.
-//! - `silt check FILE` tells what the store in a file consists of, in numbers.
+//! - `silt plan KEYS V [--memory BYTES]` prints the six numbers of a store for so many keys, and what they take.
+//! - `silt format FILE V B CAP NL NH S [--force]` makes an empty store of this geometry in a file, and prints the file's length. Data of
+//!   others stay in the file unless it is forced.
+//! - `silt run FILE [--tend]` is one life of the store in a file: it reads lines to the end, and replies to them, one line for each.
+//!   Nothing is flushed by itself at the end. With `--tend` the background work that is due is done between the lines.
+//! - `silt tend FILE` does all background work of the store in a file.
+//! - `silt check FILE` prints what the store in a file consists of, in numbers.
 //! - `silt script V B CAP NL NH S` makes an empty store of this geometry on a disk in memory, reads lines to the end, and answers
 //!   them, one reply line for each. Lines `stop K FILL` divide them into lives: at each such line the store is stopped, at the
 //!   K-th write or sync of the life that ends there, and what the stop leaves is opened again.
-//! - `silt serve FILE PORT [--audit N] [--sessions M]` serves the store in a file to the connections of a port of this machine.
+//! - `silt serve FILE PORT [--audit N] [--sessions M] [--idle SECONDS]` serves the store in a file to the connections of a port of this machine.
 //!
 //! What is done on a file or in memory is done by silt_jobs, and what is served by silt_server: by functions over any source of disks,
 //! whose contracts say what is written for what the disk of the path shows. Of a disk in a file nothing is known but its length.
@@ -58,7 +61,7 @@ fn done<
             rt.alloc(),
             WatchedFiles::new(FileDisks::new(rt), NoteLines::new(at_once), &progress),
             words.as_slice(),
-            &mut WatchedReader::new(rt.reader()),
+            &mut WatchedReader::new(rt.alloc(), rt.reader()),
             &mut writer,
             &mut NoteLines::new(AfterProgress::new(errors, &progress)),
         ),

@@ -5,15 +5,15 @@ ghost use Rattle.std.specs.Result.{result_unwrap_or};
 ghost use Rattle.silt_words.specs.declared.job.Job.{Job as JobOf};
 ghost use Rattle.silt_words.specs.Commands.{job_named};
 ghost use Rattle.silt_wire.specs.Statuses.{IsStatus};
-ghost use Rattle.silt_jobs.specs.Notes.{NotMadeTold, NotOpenedTold, ToldFailures, ToldRefusal, ToldSession};
+ghost use Rattle.silt_jobs.specs.Notes.{ToldFailures, ToldRefusal, ToldSession};
 ghost use Rattle.silt.specs.Programs.{Answers, EndsJob, NamesJob, TellsJob, TellsWords};
 
 use crate::service::serve_file;
 use silt_device::DiskSource;
 use silt_disk::Disk;
 use silt_jobs::{
-    FaultNotes, KeepsError, Notes, SourceNotes, Watched, check_file, format_file, run_file,
-    run_script, tell_error_of,
+    FaultNotes, KeepsError, KeepsLines, KeepsTally, Notes, SourceNotes, Watched, check_file,
+    dump_file, format_file, run_file, run_script, tell_error_of, tend_file, write_plan,
 };
 use silt_store_set::Served;
 use silt_words::{Job, WordsError, read_words};
@@ -29,8 +29,8 @@ use std::time::Clock;
 pub fn program<
     S: DiskSource,
     H: Net<Listener = TcpListener, Stream = TcpStream> + Clock + Threads + Wait + Sync,
-    R: Read + KeepsError,
-    W: Write + KeepsError,
+    R: Read + KeepsError + KeepsLines,
+    W: Write + KeepsError + KeepsTally,
     N: Notes + SourceNotes<S::Error> + FaultNotes<<S::Disk as Disk>::Fault>,
 >(
     rt: &H,
@@ -44,11 +44,11 @@ pub fn program<
 where
     S::Disk: Served + Watched,
     ensures done { result ≡ 0 → (job : JobOf) × NamesJob (map string_bytes words.now) job
-        × EndsJob S.Disk.Disk (N.told_store notes.old notes.new)
-        (ToldSession N.told_failure S.Disk.Watched.kept_read S.Disk.Watched.last_failure N.told_end notes.old notes.new
-        (R.kept_error reader.new) (W.kept_error writer.new))
-        (ToldFailures N.told_failure S.Disk.Watched.kept_read S.Disk.Watched.last_failure notes.old notes.new)
-        (S.opened source) (S.shared source) (S.created source) job
+        × EndsJob S.Disk.Disk N.Notes (ToldRefusal N.told_fault N.told_damage N.told_no_store)
+        (ToldSession N.told_failure S.Disk.Watched.kept_read S.Disk.Watched.last_failure N.told_end N.told_tally notes.old notes.new
+        (R.kept_error reader.new) (W.kept_error writer.new) (R.kept_lines reader.new) (W.kept_tally writer.new))
+        (ToldFailures N.told_failure S.Disk.Watched.kept_read S.Disk.Watched.last_failure notes.old notes.new) notes.old notes.new
+        (S.opened source) (S.shared source) (S.found source) S.resized job
         (R.remaining reader.old) (R.remaining reader.new) (W.contents writer.old) (W.contents writer.new) }
     ensures usage { result ≡ 2 → (job_named (map string_bytes words.now) ≡ None) × N.told_words notes.old notes.new (map string_bytes words.now)
         × Appends (W.contents writer.old) (W.contents writer.new) (codes "usage\n") }
@@ -73,8 +73,8 @@ pub fn status_of(ended: io::Result<u8>) -> u8
 pub fn answer<
     S: DiskSource,
     H: Net<Listener = TcpListener, Stream = TcpStream> + Clock + Threads + Wait + Sync,
-    R: Read + KeepsError,
-    W: Write + KeepsError,
+    R: Read + KeepsError + KeepsLines,
+    W: Write + KeepsError + KeepsTally,
     N: Notes + SourceNotes<S::Error> + FaultNotes<<S::Disk as Disk>::Fault>,
 >(
     rt: &H,
@@ -87,15 +87,12 @@ pub fn answer<
 ) -> io::Result<u8>
 where
     S::Disk: Served + Watched,
-    ensures { IfOk result (λ status. Answers S.Disk.Disk
-        (ToldRefusal N.told_fault N.told_damage notes.old notes.new)
-        (ToldSession N.told_failure S.Disk.Watched.kept_read S.Disk.Watched.last_failure N.told_end notes.old notes.new
-        (R.kept_error reader.new) (W.kept_error writer.new))
-        (ToldFailures N.told_failure S.Disk.Watched.kept_read S.Disk.Watched.last_failure notes.old notes.new)
-        (N.told_store notes.old notes.new) (N.told_words notes.old notes.new)
-        (S.opened source) (NotOpenedTold (S.not_opened source) (N.told_error notes.old notes.new))
-        (S.shared source) (NotOpenedTold (S.not_shared source) (N.told_error notes.old notes.new))
-        (S.created source) (NotMadeTold (S.not_created source) (N.told_error notes.old notes.new))
+    ensures { IfOk result (λ status. Answers S.Disk.Disk N.Notes (ToldRefusal N.told_fault N.told_damage N.told_no_store) N.told_error
+        (ToldSession N.told_failure S.Disk.Watched.kept_read S.Disk.Watched.last_failure N.told_end N.told_tally notes.old notes.new
+        (R.kept_error reader.new) (W.kept_error writer.new) (R.kept_lines reader.new) (W.kept_tally writer.new))
+        (ToldFailures N.told_failure S.Disk.Watched.kept_read S.Disk.Watched.last_failure notes.old notes.new) notes.old notes.new
+        (S.opened source) (S.not_opened source) (S.shared source) (S.not_shared source)
+        (S.found source) (S.not_found source) S.resized S.not_resized
         (map string_bytes words.now) status (R.remaining reader.old) (R.remaining reader.new) (W.contents writer.old) (W.contents writer.new)) }
 {
     match read_words(alloc, words) {
@@ -121,8 +118,8 @@ fn tell_unread<N: Notes>(error: WordsError, words: &[String], notes: &mut N)
 fn do_job<
     S: DiskSource,
     H: Net<Listener = TcpListener, Stream = TcpStream> + Clock + Threads + Wait + Sync,
-    R: Read + KeepsError,
-    W: Write + KeepsError,
+    R: Read + KeepsError + KeepsLines,
+    W: Write + KeepsError + KeepsTally,
     N: Notes + SourceNotes<S::Error> + FaultNotes<<S::Disk as Disk>::Fault>,
 >(
     rt: &H,
@@ -135,28 +132,32 @@ fn do_job<
 ) -> io::Result<u8>
 where
     S::Disk: Served + Watched,
-    ensures told { IfOk result (IsStatus (TellsJob S.Disk.Disk
-        (ToldRefusal N.told_fault N.told_damage notes.old notes.new)
-        (ToldSession N.told_failure S.Disk.Watched.kept_read S.Disk.Watched.last_failure N.told_end notes.old notes.new
-        (R.kept_error reader.new) (W.kept_error writer.new))
-        (S.opened source) (NotOpenedTold (S.not_opened source) (N.told_error notes.old notes.new))
-        (S.shared source) (NotOpenedTold (S.not_shared source) (N.told_error notes.old notes.new))
-        (S.created source) (NotMadeTold (S.not_created source) (N.told_error notes.old notes.new))
+    ensures told { IfOk result (IsStatus (TellsJob S.Disk.Disk N.Notes (ToldRefusal N.told_fault N.told_damage N.told_no_store) N.told_error
+        (ToldSession N.told_failure S.Disk.Watched.kept_read S.Disk.Watched.last_failure N.told_end N.told_tally notes.old notes.new
+        (R.kept_error reader.new) (W.kept_error writer.new) (R.kept_lines reader.new) (W.kept_tally writer.new))
+        (ToldFailures N.told_failure S.Disk.Watched.kept_read S.Disk.Watched.last_failure notes.old notes.new) notes.old notes.new
+        (S.opened source) (S.not_opened source) (S.shared source) (S.not_shared source)
+        (S.found source) (S.not_found source) S.resized S.not_resized
         job.entry (R.remaining reader.old) (R.remaining reader.new) (W.contents writer.old) (W.contents writer.new))) }
-    ensures done { result ≡ Ok 0 → EndsJob S.Disk.Disk (N.told_store notes.old notes.new)
-        (ToldSession N.told_failure S.Disk.Watched.kept_read S.Disk.Watched.last_failure N.told_end notes.old notes.new
-        (R.kept_error reader.new) (W.kept_error writer.new))
-        (ToldFailures N.told_failure S.Disk.Watched.kept_read S.Disk.Watched.last_failure notes.old notes.new)
-        (S.opened source) (S.shared source) (S.created source) job.entry
+    ensures done { result ≡ Ok 0 → EndsJob S.Disk.Disk N.Notes (ToldRefusal N.told_fault N.told_damage N.told_no_store)
+        (ToldSession N.told_failure S.Disk.Watched.kept_read S.Disk.Watched.last_failure N.told_end N.told_tally notes.old notes.new
+        (R.kept_error reader.new) (W.kept_error writer.new) (R.kept_lines reader.new) (W.kept_tally writer.new))
+        (ToldFailures N.told_failure S.Disk.Watched.kept_read S.Disk.Watched.last_failure notes.old notes.new) notes.old notes.new
+        (S.opened source) (S.shared source) (S.found source) S.resized job.entry
         (R.remaining reader.old) (R.remaining reader.new) (W.contents writer.old) (W.contents writer.new) }
 {
     match job {
-        Job::Format { file, numbers } => format_file(
-            alloc, source, file, &numbers, writer, notes,
-        ).1,
-        Job::Script(numbers) => run_script(alloc, &numbers, reader, writer),
-        Job::Run { file } => run_file(alloc, source, file, reader, writer, notes).1,
+        Job::Format {
+            file,
+            numbers,
+            force,
+        } => format_file(alloc, source, file, &numbers, force, writer, notes).1,
+        Job::Script(numbers) => run_script(alloc, &numbers, reader, writer, notes),
+        Job::Run { file, tend } => run_file(alloc, source, file, tend, reader, writer, notes).1,
+        Job::Tend { file } => tend_file(alloc, source, file, writer, notes).1,
         Job::Check { file } => check_file(alloc, source, file, writer, notes).1,
+        Job::Dump { file } => dump_file(alloc, source, file, writer, notes).1,
+        Job::Plan(request) => write_plan(alloc, &request, writer),
         Job::Serve(service) => serve_file(rt, alloc, source, &service, writer, notes).1,
     }
 }

@@ -1,10 +1,10 @@
 // The server on the disk of a path.
-ghost use Rattle.std.specs.Prelude.{◌≡◌, Ok, IfOk};
+ghost use Rattle.std.specs.Prelude.{◌≡◌, None, Ok, IfOk, IfSome, is_some, true, unwrap_or};
 ghost use Rattle.silt_disk.specs.Layout.{Shape};
 ghost use Rattle.silt_store_set.specs.CoreInvariant.{LeavesBegun};
 ghost use Rattle.silt_wire.specs.Statuses.{IsStatus};
 ghost use Rattle.silt_server.specs.Serving.{TellsNotServed};
-ghost use Rattle.silt.specs.Services.{EndsServe, LeavesServed, ServesFile, TellsServe, TellsServeFile};
+ghost use Rattle.silt.specs.Services.{EndsServe, LeavesServed, ServesFile, TellsServe, TellsServeFile, ToldUnserved};
 ghost use Rattle.silt_jobs.specs.Notes.{NotOpenedTold, ToldFailures, ToldRefusal};
 
 use crate::listener::PatientListener;
@@ -12,7 +12,7 @@ use silt_desk::{Gate, Spot};
 use silt_device::DiskSource;
 use silt_disk::Disk;
 use silt_jobs::{FaultNotes, Notes, SourceNotes, Watched, refuse, refuse_opening, tell_failures};
-use silt_server::{refuse_network, serve_on};
+use silt_server::{Limits, refuse_network, serve_on};
 use silt_store_set::{Core, Refusal};
 use silt_words::Service;
 use std::alloc::Global;
@@ -52,7 +52,8 @@ pub fn serve_file<
 where
     S::Disk: Watched,
     ensures told { IfOk result.1 (IsStatus (TellsServeFile S.Disk.Disk
-        (ToldRefusal N.told_fault N.told_damage notes.old notes.new service.now.file.now) (S.opened source service.now.file.now)
+        (ToldUnserved N.told_port (ToldRefusal N.told_fault N.told_damage N.told_no_store) notes.old notes.new service.now.port service.now.file.now)
+        (S.opened source service.now.file.now)
         (NotOpenedTold (S.not_opened source) (N.told_error notes.old notes.new) service.now.file.now) result.0 (W.contents writer.old) (W.contents writer.new))) }
     ensures served { result.1 ≡ Ok 0 → ServesFile S.Disk.Disk
         (ToldFailures N.told_failure S.Disk.Watched.kept_read S.Disk.Watched.last_failure notes.old notes.new service.now.file.now)
@@ -70,7 +71,8 @@ where
     }
 }
 
-// Serves the store on a disk to the connections of a port of this machine. Gives the disk back, and the status.
+// Serves the store on a disk to the connections of a port of this machine. The port is bound first, so that people need not wait for a
+// long opening to learn that it is in use. Gives the disk back, and the status.
 fn serve_disk<
     D: Watched,
     H: Net<Listener = TcpListener, Stream = TcpStream> + Clock + Threads + Wait + Sync,
@@ -87,13 +89,15 @@ fn serve_disk<
     ensures served { result.1 ≡ Ok 0 → EndsServe D.Disk service.now.audit result.0 (W.contents writer.old) (W.contents writer.new) }
     ensures failed { result.1 ≡ Ok 0 → ToldFailures N.told_failure D.kept_read D.last_failure notes.old notes.new service.now.file.now result.0 }
     ensures told { IfOk result.1 (IsStatus (TellsServe D.Disk
-        (ToldRefusal N.told_fault N.told_damage notes.old notes.new service.now.file.now) disk result.0 (W.contents writer.old) (W.contents writer.new))) }
+        (ToldUnserved N.told_port (ToldRefusal N.told_fault N.told_damage N.told_no_store) notes.old notes.new service.now.port service.now.file.now)
+        disk result.0 (W.contents writer.old) (W.contents writer.new))) }
     ensures left { LeavesServed D.Disk disk result.0 }
 {
+    let listener = bind(rt, service.port, notes);
     disk.tell_at_once();
     match Core::open(alloc, disk) {
         Ok(core) => {
-            let (disk, status) = serve_store(rt, alloc, core, service, writer, notes);
+            let (disk, status) = serve_store(rt, alloc, core, listener, service, writer, notes);
             tell_failures(service.file, &disk, notes);
             (disk, status)
         }
@@ -101,7 +105,25 @@ fn serve_disk<
     }
 }
 
-// Serves a store to the connections of a port of this machine. Gives its disk back, and the status.
+// A listener of a port of this machine. People are told why there is none.
+fn bind<H: Net<Listener = TcpListener, Stream = TcpStream>, N: Notes>(
+    rt: &H,
+    port: u16,
+    notes: &mut N,
+) -> Option<TcpListener>
+    ensures bound { IfSome result (λ _. notes.new ≡ notes.old) }
+    ensures told { result ≡ None → N.told_port notes.old notes.new port }
+{
+    match TcpListener::bind(rt, ("127.0.0.1", port)) {
+        Ok(listener) => Some(listener),
+        Err(error) => {
+            notes.tell_port(port, &error);
+            None
+        }
+    }
+}
+
+// Serves a store to the connections of a listener, if there is one. Gives the store's disk back, and the status.
 fn serve_store<
     D: Disk,
     H: Net<Listener = TcpListener, Stream = TcpStream> + Clock + Threads + Wait + Sync,
@@ -111,27 +133,38 @@ fn serve_store<
     rt: &H,
     alloc: Global,
     core: Core<D>,
+    listener: Option<TcpListener>,
     service: &Service<'_>,
     writer: &mut W,
     notes: &mut N,
 ) -> (D, io::Result<u8>)
     ensures served { result.1 ≡ Ok 0 → EndsServe D.Disk service.now.audit result.0 (W.contents writer.old) (W.contents writer.new) }
+    ensures bound { result.1 ≡ Ok 0 → is_some listener ≡ true }
     ensures told { IfOk result.1 (IsStatus (TellsNotServed D.Disk (λ port. Unit {0}) core result.0 (W.contents writer.old) (W.contents writer.new))) }
     ensures left { (shape : Shape) × LeavesBegun (D.content result.0) shape }
     ensures quiet { result.1 ≡ Ok 0 → notes.new ≡ notes.old }
 {
-    let listener = match TcpListener::bind(rt, ("127.0.0.1", service.port)) {
-        Ok(listener) => PatientListener::new(listener, rt),
-        Err(error) => {
-            notes.tell_port(service.port, &error);
-            return refuse_network(core, writer);
-        }
+    let Some(listener) = listener else {
+        return refuse_network(core, writer);
     };
-    let sessions = service.sessions.unwrap_or(0);
-    let calls = calls_kept(service.audit);
-    let (disk, status) = serve_on(rt, alloc, &listener, core, calls, sessions, &Open, writer);
+    let listener = PatientListener::new(listener, rt);
+    let limits = limits_of(service);
+    let (disk, status) = serve_on(rt, alloc, &listener, core, limits, &Open, writer);
     tell_listener(service.port, listener.failure(), &status, notes);
     (disk, status)
+}
+
+// What a server of this service keeps to.
+fn limits_of(service: &Service<'_>) -> Limits
+    ensures sessions { result.sessions ≡ unwrap_or service.now.sessions 0 }
+    ensures audit { result.audit ≡ service.now.audit }
+    ensures idle { result.idle ≡ service.now.idle }
+{
+    Limits {
+        sessions: service.sessions.unwrap_or(0),
+        audit: calls_kept(service.audit),
+        idle: service.idle,
+    }
 }
 
 // Tells why the listener of this port failed, where the server did not end well.

@@ -121,7 +121,7 @@ pub(crate) fn status_of_call<
         rt.alloc(),
         files,
         words.as_slice(),
-        &mut WatchedReader::new(reader),
+        &mut WatchedReader::new(rt.alloc(), reader),
         &mut WatchedWriter::new(writer),
         notes,
     ))

@@ -32,7 +32,7 @@ fn tells_damage_with_its_offset(rt: HostRuntime) -> Result<(), Fail> {
     take_in_folder(&rt, "damage", &PARTS)
 }
 
-// A file of another length is told with no offset; one that holds no store has nothing to be told of.
+// A file of another length is told with no offset; of one that holds no store people are told how to make one.
 const WHOLE: [Step; 5] = [
     Step::Tells("silt format whole/disk 2 2 4 2 2 8", 0, ""),
     Step::Resize("whole/disk", 45_055),
@@ -42,7 +42,11 @@ const WHOLE: [Step; 5] = [
         "silt: whole/disk: it has another length than its header says\n",
     ),
     Step::Overwrite("whole/disk", 0, &[0]),
-    Step::Tells("silt check whole/disk", 1, ""),
+    Step::Tells(
+        "silt check whole/disk",
+        1,
+        "silt: whole/disk: it is not a silt store; make one with silt format\n",
+    ),
 ];
 
 #[test]
@@ -68,28 +72,47 @@ fn tells_damage_in_the_named_region(rt: HostRuntime) -> Result<(), Fail> {
     take_in_folder(&rt, "region", &REGION)
 }
 
-// A store that is written over is told of, whole or not, and nothing else that a file held.
-const GONE: [Step; 6] = [
+// Other data stay. A store that is overwritten is told of, whole or not; other data that are overwritten by force are not.
+const OVERWRITTEN: [Step; 10] = [
     Step::Fill(
         "gone/disk",
         b"no store, but a text of more bytes than a header has",
     ),
-    Step::Tells("silt format gone/disk 2 2 4 2 2 8", 0, ""),
+    Step::Tells(
+        "silt format gone/disk 2 2 4 2 2 8",
+        1,
+        "silt: gone/disk: it holds other data; --force overwrites it\n",
+    ),
+    Step::Holds(
+        "gone/disk",
+        b"no store, but a text of more bytes than a header has",
+    ),
+    Step::Tells("silt format gone/disk 2 2 4 2 2 8 --force", 0, ""),
     Step::Tells(
         "silt format gone/disk 2 2 4 2 2 8",
         0,
-        "silt: gone/disk held a store; it is gone\n",
+        "silt: gone/disk holds a store (V 2, B 2, CAP 4, NL 2, NH 2, S 8) of at most 0 keys; it is overwritten\n",
     ),
     Step::Tells(
-        "silt format gone/disk 100 1024 3000 4 4 100000",
+        "silt format gone/disk 100 1024 3000 4 4 100000 --force",
         0,
-        "silt: gone/disk held a store; it is gone\n",
+        "silt: gone/disk holds a store (V 2, B 2, CAP 4, NL 2, NH 2, S 8) of at most 0 keys; it is overwritten\n",
+    ),
+    Step::Resize("gone/disk", 45_056),
+    Step::Tells(
+        "silt format gone/disk 2 2 4 2 2 8",
+        0,
+        "silt: gone/disk holds a store that is damaged or cannot be read; it is overwritten\n",
     ),
     Step::Overwrite("gone/disk", 1, b"s"),
-    Step::Tells("silt format gone/disk 2 2 4 2 2 8", 0, ""),
+    Step::Tells(
+        "silt format gone/disk 2 2 4 2 2 8",
+        1,
+        "silt: gone/disk: it holds other data; --force overwrites it\n",
+    ),
 ];
 
 #[test]
-fn tells_that_a_store_is_gone(rt: HostRuntime) -> Result<(), Fail> {
-    take_in_folder(&rt, "gone", &GONE)
+fn tells_what_is_overwritten(rt: HostRuntime) -> Result<(), Fail> {
+    take_in_folder(&rt, "gone", &OVERWRITTEN)
 }

@@ -45,11 +45,18 @@ const NEW_STORE: Step = Step::Answers(
     "opened\nabsent\naccepted 1\nacknowledged 1\n",
 );
 
-// A file that is there is given the length, and what it held is lost.
-const FORMATTED_AGAIN: [Step; 6] = [
+// A file that holds a store is given the length, and what it held is lost; one that holds other data stays as it was unless it is forced.
+const FORMATTED_AGAIN: [Step; 8] = [
     Step::Fill("again/disk", b"short"),
     Step::Answers(
         "silt format again/disk 2 2 8 2 2 16",
+        "",
+        1,
+        "refused 5 Device\n",
+    ),
+    Step::Holds("again/disk", b"short"),
+    Step::Answers(
+        "silt format again/disk 2 2 8 2 2 16 --force",
         "",
         0,
         "formatted 45056\n",

@@ -8,7 +8,7 @@ use silt_jobs::{
 };
 use silt_wire::SessionEnd;
 use silt_words::{FORMS, complaint_of};
-use std::alloc::AllocError;
+use std::alloc::{AllocError, Global};
 use std::fs::{self, File, OpenOptions};
 use std::io::{self, Cursor, Read, Write};
 use std::net::{Net, TcpListener, TcpStream};
@@ -44,19 +44,29 @@ pub(crate) fn tells<
 const NONE: &str = "silt: why/disk: No such file or directory (os error 2)\n";
 
 // A file that cannot be made or opened is told with the system's words, and nothing is told of a job that is done.
-const REASONS: [Step; 8] = [
+const REASONS: [Step; 10] = [
     Step::Tells("silt run why/disk", 1, NONE),
     Step::Tells("silt check why/disk", 1, NONE),
+    Step::Tells("silt tend why/disk", 1, NONE),
     Step::Tells("silt serve why/disk 0", 1, NONE),
     Step::Tells(
         "silt format why 2 2 4 2 2 8",
         1,
         "silt: why: Is a directory (os error 21)\n",
     ),
-    Step::Tells("silt format why/disk 2 3 4 2 2 8", 1, ""),
+    Step::Tells(
+        "silt format why/disk 2 3 4 2 2 8",
+        1,
+        "silt: B is 3, and may be 2 to 32768, a power of two\n",
+    ),
     Step::Tells("silt format why/disk 2 2 4 2 2 8", 0, ""),
     Step::Tells("silt run why/disk", 0, ""),
-    Step::Tells("silt check why/disk", 0, ""),
+    Step::Tells("silt tend why/disk", 0, ""),
+    Step::Tells(
+        "silt check why/disk",
+        0,
+        "silt: why/disk: V 2, B 2, CAP 4, NL 2, NH 2, S 8; charge 0 of 8\n",
+    ),
 ];
 
 #[test]
@@ -65,14 +75,16 @@ fn tells_why_a_file_is_refused(rt: HostRuntime) -> Result<(), Fail> {
 }
 
 // The file is in use.
-const BUSY: &str = "silt: busy/disk: the file is in use\n";
+const BUSY: &str = "silt: busy/disk: the file is in use, and is free when the other program ends\n";
 
 // Each job on a file that is in use.
-const BUSY_JOBS: [Step; 10] = [
+const BUSY_JOBS: [Step; 12] = [
     Step::Answers("silt run busy/disk", "flush\n", 1, "refused 5 Device\n"),
     Step::Tells("silt run busy/disk", 1, BUSY),
     Step::Answers("silt check busy/disk", "flush\n", 1, "refused 5 Device\n"),
     Step::Tells("silt check busy/disk", 1, BUSY),
+    Step::Answers("silt tend busy/disk", "flush\n", 1, "refused 5 Device\n"),
+    Step::Tells("silt tend busy/disk", 1, BUSY),
     Step::Answers("silt serve busy/disk 0", "flush\n", 1, "refused 5 Device\n"),
     Step::Tells("silt serve busy/disk 0", 1, BUSY),
     Step::Answers(
@@ -117,6 +129,9 @@ fn one_job_has_a_file(rt: HostRuntime) -> Result<(), Fail> {
     Ok(())
 }
 
+// What a check says of an empty store beside its report.
+const LOOKED: &str = "silt: looked/disk: V 2, B 2, CAP 4, NL 2, NH 2, S 8; charge 0 of 8\n";
+
 // A check shares the file with others that only read it, and keeps those out that write.
 #[test]
 fn checks_share_a_file(rt: HostRuntime) -> Result<(), Fail> {
@@ -132,7 +147,7 @@ fn checks_share_a_file(rt: HostRuntime) -> Result<(), Fail> {
     let shared = take_steps(
         &rt,
         &[
-            Step::Tells("silt check looked/disk", 0, ""),
+            Step::Tells("silt check looked/disk", 0, LOOKED),
             Step::Answers("silt run looked/disk", "", 1, "refused 5 Device\n"),
         ],
     );
@@ -166,9 +181,13 @@ where
 
     ghost not_shared = { λ _ _ _. ⊤ };
 
-    ghost created = { λ _ _ _ _. ⊤ };
+    ghost found = { λ _ _ _. ⊤ };
 
-    ghost not_created = { λ _ _ _ _. ⊤ };
+    ghost not_found = { λ _ _ _. ⊤ };
+
+    ghost resized = { λ _ _ _. ⊤ };
+
+    ghost not_resized = { λ _ _ _. ⊤ };
 
     fn open(self, path: &str) -> io::Result<FileDisk> {
         self.files.open_shared(path)
@@ -178,10 +197,20 @@ where
         self.files.open_shared(path)
     }
 
-    fn create(self, path: &str, len: u64) -> io::Result<FileDisk> {
-        self.files.create(path, len)
+    fn find(self, path: &str) -> io::Result<FileDisk> {
+        self.files.find(path)
+    }
+
+    fn resize(alloc: Global, disk: FileDisk, len: u64) -> io::Result<FileDisk> {
+        FileDisks::<S>::resize(alloc, disk, len)
     }
 }
+
+// What is told of a session whose second line could not be done: the refused lines, and the call that failed.
+const FAILING: &str = "silt: 1 line refused 5 Device, first line 2
+silt: 2 lines refused 9 Failed, first line 3; an earlier write or sync failed, and running again opens the store anew
+silt: failing/disk: a write at 16384: Bad file descriptor (os error 9)
+";
 
 // Runs a session on a file that cannot be written, and compares what is answered and told.
 fn fails_to_write<
@@ -208,14 +237,14 @@ fn fails_to_write<
         rt.alloc(),
         files,
         "failing/disk",
-        &mut WatchedReader::new(&mut reader),
+        false,
+        &mut WatchedReader::new(rt.alloc(), &mut reader),
         &mut WatchedWriter::new(&mut out),
         &mut lines,
     );
     let output = b"opened\nabsent\nrefused 5 Device\nrefused 9 Failed\nrefused 9 Failed\n";
     compare(rt, "run", status.ok(), &out, 0, output);
-    let told = b"silt: failing/disk: a write at 16384: Bad file descriptor (os error 9)\n";
-    compare(rt, "run", Some(0), &notes, 0, told);
+    compare(rt, "run", Some(0), &notes, 0, FAILING.as_bytes());
 }
 
 // A write that fails within a session is told behind it, once; what is told is the last one that failed.
@@ -330,7 +359,8 @@ fn fails_to_read<
     let code = status_of_call(rt, "silt run cut/disk", &mut reader, &mut out, &mut lines);
     let output = b"opened\nrefused 5 Device\nrefused 5 Device\nacknowledged 0\n";
     compare(rt, "run", code.ok(), &out, 0, output);
-    let told = b"silt: cut/disk: a read at 16384: failed to fill whole buffer\n";
+    let told =
+        b"silt: 2 lines refused 5 Device, first line 1\nsilt: cut/disk: a read at 16384: failed to fill whole buffer\n";
     compare(rt, "run", Some(0), &notes, 0, told);
 }
 
@@ -560,24 +590,92 @@ fn tells_a_port_that_is_in_use(rt: HostRuntime) -> Result<(), Fail> {
 }
 
 // Words that name no job, and what is wrong with them.
-const COMPLAINTS: [(&str, &str); 12] = [
+const COMPLAINTS: [(&str, &str); 32] = [
     ("silt", "no job is named"),
     ("silt prune disk", "there is no job 'prune'"),
     ("silt run", "FILE is missing"),
     ("silt check disk disk2", "'disk2' is one word too many"),
     ("silt run disk --fast", "'--fast' is no option here"),
+    ("silt run disk --force", "'--force' is no option here"),
+    ("silt run disk --tend=yes", "'--tend=yes' is no option here"),
+    ("silt run disk --tend --tend", "--tend is given twice"),
+    ("silt run --tend", "FILE is missing"),
+    ("silt tend", "FILE is missing"),
+    (
+        "silt run --tend -- --tend --tend",
+        "'--tend' is one word too many",
+    ),
     ("silt format disk 2 2 4 2 2", "S is missing"),
-    ("silt format disk 2 x 4 2 2 8", "B cannot be 'x'"),
+    (
+        "silt format disk 2 2 4 2 2 8 -- --force",
+        "'--force' is one word too many",
+    ),
+    ("silt format disk 2 2 4 2 2 -8", "'-8' is no option here"),
+    (
+        "silt format disk 2 x 4 2 2 8",
+        "B cannot be 'x': a number is written in digits alone",
+    ),
+    (
+        "silt format disk 2 2 4 2 2 ",
+        "S cannot be '': a number is written in digits alone",
+    ),
     (
         "silt script 2 2 4 2 2 4294967296",
-        "S cannot be '4294967296'",
+        "S cannot be '4294967296': a number has at most ten digits, and is at most 4294967295",
     ),
-    ("silt serve disk 65536", "PORT cannot be '65536'"),
-    ("silt serve disk 0 --audit", "--audit is missing"),
-    ("silt serve disk 0 --audit x", "--audit cannot be 'x'"),
+    (
+        "silt script 2 2 4 2 2 00000000008",
+        "S cannot be '00000000008': a number has at most ten digits, and is at most 4294967295",
+    ),
+    ("silt plan", "KEYS is missing"),
+    ("silt plan 1000", "V is missing"),
+    (
+        "silt plan 1_000 100",
+        "KEYS cannot be '1_000': a number is written without separators",
+    ),
+    (
+        "silt plan 1,000 100",
+        "KEYS cannot be '1,000': a number is written without separators",
+    ),
+    (
+        "silt plan 1.000 100",
+        "KEYS cannot be '1.000': a number is written without separators",
+    ),
+    (
+        "silt plan 1000 100 --memory",
+        "--memory needs a number behind it",
+    ),
+    (
+        "silt plan 1000 100 --memory=1MB",
+        "--memory cannot be '1MB': a number is written in digits alone",
+    ),
+    (
+        "silt serve disk 65536",
+        "PORT cannot be '65536': a port is at most 65535",
+    ),
+    (
+        "silt serve disk 0 --audit",
+        "--audit needs a number behind it",
+    ),
+    (
+        "silt serve disk 0 --audit --sessions 1",
+        "--audit needs a number behind it",
+    ),
+    (
+        "silt serve disk 0 --audit x",
+        "--audit cannot be 'x': a number is written in digits alone",
+    ),
+    (
+        "silt serve disk 0 --audit=1 --audit 2",
+        "--audit is given twice",
+    ),
     (
         "silt serve disk 0 --sessions 1 2",
         "'2' is one word too many",
+    ),
+    (
+        "silt serve disk 0 --idle",
+        "--idle needs a number behind it",
     ),
 ];
 
