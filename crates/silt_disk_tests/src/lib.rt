@@ -1,7 +1,7 @@
 //! Tests of disks, and of what is found on them: images after a stop, formatting, opening and checking, damage at each byte that decides, and
 //! long random runs beside a plain map.
 //!
-//! What no clause says stands here, seen from outside through the public calls.
+//! This crate tests what no clause says, seen from outside through the public calls.
 //!
 //! `MemFile` is a file in memory that behaves, for disks in files: it meets each clause of `RandomAccessFile`.
 #![tactic(auto)]

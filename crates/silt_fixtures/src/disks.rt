@@ -1,6 +1,6 @@
 // Disks in memory: their geometries, empty stores on them, stops, and bytes with some of them changed.
 
-use silt_device::{Fill, Geometry, MemDisk, Stop};
+use silt_device::{Disk, Fill, Geometry, MemDisk, Stop};
 use silt_recovery::format;
 use silt_store_set::Core;
 use std::alloc::{AllocError, Global};
@@ -50,10 +50,14 @@ pub fn of_values(alloc: Global, value_len: u32) -> Result<MemDisk, Fail> {
     formatted_with(alloc, geometry)
 }
 
+/// The store on this disk.
+pub fn opened_on<D: Disk>(alloc: Global, disk: D) -> Result<Core<D>, Fail> {
+    Ok(Core::open(alloc, disk).ok().ok_or("opens")?)
+}
+
 /// An empty store of this geometry.
 pub fn opened_with(alloc: Global, geometry: Geometry) -> Result<Core<MemDisk>, Fail> {
-    let disk = formatted_with(alloc, geometry)?;
-    Ok(Core::open(alloc, disk).ok().ok_or("opens")?)
+    opened_on(alloc, formatted_with(alloc, geometry)?)
 }
 
 /// An empty store of the small geometry.

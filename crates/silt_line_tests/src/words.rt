@@ -1,6 +1,7 @@
-// Which command lines name a service, and which name no job: the definitions that the contract cites are clap's own, so these calls are tried.
+// Which command lines name which job with which options, and which name none: the definitions that the contract cites are clap's own, so
+// these calls are tried.
 
-use silt_words::{Job, Service, WordsError, read_words};
+use silt_words::{Job, PlanRequest, Service, WordsError, read_words};
 use std::process::Abort;
 use std::test::Fail;
 
@@ -65,6 +66,104 @@ fn takes_the_greatest_numbers(rt: HostRuntime) -> Result<(), Fail> {
     serves(&rt, call, 65535, Some(4294967295), Some(4294967295))
 }
 
+// Whether a command line names a service that closes connections silent for so long.
+fn is_idle_after<S: AllocGlobal + Abort>(
+    rt: &S,
+    call: &str,
+    idle: Option<u32>,
+) -> Result<(), Fail> {
+    let words = words(rt, call)?;
+    let service = service_named(read_words(rt.alloc(), words.as_slice()));
+    assert_eq!(rt; service.map(|service| service.idle), Some(idle));
+    Ok(())
+}
+
+#[test]
+fn reads_how_long_a_connection_may_be_silent(rt: HostRuntime) -> Result<(), Fail> {
+    is_idle_after(&rt, "silt serve disk 0", None)?;
+    is_idle_after(&rt, "silt serve disk 0 --idle 0", None)?;
+    is_idle_after(&rt, "silt serve --idle=1 disk 0", Some(1))?;
+    is_idle_after(&rt, "silt serve disk --sessions 2 0 --idle 60", Some(60))
+}
+
+/// A job on a file, by the first letter of its word, and whether its option without a number is given.
+#[derive(Clone, Copy)]
+struct OnFile<'a> {
+    letter: char,
+    file: &'a str,
+    is_given: bool,
+}
+
+// The job on a file that a command line names.
+fn on_file(job: Result<Job<'_>, WordsError>) -> Option<OnFile<'_>> {
+    let (letter, file, is_given) = match job {
+        Ok(Job::Format { file, force, .. }) => ('f', file, force),
+        Ok(Job::Run { file, tend }) => ('r', file, tend),
+        Ok(Job::Tend { file }) => ('t', file, false),
+        Ok(Job::Check { file }) => ('c', file, false),
+        _ => return None,
+    };
+    Some(OnFile {
+        letter,
+        file,
+        is_given,
+    })
+}
+
+fn has_flag<S: AllocGlobal + Abort>(
+    rt: &S,
+    call: &str,
+    letter: char,
+    is_given: bool,
+) -> Result<(), Fail> {
+    let words = words(rt, call)?;
+    let job = on_file(read_words(rt.alloc(), words.as_slice()));
+    assert_eq!(rt; job.map(|job| job.file), Some("disk"));
+    assert_eq!(rt; job.map(|job| job.letter), Some(letter));
+    assert_eq!(rt; job.map(|job| job.is_given), Some(is_given));
+    Ok(())
+}
+
+#[test]
+fn reads_the_options_without_a_number(rt: HostRuntime) -> Result<(), Fail> {
+    has_flag(&rt, "silt format disk 2 2 4 2 2 8", 'f', false)?;
+    has_flag(&rt, "silt format disk 2 2 4 2 2 8 --force", 'f', true)?;
+    has_flag(&rt, "silt format --force disk 2 2 4 2 2 8", 'f', true)?;
+    has_flag(&rt, "silt format disk --force 2 2 4 2 2 8", 'f', true)?;
+    has_flag(&rt, "silt format --force -- disk 2 2 4 2 2 8", 'f', true)?;
+    has_flag(&rt, "silt run disk", 'r', false)?;
+    has_flag(&rt, "silt run disk --tend", 'r', true)?;
+    has_flag(&rt, "silt run --tend disk", 'r', true)?;
+    has_flag(&rt, "silt tend disk", 't', false)?;
+    has_flag(&rt, "silt check disk", 'c', false)
+}
+
+fn plans<S: AllocGlobal + Abort>(rt: &S, call: &str, expected: PlanRequest) -> Result<(), Fail> {
+    let words = words(rt, call)?;
+    let request = match read_words(rt.alloc(), words.as_slice()) {
+        Ok(Job::Plan(request)) => Some(request),
+        _ => None,
+    };
+    assert_eq!(rt; request, Some(expected));
+    Ok(())
+}
+
+#[test]
+fn reads_what_to_plan_for(rt: HostRuntime) -> Result<(), Fail> {
+    let unlimited = PlanRequest {
+        keys: 1_000_000,
+        value_len: 100,
+        memory: None,
+    };
+    plans(&rt, "silt plan 1000000 100", unlimited)?;
+    let limited = PlanRequest {
+        memory: Some(4_294_967_295),
+        ..unlimited
+    };
+    plans(&rt, "silt plan 1000000 100 --memory 4294967295", limited)?;
+    plans(&rt, "silt plan --memory=4294967295 1000000 100", limited)
+}
+
 fn names_no_job<S: AllocGlobal + Abort>(rt: &S, call: &str) -> Result<(), Fail> {
     let words = words(rt, call)?;
     assert_eq!(rt;
@@ -116,6 +215,40 @@ fn refuses_bad_options(rt: HostRuntime) -> Result<(), Fail> {
         "silt serve disk 7000 --audits 100",
         "silt serve disk 7000 --aud 100",
         "silt serve disk 7000 -a 100",
+    ] {
+        names_no_job(&rt, call)?;
+    }
+    Ok(())
+}
+
+#[test]
+fn refuses_options_that_are_not_the_jobs(rt: HostRuntime) -> Result<(), Fail> {
+    for call in [
+        "silt format disk 2 2 4 2 2 8 --force --force",
+        "silt format disk 2 2 4 2 2 8 --force=true",
+        "silt format disk 2 2 4 2 2 8 --force=",
+        "silt format disk 2 2 4 2 2 8 -- --force",
+        "silt format disk 2 2 4 2 2 8 --tend",
+        "silt --force format disk 2 2 4 2 2 8",
+        "silt run disk --force",
+        "silt run disk --tend --tend",
+        "silt run disk -t",
+        "silt run --tend",
+        "silt tend",
+        "silt tend disk --tend",
+        "silt tend disk disk",
+        "silt check disk --tend",
+        "silt plan",
+        "silt plan 1000",
+        "silt plan 1000 100 100",
+        "silt plan 1000 100 --memory",
+        "silt plan 1000 100 --memory 4294967296",
+        "silt plan 1_000 100",
+        "silt plan 1,000 100",
+        "silt serve disk 0 --idle",
+        "silt serve disk 0 --idle x",
+        "silt serve disk 0 --idle 1 --idle 2",
+        "silt run disk --idle 1",
     ] {
         names_no_job(&rt, call)?;
     }

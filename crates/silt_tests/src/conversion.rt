@@ -10,7 +10,7 @@ use std::alloc::Global;
 use std::process::Abort;
 use std::test::Fail;
 
-// What is told of five puts, a flush and a conversion.
+// The replies to five puts, a flush and a conversion.
 fn is_converted(rt: &impl Abort, told: &[Told]) {
     assert_eq!(rt; told.len(), 16);
     for reply in &told[7..15] {
@@ -27,14 +27,14 @@ fn converted(rt: &impl Abort, alloc: Global) -> Result<MemDisk, Fail> {
     Ok(disk)
 }
 
-// The refusal of an opening of these bytes with some of them changed, none where they open.
+// The refusal of an opening of these bytes with some of them changed, none if they open.
 fn refusal_of(alloc: Global, whole: &[u8], changes: &[(usize, u8)]) -> Result<Option<Place>, Fail> {
     let bytes = changed(alloc, whole, changes)?;
     let disk = MemDisk::with_bytes(alloc, &bytes)?;
     damage_in(Core::open(alloc, disk))
 }
 
-// What an opening found damaged, none where it found nothing.
+// What an opening found damaged, none if it found nothing.
 fn damage_in(opening: Result<Core<MemDisk>, OpenFault<MemDisk>>) -> Result<Option<Place>, Fail> {
     let Err(fault) = opening else {
         return Ok(None);

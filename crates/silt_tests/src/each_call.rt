@@ -16,7 +16,7 @@ use std::alloc::{AllocError, Global};
 use std::process::Abort;
 use std::test::Fail;
 
-// A life on a new disk of this geometry, and what its lines are told where no call fails.
+// A life on a new disk of this geometry, and the replies to its lines if no call fails.
 #[derive(Drop)]
 struct Life<'a> {
     geometry: Geometry,
@@ -71,7 +71,7 @@ fn merge_fails(rt: &impl Abort, alloc: Global, fails: Fails) -> Result<(), Fail>
     each_fails(rt, alloc, &life, fails)
 }
 
-// A store on the life's disk. Where the first opening tells a fault, which is counted, the disk is opened again, by the calls that follow.
+// A store on the life's disk. If the first opening is refused with a fault, which is counted, the disk is opened again, by the calls that follow.
 fn opened_again(alloc: Global, disk: FaultDisk, faults: &mut u32) -> Result<Core<FaultDisk>, Fail> {
     match Core::open(alloc, disk) {
         Ok(core) => Ok(core),
@@ -88,7 +88,7 @@ fn opened_again(alloc: Global, disk: FaultDisk, faults: &mut u32) -> Result<Core
     }
 }
 
-// Asks a line, once more where a fault is told; and whether it was.
+// Asks a line, once more after a fault, and whether there was one.
 fn asked_again(
     alloc: Global,
     core: &mut Core<FaultDisk>,
@@ -101,7 +101,7 @@ fn asked_again(
     Ok((told, false))
 }
 
-// The values of the keys 0 to 7 in the list of the entries, which is asked for once more where it told a fault; and whether it did.
+// The values of the keys 0 to 7 in the list of the entries, which is asked for once more if it was refused with a fault, and whether it was.
 fn listed_again(alloc: Global, core: &Core<FaultDisk>) -> Result<([u16; 8], bool), Fail> {
     match core.entries(alloc) {
         Ok(entries) => Ok((values_of(&entries), false)),
@@ -113,7 +113,7 @@ fn listed_again(alloc: Global, core: &Core<FaultDisk>) -> Result<([u16; 8], bool
     }
 }
 
-// All lines of the life are told what is due. Says how often one told a fault and was asked again.
+// All lines of the life get the replies that are due. Says how often one was refused with a fault and was asked again.
 fn ask_all(
     rt: &impl Abort,
     alloc: Global,
@@ -129,7 +129,7 @@ fn ask_all(
     Ok(faults)
 }
 
-// The lines of the life, and the list of the entries behind them. Says how often one told a fault and was asked again.
+// The lines of the life, and the list of the entries behind them. Says how often one was refused with a fault and was asked again.
 fn ask_and_list(
     rt: &impl Abort,
     alloc: Global,
@@ -142,8 +142,8 @@ fn ask_and_list(
     Ok(faults.saturating_add(is_told as u32))
 }
 
-// This read of the life fails: the call that made it tells the fault, and asked again has its own answer, as all others have. Says how many
-// faults were told.
+// This read of the life fails: the call that made it is refused with the fault, and asked again has its own answer, as all others have. Says how many
+// faults there were.
 fn faults_of_read(rt: &impl Abort, alloc: Global, life: &Life, number: u64) -> Result<u32, Fail> {
     let disk = FaultDisk::new(formatted_with(alloc, life.geometry)?, Call::Read, number);
     let mut faults = 0;
@@ -188,7 +188,7 @@ struct Failing {
     stop: Option<Fill>,
 }
 
-// Whether the store has failed with this reply: behind the one that tells the fault all tell a failed store, and those before it are the life's own.
+// Whether the store has failed with this reply: behind the one that is refused with the fault all others are refused Failed, and those before it are the life's own.
 fn has_failed_with(
     rt: &impl Abort,
     has_failed: bool,
@@ -207,7 +207,7 @@ fn has_failed_with(
     false
 }
 
-// All replies are such. Says whether one told the fault.
+// All replies are such. Says whether one gave the fault.
 fn tells_once(rt: &impl Abort, life: &Life, told: &[Told], number: u64) -> bool {
     assert_eq!(rt; told.len(), life.told.len());
     let mut has_failed = false;
@@ -217,7 +217,7 @@ fn tells_once(rt: &impl Abort, life: &Life, told: &[Told], number: u64) -> bool 
     has_failed
 }
 
-// The life on a disk on which this write or sync fails: the disk, what is told, and whether the call was made.
+// The life on a disk on which this write or sync fails: the disk, the replies, and whether the call was made.
 fn lived(
     rt: &impl Abort,
     alloc: Global,
@@ -239,7 +239,7 @@ fn is_fault(rt: &impl Abort, refusal: u32, number: u64) {
     assert_eq!(rt; refusal, 5, "call {number}");
 }
 
-// The life of an opened store, of which this write or sync fails: the disk, what is told, and whether the call was made.
+// The life of an opened store, of which this write or sync fails: the disk, the replies, and whether the call was made.
 fn answered(
     rt: &impl Abort,
     alloc: Global,
@@ -251,7 +251,7 @@ fn answered(
     with_disk(core.close().into_disk(), answers)
 }
 
-// A disk, and what was told on it.
+// A disk, and the replies that it gave.
 fn with_disk(
     disk: MemDisk,
     answers: Result<(Vec<Told>, bool), AllocError>,

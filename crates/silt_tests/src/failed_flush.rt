@@ -8,7 +8,7 @@ use silt_store_set::{Core, Progress};
 use std::alloc::{AllocError, Global};
 use std::test::Fail;
 
-// A disk, and what was told on it.
+// A disk, and the replies that it gave.
 fn with_disk(
     disk: FaultDisk,
     told: Result<Vec<Told>, AllocError>,
@@ -16,7 +16,7 @@ fn with_disk(
     Ok((disk, told?))
 }
 
-// What these lines are told by the store on this disk, which is closed behind them.
+// The replies to these lines by the store on this disk, which is closed behind them.
 fn told_on(alloc: Global, disk: FaultDisk, lines: &[Line]) -> Result<(FaultDisk, Vec<Told>), Fail> {
     match Core::open(alloc, disk) {
         Ok(mut core) => {
@@ -27,7 +27,7 @@ fn told_on(alloc: Global, disk: FaultDisk, lines: &[Line]) -> Result<(FaultDisk,
     }
 }
 
-// What these lines are told by an empty store on a disk of which this call fails, counted from the opening on.
+// The replies to these lines by an empty store on a disk of which this call fails, counted from the opening on.
 fn told_where(
     alloc: Global,
     call: Call,
@@ -41,7 +41,7 @@ fn told_where(
     )
 }
 
-// A put, a flush and a get where this sync fails, and a get by the next opening. The opening's sync is the first, the flush makes two.
+// A put, a flush and a get if this sync fails, and a get by the next opening. The opening's sync is the first, the flush makes two.
 fn flush_fails(alloc: Global, sync: u64) -> Result<(Vec<Told>, Vec<Told>), Fail> {
     let lines = [Line::Put(1, 0x0102), Line::Flush, Line::Get(1)];
     let (disk, told) = told_where(alloc, Call::Sync, sync, &lines)?;

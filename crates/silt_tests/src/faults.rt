@@ -41,7 +41,7 @@ fn put(
     answer(core.put(alloc, &key(first), &[0, last]))
 }
 
-// The number of the refusal, 0 where there is none.
+// The number of the refusal, 0 if there is none.
 fn refused<T: Drop>(answered: Result<T, Refusal<MemFault>>) -> u32 {
     match answered {
         Ok(_) => 0,
@@ -183,7 +183,7 @@ fn full_logs_take_no_row(rt: HostRuntime) -> Result<(), Fail> {
     Ok(())
 }
 
-// Where the store and its logs are all full, a put is told of the store.
+// If the store and all its logs are full, a put is refused StoreFull.
 #[test]
 fn tells_a_full_store_before_full_logs(rt: HostRuntime) -> Result<(), Fail> {
     let alloc = rt.alloc();

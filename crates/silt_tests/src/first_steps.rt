@@ -1,4 +1,4 @@
-// What no contract says: that each call that takes memory succeeds where there is enough, and the bytes on the device.
+// What no contract says: that each call that takes memory succeeds if there is enough, and the bytes on the device.
 
 use crate::life_lines::Line;
 use crate::lines::IDLE;

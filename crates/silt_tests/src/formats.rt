@@ -55,7 +55,7 @@ fn formatted_until(alloc: Global, disk: MemDisk, stop: Stop) -> Result<(MemDisk,
     }
 }
 
-// What an opening finds: the values of the keys 0 to 7, where there are no other keys, or the number of its refusal.
+// What an opening finds: the values of the keys 0 to 7, if there are no other keys, or the number of its refusal.
 type Found = Result<[u16; 8], u32>;
 
 // A disk, and what was found on it.

@@ -62,7 +62,7 @@ pub(crate) fn is_kept(lines: &[Line], told: &[Told], found: [u16; 8]) -> bool {
     false
 }
 
-// What the first put of a life is told on this disk: whether it makes the charge too great, or finds no room in the active log and
+// The replies to the first put of a life on this disk: whether it makes the charge too great, or finds no room in the active log and
 // no other region.
 fn told_of_put(alloc: Global, disk: &MemDisk, geometry: Geometry) -> Result<Told, Fail> {
     let report = check(alloc, disk).ok().ok_or("is whole")?;
@@ -97,7 +97,7 @@ fn lived_with_put(
     live(alloc, disk, &lines)
 }
 
-// What stands once a put of key 7 was told so, where this stood before, and how many commands a flush behind it acknowledges.
+// What the store has after such a put of key 7 if it had this before, and how many commands a flush behind it acknowledges.
 fn with_put(reply: Told, value: u16, mut found: [u16; 8]) -> ([u16; 8], u64) {
     if reply == Told::Accepted(1) {
         found[7] = value;
@@ -106,7 +106,7 @@ fn with_put(reply: Told, value: u16, mut found: [u16; 8]) -> ([u16; 8], u64) {
     (found, 0)
 }
 
-// A life is told so, and of so many steps of both kinds the last found nothing to do.
+// Whether a life gets these replies, and the last of so many steps of both kinds found nothing to do.
 fn has_grown(rt: &impl Abort, told: &[Told], expected: &[Told], steps: u32) {
     assert!(rt; told.starts_with(expected), "{told:?}");
     assert!(rt; steps == 0 || told.ends_with(&[IDLE, IDLE]), "{told:?}");

@@ -1,6 +1,6 @@
 //! Tests of the store as one whole, over disks in memory: what no clause says.
 //!
-//! A clause that allows a refusal for want of memory is met by a body that always refuses. So each call that takes memory is made here where there
+//! A clause that allows a refusal for lack of memory is met by a body that always refuses. So each call that takes memory is made here where there
 //! is enough of it. The worked lives stand here letter for letter through the public calls, with a stop at every device call of theirs, and each
 //! call failing in turn.
 #![tactic(auto)]

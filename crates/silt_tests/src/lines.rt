@@ -1,4 +1,4 @@
-// Lives that several tests do, and what is told of them. Each line stands with the number of times that it is asked.
+// Lives that several tests do, and the replies of them. Each line stands with the number of times that it is asked.
 
 use crate::life_lines::Line;
 use crate::script::Told;
@@ -34,7 +34,7 @@ pub(crate) const CONVERTED: [(Line, u8); 7] = [
     (Line::Convert, 9),
 ];
 
-/// What that life is told, with a get of key 2 and a step more behind it, which makes no device call.
+/// The replies to that life, with a get of key 2 and a step more behind it, which makes no device call.
 pub(crate) const CONVERTED_TOLD: [(Told, u8); 10] = [
     (Told::Accepted(1), 1),
     (Told::Accepted(2), 1),
@@ -90,7 +90,7 @@ pub(crate) const MERGED_TWICE_TOLD: [(Told, u8); 18] = [
     (Told::Acknowledged(4), 1),
 ];
 
-/// A merge under way while two more hash stores are made, which it leaves alone. 95 calls.
+/// A merge in progress while two more hash stores are made, which it leaves alone. 95 calls.
 pub(crate) const CONVERTED_MEANWHILE: [(Line, u8); 11] = [
     (Line::Put(1, 1), 1),
     (Line::Put(2, 2), 1),

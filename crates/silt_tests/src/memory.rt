@@ -1,5 +1,5 @@
-// Calls that are refused a request for memory: each tells so and leaves the store as it is, and asked again has its own answer. These
-// tests pass whichever one request of theirs is refused, and where none is; docs/contributing.md says how each is refused in turn.
+// Calls that are refused a request for memory: each is refused NoMemory and leaves the store as it is, and a second try succeeds. These
+// tests pass whichever one request of theirs is refused, and if none is; docs/contributing.md says how each is refused in turn.
 ghost use Rattle.std.specs.Prelude.{All, IfOk};
 ghost use Rattle.silt_event.specs.Events.{HasValueOf};
 
@@ -17,7 +17,7 @@ use std::alloc::Global;
 use std::process::Abort;
 use std::test::Fail;
 
-// These lines, or what is told of them, each so many times.
+// These lines or replies, each so many times.
 fn repeated_twice<T: Copy>(alloc: Global, parts: &[(T, u8)]) -> Result<Vec<T>, Fail> {
     match repeated(alloc, parts) {
         Ok(lines) => Ok(lines),
@@ -85,7 +85,7 @@ fn listed(alloc: Global, core: &Core<MemDisk>) -> Result<[u16; 8], Fail> {
     }
 }
 
-// Asks a line of a store with these values. Where it is refused memory, they stand as before, and it is asked again.
+// Asks a line of a store with these values. If it is refused memory, they stand as before, and it is asked again.
 fn asked(
     rt: &impl Abort,
     alloc: Global,
@@ -151,7 +151,7 @@ fn lists(
     Ok(())
 }
 
-// All lines of a life are told what is due.
+// All lines of a life get the replies that are due.
 fn all_asked(
     rt: &impl Abort,
     alloc: Global,
@@ -269,7 +269,7 @@ fn gets_lacking(rt: &impl Abort, answers: &[Reply<MemFault>], due: &[Told]) -> u
     lacking
 }
 
-// What is told of the last reply of a life, or of its opening.
+// How the tests write the last reply of a life, or of its opening.
 fn told_last<F: Drop>(life: &LifeReply<F>) -> Told {
     match life {
         LifeReply::NotOpened(refusal) => Told::NotOpened(refusal.label().0),
@@ -280,7 +280,7 @@ fn told_last<F: Drop>(life: &LifeReply<F>) -> Told {
     }
 }
 
-// What is told last of each of these two lives, none where they are refused memory before the first one.
+// The last reply to each of these two lives, none if they are refused memory before the first one.
 fn told_of_two(
     rt: &impl Abort,
     alloc: Global,

@@ -30,7 +30,7 @@ fn of_one_hash_store() -> Result<Geometry, Fail> {
     of_regions(1, 3, 1, 8)
 }
 
-// What is told of a get of a key of this value, 0 for none.
+// The replies to a get of a key of this value, 0 for none.
 fn told_of(value: u16) -> Told {
     let [first, last] = value.to_be_bytes();
     if value == 0 {
@@ -48,7 +48,7 @@ fn with_gets(alloc: Global, lines: &[Line]) -> Result<Vec<Line>, AllocError> {
     Ok(all)
 }
 
-// What is told of the lines, and behind each of the last value that each of the keys 1 to 3 was given.
+// The replies to the lines, and behind each of the last value that each of the keys 1 to 3 was given.
 fn told_with_gets(alloc: Global, lines: &[Line], told: &[Told]) -> Result<Vec<Told>, AllocError> {
     let mut all = Vec::new(alloc);
     all.push(Told::Opened)?;
@@ -64,7 +64,7 @@ fn told_with_gets(alloc: Global, lines: &[Line], told: &[Told]) -> Result<Vec<To
     Ok(all)
 }
 
-// What is told of the life on a new disk with a get of each key behind each of its lines.
+// The replies to the life on a new disk with a get of each key behind each of its lines.
 fn told_asked(alloc: Global, geometry: Geometry, lines: &[Line]) -> Result<Vec<Told>, Fail> {
     let asked = with_gets(alloc, lines)?;
     told_of_life(alloc, geometry, &asked)

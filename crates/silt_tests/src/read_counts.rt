@@ -89,7 +89,7 @@ const ACTIVE: [(Line, u8); 5] = [
     (Line::Flush, 1),
 ];
 
-// A put or delete reads the heads of the rows whose slots have the key's tag, up to the key's own, and none where the key is alone in
+// A put or delete reads the heads of the rows whose slots have the key's tag, up to the key's own, and none if the key is alone in
 // its buckets. It looks in no other store.
 #[test]
 fn a_put_reads_the_heads_of_its_candidates_once(rt: HostRuntime) -> Result<(), Fail> {

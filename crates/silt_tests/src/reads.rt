@@ -1,4 +1,4 @@
-// Reads that fail, one after the other: each is told as the device's fault, and no other call is refused.
+// Reads that fail, one after the other: each gives the device's fault, and no other call is refused.
 
 use crate::life_lines::Line;
 use crate::script::{Told, live, repeated, replies_of};
@@ -43,7 +43,7 @@ const ANSWERS: [Told; 5] = [
     Told::Progress(Progress::Moved),
 ];
 
-// How often each of the calls told the device's fault: an opening, the five events, the list of the entries.
+// How often each of the calls was refused with the device's fault: an opening, the five events, the list of the entries.
 type Refused = [u32; 7];
 
 // Which of these replies is the device's fault, if one is. All others are the answers.
@@ -69,7 +69,7 @@ fn listed(alloc: Global, core: &Core<FaultDisk>) -> Result<[u16; 8], u32> {
     }
 }
 
-// Which call of an opened store tells the fault of a read.
+// Which call of an opened store is refused with the fault of a read.
 fn place_of_call(
     rt: &impl Abort,
     alloc: Global,
@@ -90,7 +90,7 @@ fn is_fault(rt: &impl Abort, refusal: u32, number: u64) {
     assert_eq!(rt; refusal, 5, "read {number}");
 }
 
-// Which call tells the fault of this read, none where it is not made.
+// Which call is refused with the fault of this read, none if it is not made.
 fn place_of_read(
     rt: &impl Abort,
     alloc: Global,
@@ -107,7 +107,7 @@ fn place_of_read(
     }
 }
 
-// How often each call told a fault, over all reads up to the first that is not made.
+// How often each call was refused with a fault, over all reads up to the first that is not made.
 fn all_refused(rt: &impl Abort, alloc: Global, bytes: &[u8]) -> Result<Refused, Fail> {
     let mut counts = [0u32; 7];
     for number in 1..200u64 {

@@ -16,7 +16,7 @@ fn armed(alloc: Global, stops: &[(u32, Fill)]) -> Result<MemDisk, Fail> {
     Ok(formatted(alloc)?.arm(stops))
 }
 
-// What is told of lives on this disk.
+// The replies to lives on this disk.
 fn are_told(
     rt: &impl Abort,
     alloc: Global,
@@ -29,7 +29,7 @@ fn are_told(
     Ok(())
 }
 
-// What is told of lives on a small disk that is stopped so.
+// The replies to lives on a small disk that is stopped so.
 fn are_told_stopped(
     rt: &impl Abort,
     alloc: Global,
@@ -42,7 +42,7 @@ fn are_told_stopped(
     Ok(())
 }
 
-// What is told of three puts and a flush where call 9 fails.
+// The replies to three puts and a flush if call 9 fails.
 const TOLD_TO_CALL_9: [Told; 5] = [
     Told::Opened,
     Told::Accepted(1),

@@ -1,4 +1,4 @@
-// Lives as the tests write them, and what is told of their replies.
+// Lives as the tests write them, and how the tests write their replies.
 ghost use Rattle.std.specs.Prelude.{All, IfOk};
 ghost use Rattle.silt_event.specs.Events.{HasValueOf};
 
@@ -10,7 +10,7 @@ use std::alloc::{AllocError, Global};
 use std::process::Abort;
 use std::test::Fail;
 
-/// What is told of an opening or a reply. A refusal is told by its number.
+/// How the tests write an opening or a reply. A refusal is written as its number.
 #[derive(Clone, Copy, Debug, PartialEq, Eq)]
 pub(crate) enum Told {
     Opened,
@@ -25,7 +25,7 @@ pub(crate) enum Told {
     Other,
 }
 
-// Adds a line, or what is told of one, so many times.
+// Adds a line, or a reply, so many times.
 fn add<T: Copy>(lines: &mut Vec<T>, line: T, count: u8) -> Result<(), AllocError> {
     for _ in 0..count {
         lines.push(line)?;
@@ -33,7 +33,7 @@ fn add<T: Copy>(lines: &mut Vec<T>, line: T, count: u8) -> Result<(), AllocError
     Ok(())
 }
 
-/// These lines, or what is told of them, each so many times.
+/// These lines or replies, each so many times.
 pub(crate) fn repeated<T: Copy>(alloc: Global, parts: &[(T, u8)]) -> Result<Vec<T>, AllocError> {
     let mut lines = Vec::new(alloc);
     for (line, count) in parts {
@@ -42,7 +42,7 @@ pub(crate) fn repeated<T: Copy>(alloc: Global, parts: &[(T, u8)]) -> Result<Vec<
     Ok(lines)
 }
 
-/// The events of a life, made once more where memory was refused.
+/// The events of a life, made once more if memory was refused.
 pub(crate) fn events_twice(alloc: Global, lines: &[Line]) -> Result<Vec<Event>, AllocError>
     ensures { IfOk result (λ events. All (HasValueOf 2) events.items) }
 {
@@ -52,7 +52,7 @@ pub(crate) fn events_twice(alloc: Global, lines: &[Line]) -> Result<Vec<Event>, 
     }
 }
 
-/// The events of each life, made once more where memory was refused.
+/// The events of each life, made once more if memory was refused.
 pub(crate) fn all_events_twice(
     alloc: Global,
     all: &[&[Line]],
@@ -84,7 +84,7 @@ fn told_value(bytes: &[u8]) -> Told {
     }
 }
 
-/// What is told of a reply.
+/// How the tests write a reply.
 pub(crate) fn tell_reply<F: Drop>(reply: &Reply<F>) -> Told {
     match reply {
         Reply::Accepted(n) => Told::Accepted(*n),
@@ -97,7 +97,7 @@ pub(crate) fn tell_reply<F: Drop>(reply: &Reply<F>) -> Told {
     }
 }
 
-// Tells replies after what was told before.
+// Writes replies behind those before.
 fn tell<F: Drop>(told_before: &mut Vec<Told>, replies: &[Reply<F>]) -> Result<(), AllocError> {
     for reply in replies {
         told_before.push(tell_reply(reply))?;
@@ -105,7 +105,7 @@ fn tell<F: Drop>(told_before: &mut Vec<Told>, replies: &[Reply<F>]) -> Result<()
     Ok(())
 }
 
-// Tells a life after what was told before.
+// Writes a life behind those before.
 fn tell_life(told: &mut Vec<Told>, life: &LifeReply<MemFault>) -> Result<(), AllocError> {
     match life {
         LifeReply::NotOpened(refusal) => Ok(told.push(Told::NotOpened(refusal.label().0))?),
@@ -125,7 +125,7 @@ fn tell_lives(alloc: Global, lives: &[LifeReply<MemFault>]) -> Result<Vec<Told>,
     Ok(told)
 }
 
-/// What is told of lives of values of two bytes, on this disk.
+/// The replies to lives of values of two bytes, on this disk.
 pub(crate) fn told_lives(
     alloc: Global,
     disk: MemDisk,
@@ -136,7 +136,7 @@ pub(crate) fn told_lives(
     tell_lives(alloc, &replies)
 }
 
-/// The replies to these events, none where the store has values of another length.
+/// The replies to these events, none if the store has values of another length.
 pub(crate) fn run<D: Disk>(
     alloc: Global,
     core: &mut Core<D>,
@@ -151,7 +151,7 @@ pub(crate) fn run<D: Disk>(
     core.run(alloc, events)
 }
 
-// What is told of an event, where the store has values of this length.
+// The replies to an event, if the store has values of this length.
 fn told_of<D: Disk>(alloc: Global, core: &mut Core<D>, value_len: u32, event: &Event) -> Told
     requires { HasValueOf value_len event.now }
 {
@@ -161,7 +161,7 @@ fn told_of<D: Disk>(alloc: Global, core: &mut Core<D>, value_len: u32, event: &E
     tell_reply(&core.answer(alloc, event))
 }
 
-/// What is told of a line, in an opened store of values of two bytes. Its event is made once more where memory was refused.
+/// The replies to a line, in an opened store of values of two bytes. Its event is made once more if memory was refused.
 pub(crate) fn ask<D: Disk>(
     alloc: Global,
     core: &mut Core<D>,
@@ -186,7 +186,7 @@ fn answers<D: Disk>(
     run(alloc, core, 2, &events)
 }
 
-// Tells the events of these lines, in an opened store of values of two bytes, after what was told before.
+// Writes the replies to these lines, in an opened store of values of two bytes, behind those before.
 fn tell_events<D: Disk>(
     alloc: Global,
     core: &mut Core<D>,
@@ -197,7 +197,7 @@ fn tell_events<D: Disk>(
     tell(told_before, &replies)
 }
 
-/// What is told of events, in an opened store of values of two bytes on a disk on which one call fails.
+/// The replies to events, in an opened store of values of two bytes on a disk on which one call fails.
 pub(crate) fn replies_of(
     alloc: Global,
     core: &mut Core<FaultDisk>,
@@ -208,7 +208,7 @@ pub(crate) fn replies_of(
     Ok(told)
 }
 
-// What is told of an opening, and of the events behind it.
+// The replies to an opening, and to the events behind it.
 fn told_from<D: Disk>(
     alloc: Global,
     core: &mut Core<D>,
@@ -220,7 +220,7 @@ fn told_from<D: Disk>(
     Ok(told)
 }
 
-// A disk, and what was told on it.
+// A disk, and the replies that it gave.
 fn with_disk(
     disk: MemDisk,
     told: Result<Vec<Told>, AllocError>,
@@ -228,7 +228,7 @@ fn with_disk(
     Ok((disk, told?))
 }
 
-/// One life of values of two bytes, on this disk: the disk after it, as yet without a stop, and what is told.
+/// One life of values of two bytes, on this disk: the disk after it, as yet without a stop, and the replies.
 pub(crate) fn live(
     alloc: Global,
     disk: MemDisk,
@@ -246,7 +246,7 @@ pub(crate) fn live(
     }
 }
 
-/// That life, of which this is told.
+/// That life, with these replies.
 pub(crate) fn lived(
     rt: &impl Abort,
     alloc: Global,
@@ -263,7 +263,7 @@ fn are_same(rt: &impl Abort, told: &[Told], expected: &[Told]) {
     assert_eq!(rt; told, expected);
 }
 
-/// What is told of one life of values of two bytes, on a new disk of this geometry.
+/// The replies to one life of values of two bytes, on a new disk of this geometry.
 pub(crate) fn told_of_life(
     alloc: Global,
     geometry: Geometry,

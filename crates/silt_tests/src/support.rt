@@ -31,7 +31,7 @@ fn only_values_of(entries: &BTreeMap<Key, Value>) -> Result<[u16; 8], Fail> {
     Ok(values)
 }
 
-/// The values of the keys 0 to 7 in this store, 0 for none, where it has no other keys.
+/// The values of the keys 0 to 7 in this store, 0 for none, if it has no other keys.
 pub(crate) fn listed<D: Disk>(alloc: Global, core: &Core<D>) -> Result<[u16; 8], Fail> {
     let entries = core.entries(alloc).ok().ok_or("has entries")?;
     only_values_of(&entries)
@@ -42,7 +42,7 @@ fn with_values(disk: MemDisk, values: Result<[u16; 8], Fail>) -> Result<(MemDisk
     Ok((disk, values?))
 }
 
-/// The values of the keys 0 to 7 on this disk, 0 for none, where it has no other keys. No stop is made.
+/// The values of the keys 0 to 7 on this disk, 0 for none, if it has no other keys. No stop is made.
 pub(crate) fn entries_of(alloc: Global, disk: MemDisk) -> Result<(MemDisk, [u16; 8]), Fail> {
     let core = Core::open(alloc, disk).ok().ok_or("opens")?;
     let values = listed(alloc, &core);

@@ -23,7 +23,7 @@ enum Step {
     Read(u64, Option<[u8; 4]>),
 }
 
-// Whether these bytes were written. They are not where the disk has no place for them.
+// Whether these bytes were written. They are not if the disk has no place for them.
 fn write_at<D: Disk>(disk: &mut D, at: u64, bytes: &[u8]) -> bool {
     if at > disk.len() || bytes.len() as u64 > disk.len() - at {
         return false;
@@ -31,7 +31,7 @@ fn write_at<D: Disk>(disk: &mut D, at: u64, bytes: &[u8]) -> bool {
     disk.write(at, bytes).is_ok()
 }
 
-// The four bytes from a place on, where the disk has as many and gives them.
+// The four bytes from a place on, if the disk has as many and gives them.
 fn four_at<D: Disk>(disk: &D, at: u64) -> Option<[u8; 4]> {
     if at > disk.len() || disk.len() - at < 4 {
         return None;

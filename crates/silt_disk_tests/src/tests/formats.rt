@@ -97,7 +97,7 @@ fn gates_of(rt: &impl Abort, shown: &[u8]) -> [u8; 8] {
     gates
 }
 
-// Whether a device of these bytes is opened where this write or sync is stopped, and what it then shows of the gates of both logs.
+// Whether a device of these bytes is opened if this write or sync is stopped, and what it then shows of the gates of both logs.
 fn opened(rt: &impl Abort, alloc: Global, bytes: &[u8], k: u32) -> Result<Option<[u8; 8]>, Fail> {
     match open(alloc, stopping(alloc, bytes, k, Fill::Old)?) {
         Ok(opened) => Ok(Some(gates_of(rt, opened.disk.shown()))),
@@ -124,7 +124,7 @@ fn opens_in(rt: &impl Abort, alloc: Global, bytes: &[u8], calls: u32) -> Result<
     Ok(())
 }
 
-// A sync, and where a gate of the active log past its first closed one is open, a write and a sync. Frozen logs are only read.
+// A sync, and if a gate of the active log past its first closed one is open, a write and a sync. Frozen logs are only read.
 #[test]
 fn seals_the_active_log_alone(rt: HostRuntime) -> Result<(), Fail> {
     for (changes, calls) in OPEN_BEHIND {
@@ -140,7 +140,7 @@ fn small_changed(rt: &impl Abort, alloc: Global, changes: &[(usize, u8)]) -> Res
     changed(alloc, &whole, changes)
 }
 
-// Whether a check of a disk of these bytes tells a fault where this read fails, and whether it is answered.
+// Whether a check of a disk of these bytes is refused with a fault if this read fails, and whether it is answered.
 fn checked_at(alloc: Global, bytes: &[u8], number: u64) -> Result<(bool, bool), Fail> {
     let disk = FaultDisk::new(MemDisk::with_bytes(alloc, bytes)?, Call::Read, number);
     match check(alloc, &disk) {
@@ -176,7 +176,7 @@ fn hands_on_each_fault_of_a_read(rt: HostRuntime) -> Result<(), Fail> {
     Ok(())
 }
 
-// What a get answers from these bytes, where the read of this number fails: whether there is a value, none after a fault, and the
+// What a get answers from these bytes if the read of this number fails: whether there is a value, none after a fault, and the
 // bytes of the value.
 fn got(
     alloc: Global,

@@ -1,4 +1,4 @@
-// Stores at the limits of their numbers, where there is ample memory.
+// Stores at the limits of their numbers, if there is ample memory.
 
 use silt_device::{Disk, Geometry};
 use silt_fixtures::{key, opened_with};

@@ -196,7 +196,7 @@ fn take_up<D: Disk>(
     Ok(())
 }
 
-// The events of a life from this number on, until one tells a fault. A life without one has at its end the entries of the map.
+// The events of a life from this number on, until one is refused with a fault. A life without one has at its end the entries of the map.
 fn events<D: Disk>(
     rt: &impl Abort,
     alloc: Global,

@@ -1,4 +1,4 @@
-// What a check of a device tells after its logs were frozen.
+// What a check of a device reports after its logs were frozen.
 
 use super::EMPTY;
 use silt_device::Disk;
@@ -37,7 +37,7 @@ fn find_all<D: Disk>(rt: &impl Abort, core: &Core<D>, keys: &[[u8; 5]]) {
     }
 }
 
-// Puts a value for each of these keys into a new store of two buckets and logs of eight rows, flushes, gets each, and tells what
+// Puts a value for each of these keys into a new store of two buckets and logs of eight rows, flushes, gets each, and returns what
 // a check of the device finds.
 fn report_after(rt: &impl Abort, alloc: Global, keys: &[[u8; 5]]) -> Result<Report, Fail> {
     let mut core = opened_with(alloc, of_regions(8, 2, 2, 16)?)?;

@@ -12,7 +12,7 @@ mod record;
 use crate::tests::Open;
 use silt_desk::Gate;
 use silt_device::Disk;
-use silt_server::{Listens, serve_on};
+use silt_server::{Limits, Listens, serve_on};
 use silt_store_set::Core;
 use std::alloc::Global;
 use std::io::{self, ErrorKind, Read, Write};
@@ -50,6 +50,15 @@ impl<R: Clock> Listens for Patient<'_, R> {
     }
 }
 
+// So many sessions and recorded calls, and no end of a silent connection.
+fn limits_of(sessions: u32, audit: Option<u64>) -> Limits {
+    Limits {
+        sessions,
+        audit,
+        idle: None,
+    }
+}
+
 /// What a server and its clients gave.
 #[derive(Drop)]
 struct Ended<D: Disk, X: Drop> {
@@ -80,21 +89,13 @@ fn serve_beside<
     let listener = TcpListener::bind(rt, ("127.0.0.1", 0u16))?;
     let addr = listener.local_addr()?;
     let listener = Patient { rt, listener };
+    let limits = limits_of(sessions, audit);
     let mut written = Vec::new(alloc);
     let (served, got) = thread::join(
         rt,
         || -> Option<(D, io::Result<u8>)> {
             let core = Core::open(alloc, disk).ok()?;
-            Some(serve_on(
-                rt,
-                alloc,
-                &listener,
-                core,
-                audit,
-                sessions,
-                gate,
-                &mut written,
-            ))
+            Some(serve_on(rt, alloc, &listener, core, limits, gate, &mut written))
         },
         move || -> X
             requires { C.IsAlwaysCallable clients }

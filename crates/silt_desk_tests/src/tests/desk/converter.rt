@@ -2,12 +2,11 @@
 ghost use Rattle.std.specs.Prelude.{◌≡◌};
 
 use crate::tests::desk::{get, join_over, put, put_five, two_seats};
-use crate::tests::{opened, reaches};
 use crossbeam_channel::{Receiver, Sender};
 use silt_desk::{Gate, Kept, Naming, Seat, Shared, Spot, Wake, converter};
 use silt_device::Disk;
 use silt_event::Progress;
-use silt_fixtures::{formatted, key};
+use silt_fixtures::{formatted, key, opened_on, reaches};
 use silt_store_set::Core;
 use std::alloc::Global;
 use std::marker::Brand;
@@ -145,6 +144,6 @@ fn held_between_steps<D: Disk, N: Naming + Send + Sync, R: Threads + Wait + Cloc
 #[test]
 fn held_converter(rt: HostRuntime) -> Result<(), Fail> {
     let alloc = rt.alloc();
-    let core = opened(alloc, formatted(alloc)?)?;
+    let core = opened_on(alloc, formatted(alloc)?)?;
     held_between_steps::<_, Brand, _>(&rt, alloc, core, Blank::new(2), Blank::new(2))
 }

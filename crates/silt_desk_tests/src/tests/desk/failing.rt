@@ -2,11 +2,10 @@
 ghost use Rattle.std.specs.Prelude.{◌≡◌};
 
 use crate::tests::desk::{get, put_five, settle_two, two_seats};
-use crate::tests::{Open, opened};
-use silt_desk::{Desk, Kept, Naming, Seat, Shared, Wake, converter};
+use silt_desk::{Desk, Kept, Naming, OpenGate, Seat, Shared, Wake, converter};
 use silt_device::{Call, Disk, FaultDisk};
 use silt_event::Refusal;
-use silt_fixtures::{formatted, key};
+use silt_fixtures::{formatted, key, opened_on};
 use silt_store_set::Core;
 use std::alloc::{AllocError, Global};
 use std::marker::Brand;
@@ -37,7 +36,7 @@ fn waits<D: Disk, N: Naming, R: Wait + Abort>(
     let (wake, wakes) = crossbeam_channel::unbounded(alloc)?;
     let (other, others) = crossbeam_channel::unbounded(alloc)?;
     let _ = wake.send(rt, Wake::Stop);
-    let seat = converter(rt, alloc, shared, seat, &Open, wakes, other);
+    let seat = converter(rt, alloc, shared, seat, &OpenGate, wakes, other);
     assert!(rt; others.try_recv(rt).is_err());
     Ok(seat)
 }
@@ -68,6 +67,6 @@ fn a_failed_step_waits(rt: HostRuntime) -> Result<(), Fail> {
     let alloc = rt.alloc();
     // five puts make fifteen writes, the last one of them with its freeze seven
     let disk = FaultDisk::new(formatted(alloc)?, Call::Write, 16);
-    let core = opened(alloc, disk)?;
+    let core = opened_on(alloc, disk)?;
     failed_step::<_, Brand, _>(&rt, alloc, core, Blank::new(2), Blank::new(2))
 }

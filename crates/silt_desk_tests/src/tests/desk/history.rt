@@ -2,11 +2,10 @@
 ghost use Rattle.std.specs.Prelude.{◌≡◌};
 
 use crate::tests::desk::{get, look, put, two_seats};
-use crate::tests::opened;
 use silt_desk::{Desk, Kept, Naming, Seat, Shared, settle};
 use silt_device::Disk;
 use silt_event::Refusal;
-use silt_fixtures::{formatted, key};
+use silt_fixtures::{formatted, key, opened_on};
 use silt_store_set::Core;
 use std::alloc::Global;
 use std::marker::Brand;
@@ -75,6 +74,6 @@ fn settles<D: Disk, N: Naming, R: Wait + Abort>(
 #[test]
 fn refuses_the_fourth_call(rt: HostRuntime) -> Result<(), Fail> {
     let alloc = rt.alloc();
-    let core = opened(alloc, formatted(alloc)?)?;
+    let core = opened_on(alloc, formatted(alloc)?)?;
     three_calls::<_, Brand, _>(&rt, alloc, core, Blank::new(2), Blank::new(2))
 }

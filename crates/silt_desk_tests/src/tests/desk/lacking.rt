@@ -2,11 +2,10 @@
 ghost use Rattle.std.specs.Prelude.{◌≡◌};
 
 use crate::tests::desk::{get, look, put};
-use crate::tests::opened;
 use silt_desk::{Count, Desk, Kept, Naming, NotPrepared, Note, Seat, Trace};
 use silt_device::Disk;
 use silt_event::Refusal;
-use silt_fixtures::{formatted, key};
+use silt_fixtures::{formatted, key, opened_on};
 use silt_store_set::Core;
 use std::alloc::Global;
 use std::marker::Brand;
@@ -115,7 +114,7 @@ fn refuses_all<D: Disk, N: Naming, R: Abort>(
 #[test]
 fn each_call_lacks_memory(rt: HostRuntime) -> Result<(), Fail> {
     let alloc = rt.alloc();
-    let core = opened(alloc, formatted(alloc)?)?;
+    let core = opened_on(alloc, formatted(alloc)?)?;
     refuses_all::<_, Brand, _>(&rt, alloc, core, Blank::new(1), Blank::new(1))
 }
 
@@ -144,7 +143,7 @@ fn lacks_places<D: Disk, R: Abort>(rt: &R, alloc: Global, core: &mut Core<D>) {
 #[test]
 fn a_trace_lacks_memory(rt: HostRuntime) -> Result<(), Fail> {
     let alloc = rt.alloc();
-    let mut core = opened(alloc, formatted(alloc)?)?;
+    let mut core = opened_on(alloc, formatted(alloc)?)?;
     lacks_places(&rt, alloc, &mut core);
     Ok(())
 }

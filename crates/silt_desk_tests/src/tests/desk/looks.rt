@@ -2,10 +2,9 @@
 ghost use Rattle.std.specs.Prelude.{◌≡◌};
 
 use crate::tests::desk::{join_over, look, put, two_seats};
-use crate::tests::opened;
 use silt_desk::{Kept, Naming, Seat, Shared};
 use silt_device::Disk;
-use silt_fixtures::{formatted, key};
+use silt_fixtures::{formatted, key, opened_on};
 use silt_store_set::Core;
 use std::alloc::Global;
 use std::marker::Brand;
@@ -162,7 +161,7 @@ fn misses_after<R: Threads + Wait + Abort + Sync>(
         disk: formatted(alloc)?,
         reads: &reads,
     };
-    let core = opened(alloc, disk)?;
+    let core = opened_on(alloc, disk)?;
     misses::<_, Brand, _>(rt, alloc, core, &reads, alone, Blank::new(2), Blank::new(2))
 }
 

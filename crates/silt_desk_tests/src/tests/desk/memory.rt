@@ -6,11 +6,10 @@ ghost use Rattle.silt_desk.specs.Seeing.{seen};
 ghost use Rattle.silt_desk.specs.Traces.{IsHistory};
 
 use crate::tests::desk::{get, look, put};
-use crate::tests::opened;
 use silt_desk::{Desk, Kept, Naming, NotMade, Seat};
 use silt_device::Disk;
 use silt_event::{Progress, Refusal};
-use silt_fixtures::{formatted, key};
+use silt_fixtures::{formatted, key, opened_on};
 use silt_store_set::Core;
 use std::alloc::Global;
 use std::marker::Brand;
@@ -250,6 +249,6 @@ fn records_what_is_done<D: Disk, N: Naming, R: Abort>(
 #[test]
 fn each_call_is_asked_again(rt: HostRuntime) -> Result<(), Fail> {
     let alloc = rt.alloc();
-    let core = opened(alloc, formatted(alloc)?)?;
+    let core = opened_on(alloc, formatted(alloc)?)?;
     records_what_is_done::<_, Brand, _>(&rt, alloc, core, Blank::new(1), Blank::new(1))
 }

@@ -2,12 +2,13 @@
 ghost use Rattle.std.specs.Prelude.{◌≡◌};
 
 use crate::tests::desk::{get, join_over, pop_two, put, seated};
-use crate::tests::{Open, are_those, opened, two_bytes};
 use crossbeam_channel::{Receiver, Sender};
-use silt_desk::{Desk, Kept, Naming, RecordedCall, Seat, Shared, Wake, converter, merger, settle};
+use silt_desk::{
+    Desk, Kept, Naming, OpenGate, RecordedCall, Seat, Shared, Wake, converter, merger, settle,
+};
 use silt_device::{Disk, Geometry};
 use silt_event::{Event, Reply};
-use silt_fixtures::formatted_with;
+use silt_fixtures::{are_those, formatted_with, opened_on, two_bytes};
 use silt_frame::{Key, Value};
 use silt_store_set::Core;
 use std::alloc::{AllocError, Global};
@@ -124,7 +125,15 @@ fn both_workers<D: Disk, N: Naming + Send + Sync, R: Threads + Wait + Sync>(
         rt,
         shared,
         move |desk: &Shared<D, Kept, N>| {
-            converter(rt, alloc, desk, first.seat, &Open, first.wakes, first.other)
+            converter(
+                rt,
+                alloc,
+                desk,
+                first.seat,
+                &OpenGate,
+                first.wakes,
+                first.other,
+            )
         },
         move |desk: &Shared<D, Kept, N>| {
             merger(
@@ -132,7 +141,7 @@ fn both_workers<D: Disk, N: Naming + Send + Sync, R: Threads + Wait + Sync>(
                 alloc,
                 desk,
                 second.seat,
-                &Open,
+                &OpenGate,
                 second.wakes,
                 second.other,
             )
@@ -325,6 +334,6 @@ fn four_threads(rt: HostRuntime) -> Result<(), Fail> {
     let geometry = Geometry::new(2, 16, 64, 8, 16, 4000)
         .ok()
         .ok_or("in limits")?;
-    let core = opened(alloc, formatted_with(alloc, geometry)?)?;
+    let core = opened_on(alloc, formatted_with(alloc, geometry)?)?;
     many_calls::<_, Brand, _>(&rt, alloc, core, 10_000, Blank::new(6), Blank::new(6))
 }

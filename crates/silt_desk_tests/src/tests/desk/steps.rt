@@ -2,10 +2,9 @@
 ghost use Rattle.std.specs.Prelude.{◌≡◌};
 
 use crate::tests::desk::{put_five, settle_two, two_seats};
-use crate::tests::{Open, opened};
-use silt_desk::{Kept, Naming, Seat, Shared, Wake, converter, merger};
+use silt_desk::{Kept, Naming, OpenGate, Seat, Shared, Wake, converter, merger};
 use silt_device::Disk;
-use silt_fixtures::formatted;
+use silt_fixtures::{formatted, opened_on};
 use silt_store_set::Core;
 use std::alloc::Global;
 use std::marker::Brand;
@@ -33,8 +32,8 @@ fn works<D: Disk, N: Naming, R: Wait>(
     let (other, others) = crossbeam_channel::unbounded(alloc)?;
     let _ = wake.send(rt, Wake::Stop);
     let seat = match worker {
-        Worker::Converter => converter(rt, alloc, shared, seat, &Open, wakes, other),
-        Worker::Merger => merger(rt, alloc, shared, seat, &Open, wakes, other),
+        Worker::Converter => converter(rt, alloc, shared, seat, &OpenGate, wakes, other),
+        Worker::Merger => merger(rt, alloc, shared, seat, &OpenGate, wakes, other),
     };
     Ok((seat, matches!(others.try_recv(rt), Ok(Wake::Go))))
 }
@@ -85,6 +84,6 @@ fn does_what_is_wanted<D: Disk, N: Naming, R: Wait + Abort>(
 #[test]
 fn workers_do_what_is_wanted(rt: HostRuntime) -> Result<(), Fail> {
     let alloc = rt.alloc();
-    let core = opened(alloc, formatted(alloc)?)?;
+    let core = opened_on(alloc, formatted(alloc)?)?;
     does_what_is_wanted::<_, Brand, _>(&rt, alloc, core, Blank::new(2), Blank::new(2))
 }

@@ -26,7 +26,7 @@ fn write_within<D: Disk>(disk: &mut D, at: u64, bytes: &[u8]) -> bool {
     disk.len() == LEN && write_at(disk, at, bytes)
 }
 
-// The four bytes from a place on, where the disk has LEN bytes and gives them.
+// The four bytes from a place on, if the disk has LEN bytes and gives them.
 fn four_within<D: Disk>(disk: &D, at: u64) -> Option<[u8; 4]> {
     if disk.len() != LEN {
         return None;
@@ -112,7 +112,7 @@ fn count_failed<D: Disk>(disk: &mut D, writes: &[(u64, &[u8])]) -> u32 {
     failed
 }
 
-// How many of the writes fail where this one of the inner disk does, and whether the sync is answered Ok.
+// How many of the writes fail if this one of the inner disk does, and whether the sync is answered Ok.
 fn answered(alloc: Global, number: u64) -> Result<(u32, bool), Fail> {
     let mut disk = buffered(alloc, Call::Write, number)?;
     let failed = count_failed(&mut disk, &WRITES);
@@ -137,7 +137,7 @@ const FIRST_WRITE_FAILS: [Step; 5] = [
     Step::Sync(true),
 ];
 
-// Where the buffered bytes cannot be written they are still shown, and the next sync writes them. The write that is told so is
+// If the buffered bytes cannot be written, they are still shown, and the next sync writes them. The write that is refused is
 // pending: a stop may leave anything in its range.
 #[test]
 fn a_failed_write_keeps_what_is_buffered(rt: HostRuntime) -> Result<(), Fail> {

@@ -129,7 +129,7 @@ const NOT_MADE: [(&str, u64, ErrorKind); 4] = [
     ("wrong/disk", 1 << 63, ErrorKind::InvalidInput),
 ];
 
-// The first of these at which a disk is made, or another error is told.
+// The first of these at which a disk is made, or another error is returned.
 fn made_at<'a>(rt: &HostRuntime, paths: &[(&'a str, u64, ErrorKind)]) -> Option<&'a str> {
     for (path, len, kind) in paths {
         if len_of(FileDisk::create(rt, path, *len)) != Err(*kind) {
@@ -139,7 +139,7 @@ fn made_at<'a>(rt: &HostRuntime, paths: &[(&'a str, u64, ErrorKind)]) -> Option<
     None
 }
 
-// What an opening of a path with no file is told, and whether there is one then; and what an opening of a folder is told.
+// What an opening of a path with no file returns, and whether there is one then; and what an opening of a folder returns.
 fn opened_wrong(
     rt: &HostRuntime,
 ) -> io::Result<(Result<u64, ErrorKind>, bool, Result<u64, ErrorKind>)> {
@@ -163,7 +163,7 @@ fn a_path_with_no_file_is_an_error(rt: HostRuntime) -> Result<(), Fail> {
     Ok(())
 }
 
-// The kind of the fault of a read of the four bytes from a place on, where the disk has as many.
+// The kind of the fault of a read of the four bytes from a place on, if the disk has as many.
 fn read_fault(disk: &FileDisk, at: u64) -> Option<ErrorKind> {
     if at > disk.len() || disk.len() - at < 4 {
         return None;
@@ -174,7 +174,7 @@ fn read_fault(disk: &FileDisk, at: u64) -> Option<ErrorKind> {
     }
 }
 
-// The number of the fault of a write of SECOND at the front, where the disk has room for it.
+// The number of the fault of a write of SECOND at the front, if the disk has room for it.
 fn write_fault(disk: &mut FileDisk) -> Option<i32> {
     if disk.len() < 3 {
         return None;
@@ -200,7 +200,7 @@ fn cut_short(rt: &HostRuntime) -> io::Result<(Option<[u8; 4]>, Option<ErrorKind>
     Ok((four_at(&disk, 0), read_fault(&disk, 1)))
 }
 
-// A read fails where another hand cut the file short.
+// A read fails if somebody cut the file short.
 #[test]
 fn a_read_behind_the_end_fails(rt: HostRuntime) -> Result<(), Fail> {
     make_folder(&rt, "cut")?;
@@ -219,7 +219,7 @@ fn read_alone(rt: &HostRuntime, path: &str) -> io::Result<(Option<i32>, bool, Op
     Ok((fault, is_synced, four_at(&disk, 0)))
 }
 
-// A write fails where the file was opened for reading, and then the disk is read and synced as before.
+// A write fails if the file was opened for reading, and then the disk is read and synced as before.
 #[test]
 fn a_write_to_what_is_read_alone_fails(rt: HostRuntime) -> Result<(), Fail> {
     make_folder(&rt, "read")?;
@@ -230,7 +230,7 @@ fn a_write_to_what_is_read_alone_fails(rt: HostRuntime) -> Result<(), Fail> {
     Ok(())
 }
 
-// A sync fails where there is nothing to sync.
+// A sync fails if there is nothing to sync.
 #[test]
 fn a_sync_of_no_file_fails(rt: HostRuntime) -> Result<(), Fail> {
     let mut disk = FileDisk::open_shared(&rt, "/dev/null")?;
@@ -271,7 +271,7 @@ fn a_file_has_one_owner(rt: HostRuntime) -> Result<(), Fail> {
     Ok(())
 }
 
-// What they give while another disk reads the file alone, and what that one then is told of a write and reads.
+// What they give while another disk reads the file alone, and what a write and reads of that one then return.
 fn beside_reader(
     rt: &HostRuntime,
 ) -> io::Result<([Result<u64, ErrorKind>; 3], Option<i32>, Option<[u8; 4]>)> {
@@ -295,10 +295,10 @@ fn readers_share_a_file(rt: HostRuntime) -> Result<(), Fail> {
     Ok(())
 }
 
-// The length of the disk that a source opens, or makes where a length is given. None: it gives none.
-fn len_from<S: DiskSource>(source: S, path: &str, made: Option<u64>) -> Option<u64> {
+// The length of the disk that a source opens, or finds and gives a length. None: it gives none.
+fn len_from<S: DiskSource>(alloc: Global, source: S, path: &str, made: Option<u64>) -> Option<u64> {
     let disk = match made {
-        Some(len) => source.create(path, len),
+        Some(len) => S::resize(alloc, source.find(path).ok()?, len),
         None => source.open(path),
     };
     Some(disk.ok()?.len())
@@ -331,7 +331,7 @@ const OF_A_NAME: [Asked; 5] = [
 // The first of these paths at which a source of files gives another disk, and the first at which a source of a named disk does.
 fn files_differ<'a>(rt: &HostRuntime, asked: &[Asked<'a>]) -> Option<&'a str> {
     for (path, made, given) in asked {
-        if len_from(FileDisks::new(rt), path, *made) != *given {
+        if len_from(rt.alloc(), FileDisks::new(rt), path, *made) != *given {
             return Some(*path);
         }
     }
@@ -340,7 +340,7 @@ fn files_differ<'a>(rt: &HostRuntime, asked: &[Asked<'a>]) -> Option<&'a str> {
 
 fn a_name_differs<'a>(alloc: Global, asked: &[Asked<'a>]) -> Result<Option<&'a str>, AllocError> {
     for (path, made, given) in asked {
-        if len_from(named_disk(alloc)?, path, *made) != *given {
+        if len_from(alloc, named_disk(alloc)?, path, *made) != *given {
             return Ok(Some(*path));
         }
     }

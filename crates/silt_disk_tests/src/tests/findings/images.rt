@@ -247,7 +247,7 @@ const PUT_LOGGED: Changes = &[(12_288, 0xA7), (16_384, 1)];
 
 const DELETE_LOGGED: Changes = &[(16_384, 2)];
 
-// An entry is damaged where it is not above the one before it, and the first of these decides. With eight entries that rise the store is
+// An entry is damaged if it is not above the one before it, and the first of these decides. With eight entries that rise the store is
 // full: a put in the log is too many, a delete is not. Entries that do not rise are found before the charge.
 const RISING: [Case; 7] = [
     (

@@ -9,6 +9,9 @@ use std::test::Fail;
 use std::time::{Clock, Duration};
 use std::{io, thread};
 
+/// What the sixty-fifth reads.
+const BUSY: &[u8] = b"busy: 64 connections are served already\n";
+
 // Sixty-four connections that say nothing but one line each, so that each has its place.
 fn sixty_four<R: Net<Stream = TcpStream>>(
     rt: &R,
@@ -24,39 +27,39 @@ fn sixty_four<R: Net<Stream = TcpStream>>(
     Ok(streams)
 }
 
-// Whether a connection is closed and not answered.
-fn is_closed<R: Net<Stream = TcpStream>>(rt: &R, alloc: Global, addr: SocketAddr) -> bool {
-    let Ok(mut stream) = connected(rt, addr) else {
-        return true;
-    };
-    match ask_line(alloc, &mut stream, b"flush\n") {
-        Ok(line) => line.is_empty(),
-        Err(_) => true,
-    }
+// Whether a connection that asks something reads only that there is no place for it.
+fn is_turned_away<R: Net<Stream = TcpStream>>(
+    rt: &R,
+    alloc: Global,
+    addr: SocketAddr,
+) -> io::Result<bool> {
+    let mut stream = connected(rt, addr)?;
+    let line = ask_line(alloc, &mut stream, b"flush\n")?;
+    Ok(line.as_slice() == BUSY)
 }
 
-// A connection beyond the sixty-fourth is closed; when one has ended a further one is answered, after at most so many turns.
+// A connection beyond the sixty-fourth is turned away; when one has ended a further one is answered, after at most so many turns.
 fn one_more<R: Net<Stream = TcpStream> + Clock>(
     rt: &R,
     alloc: Global,
     addr: SocketAddr,
 ) -> io::Result<(bool, bool)> {
     let mut streams = sixty_four(rt, alloc, addr)?;
-    let closed = is_closed(rt, alloc, addr);
+    let turned_away = is_turned_away(rt, alloc, addr)?;
     drop(streams.pop());
     for _ in 0..10_000u32 {
-        if !is_closed(rt, alloc, addr) {
-            return Ok((closed, true));
+        if !is_turned_away(rt, alloc, addr)? {
+            return Ok((turned_away, true));
         }
         thread::sleep(rt, Duration::from_millis(1));
     }
-    Ok((closed, false))
+    Ok((turned_away, false))
 }
 
 #[test]
-fn closes_the_sixty_fifth(rt: HostRuntime) -> Result<(), Fail> {
+fn turns_the_sixty_fifth_away(rt: HostRuntime) -> Result<(), Fail> {
     let alloc = rt.alloc();
-    let ((closed, answered), status, _written) = served(
+    let ((turned_away, answered), status, _written) = served(
         &rt,
         alloc,
         formatted(alloc)?,
@@ -64,7 +67,7 @@ fn closes_the_sixty_fifth(rt: HostRuntime) -> Result<(), Fail> {
         &Open,
         |addr: SocketAddr| { one_more(&rt, alloc, addr) },
     )?;
-    assert!(rt; closed);
+    assert!(rt; turned_away);
     assert!(rt; answered);
     assert_eq!(rt; status, 0);
     Ok(())

@@ -1,5 +1,6 @@
 // A network that fails: before the port is known, when a connection is waited for, and where there is none.
 
+use crate::tests::server::limits_of;
 use crate::tests::{Open, opened};
 use silt_device::Disk;
 use silt_fixtures::formatted;
@@ -47,7 +48,8 @@ fn serve_deaf<D: Disk, R: Threads + Wait + Sync>(
     let core = opened(alloc, disk)?;
     let mut written = Vec::new(alloc);
     let deaf = Deaf { port };
-    let (disk, status) = serve_on(rt, alloc, &deaf, core, audit, 1, &Open, &mut written);
+    let limits = limits_of(1, audit);
+    let (disk, status) = serve_on(rt, alloc, &deaf, core, limits, &Open, &mut written);
     Ok((status?, written, is_empty(alloc, &disk)))
 }
 

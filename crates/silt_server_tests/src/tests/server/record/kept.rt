@@ -3,8 +3,8 @@ ghost use Rattle.std.specs.Prelude.{◌≡◌, []};
 ghost use Rattle.silt_desk.specs.Seeing.{seen};
 ghost use Rattle.silt_desk.specs.Traces.{IsHistory};
 
-use crate::tests::server::Patient;
 use crate::tests::server::record::{Found, ask_all};
+use crate::tests::server::{Patient, limits_of};
 use crate::tests::{Open, are_those, two_bytes};
 use silt_desk::{Desk, Kept, Naming, RecordedCall};
 use silt_device::{Disk, Geometry, MemDisk};
@@ -138,7 +138,8 @@ fn serve_recorded<
     let (put, taken) = inbox_blanks;
     let (desk, seats) = Desk::<D, Kept, N>::new(alloc, core, kept, 3, calls, accepted).ok()?;
     let hall = Hall::<N, P>::new(alloc, seats, put, taken)?;
-    let (desk, status) = serve_desk(rt, alloc, listener, desk, hall, sessions, &Open, out);
+    let limits = limits_of(sessions, None);
+    let (desk, status) = serve_desk(rt, alloc, listener, desk, hall, limits, &Open, out);
     let told = tell(alloc, desk)?;
     Some((told, status.ok()?))
 }
