@@ -40,7 +40,7 @@ pub enum Background {
 }
 
 impl Background {
-    /// The writer takes its turn, or tells the workers that there may be work.
+    /// The writer takes its turn, or wakes the workers, since there may be work.
     pub fn go_on<D: Disk, T: Trace, N: Naming, R: Wait>(
         &mut self,
         rt: &R,
@@ -57,7 +57,7 @@ impl Background {
         }
     }
 
-    /// Sees all that is wanted done, to its end.
+    /// Waits until all that is due is done.
     pub fn finish<D: Disk, T: Trace, N: Naming, R: Wait + Clock>(
         &mut self,
         rt: &R,
@@ -74,7 +74,7 @@ impl Background {
         }
     }
 
-    /// Tells the workers that they are to end.
+    /// Stops the workers.
     pub fn stop<R: Wait>(&self, rt: &R) {
         if let Background::Workers(wakes) = self {
             wakes.stop(rt);

@@ -1,11 +1,11 @@
-// The numbers that are told.
+// The numbers that are printed.
 ghost use Rattle.std.specs.Prelude.{◌≡◌, ◌*◌, ◌-◌, ◌/◌, ◌^◌, ◌<◌, min};
 
 use std::alloc::Global;
 use std::fmt;
 use std::fs::{self, Files};
 
-// How often so many times a number has another one in it, as far as 64 bits tell. 0 where the other one is 0.
+// How often so many times a number has another one in it, as far as 64 bits reach. 0 if the other one is 0.
 fn quotient(count: u64, times: u32, of: u64) -> u64
     ensures { 0 < of → result ≡ min (count * times / of) (2 ^ 64 - 1) }
 {
@@ -20,7 +20,7 @@ fn quotient(count: u64, times: u32, of: u64) -> u64
     }
 }
 
-/// How many of these there were a second, where so many took so many nanoseconds. 0 where no time passed.
+/// How many of these there were a second, if so many took so many nanoseconds. 0 if no time passed.
 pub fn a_second(count: u64, nanos: u64) -> u64
     ensures { 0 < nanos → result ≡ min (count * 1000000000 / nanos) (2 ^ 64 - 1) }
 {
@@ -32,7 +32,7 @@ pub fn a_second(count: u64, nanos: u64) -> u64
 pub struct Thousandths(pub u64);
 
 impl Thousandths {
-    /// The quotient of two numbers, 0 where the second one is 0.
+    /// The quotient of two numbers, 0 if the second one is 0.
     pub fn of(count: u64, of: u64) -> Thousandths
         ensures { 0 < of → result.0 ≡ min (count * 1000 / of) (2 ^ 64 - 1) }
     {
@@ -48,7 +48,7 @@ impl fmt::Display for Thousandths {
     }
 }
 
-/// The memory that this process has resident, or had at most, in kibibytes: 0 where the system does not tell it.
+/// The memory that this process has resident, or had at most, in kibibytes: 0 if the system does not say.
 #[derive(Clone, Copy)]
 pub struct Memory {
     pub resident: u64,
@@ -69,7 +69,7 @@ pub fn memory_of_process<R: Files>(rt: &R, alloc: Global) -> Memory {
     }
 }
 
-// The number behind a name at the head of a line, 0 where there is none.
+// The number behind a name at the head of a line, 0 if there is none.
 fn number_of(text: &str, name: &str) -> u64 {
     for line in text.lines() {
         if let Some(rest) = line.strip_prefix(name) {

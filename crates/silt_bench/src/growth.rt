@@ -21,7 +21,7 @@ use std::sync::{RwLock, Wait};
 use std::thread::Threads;
 use std::time::Clock;
 
-/// What is told of a store.
+/// What is printed of a store.
 #[derive(Clone, Copy)]
 pub enum Detail {
     /// How many reads a get makes.
@@ -134,7 +134,7 @@ fn tell_names<R: Print>(rt: &R, detail: Detail) -> Result<(), BenchError> {
     Ok(())
 }
 
-// Prints what gets of so many keys cost while so many hash stores stand.
+// Prints what gets of so many keys cost for each number of hash stores.
 fn tell_state<
     D: Disk,
     T: Trace + Send + Sync,

@@ -45,7 +45,7 @@ fn place_of(index: &MarkedTrie, keys: &[Key], key: &Key) -> Option<usize> {
 ///
 /// # Errors
 ///
-/// `Wrong` where the two do not agree.
+/// `Wrong` if the two do not agree.
 pub fn index_agrees<R: Print>(
     rt: &R,
     alloc: Global,

@@ -22,7 +22,7 @@ pub struct Plan {
     pub group: u64,
     /// How many looks are made.
     pub gets: u64,
-    /// How many hash stores stand when a merge begins.
+    /// How many hash stores there are when a merge begins.
     pub stores: u64,
 }
 

@@ -30,7 +30,7 @@ pub fn byte_of(number: u64) -> u8
     (number % 251) as u8
 }
 
-/// A number below `count`, another one for each turn of a thread: 0 where there is none below.
+/// A number below `count`, another one for each turn of a thread: 0 if there is none below.
 pub fn pick(turn: u64, thread: u64, count: u64) -> u64
     ensures { 0 < count → result < count }
 {

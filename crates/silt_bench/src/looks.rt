@@ -54,7 +54,7 @@ impl Looks {
 ///
 /// # Errors
 ///
-/// `Wrong` where a look found another value than was put.
+/// `Wrong` if a look found another value than was put.
 pub fn looks_by_one<D: Disk, T: Trace, N: Naming, R: Wait + Clock>(
     rt: &R,
     shared: &Shared<D, T, N>,
@@ -71,7 +71,7 @@ pub fn looks_by_one<D: Disk, T: Trace, N: Naming, R: Wait + Clock>(
 ///
 /// # Errors
 ///
-/// `Wrong` where a look found another value than was put.
+/// `Wrong` if a look found another value than was put.
 pub fn looks_by_four<
     D: Disk,
     T: Trace + Send + Sync,
@@ -90,7 +90,7 @@ pub fn looks_by_four<
 ///
 /// # Errors
 ///
-/// `Wrong` where a look found another value than was put.
+/// `Wrong` if a look found another value than was put.
 pub fn count_reads<D: Disk, T: Trace, N: Naming, R: Wait>(
     rt: &R,
     shared: &Shared<D, T, N>,

@@ -1,9 +1,9 @@
-//! The bench: a store is filled and read, and what that took is told.
+//! The bench: a store is filled and read, and how long that took is printed.
 //!
 //! - `silt_bench store PATH WORK V B CAP NL NH S KEYS GROUP GETS STORES` puts so many keys into a store in the file PATH, which it makes,
-//!   with a flush behind each group, does what is wanted in the background, looks for present and absent keys on one thread and on four, and
+//!   with a flush behind each group, does the background work that is due, looks for present and absent keys on one thread and on four, and
 //!   takes the store up again. WORK is `turns`, on one thread between the groups, or `workers`, on two threads beside the writer; by turns
-//!   a merge begins when so many hash stores stand. It prints one line of numbers behind one of their names.
+//!   a merge begins when there are so many hash stores. It prints one line of numbers behind one of their names.
 //! - `silt_bench growth PATH V B CAP NL NH S KEYS GROUP GETS` prints a line for each number of hash stores that stand before a
 //!   sorted store.
 //! - `silt_bench index KEYS GETS` measures the index of a sorted store alone.
@@ -77,7 +77,7 @@ fn measure_file<
     measure(rt, alloc, disk, plan, work)
 }
 
-// Tells of a store in a file what gets cost while hash stores grow in number.
+// Prints what gets of a store in a file cost while hash stores grow in number.
 fn grow_file<
     R: Threads + Wait + Clock + Print + FileSystem<File = File> + Files + AllocGlobal + Sync,
 >(rt: &R, alloc: Global, path: &str, plan: &Plan) -> Result<(), BenchError> {
@@ -85,7 +85,7 @@ fn grow_file<
     grow(rt, alloc, disk, plan, Detail::Rates)
 }
 
-// Tells what can be counted, which is the same on each machine.
+// Prints what can be counted, which is the same on each machine.
 fn tell_counts<R: Threads + Wait + Clock + Print + Sync>(
     rt: &R,
     alloc: Global,

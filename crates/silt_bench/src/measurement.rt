@@ -1,4 +1,4 @@
-// A store is filled, read and taken up again, and what that took is told.
+// A store is filled, read and taken up again, and how long that took is printed.
 ghost use Rattle.std.specs.Prelude.{◌≡◌};
 
 use crate::background::Background;
@@ -28,7 +28,7 @@ use std::time::Clock;
 pub const NAMES: &str =
     "keys\tvalue bytes\tputs/s\tgets/s 1 thread\tgets/s 4 threads\tabsent/s 1 thread\tabsent/s 4 threads\topen ms\trss KiB\tpeak KiB\treads a get\treads an absent get\treads of opening\tput p99.9 us\tput longest us\tflush p50 us\tflush longest us";
 
-/// How many looks are counted, where as many are wanted.
+/// How many looks are counted, if so many are asked for.
 const COUNTED: u64 = 100_000;
 
 /// What was seen of a store while it was shared.

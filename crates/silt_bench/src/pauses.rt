@@ -4,7 +4,7 @@ ghost use Rattle.std.specs.Prelude.{◌≡◌, ◌<◌, max};
 use std::io;
 use std::time::{Clock, Instant};
 
-/// How many lengths of calls are told apart.
+/// How many classes of call lengths there are.
 const BINS: usize = 4096;
 
 /// How many calls took how long, and how many nanoseconds the longest one took.
@@ -89,7 +89,7 @@ impl Pauses {
     }
 }
 
-/// A clock that tells how long it is since it was last asked.
+/// A clock that returns how long it is since it was last asked.
 #[derive(Drop)]
 pub struct Lap {
     last: Instant,

@@ -8,7 +8,7 @@ use silt_device::Disk;
 use silt_event::Progress;
 use std::alloc::Global;
 
-/// How many hash stores stand, and how many are to stand when a merge begins.
+/// How many hash stores there are, and how many are to stand when a merge begins.
 #[derive(Clone, Copy)]
 pub struct Turns {
     standing: u64,
@@ -24,7 +24,7 @@ impl Turns {
         }
     }
 
-    /// Does all conversions that are wanted, and then a merge where enough hash stores stand.
+    /// Does all conversions that are due, and then a merge if there are enough hash stores.
     pub fn take<D: Disk, T: Trace, N: Naming>(
         &mut self,
         alloc: Global,
@@ -38,7 +38,7 @@ impl Turns {
         self.merge_all(alloc, desk, seat)
     }
 
-    /// Does all that is wanted, to its end.
+    /// Does all that is due, to its end.
     pub fn finish<D: Disk, T: Trace, N: Naming>(
         &mut self,
         alloc: Global,
@@ -57,7 +57,7 @@ impl Turns {
         Err(BenchError::Refused(Call::Merge))
     }
 
-    // Does all conversions that are wanted, to the end.
+    // Does all conversions that are due, to the end.
     fn convert_all<D: Disk, T: Trace, N: Naming>(
         &mut self,
         alloc: Global,

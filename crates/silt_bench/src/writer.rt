@@ -15,7 +15,7 @@ use std::sync::Wait;
 use std::thread;
 use std::time::{Clock, Duration};
 
-/// How often a put is tried again where the store has no room for it.
+/// How often a put is tried again if the store has no room for it.
 const MOST_TRIES: u32 = 2_000_000;
 
 /// What filling a store took: nanoseconds in all, and of single calls microseconds.
@@ -121,7 +121,7 @@ fn put_group<D: Disk, T: Trace, N: Naming, R: Wait + Clock>(
     Ok(())
 }
 
-// Puts a value, and waits for the work in the background where the store has no room for it.
+// Puts a value, and waits for the work in the background if the store has no room for it.
 fn put_patiently<D: Disk, T: Trace, N: Naming, R: Wait + Clock>(
     rt: &R,
     alloc: Global,
@@ -142,7 +142,7 @@ fn put_patiently<D: Disk, T: Trace, N: Naming, R: Wait + Clock>(
     Err(BenchError::Refused(Call::Put))
 }
 
-// Puts a value. False where the store has no room for it.
+// Puts a value. False if the store has no room for it.
 fn put_once<D: Disk, T: Trace, N: Naming>(
     desk: &mut Desk<D, T, N>,
     alloc: Global,
