@@ -19,6 +19,10 @@ DEFAULT_SEED = 20111023
 TIME_LIMIT = 60
 
 
+# The six numbers of a store, as they are named on standard error.
+NUMBERS = r"V \d+, B \d+, CAP \d+, NL \d+, NH \d+, S \d+"
+
+
 def setting(name, default):
     """A word of the command line, which `tests/run` hands to its parts in the environment."""
     return os.environ.get(f"SILT_TEST_{name}", default)
@@ -103,3 +107,8 @@ class Case(unittest.TestCase):
     def check_report(self, name="store"):
         """What `check` prints of a store."""
         return self.silt("check", name)
+
+    def assert_checked(self, checked, name="store"):
+        """A check found the store whole: beside its report it named the six numbers and the charge."""
+        self.assertEqual(checked.status, 0, checked)
+        self.assertRegex(checked.err, rf"\Asilt: {name}: {NUMBERS}; charge \d+ of \d+\n\Z")

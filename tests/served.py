@@ -22,6 +22,8 @@ ROOMY = "2 16 64 8 16 4000"
 DESCRIPTORS = 5
 # The number of sessions that a server has at once.
 MOST_SESSIONS = 64
+# What a connection reads for which there is no place, without its line feed.
+BUSY = f"busy: {MOST_SESSIONS} connections are served already"
 # The longest line, without its line feed.
 LONGEST_LINE = 8300
 
@@ -61,10 +63,10 @@ class Client:
         return line
 
     def is_answered(self, patience):
-        """Whether a reply comes within so many seconds."""
+        """Whether a reply comes within so many seconds. That there is no place is none."""
         self.socket.settimeout(patience)
         try:
-            return self.reply() is not None
+            return self.reply() not in (None, BUSY)
         except TimeoutError:
             return False
         finally:
@@ -216,7 +218,7 @@ class ServedCase(WatchedCase):
     def check_whole(self, name="store"):
         """`check` finds the store whole. Returns its numbers by the words before them."""
         checked = self.check_report(name)
-        self.assertEqual((checked.status, checked.err), (0, ""), checked)
+        self.assert_checked(checked, name)
         return {words: int(number) for words, number in (it.rsplit(" ", 1) for it in checked.lines)}
 
     def found(self, *keys, name="store"):

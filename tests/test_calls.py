@@ -344,25 +344,41 @@ class Jobs(CallCase):
         self.assertEqual(changes(self.calls_of([])[0]), [("fsync", "store"), SYNC])
 
     def test_a_format(self):
+        """The folder is synced, what the file holds is looked at, and only then it is given its
+        length and synced."""
         due = Buffer().make(Rules(G).empty_store())
-        for is_new in (True, False):
+        # Of a store it reads the header, what a check reads, and the header again for its numbers.
+        check = [(0, 37), (4096, 121), (8192, 121), (12288, 4)]
+        for looks in ([], [(0, 37), (0, 37), *check]):
             ended, calls = self.recorded("format", "store", *G.split())
             self.assertEqual(ended.out, "formatted 45056\n")
             rest = self.opened(calls, 0o102, 6)
-            folder = [("ftruncate", "store"), ("fsync", "store"), ("fsync", ".")]
-            self.assertEqual(changes(rest[:2] + [it for it in calls if it.file == "."] + rest[2:]), folder + due)
+            folder = [it for it in calls if it.file == "."]
+            self.assertEqual(changes(folder + rest), [("fsync", "."), ("ftruncate", "store"), ("fsync", "store"), *due])
             self.assertEqual([it.at for it in calls if it.name == "ftruncate"], [45056])
             names = [it.name for it in calls]
-            self.assertLess(names.index("ftruncate"), names.index("fsync"))
-            self.assertLess(max(n for n, it in enumerate(calls) if it.name == "fsync"), names.index("pwrite"))
-            self.assertEqual(reads(calls), [(0, 37)], "whether a store is lost")
+            self.assertLess(names.index("fsync"), names.index("ftruncate"))
+            self.assertEqual(reads(calls), looks, "what is lost")
+            self.assertEqual(reads(calls[names.index("ftruncate"):]), [])
 
     def test_a_check(self):
-        """It reads what an opening reads, and makes no sync."""
+        """It reads what an opening reads, and the header once more for its numbers, and makes no
+        sync."""
         self.store(G, [f"put {A} 0001", "flush"])
         calls = self.opened(self.recorded("check", "store")[1], 0o0, 5)
         self.assertEqual(changes(calls), [])
-        self.assertEqual(reads(calls), [(0, 37), (4096, 121), (8192, 121), (12288, 4), (16384, 21)])
+        self.assertEqual(reads(calls), [(0, 37), (4096, 121), (8192, 121), (12288, 4), (16384, 21), (0, 37)])
+
+    def test_a_run_that_tends(self):
+        """A put that freezes finds the log frozen before converted: its steps come before the next
+        line."""
+        self.store(G)
+        puts = [f"put {key} 0001" for key in (A, B, C, D, E)]
+        _, plain = self.record_by_lines([*puts, *["convert"] * 9, f"get {A}"])
+        self.store(G)
+        ended, tended = self.recorded("run", "store", "--tend", text="".join(f"{it}\n" for it in [*puts, f"get {A}"]))
+        self.assertEqual(ended.lines[-1], "value 0001")
+        self.assertEqual(changes(tended), changes(plain))
 
     def test_a_script_touches_no_file(self):
         ended, calls = self.recorded("script", *G.split(), text="put =a 0001\nflush\nget =a\n")

@@ -12,6 +12,7 @@ from commands import Commands, answer, done, is_command, maps_after, names
 from crashes import cuts, image
 from harness import PROVED, scaled
 from layout import Layout
+from notes import told_of_lines
 from watch import WatchedCase, read_record, watching
 
 # How many cuts this part makes of runs, of servers and of formattings, and how many of one life.
@@ -75,11 +76,13 @@ class CutCase(WatchedCase):
         path = self.path("cut")
         path.write_bytes(content)
         checked = self.silt("check", "cut")
-        self.assertEqual((checked.status, checked.err), (0, ""), checked)
+        self.assert_checked(checked, "cut")
         self.assertEqual(path.read_bytes(), content, "a check wrote")
         lines = lines_after(layout, keys, value or "ee" * layout.values)
-        ran = self.silt("run", "cut", text="".join(line + "\n" for line in lines))
-        self.assertEqual((ran.status, ran.err, len(ran.lines)), (0, "", len(lines) + 1), ran)
+        text = "".join(line + "\n" for line in lines)
+        ran = self.silt("run", "cut", text=text)
+        notes = told_of_lines(text.encode(), ran.out)
+        self.assertEqual((ran.status, ran.err, len(ran.lines)), (0, notes, len(lines) + 1), ran)
         held = {key: it.split()[1] for key, it in zip(keys, ran.lines[1:]) if it != "absent"}
         self.follow(lines, ran.lines, held)
         accepted = [it.startswith("accepted") for it in ran.lines[-len(keys) - 4:-len(keys):2]]
@@ -345,7 +348,7 @@ class Formats(CutCase):
                 is_done = cut.number == len(calls)
                 allowed = [empty] if is_done else [old, "refused 1 NotFormatted\n", empty]
                 self.assertIn(report, allowed, f"a crash at call {cut.number}")
-                self.assertEqual(self.silt("format", "cut", *words).status, 0)
+                self.assertEqual(self.silt("format", "cut", *words, "--force").status, 0)
                 self.assertEqual(self.report(self.path("cut").read_bytes()), empty)
         self.path("store").unlink()
 

@@ -15,7 +15,8 @@ from dataclasses import dataclass
 
 from commands import answer, is_command, maps_after
 from failing import DEVICE, EVERY, GEOMETRY, LINES, LIVES, NO_STORE, Job, JobCase
-from harness import PROGRAM, TIME_LIMIT, Ended
+from harness import NUMBERS, PROGRAM, TIME_LIMIT, Ended
+from notes import input_of, told_of_lines
 from watch import read_counts, watching
 
 
@@ -52,6 +53,9 @@ SYNCS = [Fault("fdatasync", "EIO"), Fault("fdatasync", "ENOSPC", "+"), Fault("fd
          Fault("fsync", "EIO"), Fault("fsync", "EINTR")]
 OPENS = [Fault("open", "EACCES"), Fault("open", "EMFILE"), Fault("open", "EINTR"), Fault("ftruncate", "ENOSPC"),
          Fault("ftruncate", "EINTR")]
+
+
+IN_USE = "the file is in use, and is free when the other program ends"
 
 
 class FaultCase(JobCase):
@@ -102,10 +106,26 @@ class Runs(FaultCase):
 
     def judge_run(self, job, fault, whole, ended, calls):
         left, at = self.left(), self.failed_call(fault, calls)
-        self.judge_reason(fault, calls[at], ended)
+        if calls[at].file == "standard error":
+            self.judge_note(whole, ended)
+            return
         is_open = any(it.file == "standard output" for it in calls[:at])
+        self.judge_told(fault, ended, calls, at, is_open)
         commands = self.judge_replies(job, fault, whole, ended, is_open)
         self.judge_file(left, commands, ended.lines)
+
+    def judge_note(self, whole, ended):
+        """A note that cannot be written is left out, and nothing else changes."""
+        self.assertEqual((ended.status, ended.out), (whole.status, whole.out))
+        self.assertLess(len(ended.err), len(whole.err))
+
+    def judge_told(self, fault, ended, calls, at, is_open):
+        """Why the session broke off comes first, then what is said of its lines, then the call that
+        failed."""
+        lines = re.escape(told_of_lines(input_of(calls), ended.out)) if is_open else ""
+        reason = self.reason(fault, calls[at])
+        told = reason + lines if fault.call in ("read", "write") else lines + reason
+        self.assertRegex(ended.err, rf"\A{told}\Z")
 
     def judge_replies(self, job, fault, whole, ended, is_open):
         """Judges what was answered. The commands that may have been accepted, in their order."""
@@ -176,8 +196,8 @@ class Runs(FaultCase):
     def judge_sealed(self, job, fault, whole, ended, calls):
         """As any run, on a map that has one key already."""
         left, at = self.left(), self.failed_call(fault, calls)
-        self.judge_reason(fault, calls[at], ended)
         is_open = any(it.file == "standard output" for it in calls[:at])
+        self.judge_told(fault, ended, calls, at, is_open)
         commands = self.judge_replies(job, fault, whole, ended, is_open)
         self.assertRegex(self.report(left), r"\Ageneration ")
         found = self.silt("run", "store", text="get =a\nget =b\n").lines[1:]
@@ -207,7 +227,13 @@ class Others(FaultCase):
     def judge_check(self, job, fault, whole, ended, calls):
         """The report or a refusal, and the file is as it was."""
         self.assertEqual(self.left(), job.before)
-        self.judge_reason(fault, calls[self.failed_call(fault, calls)], ended)
+        call = calls[self.failed_call(fault, calls)]
+        if call.file == "standard error" or ended.out == whole.out:
+            # The numbers of the store are named beside the report, if they can be read again.
+            self.assertEqual((ended.status, ended.out), (0, whole.out))
+            self.assertTrue(whole.err.startswith(ended.err), ended.err)
+            return
+        self.judge_reason(fault, call, ended)
         if fault.call == "write":
             self.judge_early(fault, whole, ended)
         else:
@@ -226,21 +252,27 @@ class Others(FaultCase):
         self.try_all(Job(["script", *GEOMETRY.split()], LIVES), self.judge_script, STREAMS)
 
     def judge_format(self, job, fault, whole, ended, calls):
-        """The file is no store, an empty one or the old one. The next formatting makes an empty
-        store of it."""
+        """The file is no store, an empty one or the old one. The next formatting, by force, makes
+        an empty store of it."""
         left = self.left()
         empty = self.report_after(None, job)
-        if fault.call == "pread":
-            # It looks whether a store is lost, for people.
-            self.assertEqual((ended.status, ended.out, self.report(left)), (0, whole.out, empty))
-            return
         call = calls[self.failed_call(fault, calls)]
+        if fault.call == "pread" and ended.status:
+            # It cannot see what it would overwrite.
+            self.assertEqual((ended.status, ended.out, left), (1, DEVICE, job.before))
+            self.judge_reason(fault, call, ended)
+            return
+        if fault.call == "pread":
+            # It cannot see the numbers of the store that is lost, or how many keys.
+            self.assertEqual((ended.status, ended.out, self.report(left)), (0, whole.out, empty))
+            self.assertRegex(ended.err, rf"\Asilt: store holds a store( of at most 4 keys| \({NUMBERS}\) that is damaged or cannot be read); it is overwritten\n\Z")
+            return
         if call.file == "standard error":
             # It says in part that a store is lost.
             self.assertEqual((ended.status, ended.out, self.report(left)), (0, whole.out, empty))
             self.assertTrue(whole.err.startswith(ended.err))
             return
-        self.judge_reason(fault, call, ended)
+        self.assertRegex(ended.err, rf"\A(silt: store holds a store .*\n)?{self.reason(fault, call)}\Z")
         if fault.call == "write":
             self.judge_early(fault, whole, ended)
             self.assertEqual(self.report(left), empty)
@@ -251,9 +283,9 @@ class Others(FaultCase):
         self.assertEqual(self.report_after(left, job), empty)
 
     def report_after(self, content, job):
-        """What a check says of a file of this content that is formatted."""
+        """What a check says of a file of this content that is formatted by force."""
         self.put_back(content)
-        self.silt(*job.words)
+        self.silt(*job.words, "--force")
         return self.report(self.left())
 
     def test_a_format_of_a_new_file(self):
@@ -277,7 +309,7 @@ class Files(FaultCase):
     def test_files_that_cannot_be_opened(self):
         missing, folder = "No such file or directory (os error 2)", "Is a directory (os error 21)"
         self.path("folder").mkdir()
-        for job in ("run", "check"):
+        for job in ("run", "tend", "check"):
             self.refused(job, "none", reason=f"none: {missing}")
         self.refused("serve", "none", 0, reason=f"none: {missing}")
         self.refused("run", "folder", reason=f"folder: {folder}")
@@ -289,9 +321,9 @@ class Files(FaultCase):
         before = self.store(GEOMETRY).read_bytes()
         with self.start("run", "store") as running:
             running.stdout.readline()
-            for job in ("run", "check", "serve", "format"):
+            for job in ("run", "tend", "check", "serve", "format"):
                 more = {"serve": ["0"], "format": GEOMETRY.split()}.get(job, [])
-                self.refused(job, "store", *more, reason="store: the file is in use")
+                self.refused(job, "store", *more, reason=f"store: {IN_USE}")
             running.communicate()
         self.assertEqual(self.path("store").read_bytes(), before)
 
@@ -319,7 +351,8 @@ class Files(FaultCase):
     def judge_limited(self, job, ended, is_ignored):
         if is_ignored or ended.status >= 0:
             self.assertEqual(ended.status, 0)
-            self.assertRegex(ended.err, r"\Asilt: store: a (sync|write at \d+): File too large \(os error 27\)\n\Z")
+            lines = re.escape(told_of_lines(job.text.encode(), ended.out))
+            self.assertRegex(ended.err, rf"\A{lines}silt: store: a (sync|write at \d+): File too large \(os error 27\)\n\Z")
             after = ended.lines[ended.lines.index("refused 5 Device") + 1:]
             self.assertEqual({it for it in after if not it.startswith("refused 2")}, {"refused 9 Failed"})
         else:

@@ -5,7 +5,7 @@ import time
 import unittest
 
 from harness import PROVED, scaled
-from served import DESCRIPTORS, LONGEST_LINE, MOST_SESSIONS, ROOMY, SMALL, ServedCase
+from served import BUSY, DESCRIPTORS, LONGEST_LINE, MOST_SESSIONS, ROOMY, SMALL, ServedCase
 from watch import read_record, watching
 
 # Values of this length make a put under a name of 8,000 bytes a line of 8,300.
@@ -73,7 +73,7 @@ class ManyClients(ServedCase):
         for _ in range(3):
             late = self.client(server)
             late.send("put =late 0102")
-            self.assertIsNone(late.reply())
+            self.assertEqual(late.rest(), [BUSY])
         self.assertEqual(clients[0].ask("get =late"), ["absent"])
         clients[0].close()
         last = self.served_client(server)

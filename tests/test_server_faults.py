@@ -55,8 +55,8 @@ class Flushes(ServedCase):
         self.check_failure("fdatasync:3:ENOSPC", words, {"absent", "value 0102"})
 
     def test_the_write_of_a_row_fails(self):
-        # A write is made at the sync that settles it, so the failure is that sync's.
-        self.check_failure("pwrite:1:ENOSPC", "a sync: No space left on device (os error 28)", {"absent"})
+        # A write is made at the sync that settles it, and is reported with its own offset.
+        self.check_failure("pwrite:1:ENOSPC", "a write at 16384: No space left on device (os error 28)", {"absent"})
 
     def test_many_clients_of_a_flush_that_fails(self):
         self.store(ROOMY, name="roomy")
@@ -103,7 +103,7 @@ class Limits(ServedCase):
         self.assertEqual(replies, ["unsettled 1"] + ["refused 9 Failed"] * 2)
         client.close()
         ended = server.ended()
-        self.assertIn("silt: store: a sync: File too large (os error 27)\n", ended.err)
+        self.assertIn("silt: store: a write at 16384: File too large (os error 27)\n", ended.err)
         self.assertEqual(ended.status, 0)
         self.check_whole()
         self.assertEqual(self.found("=abc", "=pear"), ["absent"] * 2)

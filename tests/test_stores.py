@@ -56,12 +56,12 @@ class Stores(FileCase):
                 self.compare_run(data, f"{note}, run {turn}: {data!r}")
             self.compare_check(note)
 
-    def test_format_makes_any_file_an_empty_store(self):
+    def test_a_forced_format_makes_any_file_an_empty_store(self):
         for number in range(COUNT // 10):
             geometry = make_geometry(self.random)
             old = self.random.randbytes(self.random.choice([0, 1, geometry.size, 2 * geometry.size]))
             self.path("store").write_bytes(old)
-            ran = self.silt("format", "store", *geometry.numbers)
+            ran = self.silt("format", "store", *geometry.numbers, "--force")
             self.assertEqual(ran.out, f"formatted {geometry.size}\n")
             self.compare_check(f"store {number} of {geometry.words}")
             self.assertEqual(self.check_report().lines[-1], "charge 0")

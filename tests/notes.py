@@ -1,0 +1,32 @@
+"""What a run says on standard error of its lines: how many were refused, and whether the last one lacks its end."""
+from watch import IN
+
+NAMES = {5: "Device", 6: "NoMemory", 7: "StoreFull", 8: "NoRoom", 9: "Failed", 10: "Spent",
+         20: "BadLine", 21: "BadKey", 22: "BadValue", 23: "LineTooLong"}
+HELP = {7: "merging drops what was overwritten or deleted (run with --tend, or silt tend), and more keys need a larger S",
+        8: "background work makes room: run with --tend, or silt tend",
+        9: "an earlier write or sync failed, and running again opens the store anew"}
+
+
+def told_of_lines(data, out):
+    """What a run says that read these bytes and printed this text, if it printed `opened`."""
+    *lines, rest = data.split(b"\n")
+    numbers = [number for number, line in enumerate(lines, 1) if line not in (b"", b"\r")]
+    replies = out.split("\n")[1:-1]
+    refused = {}
+    for number, reply in zip(numbers, replies):
+        if reply.startswith("refused "):
+            refused.setdefault(int(reply.split()[1]), []).append(number)
+    told = [told_of_refusals(kind, refused[kind]) for kind in sorted(refused)]
+    return "".join(told + ["silt: the last line has no line feed, and is not answered\n"] * (rest != b""))
+
+
+def told_of_refusals(kind, lines):
+    """What it says of lines with these numbers that were refused for one reason."""
+    noun, help_words = "line" if len(lines) == 1 else "lines", f"; {HELP[kind]}" if kind in HELP else ""
+    return f"silt: {len(lines)} {noun} refused {kind} {NAMES[kind]}, first line {lines[0]}{help_words}\n"
+
+
+def input_of(calls):
+    """The bytes that a recorded run read of its standard input."""
+    return b"".join(it.data for it in calls if it.name in IN and it.file == "standard input")

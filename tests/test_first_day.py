@@ -1,0 +1,298 @@
+"""The first day with silt: what a newcomer does wrong destroys no data, leaves no work undone, and is told with its reason."""
+import re
+import socket
+import unittest
+
+from commands import answer, done, value_of
+from harness import scaled
+from served import ServedCase
+from watch import WatchedCase
+
+# Logs of four rows, and how a store of these numbers is named.
+SMALL = "2 2 4 2 2 8"
+NAMED = "V 2, B 2, CAP 4, NL 2, NH 2, S 8"
+# Logs of 56 rows: without background work 168 rows fill all of them.
+MANY = "8 16 56 3 4 2000"
+DEVICE = "refused 5 Device\n"
+
+
+class Formats(WatchedCase):
+    """`format` overwrites only an empty file or a store, unless it is forced."""
+
+    def format(self, *options, geometry=SMALL, name="file"):
+        return self.silt("format", name, *geometry.split(), *options)
+
+    def check_formatted(self, ended, geometry=SMALL):
+        self.assertEqual((ended.status, ended.out), (0, "formatted 45056\n"), ended)
+        self.assertEqual(self.check_report("file").lines[-1], "charge 0")
+
+    def other_data(self):
+        return (b"x", b"the only copy of something\n" * 3, bytes(45056), self.random.randbytes(45056), self.random.randbytes(100_000))
+
+    def test_other_data_stay(self):
+        for data in self.other_data():
+            self.path("file").write_bytes(data)
+            ended = self.format()
+            self.assertEqual((ended.status, ended.out), (1, DEVICE), ended)
+            self.assertEqual(ended.err, "silt: file: it holds other data; --force overwrites it\n")
+            self.assertEqual(self.path("file").read_bytes(), data)
+
+    def test_nothing_of_other_data_is_touched(self):
+        self.path("file").write_bytes(b"the only copy of something\n" * 3)
+        ended, calls = self.recorded("format", "file", *SMALL.split())
+        self.assertEqual((ended.status, ended.out), (1, DEVICE), ended)
+        self.assertEqual([it.name for it in calls if it.name in ("pwrite", "ftruncate")], [])
+
+    def test_force(self):
+        for data in self.other_data():
+            for options in (("--force",), ("--force", "--")):
+                self.path("file").write_bytes(data)
+                ended = self.silt("format", *options, "file", *SMALL.split())
+                self.check_formatted(ended)
+
+    def test_an_empty_file(self):
+        self.path("file").write_bytes(b"")
+        ended = self.format()
+        self.check_formatted(ended)
+        self.assertEqual(ended.err, "")
+
+    def test_a_store_is_named_before_it_is_overwritten(self):
+        self.store(SMALL, ["put =a 0102", "put =b 0304", "put =c 0506", "flush"], "file")
+        ended, calls = self.recorded("format", "file", *"2 2 8 2 2 16".split())
+        self.check_formatted(ended)
+        self.assertEqual(ended.err, f"silt: file holds a store ({NAMED}) of at most 3 keys; it is overwritten\n")
+        changed = next(n for n, it in enumerate(calls) if it.name in ("pwrite", "ftruncate"))
+        self.assertIn("standard error", [it.file for it in calls[:changed]])
+
+    def test_a_damaged_store_is_overwritten(self):
+        path = self.store(SMALL, ["put =a 0102", "flush"], "file")
+        image = bytearray(path.read_bytes())
+        image[16384] = 3
+        path.write_bytes(image)
+        ended = self.format()
+        self.check_formatted(ended)
+        self.assertIn("damage", ended.err)
+
+    def test_a_format_that_was_stopped(self):
+        """A store of which only some writes were made is silt's."""
+        self.store(SMALL, name="whole")
+        image = bytearray(self.path("whole").read_bytes())
+        image[0] = 0
+        self.path("file").write_bytes(image)
+        self.check_formatted(self.format())
+
+    def test_numbers_out_of_their_limits(self):
+        self.path("file").write_bytes(b"kept")
+        for numbers, name, limits in (("0 2 4 2 2 8", "V", "1 to 4096"), ("4097 2 4 2 2 8", "V", "1 to 4096"),
+                                      ("2 3 4 2 2 8", "B", "power of two"), ("2 65536 4 2 2 8", "B", "2 to 32768"),
+                                      ("2 2 9 2 2 8", "CAP", "1 to 8"), ("2 2 4 1 2 8", "NL", "2 to 8"),
+                                      ("2 2 4 2 17 8", "NH", "1 to 16"), ("2 2 4 2 2 0", "S", "1 to 16777216")):
+            for words in (("format", "file", *numbers.split(), "--force"), ("script", *numbers.split())):
+                ended = self.silt(*words)
+                self.assertEqual((ended.status, ended.out), (1, "refused 2 BadGeometry\n"), ended)
+                self.assertRegex(ended.err, rf"\Asilt: {name}\b.*{limits}.*\n\Z", words)
+        self.assertEqual(self.path("file").read_bytes(), b"kept")
+
+
+class Runs(WatchedCase):
+    """A run says at its end which commands were refused, and what helps."""
+
+    def run_lines(self, *lines, options=(), end="\n"):
+        return self.silt("run", "store", *options, text="\n".join(lines) + end)
+
+    def test_nothing_is_said_of_a_run_without_refusals(self):
+        self.store(SMALL)
+        ended = self.run_lines("put =a 0102", "", "flush", "get =a")
+        self.assertEqual((ended.status, ended.err), (0, ""), ended)
+
+    def test_refusals_are_counted_by_their_reason(self):
+        self.store(SMALL)
+        ended = self.run_lines("pot", "put =a 01", "put =a 0102", "get 12", "put =b 0", "", "get", "put =c 04", "flush")
+        self.assertEqual(ended.status, 0)
+        self.assertEqual(ended.err, "silt: 2 lines refused 20 BadLine, first line 1\n"
+                         "silt: 1 line refused 21 BadKey, first line 4\n"
+                         "silt: 3 lines refused 22 BadValue, first line 2\n")
+
+    def test_no_room(self):
+        self.store(SMALL)
+        ended = self.run_lines(*(f"delete =k{n}" for n in range(12)), "flush")
+        self.assertEqual(ended.lines[-2:], ["refused 8 NoRoom", "acknowledged 8"])
+        self.assertEqual(ended.err, "silt: 4 lines refused 8 NoRoom, first line 9; background work makes room: run with --tend, or silt tend\n")
+
+    def test_a_full_store(self):
+        self.store("2 2 4 2 2 3")
+        ended = self.run_lines(*(f"put =k{n} 0102" for n in range(4)), "flush")
+        self.assertEqual(ended.lines[-2:], ["refused 7 StoreFull", "acknowledged 3"])
+        self.assertRegex(ended.err, r"\Asilt: 1 line refused 7 StoreFull, first line 4; .*silt tend.*larger S\n\Z")
+
+    def test_a_last_line_without_its_end(self):
+        self.store(SMALL)
+        ended = self.run_lines("put =a 0102", "flush", end="")
+        self.assertEqual((ended.status, ended.lines), (0, ["opened", "accepted 1"]), ended)
+        self.assertEqual(ended.err, "silt: the last line has no line feed, and is not answered\n")
+
+
+class Tends(WatchedCase):
+    """`run --tend` and `tend` do the background work that is due."""
+
+    def commands(self, count):
+        keys = [f"=key{n}" for n in range(300)]
+        lines = []
+        for number in range(count):
+            key = self.random.choice(keys)
+            lines.append(f"put {key} {value_of(number, 8)}" if self.random.random() < 0.8 else f"delete {key}")
+            if self.random.random() < 0.05:
+                lines.append("flush")
+        return keys, lines
+
+    def check_answers(self, keys, lines):
+        values = {}
+        for line in lines:
+            values = values if line == "flush" else done(values, line)
+        ran = self.silt("run", "store", text="".join(f"get {key}\n" for key in keys))
+        self.assertEqual(ran.lines, ["opened", *(answer(values, key) for key in keys)])
+
+    def test_a_run_that_tends_refuses_nothing(self):
+        for number in range(scaled(3)):
+            self.path("store").unlink(missing_ok=True)
+            self.store(MANY)
+            keys, lines = self.commands(3000)
+            ended = self.silt("run", "store", "--tend", text="\n".join([*lines, "flush", ""]))
+            self.assertEqual((ended.status, ended.err), (0, ""), ended)
+            self.assertEqual([it for it in ended.lines if it.startswith("refused")], [])
+            self.check_answers(keys, lines)
+
+    def test_the_same_lines_without_tending(self):
+        self.store(MANY)
+        _, lines = self.commands(3000)
+        ended = self.silt("run", "store", text="\n".join([*lines, "flush", ""]))
+        self.assertEqual(ended.status, 0)
+        self.assertIn("refused 8 NoRoom", ended.lines)
+
+    def test_tend(self):
+        self.store(MANY)
+        keys, lines = self.commands(150)
+        self.silt("run", "store", text="\n".join([*lines, "flush", ""]))
+        self.assertNotIn("frozen logs 0 rows 0", self.check_report().lines)
+        ended = self.silt("tend", "store")
+        self.assertEqual((ended.status, ended.lines[0]), (0, "opened"), ended)
+        self.assertRegex(ended.lines[1], r"\Aconverted [1-9]\d* steps, merged [1-9]\d* steps\Z")
+        report = self.check_report().lines
+        self.assertEqual(report[2:4], ["frozen logs 0 rows 0", "hash stores 0 rows 0"])
+        self.check_answers(keys, lines)
+        again = self.silt("tend", "store")
+        self.assertEqual((again.status, again.out), (0, "opened\nconverted 0 steps, merged 0 steps\n"), again)
+
+    def test_tend_without_a_store(self):
+        ended = self.silt("tend", "none")
+        self.assertEqual((ended.status, ended.out), (1, DEVICE), ended)
+        self.assertIn("No such file", ended.err)
+        self.path("zeros").write_bytes(bytes(45056))
+        ended = self.silt("tend", "zeros")
+        self.assertEqual((ended.status, ended.out), (1, "refused 1 NotFormatted\n"), ended)
+
+
+class Plans(WatchedCase):
+    """`plan` gives numbers that work."""
+
+    def planned(self, *words):
+        """The numbers of a plan, and what it says that they take."""
+        ended = self.silt("plan", *words)
+        self.assertEqual((ended.status, ended.err), (0, ""), ended)
+        return re.search(r"^(?:.*\s)?(\d+ \d+ \d+ \d+ \d+ \d+)$", ended.out, re.M).group(1), ended.out
+
+    def test_a_store_by_plan(self):
+        for keys, length in ((1, 1), (10, 2), (300, 8), (2000, 8)):
+            numbers, text = self.planned(keys, length)
+            self.assertEqual(int(numbers.split()[0]), length)
+            made = self.silt("format", "store", *numbers.split())
+            self.assertEqual(made.status, 0, made)
+            self.assertIn(made.out.split()[1], text.replace(",", ""))
+            lines = [f"put =key{n} {value_of(n, length) if length > 1 else '07'}" for n in range(keys)]
+            for _ in range(3):
+                ended = self.silt("run", "store", "--tend", text="\n".join([*lines, "flush", ""]))
+                self.assertEqual([it for it in ended.lines if it.startswith("refused")], [])
+
+    def test_less_memory(self):
+        free, _ = self.planned(1_000_000, 100)
+        bound, _ = self.planned(1_000_000, 100, "--memory", 25_000_000)
+        self.assertLess(int(bound.split()[1]), int(free.split()[1]))
+
+    def test_no_plan(self):
+        for words in ((16_777_217, 100), (1000, 4097), (1000, 0), (1_000_000, 100, "--memory", 1000)):
+            ended = self.silt("plan", *words)
+            self.assertEqual((ended.status, ended.out), (1, "no plan\n"), ended)
+
+
+class Reasons(ServedCase):
+    """Whatever is refused comes with its reason."""
+
+    def test_a_file_in_use(self):
+        self.store(SMALL)
+        self.serve()
+        for words in (("run", "store"), ("check", "store"), ("tend", "store"), ("serve", "store", "0"), ("format", "store", *SMALL.split())):
+            ended = self.silt(*words)
+            self.assertEqual((ended.status, ended.out), (1, DEVICE), ended)
+            self.assertEqual(ended.err, "silt: store: the file is in use, and is free when the other program ends\n")
+
+    def test_a_file_that_is_no_store(self):
+        self.path("file").write_bytes(b"other data")
+        for words in (("run", "file"), ("check", "file"), ("tend", "file"), ("serve", "file", "0")):
+            ended = self.silt(*words)
+            self.assertEqual((ended.status, ended.out), (1, "refused 1 NotFormatted\n"), ended)
+            self.assertEqual(ended.err, "silt: file: it is not a silt store; make one with silt format\n")
+
+    def test_a_check_tells_the_geometry_and_how_full_the_store_is(self):
+        self.store(SMALL, ["put =a 0102", "put =b 0304", "flush"])
+        ended = self.check_report()
+        self.assertEqual((ended.status, ended.lines[-1]), (0, "charge 2"), ended)
+        self.assertEqual(ended.err, f"silt: store: {NAMED}; charge 2 of 8\n")
+
+    def test_a_port_in_use_is_told_before_the_store_is_opened(self):
+        path = self.store(SMALL, ["put =a 0102", "flush"])
+        image = bytearray(path.read_bytes())
+        image[16384] = 3
+        path.write_bytes(image)
+        with socket.create_server(("127.0.0.1", 0)) as listener:
+            port = listener.getsockname()[1]
+            ended = self.begin("store", port).ended()
+        self.assertEqual((ended.status, ended.out), (1, "refused 3 Damaged log 0 row 0\n"), ended)
+        port_line, damage_line = ended.err.splitlines()
+        self.assertIn("Address already in use", port_line)
+        self.assertIn("a row of a log is damaged", damage_line)
+
+    def test_words(self):
+        for words, told in ((("plan", "1_000", "100"), "KEYS cannot be '1_000': a number is written without separators"),
+                            (("format", "f", "2", "2", "4", "2", "2", "1,000"), "S cannot be '1,000': a number is written without separators"),
+                            (("serve", "f", "0", "--audit"), "--audit needs a number behind it"),
+                            (("serve", "f", "0", "--audit", "--idle", "1"), "--audit needs a number behind it"),
+                            (("serve", "f", "0", "--audit", "1", "--audit=1"), "--audit is given twice"),
+                            (("serve", "f", "65536"), "PORT cannot be '65536': a port is at most 65535"),
+                            (("run", "f", "--force"), "'--force' is no option here"),
+                            (("format", "f", "2", "2", "4", "2", "2"), "S is missing")):
+            ended = self.silt(*words)
+            self.assertEqual((ended.status, ended.out), (2, "usage\n"), words)
+            self.assertTrue(ended.err.startswith(f"silt: {told}\n"), ended.err)
+            self.assertIn("silt serve FILE PORT", ended.err)
+        self.assertFalse(self.path("f").exists())
+
+    def test_help_names_all_jobs(self):
+        ended = self.silt("--help")
+        self.assertEqual((ended.status, ended.out), (2, "usage\n"))
+        for form in ("silt format FILE", "silt run FILE [--tend]", "silt tend FILE", "silt check FILE", "silt plan KEYS V", "silt serve FILE PORT",
+                     "--force", "--audit N", "--sessions M", "--idle SECONDS", "--memory BYTES"):
+            self.assertIn(form, ended.err)
+
+    def test_a_silent_connection(self):
+        self.store(SMALL)
+        server = self.serve("--idle", 1)
+        silent, busy = self.clients(server, 2)
+        silent.send("get =a")
+        self.assertEqual(silent.reply(), "absent")
+        self.assertEqual(silent.rest(), [])
+        self.assertEqual(busy.rest(), [])
+        self.assertEqual(self.client(server).ask("get =a"), ["absent"])
+
+
+if __name__ == "__main__":
+    unittest.main()
