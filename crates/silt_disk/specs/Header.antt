@@ -1,10 +1,12 @@
 -- The header of a device: its bytes, and the six numbers that it says.
-use Rattle.std.specs.Prelude.{◌≡◌, ◌<◌, ◌*◌, ◌^◌, ℕ, ◌==◌, nat_le, Bool, ◌&&◌, List, ◌++◌, length, slice_index, slice_range, codes}
+use Rattle.std.specs.Prelude.{◌≡◌, ◌⊎◌, ◌<◌, ◌*◌, ◌^◌, ℕ, ◌==◌, nat_le, Bool, ◌&&◌, ◌||◌, if◌then◌else◌, List, ◌++◌, length, slice_index, slice_range, codes}
 use Rattle.std.specs.Str.{bytes_eq}
 use Rattle.byteorder.specs.Endian.{big_bytes}
 use Rattle.silt_disk.specs.Layout.{Shape, is_bucket_count, most_sorted_capacity, most_value_len}
 use Rattle.silt_frame.specs.Gate.{gate_open, is_open}
 use Rattle.silt_disk.specs.Numbers.{number_at}
+use Rattle.silt_disk.specs.declared.header.Version.{Version}
+use Rattle.silt_disk.specs.declared.header.Version.TheVariants.{One, Two}
 
 -- how many bytes of a device count as its header: the gate, the magic bytes, the version and the six numbers
 abbrev pub header_len : ℕ
@@ -14,27 +16,35 @@ header_len = 37
 abbrev pub magic : List ℕ
 magic = codes "SILTFLSH"
 
--- what follows the header's gate: the magic bytes, the version 1 and the six numbers
+-- what a new header has behind its gate: the magic bytes, the version 2 and the six numbers
 abbrev pub header_bytes : Shape → List ℕ
 header_bytes s =
-    magic ++ big_bytes 4 1 ++ big_bytes 4 s.value_len ++ big_bytes 4 s.buckets ++ big_bytes 4 s.log_capacity
+    magic ++ big_bytes 4 2 ++ big_bytes 4 s.value_len ++ big_bytes 4 s.buckets ++ big_bytes 4 s.log_capacity
     ++ big_bytes 4 s.logs ++ big_bytes 4 s.hashes ++ big_bytes 4 s.sorted_capacity
 
 -- the header's gate, and what follows it
 abbrev pub header_of : List ℕ → List ℕ
 header_of image = slice_range image 0 header_len
 
--- the gate is open, and the magic bytes and the version 1 follow
+-- the number of the version that a header has
+abbrev pub version_number : List ℕ → ℕ
+version_number header = number_at 4 9 header
+
+-- the gate is open, and the magic bytes and the version 1 or 2 follow
 abbrev pub is_formatted : List ℕ → Bool
 is_formatted header =
-    is_open (slice_index header 0) && bytes_eq (slice_range header 1 9) magic && (number_at 4 9 header == 1)
+    is_open (slice_index header 0) && bytes_eq (slice_range header 1 9) magic && ((version_number header == 1) || (version_number header == 2))
 
--- a header is whole, its gate is open, and the magic bytes and the version 1 follow
+-- the version of a formatted header
+abbrev pub version_of : List ℕ → Version
+version_of header = if version_number header == 2 then Two else One
+
+-- a header is whole, its gate is open, and the magic bytes and the version 1 or 2 follow
 pub record IsHeader (header : List ℕ) : Type 0 where
   pub whole : length header ≡ header_len
   pub gate : slice_index header 0 ≡ gate_open
   pub magic : slice_range header 1 9 ≡ magic
-  pub version : number_at 4 9 header ≡ 1
+  pub version : (version_number header ≡ 1) ⊎ (version_number header ≡ 2)
 
 -- the six numbers of a header
 abbrev pub header_shape : List ℕ → Shape

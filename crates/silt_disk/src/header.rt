@@ -1,6 +1,6 @@
 // The header of a device, both ways.
 ghost use Rattle.std.specs.Prelude.{◌≡◌, MatchResult};
-ghost use Rattle.silt_disk.specs.Header.{header_bytes, header_shape, is_formatted};
+ghost use Rattle.silt_disk.specs.Header.{header_bytes, header_shape, is_formatted, version_number, version_of};
 ghost use Rattle.silt_disk.specs.Layout.{InLimits};
 
 use crate::{BadGeometry, Geometry};
@@ -13,16 +13,44 @@ pub const HEADER_LEN: usize = 37;
 // What follows the header's gate first.
 const MAGIC: [u8; 8] = *b"SILTFLSH";
 
-// The version of the layout.
-const VERSION: u32 = 1;
+// The numbers of the versions: of the first layout, and of the one that is formatted today.
+const FIRST_VERSION: u32 = 1;
+const NEW_VERSION: u32 = 2;
 
-/// Whether the gate is open, and the magic bytes and the version follow.
+/// The version of a device's layout, by its header.
+#[derive(Clone, Copy, Debug, PartialEq, Eq)]
+pub enum Version {
+    /// A manifest slot has digests or none: the device was formatted before there were digests.
+    One,
+    /// Every manifest slot has digests.
+    Two,
+}
+
+// The number of the version that a header has.
+fn version_number(header: &[u8; HEADER_LEN]) -> u32
+    ensures { result ≡ version_number header.now }
+{
+    BigEndian::read_u32(&header[9..13])
+}
+
+/// Whether the gate is open, and the magic bytes and the version 1 or 2 follow.
 pub fn is_formatted(header: &[u8; HEADER_LEN]) -> bool
     ensures { result ≡ is_formatted header.now }
 {
     is_open(header[0])
         && &header[1..9] == MAGIC.as_slice()
-        && BigEndian::read_u32(&header[9..13]) == VERSION
+        && matches!(version_number(header), FIRST_VERSION | NEW_VERSION)
+}
+
+/// The version of a header that is formatted.
+pub fn version_of(header: &[u8; HEADER_LEN]) -> Version
+    ensures { result ≡ version_of header.now }
+{
+    if version_number(header) == NEW_VERSION {
+        Version::Two
+    } else {
+        Version::One
+    }
 }
 
 /// The geometry of the six numbers of a header, or that one of them is out of its limits.
@@ -39,7 +67,7 @@ pub fn geometry_of(header: &[u8; HEADER_LEN]) -> Result<Geometry, BadGeometry>
     )
 }
 
-/// What is written behind the gate of a header: the magic bytes, the version and the six numbers.
+/// What is written behind the gate of a new header: the magic bytes, the version 2 and the six numbers.
 pub fn header_bytes(geometry: &Geometry) -> [u8; HEADER_LEN - 1]
     ensures { result ≡ header_bytes geometry.now }
 {
@@ -47,7 +75,7 @@ pub fn header_bytes(geometry: &Geometry) -> [u8; HEADER_LEN - 1]
     let (magic, rest) = bytes.split_at_mut(8);
     magic.copy_from_slice(&MAGIC);
     let (version, rest) = rest.split_at_mut(4);
-    BigEndian::write_u32(version, VERSION);
+    BigEndian::write_u32(version, NEW_VERSION);
     let (value_len, rest) = rest.split_at_mut(4);
     BigEndian::write_u32(value_len, geometry.value_len());
     let (buckets, rest) = rest.split_at_mut(4);

@@ -28,4 +28,4 @@ mod header;
 
 pub use disk::{Call, CallAt, Disk, Stoppable, write_synced};
 pub use geometry::{BadGeometry, Geometry, REGIONS_AT, SECTOR, regions_lie_apart, slot_start};
-pub use header::{HEADER_LEN, geometry_of, header_bytes, is_formatted};
+pub use header::{HEADER_LEN, Version, geometry_of, header_bytes, is_formatted, version_of};

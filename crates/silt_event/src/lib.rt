@@ -28,4 +28,4 @@ pub use place::Place;
 pub use progress::Progress;
 pub use refusal::Refusal;
 pub use reply::{LifeReply, Reply};
-pub use report::Report;
+pub use report::{Layout, Report};

@@ -23,9 +23,15 @@ pub enum Place {
     /// A slot of a hash region holds what cannot stand there.
     #[error("a slot of a hash store is damaged")]
     Hash { region: u32, slot: u32 },
+    /// The slots of this hash region have another digest than the manifest says.
+    #[error("a hash store has another digest than the manifest says")]
+    HashDigest(u32),
     /// A sorted entry is not above the one before it.
     #[error("an entry of the sorted store is damaged")]
     Sorted(u32),
+    /// The sorted entries have another digest than the manifest says.
+    #[error("the sorted store has another digest than the manifest says")]
+    SortedDigest,
     /// There are more put rows than the store may hold.
     #[error("it holds more rows than it may")]
     Charge,

@@ -1,5 +1,14 @@
 // What a store consists of.
 
+/// Whether a manifest says the digests of the stores that it names.
+#[derive(Clone, Copy, Debug, PartialEq, Eq)]
+pub enum Layout {
+    /// It says none: it was written before there were digests.
+    One,
+    /// It says them.
+    Two,
+}
+
 /// What a store consists of, in numbers.
 #[derive(Clone, Copy, Debug, PartialEq, Eq)]
 pub struct Report {
@@ -21,4 +30,6 @@ pub struct Report {
     pub entries: u32,
     /// How many of all rows and entries are puts.
     pub charge: u32,
+    /// Whether the manifest body that rules comes with digests.
+    pub layout: Layout,
 }

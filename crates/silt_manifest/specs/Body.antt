@@ -1,5 +1,5 @@
 -- A manifest body: its bytes, and when it is well formed.
-use Rattle.std.specs.Prelude.{◌≡◌, ◌<◌, ◌≤◌, ℕ, ◌%◌, ◌^◌, ◌==◌, nat_le, nat_lt, Bool, true, ◌&&◌, not, List, [], ◌∷◌, ◌++◌, length}
+use Rattle.std.specs.Prelude.{◌≡◌, ◌<◌, ◌≤◌, ℕ, ◌+◌, ◌%◌, ◌^◌, ◌==◌, nat_le, nat_lt, Bool, true, ◌&&◌, not, List, [], ◌∷◌, ◌++◌, length}
 use Rattle.std.specs.List.{list_any, list_all}
 use Rattle.byteorder.specs.Endian.{big_bytes}
 use Rattle.silt_disk.specs.Layout.{Shape}
@@ -11,16 +11,20 @@ use Rattle.silt_manifest.specs.declared.body.Body.{Body}
 abbrev pub first_body : Body
 first_body = record { generation = 0; active = 0; frozen = []; hashed = []; sorted = 0; sorted_count = 0 }
 
--- what follows the gate of a slot, 120 bytes
+-- the highest bit of the field of a generation: it says that digests follow the body
+abbrev pub long_bit : ℕ
+long_bit = 2 ^ 63
+
+-- what is written behind the gate of a slot first, 120 bytes
 abbrev pub body_bytes : Body → List ℕ
 body_bytes b =
-    big_bytes 8 b.generation ++ big_bytes 4 b.active ++ ids_bytes 7 b.frozen ++ ids_bytes 16 b.hashed
+    big_bytes 8 (b.generation + long_bit) ++ big_bytes 4 b.active ++ ids_bytes 7 b.frozen ++ ids_bytes 16 b.hashed
     ++ big_bytes 4 b.sorted ++ big_bytes 4 b.sorted_count
 
 -- the body of a slot, whose first byte is the gate
 abbrev pub body_of : List ℕ → Body
 body_of slot = record {
-  generation = number_at 8 1 slot;
+  generation = number_at 8 1 slot % long_bit;
   active = number_at 4 9 slot;
   frozen = ids_at 13 slot;
   hashed = ids_at 45 slot;
@@ -55,7 +59,7 @@ is_well_formed s slot b =
 
 -- numbers that the fields of a slot hold
 pub record FitsSlot (b : Body) : Type 0 where
-  pub generation : b.generation < 256 ^ 8
+  pub generation : b.generation < long_bit
   pub active : b.active < 256 ^ 4
   pub frozen_count : length b.frozen ≤ 7
   pub frozen : all_below (256 ^ 4) b.frozen ≡ true

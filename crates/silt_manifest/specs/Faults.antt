@@ -2,21 +2,22 @@
 use Rattle.std.specs.Prelude.{◌≡◌, ℕ, false, List, Err}
 use Rattle.silt_disk.specs.Disk.{Content, Shows}
 use Rattle.silt_disk.specs.Layout.{Shape}
-use Rattle.silt_manifest.specs.Ruling.{open_body, is_sound_body, manifest_found}
+use Rattle.silt_disk.specs.declared.header.Version.{Version}
+use Rattle.silt_manifest.specs.Ruling.{open_record, is_sound_record, manifest_found}
 use Rattle.silt_manifest.specs.declared.slot.Damage.{Damage}
 use Rattle.silt_manifest.specs.declared.slot.Damage.TheVariants.{Slot}
 use Rattle.silt_manifest.specs.declared.slot.ReadFault.{ReadFault}
 use Rattle.silt_manifest.specs.declared.slot.ReadFault.TheVariants.{Damaged, Device}
 
--- a slot of an image is open, and its body is not well formed
-pub record IsUnsound (s : Shape) (slot : ℕ) (damage : Damage) (image : List ℕ) : Type 0 where
+-- a slot of an image is open, and its record is not sound
+pub record IsUnsound (s : Shape) (version : Version) (slot : ℕ) (damage : Damage) (image : List ℕ) : Type 0 where
   pub place : damage ≡ Slot slot
-  pub unsound : is_sound_body s slot (open_body image slot) ≡ false
+  pub unsound : is_sound_record s version slot (open_record image slot) ≡ false
 
 -- a slot was refused: for what it shows, or by a fault of a read
-abbrev pub IsSlotRefused : {F : Type 0} → Content → Shape → (F → Type 0) → ℕ → ReadFault F → Type 0
-IsSlotRefused content s WasGiven slot (Damaged damage) = Shows content (IsUnsound s slot damage)
-IsSlotRefused content s WasGiven slot (Device fault) = WasGiven fault
+abbrev pub IsSlotRefused : {F : Type 0} → Content → Shape → Version → (F → Type 0) → ℕ → ReadFault F → Type 0
+IsSlotRefused content s version WasGiven slot (Damaged damage) = Shows content (IsUnsound s version slot damage)
+IsSlotRefused content s version WasGiven slot (Device fault) = WasGiven fault
 
 -- the first finding in an image is this damage
 pub record IsDamaged (s : Shape) (damage : Damage) (image : List ℕ) : Type 0 where

@@ -1,4 +1,5 @@
 pub mod Body
+pub mod Digests
 pub mod Faults
 pub mod IdList
 pub mod Numbers
