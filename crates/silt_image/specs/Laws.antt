@@ -1,19 +1,23 @@
 -- Laws of images, for the layers above.
-use Rattle.std.specs.Prelude.{◌≡◌, ◌≢◌, ◌≤◌, ◌<◌, ◌↔◌, ℕ, ◌+◌, ◌%◌, ◌==◌, true, false, IsTrue, IsSome, List, [], ◌∷◌, ◌++◌, length, map, take, flat_map, get_or, slice_get, Contains, Some, Ok, Err}
-use Rattle.std.specs.List.{list_any, list_all}
+use Rattle.std.specs.Prelude.{◌≡◌, ◌≢◌, ◌≤◌, ◌<◌, ◌↔◌, ℕ, ◌+◌, ◌%◌, ◌==◌, true, false, IsTrue, IsSome, List, [], ◌∷◌, ◌++◌, length, map, take, flat_map, get_or, slice_get, Contains, Option, Some, Ok, Err}
+use Rattle.std.specs.List.{list_any, list_all, enumerate_from}
 use Rattle.std.specs.FinMap.{empty}
 use Rattle.silt_disk.specs.Disk.{Torn}
 use Rattle.silt_disk.specs.Layout.{Shape, InLimits, device_size, slot_at, gates_at, hash_at, sorted_at, log_size, hash_size, sorted_size, sector}
 use Rattle.silt_log.specs.Rows.{log_rows}
 use Rattle.silt_frame.specs.Rows.{StoredRow, has_known_kind}
 use Rattle.silt_manifest.specs.Body.{first_body, is_well_formed}
-use Rattle.silt_manifest.specs.Ruling.{manifest_found, open_body}
+use Rattle.silt_manifest.specs.Digests.{long_record}
+use Rattle.silt_manifest.specs.Ruling.{manifest_found, open_record}
 use Rattle.silt_manifest.specs.declared.body.Body.{Body}
+use Rattle.silt_manifest.specs.declared.digests.Digests.{Digests}
+use Rattle.silt_manifest.specs.declared.slot.SlotRecord.{SlotRecord}
 use Rattle.silt_disk.specs.Header.{FitsHeader, IsHeader, header_bytes, header_of, header_shape, is_in_limits, shape_of}
 use Rattle.silt_log.specs.Parts.{Part}
-use Rattle.silt_image.specs.Stores.{Stores, image_stores, shape_found, stores_named}
-use Rattle.silt_image.specs.Meaning.{HasActive, IsGood, IsSound, StandsFor, charge_of, image_charge, image_fits, image_map}
-use Rattle.silt_image.specs.Meaning.{image_rows, image_stands, image_verdict, names_log, rows_of, with_log_rows, with_new_log}
+use Rattle.silt_image.specs.Stores.{Stores, image_digests, image_stores, shape_found, stores_named}
+use Rattle.silt_image.specs.Meaning.{AreDigestsOf, HasActive, IsGood, IsSound, StandsFor, charge_of, entries_digest, image_charge, image_fits, image_map}
+use Rattle.silt_image.specs.Meaning.{image_rows, image_stands, image_verdict, names_log, rows_of, said_entry_findings, said_hash_findings, store_findings}
+use Rattle.silt_image.specs.Meaning.{with_log_rows, with_new_log}
 use Rattle.silt_event.specs.Rows.{map_of_rows}
 use Rattle.silt_log_store.specs.Findings.{fits_table, log_findings, row_findings}
 use Rattle.silt_hash_store.specs.Findings.{hash_findings}
@@ -39,10 +43,11 @@ FormattedLaw = (shape : Shape) → InLimits shape → shape_found (device_size s
 
 -- ---- the stores of an image
 
--- these are the stores of the image: its shape and its ruling body are theirs, and the body names them
+-- these are the stores of the image: its shape and its ruling body are theirs, with whatever digests, and the body names them
 pub record HasStores (s : Stores) (image : List ℕ) : Type 0 where
   pub shape : shape_found (length image) (header_of image) ≡ Ok s.shape
-  pub body : manifest_found s.shape image ≡ Ok s.body
+  pub digests : Option Digests
+  pub rules : manifest_found s.shape image ≡ Ok (record { body = s.body; digests = digests })
   pub named : s ≡ stores_named s.shape s.body image
 
 -- an image has stores exactly where its shape, its ruling body and what that names are theirs
@@ -63,6 +68,12 @@ pub record IsWhole (s : Stores) (image : List ℕ) : Type 0 where
 abbrev pub WholeLaw : Type 0
 WholeLaw = (image : List ℕ) (s : Stores) → image_stores image ≡ Ok s → IsWhole s image
 
+-- the digests of an image with stores are those behind the ruling body
+abbrev pub DigestsLaw : Type 0
+DigestsLaw =
+    (image : List ℕ) (s : Stores) (found : SlotRecord) → image_stores image ≡ Ok s → manifest_found s.shape image ≡ Ok found
+    → image_digests image ≡ found.digests
+
 -- ---- which bytes count
 
 -- both images have the same bytes in this range
@@ -79,8 +90,8 @@ pub record SameRegions (shape : Shape) (body : Body) (before after : List ℕ) :
 pub record Agree (before after : List ℕ) : Type 0 where
   pub size : length after ≡ length before
   pub header : header_of after ≡ header_of before
-  pub first_slot : open_body after 0 ≡ open_body before 0
-  pub second_slot : open_body after 1 ≡ open_body before 1
+  pub first_slot : open_record after 0 ≡ open_record before 0
+  pub second_slot : open_record after 1 ≡ open_record before 1
   pub regions : (s : Stores) → image_stores before ≡ Ok s → SameRegions s.shape s.body before after
 
 -- two images mean the same
@@ -92,13 +103,13 @@ pub record SameMeaning (before after : List ℕ) : Type 0 where
   pub map : image_map after ≡ image_map before
   pub charge : image_charge after ≡ image_charge before
 
--- images that agree on all that counts have the same stores
+-- images that agree on all that counts have the same stores, and say the same digests of them
 abbrev pub FrameLaw : Type 0
-FrameLaw = (before after : List ℕ) → Agree before after → image_stores after ≡ image_stores before
+FrameLaw = (before after : List ℕ) → Agree before after → (image_stores after ≡ image_stores before) × (image_digests after ≡ image_digests before)
 
--- images with the same stores mean the same
+-- images with the same stores, that say the same digests of them, mean the same
 abbrev pub MeaningLaw : Type 0
-MeaningLaw = (before after : List ℕ) → image_stores after ≡ image_stores before → SameMeaning before after
+MeaningLaw = (before after : List ℕ) → image_stores after ≡ image_stores before → image_digests after ≡ image_digests before → SameMeaning before after
 
 -- a change in a log region changes the rows of that log alone, and nothing where no log has the region
 abbrev pub LogRegionLaw : Type 0
@@ -125,8 +136,8 @@ FreeSortedLaw =
 -- after a change in a manifest slot the stores are those that the body then ruling names
 abbrev pub ManifestLaw : Type 0
 ManifestLaw =
-    (before after : List ℕ) (s : Stores) (slot : ℕ) (body : Body) → image_stores before ≡ Ok s → slot < 2 → Torn (slot_at slot) sector before after
-    → manifest_found s.shape after ≡ Ok body → image_stores after ≡ Ok (stores_named s.shape body before)
+    (before after : List ℕ) (s : Stores) (slot : ℕ) (found : SlotRecord) → image_stores before ≡ Ok s → slot < 2 → Torn (slot_at slot) sector before after
+    → manifest_found s.shape after ≡ Ok found → image_stores after ≡ Ok (stores_named s.shape found.body before)
 
 -- a body freezes the active log of another: it has a new one, and the old one in front of the frozen ones
 pub record FreezesActive (old new : Body) : Type 0 where
@@ -203,22 +214,29 @@ NewActiveLaw = (s : Stores) (next : Body) → names_log s next.active ≡ false 
 abbrev pub VerdictLaw : Type 0
 VerdictLaw = (image : List ℕ) → IsGood image ↔ (IsSome (image_stands image) × IsTrue (image_fits image))
 
--- an image with stores is good exactly where nothing is found in them
-abbrev pub SoundLaw : Type 0
-SoundLaw = (image : List ℕ) (s : Stores) → image_stores image ≡ Ok s → IsGood image ↔ IsSound s
+-- nothing is found in stores of which digests are said exactly where they are sound and the digests are theirs
+abbrev pub SaidLaw : Type 0
+SaidLaw = (said : Option Digests) (s : Stores) → (store_findings said s ≡ []) ↔ (IsSound s × AreDigestsOf said s)
 
--- an image with sound stores stands for the map of their rows
+-- an image with stores is good exactly where nothing is found in them and the digests that it says are theirs
+abbrev pub SoundLaw : Type 0
+SoundLaw = (image : List ℕ) (s : Stores) → image_stores image ≡ Ok s → IsGood image ↔ (IsSound s × AreDigestsOf (image_digests image) s)
+
+-- an image with sound stores, and with their digests, stands for the map of their rows
 abbrev pub StandsLaw : Type 0
-StandsLaw = (image : List ℕ) (s : Stores) → image_stores image ≡ Ok s → IsSound s → StandsFor s.shape (map_of_rows (rows_of s)) image
+StandsLaw =
+    (image : List ℕ) (s : Stores) → image_stores image ≡ Ok s → IsSound s → AreDigestsOf (image_digests image) s
+    → StandsFor s.shape (map_of_rows (rows_of s)) image
 
 -- the rows of an image with stores are theirs
 abbrev pub RowsLaw : Type 0
 RowsLaw = (image : List ℕ) (s : Stores) → image_stores image ≡ Ok s → image_rows image ≡ rows_of s
 
--- a device that was just formatted stands for the empty map
+-- a device that was just formatted stands for the empty map: its digest of the sorted store is that of no entries
 abbrev pub EmptyLaw : Type 0
 EmptyLaw =
-    (image : List ℕ) (shape : Shape) → shape_found (length image) (header_of image) ≡ Ok shape → manifest_found shape image ≡ Ok first_body
+    (image : List ℕ) (shape : Shape) (digests : Digests) → shape_found (length image) (header_of image) ≡ Ok shape
+    → manifest_found shape image ≡ Ok (long_record first_body digests) → digests.sorted.0 ≡ entries_digest []
     → log_rows shape 0 image ≡ [] → StandsFor shape empty image
 
 -- ---- the search
@@ -237,18 +255,23 @@ FirstFindingLaw =
     → s.logs ≡ before ++ part ∷ after → flat_map (log_findings s.shape) before ≡ [] → FirstFinding s.shape part place row finding
     → image_verdict image ≡ Some finding
 
+-- nothing is found in some hash stores, the newest first, and the digests that are said are theirs
+abbrev pub AreSoundParts : Shape → Option Digests → List Part → Type 0
+AreSoundParts shape said parts = flat_map (said_hash_findings shape said) (enumerate_from 0 parts) ≡ []
+
 -- so is that in the first hash store that has one, where nothing is found in the logs
 abbrev pub FirstSlotLaw : Type 0
 FirstSlotLaw =
     (image : List ℕ) (s : Stores) (before after : List Part) (part : Part) (finding : Finding) → image_stores image ≡ Ok s
-    → flat_map (log_findings s.shape) s.logs ≡ [] → s.hashes ≡ before ++ part ∷ after → flat_map (hash_findings s.shape) before ≡ []
-    → slice_get (hash_findings s.shape part) 0 ≡ Some finding → image_verdict image ≡ Some finding
+    → flat_map (log_findings s.shape) s.logs ≡ [] → s.hashes ≡ before ++ part ∷ after → AreSoundParts s.shape (image_digests image) before
+    → slice_get (said_hash_findings s.shape (image_digests image) (length before, part)) 0 ≡ Some finding → image_verdict image ≡ Some finding
 
--- so is that in the entries, where nothing is found in the logs and the hash stores
+-- so is that in the sorted store, where nothing is found in the logs and the hash stores
 abbrev pub FirstEntryLaw : Type 0
 FirstEntryLaw =
     (image : List ℕ) (s : Stores) (finding : Finding) → image_stores image ≡ Ok s → flat_map (log_findings s.shape) s.logs ≡ []
-    → flat_map (hash_findings s.shape) s.hashes ≡ [] → slice_get (sorted_findings s.entries) 0 ≡ Some finding → image_verdict image ≡ Some finding
+    → AreSoundParts s.shape (image_digests image) s.hashes → slice_get (said_entry_findings (image_digests image) s.entries) 0 ≡ Some finding
+    → image_verdict image ≡ Some finding
 
 -- of stores with logs alone, nothing found in these, nothing is found exactly where the puts are no more than the store may hold
 abbrev pub LogsSoundLaw : Type 0
@@ -258,8 +281,9 @@ LogsSoundLaw =
 -- where nothing else is found, and there are more puts than the store may hold, that is the verdict
 abbrev pub ChargeFoundLaw : Type 0
 ChargeFoundLaw =
-    (image : List ℕ) (s : Stores) → image_stores image ≡ Ok s → flat_map (log_findings s.shape) s.logs ≡ [] → flat_map (hash_findings s.shape) s.hashes ≡ []
-    → sorted_findings s.entries ≡ [] → s.shape.sorted_capacity < charge_of s → image_verdict image ≡ Some (Damaged Charge)
+    (image : List ℕ) (s : Stores) → image_stores image ≡ Ok s → flat_map (log_findings s.shape) s.logs ≡ []
+    → AreSoundParts s.shape (image_digests image) s.hashes → said_entry_findings (image_digests image) s.entries ≡ []
+    → s.shape.sorted_capacity < charge_of s → image_verdict image ≡ Some (Damaged Charge)
 
 -- an image without stores has the finding in their place as its verdict
 abbrev pub NoStoresLaw : Type 0

@@ -1,17 +1,24 @@
 -- What the stores of an image stand for, and what is found wrong in them.
-use Rattle.std.specs.Prelude.{◌≡◌, ℕ, ◌+◌, ◌==◌, nat_lt, Bool, true, false, if◌then◌else◌, List, [], ◌∷◌, ◌++◌}
+use Rattle.std.specs.Prelude.{◌≡◌, ℕ, ◌+◌, ◌==◌, nat_lt, Bool, true, false, not, get_or, if◌then◌else◌, List, [], ◌∷◌, ◌++◌}
 use Rattle.std.specs.Prelude.{map, take, drop, sum_by, length, flat_map, slice_get, Option, Some, None, Result, Ok, Err}
-use Rattle.std.specs.List.{list_any, list_all}
+use Rattle.std.specs.List.{list_any, list_all, enumerate_from}
+use Rattle.std.specs.Option.{ForSome}
+use Rattle.std.specs.Str.{bytes_eq}
+use Rattle.sha1.specs.Sha1.{sha1}
 use Rattle.silt_disk.specs.Layout.{Shape}
-use Rattle.silt_frame.specs.Rows.{StoredRow, put_count}
+use Rattle.silt_frame.specs.Rows.{StoredRow, entries_bytes, put_count, rows_bytes}
 use Rattle.silt_manifest.specs.declared.body.Body.{Body}
+use Rattle.silt_manifest.specs.declared.digests.Digests.{Digests}
 use Rattle.silt_event.specs.Commands.{Map}
 use Rattle.silt_disk.specs.Header.{shape_of}
 use Rattle.silt_log.specs.Parts.{Part, part_rows, known_rows, oldest_first}
-use Rattle.silt_image.specs.Stores.{Stores, image_stores}
+use Rattle.silt_image.specs.Stores.{Stores, image_digests, image_stores}
 use Rattle.silt_event.specs.declared.damage.Finding.{Finding}
 use Rattle.silt_event.specs.declared.damage.Finding.TheVariants.{Damaged, Crowded}
-use Rattle.silt_event.specs.declared.place.Place.TheVariants.{Charge}
+use Rattle.silt_event.specs.declared.place.Place.{Place}
+use Rattle.silt_event.specs.declared.place.Place.TheVariants.{Charge, HashDigest, SortedDigest}
+use Rattle.silt_event.specs.declared.report.Layout.{Layout}
+use Rattle.silt_event.specs.declared.report.Layout.TheVariants.{One, Two}
 use Rattle.silt_event.specs.declared.report.Report.{Report}
 use Rattle.silt_event.specs.Findings.{finding_if}
 use Rattle.silt_event.specs.Rows.{map_of_rows}
@@ -29,20 +36,60 @@ rows_of s = s.entries ++ oldest_first (map known_rows s.hashes) ++ oldest_first 
 abbrev pub charge_of : Stores → ℕ
 charge_of s = put_count (rows_of s)
 
+-- ---- the digests of the stores
+
+-- the digest of a hash store: that of the bytes of its slots
+abbrev pub part_digest : Part → List ℕ
+part_digest part = sha1 (rows_bytes part.rows)
+
+-- the digest of the sorted store: that of the bytes of its entries
+abbrev pub entries_digest : List StoredRow → List ℕ
+entries_digest entries = sha1 (entries_bytes entries)
+
+-- the digest that is said of the hash store at this place, the newest first
+abbrev pub said_hash : Option Digests → ℕ → Option (List ℕ)
+said_hash None place = None
+said_hash (Some said) place = Some (get_or said.hashed place (record { 0 = [] })).0
+
+-- the digest that is said of the sorted store
+abbrev pub said_sorted : Option Digests → Option (List ℕ)
+said_sorted None = None
+said_sorted (Some said) = Some said.sorted.0
+
+-- each digest that is said is that of its store
+pub record AreDigestsOf (said : Option Digests) (s : Stores) : Type 0 where
+  pub hashed : (place : ℕ) (part : Part) → slice_get s.hashes place ≡ Some part → ForSome (said_hash said place) (λ digest. digest ≡ part_digest part)
+  pub sorted : ForSome (said_sorted said) (λ digest. digest ≡ entries_digest s.entries)
+
 -- ---- what is found in the stores, in the order of the search
+
+-- a digest that is said is another than this one
+abbrev pub digest_findings : Place → Option (List ℕ) → List ℕ → List Finding
+digest_findings place None digest = []
+digest_findings place (Some said) digest = finding_if (not (bytes_eq said digest)) (Damaged place)
+
+-- a hash store at its place, the newest first: its slots, and behind them its digest
+abbrev pub said_hash_findings : Shape → Option Digests → ℕ × Part → List Finding
+said_hash_findings shape said (place, part) = hash_findings shape part ++ digest_findings (HashDigest part.region) (said_hash said place) (part_digest part)
+
+-- the sorted store: its entries, and behind them its digest
+abbrev pub said_entry_findings : Option Digests → List StoredRow → List Finding
+said_entry_findings said entries = sorted_findings entries ++ digest_findings SortedDigest (said_sorted said) (entries_digest entries)
 
 -- more puts than the store may hold
 abbrev pub charge_findings : Stores → List Finding
 charge_findings s = finding_if (nat_lt s.shape.sorted_capacity (charge_of s)) (Damaged Charge)
 
--- all that is found in the stores: the logs from the active one on, the hash stores from the newest on, the entries, the charge
-unfoldable pub store_findings : Stores → List Finding
-store_findings s =
-    flat_map (log_findings s.shape) s.logs ++ flat_map (hash_findings s.shape) s.hashes ++ sorted_findings s.entries ++ charge_findings s
+-- All that is found in the stores, of which these digests are said: the logs from the active one on, the hash stores from the newest
+-- on, the sorted store, the charge.
+unfoldable pub store_findings : Option Digests → Stores → List Finding
+store_findings said s =
+    flat_map (log_findings s.shape) s.logs ++ flat_map (said_hash_findings s.shape said) (enumerate_from 0 s.hashes)
+    ++ said_entry_findings said s.entries ++ charge_findings s
 
--- nothing is found in the stores
+-- nothing is found in the stores, where no digest is said
 abbrev pub IsSound : Stores → Type 0
-IsSound s = store_findings s ≡ []
+IsSound s = store_findings None s ≡ []
 
 -- ---- what an image means
 
@@ -51,10 +98,10 @@ abbrev pub rows_found : Result Stores Finding → List StoredRow
 rows_found (Ok s) = rows_of s
 rows_found (Err finding) = []
 
--- all that is found, or the one finding in place of stores
-abbrev pub findings_of : Result Stores Finding → List Finding
-findings_of (Ok s) = store_findings s
-findings_of (Err finding) = finding ∷ []
+-- all that is found in stores of which these digests are said, or the one finding in place of stores
+abbrev pub findings_of : Option Digests → Result Stores Finding → List Finding
+findings_of said (Ok s) = store_findings said s
+findings_of said (Err finding) = finding ∷ []
 
 -- whether a finding is that keys find no places
 abbrev pub is_crowding : Finding → Bool
@@ -62,9 +109,9 @@ is_crowding Crowded = true
 is_crowding _ = false
 
 -- the map of the stores, none where something but crowding is found
-abbrev pub map_where_sound : Result Stores Finding → Option Map
-map_where_sound (Ok s) = if list_all is_crowding (store_findings s) then Some (map_of_rows (rows_of s)) else None
-map_where_sound (Err finding) = None
+abbrev pub map_where_sound : Option Digests → Result Stores Finding → Option Map
+map_where_sound said (Ok s) = if list_all is_crowding (store_findings said s) then Some (map_of_rows (rows_of s)) else None
+map_where_sound said (Err finding) = None
 
 -- the keys of each log have places in a table
 abbrev pub all_logs_fit : Result Stores Finding → Bool
@@ -85,11 +132,11 @@ image_charge image = put_count (image_rows image)
 
 -- the first finding in an image, none where it is good
 unfoldable pub image_verdict : List ℕ → Option Finding
-image_verdict image = slice_get (findings_of (image_stores image)) 0
+image_verdict image = slice_get (findings_of (image_digests image) (image_stores image)) 0
 
 -- the map that an image stands for, none where something but crowding is found
 unfoldable pub image_stands : List ℕ → Option Map
-image_stands image = map_where_sound (image_stores image)
+image_stands image = map_where_sound (image_digests image) (image_stores image)
 
 -- the keys of each log of an image have places in a table
 unfoldable pub image_fits : List ℕ → Bool
@@ -111,9 +158,14 @@ pub record StandsFor (shape : Shape) (map : Map) (image : List ℕ) : Type 0 whe
 abbrev pub row_count : List Part → ℕ
 row_count parts = sum_by (λ part. length part.rows) parts
 
--- the numbers of the stores: all rows of logs, and of a hash store those that are puts and deletes
-abbrev pub report_of : Stores → Report
-report_of s = record {
+-- the layout of a manifest that says these digests
+abbrev pub layout_of : Option Digests → Layout
+layout_of None = One
+layout_of (Some said) = Two
+
+-- the numbers of the stores: all rows of logs, and of a hash store those that are puts and deletes; and whether digests are said of them
+abbrev pub report_of : Option Digests → Stores → Report
+report_of said s = record {
   generation = s.body.generation;
   active = s.body.active;
   active_rows = row_count (take 1 s.logs);
@@ -123,6 +175,7 @@ report_of s = record {
   hash_rows = sum_by (λ part. length (known_rows part)) s.hashes;
   entries = s.body.sorted_count;
   charge = charge_of s;
+  layout = layout_of said;
 }
 
 -- ---- stores with other rows

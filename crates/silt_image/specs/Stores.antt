@@ -1,12 +1,14 @@
 -- The stores that an image names, with their rows.
-use Rattle.std.specs.Prelude.{ℕ, ◌==◌, nat_le, ◌&&◌, not, if◌then◌else◌, List, ◌∷◌, length, map, Result, Ok, Err}
+use Rattle.std.specs.Prelude.{ℕ, ◌==◌, nat_le, ◌&&◌, not, if◌then◌else◌, List, ◌∷◌, length, map, Option, None, Result, Ok, Err}
 use Rattle.silt_disk.specs.Layout.{Shape, device_size}
 use Rattle.silt_frame.specs.Rows.{StoredRow}
 use Rattle.silt_manifest.specs.Ruling.{manifest_found}
 use Rattle.silt_manifest.specs.declared.body.Body.{Body}
+use Rattle.silt_manifest.specs.declared.digests.Digests.{Digests}
+use Rattle.silt_manifest.specs.declared.slot.SlotRecord.{SlotRecord}
 use Rattle.silt_manifest.specs.declared.slot.Damage.{Damage}
 use Rattle.silt_manifest.specs.declared.slot.Damage.TheVariants as damage
-use Rattle.silt_disk.specs.Header.{header_of, header_shape, is_formatted, is_in_limits, header_len}
+use Rattle.silt_disk.specs.Header.{header_of, header_shape, is_formatted, is_in_limits, header_len, shape_of}
 use Rattle.silt_event.specs.declared.damage.Finding.{Finding}
 use Rattle.silt_event.specs.declared.damage.Finding.TheVariants.{NotFormatted, Damaged}
 use Rattle.silt_event.specs.declared.place.Place.TheVariants.{Header, Length, Slot, NoSlot}
@@ -47,8 +49,8 @@ damage_finding (damage.Slot slot) = Damaged (Slot slot)
 damage_finding damage.NoSlot = Damaged NoSlot
 
 -- the stores that the ruling body names, or what is found in its place
-abbrev pub stores_ruled : Shape → List ℕ → Result Body Damage → Result Stores Finding
-stores_ruled shape image (Ok body) = Ok (stores_named shape body image)
+abbrev pub stores_ruled : Shape → List ℕ → Result SlotRecord Damage → Result Stores Finding
+stores_ruled shape image (Ok found) = Ok (stores_named shape found.body image)
 stores_ruled shape image (Err damaged) = Err (damage_finding damaged)
 
 -- the stores of an image of this shape, or what is found in place of its shape or its manifest
@@ -59,3 +61,12 @@ stores_shaped image (Err finding) = Err finding
 -- The stores of an image, or the first finding in its header or its manifest. What an image means is all said of this.
 unfoldable pub image_stores : List ℕ → Result Stores Finding
 image_stores image = stores_shaped image (shape_found (length image) (header_of image))
+
+-- the digests of a record that was found
+abbrev pub digests_found : Result SlotRecord Damage → Option Digests
+digests_found (Ok found) = found.digests
+digests_found (Err damaged) = None
+
+-- The digests that the ruling slot of an image says of its stores; none where it says none.
+unfoldable pub image_digests : List ℕ → Option Digests
+image_digests image = digests_found (manifest_found (shape_of image) image)

@@ -1,7 +1,7 @@
 // Laws of images, for the layers above.
-ghost use Rattle.silt_image.specs.Laws.{AgainLaw, AppendLaw, BeginningLaw, ChargeFoundLaw, ChargeLaw, EmptyLaw, FirstEntryLaw, FirstFindingLaw, FirstSlotLaw, FormattedLaw, FrameLaw, FreeHashLaw};
+ghost use Rattle.silt_image.specs.Laws.{AgainLaw, AppendLaw, BeginningLaw, ChargeFoundLaw, ChargeLaw, DigestsLaw, EmptyLaw, FirstEntryLaw, FirstFindingLaw, FirstSlotLaw, FormattedLaw, FrameLaw, FreeHashLaw};
 ghost use Rattle.silt_image.specs.Laws.{FreeSortedLaw, FreezeLaw, FrozenLaw, HeaderLaw, LimitsLaw, LogRegionLaw, ManifestLaw, MeaningLaw, NewActiveLaw, NewLogLaw, NoStoresLaw};
-ghost use Rattle.silt_image.specs.Laws.{OwnRowsLaw, PartsLaw, RowsLaw, SoundLaw, StandsLaw, StoresLaw, TakenLaw, UnnamedLaw, VerdictLaw, WholeLaw};
+ghost use Rattle.silt_image.specs.Laws.{OwnRowsLaw, PartsLaw, RowsLaw, SaidLaw, SoundLaw, StandsLaw, StoresLaw, TakenLaw, UnnamedLaw, VerdictLaw, WholeLaw};
 
 /// A header reads back, behind whatever gate.
 pub fn header_law()
@@ -21,6 +21,11 @@ pub fn formatted_law()
 /// An image has stores exactly where its shape, its ruling body and what that names are theirs.
 pub fn stores_law()
     ensures { StoresLaw }
+{}
+
+/// The digests of an image with stores are those behind the ruling body.
+pub fn digests_law()
+    ensures { DigestsLaw }
 {}
 
 /// What every image with stores has.
@@ -118,7 +123,12 @@ pub fn verdict_law()
     ensures { VerdictLaw }
 {}
 
-/// An image with stores is good exactly where nothing is found in them.
+/// Nothing is found in stores of which digests are said exactly where they are sound and the digests are theirs.
+pub fn said_law()
+    ensures { SaidLaw }
+{}
+
+/// An image with stores is good exactly where nothing is found in them, and the digests that it says are theirs.
 pub fn sound_law()
     ensures { SoundLaw }
 {}

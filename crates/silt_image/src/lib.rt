@@ -16,9 +16,9 @@ mod laws;
 pub use damage::finding_of;
 pub use header::read_header;
 pub use laws::{
-    again_law, append_law, beginning_law, charge_found_law, charge_law, empty_law, first_entry_law,
+    again_law, append_law, beginning_law, charge_found_law, charge_law, digests_law, empty_law, first_entry_law,
     first_finding_law, first_slot_law, formatted_law, frame_law, free_hash_law, free_sorted_law,
     freeze_law, frozen_law, header_law, limits_law, log_region_law, manifest_law, meaning_law,
-    new_active_law, new_log_law, no_stores_law, own_rows_law, parts_law, rows_law, sound_law,
+    new_active_law, new_log_law, no_stores_law, own_rows_law, parts_law, rows_law, said_law, sound_law,
     stands_law, stores_law, taken_law, unnamed_law, verdict_law, whole_law,
 };

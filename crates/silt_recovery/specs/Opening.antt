@@ -4,9 +4,9 @@ use Rattle.silt_disk.specs.Disk.{Content, Left, LeavesOnly, Rests, size}
 use Rattle.silt_disk.specs.Layout.{InLimits, device_size}
 use Rattle.silt_hash_store.specs.State.{IsHashStore}
 use Rattle.silt_disk.specs.Header.{shape_of}
-use Rattle.silt_image.specs.Meaning.{IsGood, IsSound, StandsFor, charge_of, image_map, report_of}
+use Rattle.silt_image.specs.Meaning.{AreDigestsOf, IsGood, IsSound, StandsFor, charge_of, image_map, report_of}
 use Rattle.silt_log.specs.Parts.{known_rows}
-use Rattle.silt_image.specs.Stores.{Stores, image_stores}
+use Rattle.silt_image.specs.Stores.{Stores, image_digests, image_stores}
 use Rattle.silt_event.specs.declared.report.Report.{Report}
 use Rattle.silt_manifest.specs.Standing.{Rules}
 use Rattle.silt_standing.specs.Standing.{IsQuiet, SameDisk}
@@ -47,7 +47,9 @@ pub record Holds (content : Content) (s : TiersState) : Type 0 where
   pub located : IsLocated content s
   pub digested : IsDigested content s
   pub named : IsTrue content.honest → image_stores content.shown ≡ Ok (shown_stores content s)
+  pub says : IsTrue content.honest → image_digests content.shown ≡ s.manifest.digests
   pub sound : IsTrue content.honest → IsSound (shown_stores content s)
+  pub said : IsTrue content.honest → AreDigestsOf s.manifest.digests (shown_stores content s)
   pub counted : IsTrue content.honest → s.charge ≡ charge_of (shown_stores content s)
 
 -- so many rows of known kinds have the hash stores that are shown, together
@@ -59,7 +61,7 @@ pub record IsReported (image : List ℕ) (report : Report) : Type 0 where
   pub stores : Stores
   pub are : image_stores image ≡ Ok stores
   pub good : IsGood image
-  pub numbers : report ≡ report_of stores
+  pub numbers : report ≡ report_of (image_digests image) stores
 
 -- each image that a stop may now leave might have been left before, or stands for what was shown
 abbrev pub LeavesNoOther : Content → Content → Type 0

@@ -6,7 +6,7 @@ use Rattle.silt_conversion.specs.Conversion.{HasWritten}
 use Rattle.silt_hash_store.specs.State.{IsHashStore}
 use Rattle.silt_event.specs.Commands.{Command, Map, map_after}
 use Rattle.silt_image.specs.Stores.{Stores, image_stores, stores_named}
-use Rattle.silt_image.specs.Meaning.{IsSound, rows_of, with_log_rows}
+use Rattle.silt_image.specs.Meaning.{AreDigestsOf, IsSound, rows_of, with_log_rows}
 use Rattle.silt_event.specs.Rows.{command_of, map_of_rows}
 use Rattle.silt_frame.specs.Rows.{put_count}
 use Rattle.silt_log.specs.Rows.{log_rows, open_count}
@@ -69,8 +69,8 @@ abbrev pub HasGathered : Content → TiersState → MergeState → Type 0
 HasGathered content s merge = HasMerged content (oldest_stores merge.stores s.hashes) s.sorted merge
 
 -- The stores fit their disk: whatever a stop leaves has the stores that are shown, and nothing is found in these, also once the
--- waiting rows are settled. The tables, the tags, the index and the digests in memory are those of what is shown. A conversion and a merge have
--- written what is due so far.
+-- waiting rows are settled. The tables, the tags, the index and the digests in memory are those of what is shown, and so are the digests
+-- that the manifest says, if it says any. A conversion and a merge have written what is due so far.
 pub record Stands (content : Content) (s : TiersState) : Type 0 where
   pub has_size : size content ≡ device_size s.manifest.shape
   pub whole : AreWhole s
@@ -86,6 +86,7 @@ pub record Stands (content : Content) (s : TiersState) : Type 0 where
   pub merged : IfSome s.merging (HasGathered content s)
   pub named : LeavesOnly content (λ image. image_stores image ≡ Ok (shown_stores content s))
   pub sound : IsTrue content.honest → IsSound (with_log_rows s.active.log.region (all_rows content s.active.log) (shown_stores content s))
+  pub said : IsTrue content.honest → AreDigestsOf s.manifest.digests (shown_stores content s)
   pub counted : IsTrue content.honest → s.charge ≡ put_count (rows_of (shown_stores content s) ++ waiting_rows content s.active.log)
 
 -- The stores are those that the disk shows, with the rows that wait, whatever a crash leaves: what reading them needs.
