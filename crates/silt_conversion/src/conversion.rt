@@ -168,6 +168,16 @@ impl Conversion {
         self.puts
     }
 
+    /// The digest of what the hasher was fed so far: the bytes of the slots that were written. It is the digest of the hash store once
+    /// all slots are written.
+    pub fn digest(&self) -> Digest
+        ensures { IsDigestOf self.now.hasher result.0 }
+    {
+        let copy: Result<_, _> = self.hasher.clone();
+        let Ok(copy) = copy else { unreachable!() };
+        Digest(copy.finalize())
+    }
+
     /// Writes the next slot: reads the row that is due there, where one is, and writes its bytes, or zeros. Zeros are also written
     /// for a row of an unknown kind, which only a disk that is not honest can show. It takes no memory.
     ///
