@@ -3,7 +3,7 @@ use Rattle.std.specs.Prelude.{ℕ, List, ◌++◌, codes, ◌∷◌, []}
 use Rattle.std.specs.Fmt.{decimal}
 use Rattle.hex.specs.Hex.{encode_lower}
 use Rattle.silt_event.specs.declared.place.Place.{Place}
-use Rattle.silt_event.specs.declared.place.Place.TheVariants.{Header, Length, Slot, NoSlot, Log, Hash, Sorted, Charge}
+use Rattle.silt_event.specs.declared.place.Place.TheVariants.{Header, Length, Slot, NoSlot, Log, Hash, HashDigest, Sorted, SortedDigest, Charge}
 use Rattle.silt_event.specs.declared.progress.Progress.{Progress as ProgressOf}
 use Rattle.silt_event.specs.declared.progress.Progress.TheVariants.{Idle, Waiting, Moved, Finished}
 use Rattle.silt_event.specs.declared.refusal.Refusal.{Refusal}
@@ -22,7 +22,9 @@ place_text (Slot i) = codes "slot " ++ decimal i
 place_text NoSlot = codes "no slot"
 place_text (Log i j) = codes "log " ++ (decimal i ++ (codes " row " ++ decimal j))
 place_text (Hash i j) = codes "hash " ++ (decimal i ++ (codes " slot " ++ decimal j))
+place_text (HashDigest i) = codes "hash " ++ (decimal i ++ codes " digest")
 place_text (Sorted j) = codes "sorted " ++ decimal j
+place_text SortedDigest = codes "sorted digest"
 place_text Charge = codes "charge"
 
 -- a number and a name in a text

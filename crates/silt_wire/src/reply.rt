@@ -20,7 +20,9 @@ fn place_text(alloc: Global, place: &Place) -> Result<String, AllocError>
         Place::NoSlot => String::from_str(alloc, "no slot"),
         Place::Log { region, row } => format!(in alloc; "log {region} row {row}"),
         Place::Hash { region, slot } => format!(in alloc; "hash {region} slot {slot}"),
+        Place::HashDigest(region) => format!(in alloc; "hash {region} digest"),
         Place::Sorted(entry) => format!(in alloc; "sorted {entry}"),
+        Place::SortedDigest => String::from_str(alloc, "sorted digest"),
         Place::Charge => String::from_str(alloc, "charge"),
     }
 }

@@ -1,9 +1,9 @@
 // Reports to text.
 ghost use Rattle.std.specs.Prelude.{◌≡◌, IfOk, OnOk, string_bytes};
 ghost use Rattle.std.specs.Io.KnownBytes.{Appends};
-ghost use Rattle.silt_wire.specs.Reports.{number_line, rows_line, report_text};
+ghost use Rattle.silt_wire.specs.Reports.{number_line, rows_line, layout_number, report_text};
 
-use silt_event::Report;
+use silt_event::{Layout, Report};
 use std::alloc::{AllocError, Global};
 use std::io::{self, Write};
 
@@ -23,7 +23,17 @@ fn rows_line(alloc: Global, name: &str, number: u32, rows: u32) -> Result<String
     format!(in alloc; "{name} {number} rows {rows}\n")
 }
 
-/// The text of a report: six lines, each with its line feed. Numbers are in decimal.
+// The number of a layout.
+fn layout_number(layout: Layout) -> u64
+    ensures { result ≡ layout_number layout }
+{
+    match layout {
+        Layout::One => 1,
+        Layout::Two => 2,
+    }
+}
+
+/// The text of a report: seven lines, each with its line feed. Numbers are in decimal.
 pub fn print_report(alloc: Global, report: &Report) -> Result<String, AllocError>
     ensures { IfOk result (λ text. string_bytes text ≡ report_text report.now) }
 {
@@ -33,10 +43,11 @@ pub fn print_report(alloc: Global, report: &Report) -> Result<String, AllocError
     let hashes = rows_line(alloc, "hash stores", report.hashes, report.hash_rows)?;
     let entries = number_line(alloc, "sorted entries", report.entries as u64)?;
     let charge = number_line(alloc, "charge", report.charge as u64)?;
-    format!(in alloc; "{generation}{active}{frozen}{hashes}{entries}{charge}")
+    let layout = number_line(alloc, "layout", layout_number(report.layout))?;
+    format!(in alloc; "{generation}{active}{frozen}{hashes}{entries}{charge}{layout}")
 }
 
-/// Writes the six lines of a report.
+/// Writes the seven lines of a report.
 pub fn write_report<W: Write>(alloc: Global, report: &Report, writer: &mut W) -> io::Result<()>
     ensures { OnOk result (Appends (W.contents writer.old) (W.contents writer.new) (report_text report.now)) }
 {
