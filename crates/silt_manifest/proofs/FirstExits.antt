@@ -1,16 +1,21 @@
 -- What stands after the first write of a manifest.
-use Rattle.std.proofs.Common.{◌≡◌, ℕ, ◌+◌, ◌≤◌, true, false, List, [], ◌∷◌, length, slice_range, slice_index, Some, refl, sym, ap, ◌∙◌, arith}
+use Rattle.std.proofs.Common.{◌≡◌, ℕ, ◌+◌, ◌≤◌, true, false, List, [], ◌∷◌, length, slice_range, slice_index, refl, sym, ap, ◌∙◌, arith}
 use Rattle.std.proofs.lemmas.Bool.Decides.{nat_tests}
 use Rattle.silt_disk.specs.Disk.{Content, LeavesOnly, Torn, Writes, Rests, size, splice}
+use Rattle.silt_disk.specs.Header.{header_of, version_of}
 use Rattle.silt_disk.specs.Layout.{Shape, InLimits, slot_at}
 use Rattle.silt_disk.proofs.Images.{write_shows, rests_leaves, leaves_shows, sized_shows, torn_splice, torn_slice_after, splice_slice}
 use Rattle.silt_frame.specs.Gate.{is_open}
-use Rattle.silt_manifest.specs.Body.{FitsSlot, body_bytes, first_body, is_well_formed}
-use Rattle.silt_manifest.specs.Ruling.{slot_of, is_slot_open, open_body}
-use Rattle.silt_manifest.specs.Standing.{IsFirst}
-use Rattle.silt_manifest.proofs.SlotImages.{slot_parts, gate_of, closed_body, other_same, gate_written}
-use Rattle.silt_manifest.proofs.RulingLemmas.{alone_rules}
-use Rattle.silt_manifest.proofs.CommitExits.{holds_body}
+use Rattle.silt_manifest.specs.Body.{FitsSlot, first_body, is_well_formed}
+use Rattle.silt_manifest.specs.Digests.{FitsDigests, long_record, record_bytes}
+use Rattle.silt_manifest.specs.Ruling.{slot_of, is_slot_open}
+use Rattle.silt_manifest.specs.Standing.{FirstRulesLaw, IsFirst}
+use Rattle.silt_manifest.specs.declared.digests.Digests.{Digests}
+use Rattle.silt_manifest.proofs.DigestTrip.{length_record_bytes}
+use Rattle.silt_manifest.proofs.SlotImages.{slot_parts, gate_of, closed_record, other_same, gate_written}
+use Rattle.silt_manifest.proofs.RulingLemmas.{alone_found}
+use Rattle.silt_manifest.proofs.SoundBodies.{long_sound}
+use Rattle.silt_manifest.proofs.CommitExits.{holds_record}
 
 -- the first body's numbers fit their fields
 pub first_fits : FitsSlot first_body
@@ -34,13 +39,13 @@ pub record IsAlone (n : ℕ) (image : List ℕ) : Type 0 where
   pub size : length image ≡ n
   pub closed : is_slot_open image 1 ≡ false
 
--- and the first body's bytes stand in the slot 0
-pub record HasBytes (n : ℕ) (image : List ℕ) : Type 0 where
+-- and the first record's bytes stand in the slot 0
+pub record HasBytes (digests : Digests) (n : ℕ) (image : List ℕ) : Type 0 where
   pub size : length image ≡ n
   pub closed : is_slot_open image 1 ≡ false
-  pub bytes : slice_range image 4097 4217 ≡ body_bytes first_body
+  pub bytes : slice_range image 4097 4557 ≡ record_bytes first_body digests
 
-module _ (n : ℕ) (fits : slot_at 1 + 4096 ≤ n) where
+module _ (digests : Digests) (held : FitsDigests digests) (n : ℕ) (fits : slot_at 1 + 4096 ≤ n) where
   -- a change in the slot 0 leaves the slot 1 closed
   still_alone : (at count : ℕ) (before after : List ℕ) → 4096 ≤ at → at + count ≤ 8192 → IsAlone n before → Torn at count before after → IsAlone n after
   still_alone at count before after low high was torn =
@@ -54,12 +59,12 @@ module _ (n : ℕ) (fits : slot_at 1 + 4096 ≤ n) where
   after_zero : (before : List ℕ) → IsAlone n before → IsAlone n (splice 4096 (0 ∷ []) before)
   after_zero before was = let size = was.size in still_alone 4096 1 before (splice 4096 (0 ∷ []) before) (omega arith) (omega arith) was (torn_splice 4096 (0 ∷ []) before (omega arith))
 
-  -- after the body
-  after_body : (bytes : List ℕ) → length bytes ≡ 120 → bytes ≡ body_bytes first_body → (before : List ℕ) → IsAlone n before → HasBytes n (splice 4097 bytes before)
-  after_body bytes long are before was =
+  -- after the bytes
+  after_bytes : (bytes : List ℕ) → length bytes ≡ 460 → bytes ≡ record_bytes first_body digests → (before : List ℕ) → IsAlone n before → HasBytes digests n (splice 4097 bytes before)
+  after_bytes bytes long are before was =
       let size = was.size in
       let now = still_alone 4097 (length bytes) before (splice 4097 bytes before) (omega arith) (omega arith) was (torn_splice 4097 bytes before (omega arith)) in
-      let end : 4097 + length bytes ≡ 4217 = omega arith in
+      let end : 4097 + length bytes ≡ 4557 = omega arith in
       record {
         size = now.size;
         closed = now.closed;
@@ -67,28 +72,31 @@ module _ (n : ℕ) (fits : slot_at 1 + 4096 ≤ n) where
       }
 
   -- after the gate
-  after_gate : (before : List ℕ) → HasBytes n before → IsFirst (splice 4096 (167 ∷ []) before)
+  after_gate : (before : List ℕ) → HasBytes digests n before → IsFirst digests (splice 4096 (167 ∷ []) before)
   after_gate before was =
       let size = was.size in
       let after = splice 4096 (167 ∷ []) before in
       let torn : Torn 4096 1 before after = torn_splice 4096 (167 ∷ []) before (omega arith) in
       let now = still_alone 4096 1 before after (omega arith) (omega arith) (record { size = was.size; closed = was.closed }) torn in
-      let room : slot_at 0 + 121 ≤ length after = omega (arith, torn.size) in
+      let room : slot_at 0 + 461 ≤ length after = omega (arith, torn.size) in
       let gate : slice_index (slot_of after 0) 0 ≡ 167 = gate_written 167 0 before (omega arith) in
-      let bytes : slice_range after 4097 4217 ≡ body_bytes first_body = torn_slice_after 4096 1 before after torn 4097 4217 (omega arith) (omega arith) ∙ was.bytes in
-      let holds : open_body after 0 ≡ Some first_body = holds_body after 0 first_body room first_fits (ap is_open gate) bytes in
+      let bytes : slice_range after 4097 4557 ≡ record_bytes first_body digests = torn_slice_after 4096 1 before after torn 4097 4557 (omega arith) (omega arith) ∙ was.bytes in
       record {
-        rules = λ s limits. alone_rules s 0 1 first_body after refl (first_sound s limits) holds (closed_body (slot_of after 1) now.closed);
-        bytes = slot_parts after 0 room ∙ ap (λ (g : ℕ). g ∷ slice_range after 4097 4217) (sym (gate_of after 0 room) ∙ gate) ∙ ap (λ (rest : List ℕ). 167 ∷ rest) bytes;
+        first = holds_record after 0 first_body digests room first_fits held (ap is_open gate) bytes;
+        second = closed_record (slot_of after 1) now.closed;
+        bytes = slot_parts after 0 room ∙ ap (λ (g : ℕ). g ∷ slice_range after 4097 4557) (sym (gate_of after 0 room) ∙ gate) ∙ ap (λ (rest : List ℕ). 167 ∷ rest) bytes;
       }
 
--- 120 bytes
-pub first_length : (bytes : List ℕ) → bytes ≡ body_bytes first_body → length bytes ≡ 120
-first_length bytes are = ap length are
-
 -- all is written
-pub all_first : (bytes : List ℕ) (a b c d : Content) → slot_at 1 + 4096 ≤ size a → LeavesOnly a (λ image. is_slot_open image 1 ≡ false) → bytes ≡ body_bytes first_body → Writes 4096 (0 ∷ []) a b → Writes 4097 bytes b c → Writes 4096 (167 ∷ []) c d → Rests d → LeavesOnly d IsFirst
-all_first bytes a b c d fits closed are first second third rests =
+pub all_first : (digests : Digests) (bytes : List ℕ) (a b c d : Content) → FitsDigests digests → slot_at 1 + 4096 ≤ size a → LeavesOnly a (λ image. is_slot_open image 1 ≡ false) → bytes ≡ record_bytes first_body digests → Writes 4096 (0 ∷ []) a b → Writes 4097 bytes b c → Writes 4096 (167 ∷ []) c d → Rests d → LeavesOnly d (IsFirst digests)
+all_first digests bytes a b c d held fits closed are first second third rests =
     let alone = sized_shows (leaves_shows closed) in
-    let zeroed = write_shows {Q = IsAlone (size a)} first alone (λ before had. after_zero (size a) fits before (record { size = had.0; closed = had.1 })) in
-    rests_leaves rests (write_shows third (write_shows second zeroed (after_body (size a) fits bytes (first_length bytes are) are)) (after_gate (size a) fits))
+    let long : length bytes ≡ 460 = ap length are ∙ length_record_bytes first_body digests first_fits held in
+    let zeroed = write_shows {Q = IsAlone (size a)} first alone (λ before had. after_zero digests held (size a) fits before (record { size = had.0; closed = had.1 })) in
+    rests_leaves rests (write_shows third (write_shows second zeroed (after_bytes digests held (size a) fits bytes long are)) (after_gate digests held (size a) fits))
+
+-- a first record rules
+pub first_rules : FirstRulesLaw
+first_rules s digests image limits first second =
+    let v = version_of (header_of image) in
+    alone_found s v 0 1 (long_record first_body digests) image refl refl (long_sound s v 0 (long_record first_body digests) refl (first_sound s limits)) first second

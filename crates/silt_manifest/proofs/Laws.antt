@@ -1,32 +1,35 @@
--- What keeps the body that rules, for a crate above to cite.
+-- What keeps the record that rules, for a crate above to cite.
 use Rattle.std.proofs.Common.{◌≡◌, ℕ, ◌+◌, ◌<◌, ◌≤◌, false, List, Option, [], ◌∷◌, length, refl, sym, ap, ◌∙◌, inl, inr, arith}
 use Rattle.std.proofs.lemmas.Bool.{cases_eq}
 use Rattle.silt_disk.specs.Disk.{ChangesWithin, Content, LeavesOnly, LiesOutside, Restarts, Rests, Shows, Torn, Writes, size}
+use Rattle.silt_disk.specs.Header.{header_of, version_of}
 use Rattle.silt_disk.specs.Layout.{Shape, slot_at}
-use Rattle.silt_disk.proofs.Images.{leaves_shows, restart_leaves, rests_leaves, sized_leaves, sized_shows, within_leaves, within_shows, write_shows}
-use Rattle.silt_manifest.specs.Ruling.{ClosedSlotLaw, OtherRegionsLaw, body_behind, body_found, is_slot_open, manifest_found, open_body, ruling_manifest, slot_of, where_found}
-use Rattle.silt_manifest.specs.declared.body.Body.{Body}
+use Rattle.silt_disk.proofs.Images.{torn_slice_after, torn_slice_before, leaves_shows, restart_leaves, rests_leaves, sized_leaves, sized_shows, within_leaves, within_shows, write_shows}
+use Rattle.silt_manifest.specs.Ruling.{ClosedSlotLaw, OtherRecordsLaw, OtherRegionsLaw, record_behind, is_slot_open, manifest_found, open_record, ruling_manifest, slot_of, where_found}
+use Rattle.silt_manifest.specs.declared.digests.Digests.{Digests}
+use Rattle.silt_manifest.specs.declared.slot.SlotRecord.{SlotRecord}
 use Rattle.silt_manifest.specs.Standing.{IsFirst, IsRuled, ManifestState, Rules, ruling_slot, spare_slot}
-use Rattle.silt_manifest.proofs.SlotImages.{gate_written, other_same, slot_same}
+use Rattle.silt_manifest.proofs.SlotImages.{gate_written, other_same, slot_same, version_stays}
+use Rattle.silt_manifest.proofs.RulingLemmas.{found_at}
 use Rattle.std.specs.Prelude.{slice_index}
 use Rattle.silt_frame.specs.Gate.{is_open}
 
--- two slots that hold the same
-pub same_found : (s : Shape) (before after : List ℕ) → open_body after 0 ≡ open_body before 0 → open_body after 1 ≡ open_body before 1 → manifest_found s after ≡ manifest_found s before
-same_found s before after first second =
-    ap (λ held. body_found s held (open_body after 1)) first ∙ ap (λ held. body_found s (open_body before 0) held) second
+-- two slots that hold the same, and the same version
+pub same_found : (s : Shape) (before after : List ℕ) → version_of (header_of after) ≡ version_of (header_of before) → open_record after 0 ≡ open_record before 0 → open_record after 1 ≡ open_record before 1 → manifest_found s after ≡ manifest_found s before
+same_found s before after version first second = found_at s (version_of (header_of before)) after (open_record before 0) (open_record before 1) version first second
 
 -- a change in a closed slot
 pub closed_slots : ClosedSlotLaw
 closed_slots s slot before after below fits torn closed still =
+    let version = version_stays (slot_at slot) 4096 before after (omega arith) (omega arith) torn in
     elim (cases_eq slot 0) [
       | inl zero ↦
-          same_found s before after (ap (open_body after) (sym zero) ∙ still ∙ sym closed ∙ ap (open_body before) zero)
-          (ap body_behind (other_same 1 slot (slot_at slot) 4096 before after (omega arith) (omega arith) (omega arith) fits torn))
+          same_found s before after version (ap (open_record after) (sym zero) ∙ still ∙ sym closed ∙ ap (open_record before) zero)
+          (ap record_behind (other_same 1 slot (slot_at slot) 4096 before after (omega arith) (omega arith) (omega arith) fits torn))
       | inr not_zero ↦
           let one : slot ≡ 1 = omega arith in
-          same_found s before after (ap body_behind (other_same 0 slot (slot_at slot) 4096 before after (omega arith) (omega arith) (omega arith) fits torn))
-          (ap (open_body after) (sym one) ∙ still ∙ sym closed ∙ ap (open_body before) one)
+          same_found s before after version (ap record_behind (other_same 0 slot (slot_at slot) 4096 before after (omega arith) (omega arith) (omega arith) fits torn))
+          (ap (open_record after) (sym one) ∙ still ∙ sym closed ∙ ap (open_record before) one)
     ]
 
 -- a change outside the slots leaves each as it is
@@ -37,23 +40,44 @@ slot_elsewhere at count slot before after below fits apart torn =
       | inr high ↦ slot_same at count slot before after torn (omega arith) (inr (omega arith))
     ]
 
--- and so what is found
-pub other_regions : OtherRegionsLaw
-other_regions s at count before after fits apart torn =
-    same_found s before after (ap body_behind (slot_elsewhere at count 0 before after (omega arith) fits apart torn)) (ap body_behind (slot_elsewhere at count 1 before after (omega arith) fits apart torn))
+-- and so what it says
+pub other_records : OtherRecordsLaw
+other_records slot at count before after below fits apart torn = ap record_behind (slot_elsewhere at count slot before after below fits apart torn)
 
--- an image stays ruled under a change outside the slots
-ruled_elsewhere : (m : ManifestState) (n at count : ℕ) → slot_at 1 + 4096 ≤ n → LiesOutside (slot_at 0) 8192 at count → (before after : List ℕ) → (length before ≡ n) × IsRuled m before → Torn at count before after → IsRuled m after
+-- and what is found, where the header has the same version
+pub other_regions : OtherRegionsLaw
+other_regions s at count before after fits apart torn version =
+    same_found s before after version (other_records 0 at count before after (omega arith) fits apart torn) (other_records 1 at count before after (omega arith) fits apart torn)
+
+-- a change outside the header and the slots lies outside the slots
+outside_slots : (at count : ℕ) → LiesOutside 0 12288 at count → LiesOutside (slot_at 0) 8192 at count
+outside_slots at count apart = elim apart [ inl low ↦ inl (omega arith) | inr high ↦ inr (omega arith) ]
+
+-- it leaves the header as it is
+header_elsewhere : (at count : ℕ) (before after : List ℕ) → 4096 ≤ length before → LiesOutside 0 12288 at count → Torn at count before after → version_of (header_of after) ≡ version_of (header_of before)
+header_elsewhere at count before after fits apart torn =
+    elim apart [
+      | inl low ↦ ap version_of (torn_slice_after at count before after torn 0 37 low (omega arith))
+      | inr high ↦ ap version_of (torn_slice_before at count before after torn 0 37 (omega arith) (omega arith))
+    ]
+
+-- and what is found
+found_elsewhere : (s : Shape) (at count : ℕ) (before after : List ℕ) → slot_at 1 + 4096 ≤ length before → LiesOutside 0 12288 at count → Torn at count before after → manifest_found s after ≡ manifest_found s before
+found_elsewhere s at count before after fits apart torn = other_regions s at count before after fits (outside_slots at count apart) torn (header_elsewhere at count before after (omega arith) apart torn)
+
+-- an image stays ruled under a change outside the header and the slots
+ruled_elsewhere : (m : ManifestState) (n at count : ℕ) → slot_at 1 + 4096 ≤ n → LiesOutside 0 12288 at count → (before after : List ℕ) → (length before ≡ n) × IsRuled m before → Torn at count before after → IsRuled m after
 ruled_elsewhere m n at count fits apart before after (size, ruled) torn =
     let room : slot_at 1 + 4096 ≤ length before = omega arith in
+    let apart_too = outside_slots at count apart in
     record {
-      rules = ap where_found (other_regions m.shape at count before after room apart torn) ∙ ruled.rules;
-      stands = ap body_behind (slot_elsewhere at count (ruling_slot m) before after (omega arith) room apart torn) ∙ ruled.stands;
-      spare = ap (λ bytes. is_open (slice_index bytes 0)) (slot_elsewhere at count (spare_slot m) before after (omega arith) room apart torn) ∙ ruled.spare;
+      rules = ap where_found (found_elsewhere m.shape at count before after room apart torn) ∙ ruled.rules;
+      stands = other_records (ruling_slot m) at count before after (omega arith) room apart_too torn ∙ ruled.stands;
+      spare = ap (λ bytes. is_open (slice_index bytes 0)) (slot_elsewhere at count (spare_slot m) before after (omega arith) room apart_too torn) ∙ ruled.spare;
     }
 
--- whatever a stop leaves stays ruled under changes outside the slots
-pub rules_elsewhere : (m : ManifestState) (at count : ℕ) (old new : Content) → slot_at 1 + 4096 ≤ size old → LiesOutside (slot_at 0) 8192 at count → ChangesWithin at count old new → Rules m old → Rules m new
+-- whatever a stop leaves stays ruled under changes outside the header and the slots
+pub rules_elsewhere : (m : ManifestState) (at count : ℕ) (old new : Content) → slot_at 1 + 4096 ≤ size old → LiesOutside 0 12288 at count → ChangesWithin at count old new → Rules m old → Rules m new
 rules_elsewhere m at count old new fits apart changes rules = within_leaves changes (sized_leaves rules) (ruled_elsewhere m (size old) at count fits apart)
 
 -- and after a stop
@@ -65,11 +89,11 @@ pub rules_shown : (m : ManifestState) (content : Content) → Rules m content �
 rules_shown m content rules = leaves_shows rules
 
 -- a slot that was closed is closed in what is shown
-pub closed_shown : (slot : ℕ) (old new : Content) → slot_at slot + 121 ≤ size old → Writes (slot_at slot) (0 ∷ []) old new → Shows new (λ image. is_slot_open image slot ≡ false)
+pub closed_shown : (slot : ℕ) (old new : Content) → slot_at slot + 461 ≤ size old → Writes (slot_at slot) (0 ∷ []) old new → Shows new (λ image. is_slot_open image slot ≡ false)
 closed_shown slot old new fits writes = write_shows writes (record { holds = λ honest. refl }) (λ before (long : length before ≡ size old). ap is_open (gate_written 0 slot before (omega arith)))
 
 -- and in whatever a stop leaves, once nothing is pending
-pub closed_leaves : (slot : ℕ) (old new : Content) → slot_at slot + 121 ≤ size old → Writes (slot_at slot) (0 ∷ []) old new → Rests new → LeavesOnly new (λ image. is_slot_open image slot ≡ false)
+pub closed_leaves : (slot : ℕ) (old new : Content) → slot_at slot + 461 ≤ size old → Writes (slot_at slot) (0 ∷ []) old new → Rests new → LeavesOnly new (λ image. is_slot_open image slot ≡ false)
 closed_leaves slot old new fits writes rests = rests_leaves rests (closed_shown slot old new fits writes)
 
 -- it stays closed in what is shown under changes outside the slots
@@ -78,19 +102,20 @@ closed_elsewhere slot at count old new below fits apart changes shown =
     within_shows changes (sized_shows shown) (λ before after (had : (length before ≡ size old) × (is_slot_open before slot ≡ false)) torn.
     ap (λ bytes. is_open (slice_index bytes 0)) (slot_elsewhere at count slot before after below (let long = had.0 in omega arith) apart torn) ∙ had.1)
 
--- so does the body that rules whatever a stop leaves
-pub ruling_elsewhere : (s : Shape) (held : Option Body) (at count : ℕ) (old new : Content) → slot_at 1 + 4096 ≤ size old → LiesOutside (slot_at 0) 8192 at count → ChangesWithin at count old new → LeavesOnly old (λ image. ruling_manifest s image ≡ held) → LeavesOnly new (λ image. ruling_manifest s image ≡ held)
+-- so does the record that rules whatever a stop leaves, under changes outside the header and the slots
+pub ruling_elsewhere : (s : Shape) (held : Option SlotRecord) (at count : ℕ) (old new : Content) → slot_at 1 + 4096 ≤ size old → LiesOutside 0 12288 at count → ChangesWithin at count old new → LeavesOnly old (λ image. ruling_manifest s image ≡ held) → LeavesOnly new (λ image. ruling_manifest s image ≡ held)
 ruling_elsewhere s held at count old new fits apart changes leaves =
     within_leaves changes (sized_leaves leaves) (λ before after (had : (length before ≡ size old) × (ruling_manifest s before ≡ held)) torn.
-    ap where_found (other_regions s at count before after (let long = had.0 in omega arith) apart torn) ∙ had.1)
+    ap where_found (found_elsewhere s at count before after (let long = had.0 in omega arith) apart torn) ∙ had.1)
 
--- and the first body
-pub first_elsewhere : (at count : ℕ) (old new : Content) → slot_at 1 + 4096 ≤ size old → LiesOutside (slot_at 0) 8192 at count → ChangesWithin at count old new → LeavesOnly old IsFirst → LeavesOnly new IsFirst
-first_elsewhere at count old new fits apart changes leaves =
-    within_leaves changes (sized_leaves leaves) (λ before after (had : (length before ≡ size old) × IsFirst before) torn.
+-- and the first record
+pub first_elsewhere : {digests : Digests} (at count : ℕ) (old new : Content) → slot_at 1 + 4096 ≤ size old → LiesOutside (slot_at 0) 8192 at count → ChangesWithin at count old new → LeavesOnly old (IsFirst digests) → LeavesOnly new (IsFirst digests)
+first_elsewhere {digests} at count old new fits apart changes leaves =
+    within_leaves changes (sized_leaves leaves) (λ before after (had : (length before ≡ size old) × IsFirst digests before) torn.
     let long = had.0 in
     let room : slot_at 1 + 4096 ≤ length before = omega arith in
     record {
-      rules = λ s limits. ap where_found (other_regions s at count before after room apart torn) ∙ had.1.rules s limits;
+      first = other_records 0 at count before after (omega arith) room apart torn ∙ had.1.first;
+      second = other_records 1 at count before after (omega arith) room apart torn ∙ had.1.second;
       bytes = slot_elsewhere at count 0 before after (omega arith) room apart torn ∙ had.1.bytes;
     })

@@ -1,5 +1,7 @@
 pub mod BodyBytes
 pub mod CommitExits
+pub mod DigestBytes
+pub mod DigestTrip
 pub mod FirstExits
 pub mod Laws
 pub mod PrepareExits

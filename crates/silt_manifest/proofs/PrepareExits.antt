@@ -1,16 +1,18 @@
 -- What stands at each exit of the write of a next body.
-use Rattle.std.proofs.Common.{◌≡◌, ℕ, ◌+◌, ◌≤◌, inl, inr, true, false, not, List, [], ◌∷◌, length, slice_range, slice_index, Some, refl, sym, ap, subst, ◌∙◌, arith}
+use Rattle.std.proofs.Common.{◌≡◌, ℕ, ◌+◌, ◌≤◌, inl, inr, true, false, not, List, [], ◌∷◌, length, slice_range, slice_index, Option, Some, refl, sym, ap, subst, ◌∙◌, arith}
 use Rattle.std.proofs.lemmas.Bool.{cases_Bool}
 use Rattle.silt_disk.specs.Disk.{Content, LeavesOnly, Torn, ChangesWithin, Writes, Rests, size, splice}
 use Rattle.silt_disk.specs.Layout.{Shape, slot_at}
 use Rattle.silt_disk.proofs.Images.{within_leaves, write_shows, rests_leaves, weaker_leaves, leaves_shows, sized_leaves, sized_shows, torn_splice, splice_slice}
 use Rattle.silt_frame.specs.Gate.{is_open}
-use Rattle.silt_manifest.specs.Body.{FitsSlot, body_bytes, is_well_formed}
-use Rattle.silt_manifest.specs.Ruling.{slot_of, is_slot_open, body_behind, open_body, ruling_manifest}
-use Rattle.silt_manifest.specs.Standing.{ManifestState, IsNext, IsPrepared, IsRuled, IsReady, Rules, WritesNext, closing_place, ruling_slot, spare_slot}
+use Rattle.silt_manifest.specs.Body.{FitsSlot}
+use Rattle.silt_manifest.specs.Digests.{FitsDigests, long_record, record_bytes}
+use Rattle.silt_manifest.specs.Ruling.{slot_of, is_slot_open, record_behind, open_record}
+use Rattle.silt_manifest.specs.Standing.{ManifestState, IsNext, IsPrepared, IsRuled, IsReady, Rules, RulesAsHeld, WritesNext, closing_place, ruling_record, ruling_slot, spare_slot}
 use Rattle.silt_manifest.specs.declared.body.Body.{Body}
-use Rattle.silt_manifest.proofs.SlotImages.{closed_body, slot_same, other_same, gate_torn, gate_stays, gate_written}
-use Rattle.silt_manifest.proofs.RulingLemmas.{alone_rules, still_rules}
+use Rattle.silt_manifest.specs.declared.digests.Digests.{Digests}
+use Rattle.silt_manifest.proofs.SlotImages.{closed_record, slot_same, other_same, gate_torn, gate_stays, gate_written, version_stays}
+use Rattle.silt_manifest.proofs.RulingLemmas.{still_rules}
 
 -- the two slots are 0 and 1
 pub two_slots : (m : ManifestState) → ruling_slot m + spare_slot m ≡ 1
@@ -24,28 +26,28 @@ place_closed m closed = rw closed refl
 place_open : (m : ManifestState) → m.spare_closed ≡ false → closing_place m ≡ slot_at (spare_slot m)
 place_open m opened = rw opened refl
 
--- in an image of this length: the body rules as before, and the other slot is closed
+-- in an image of this length: the record rules as before, and the other slot is closed
 pub record IsShut (m : ManifestState) (n : ℕ) (image : List ℕ) : Type 0 where
   pub size : length image ≡ n
-  pub rules : ruling_manifest m.shape image ≡ Some m.ruling
-  pub stands : open_body image (ruling_slot m) ≡ Some m.ruling
+  pub rules : RulesAsHeld m image
+  pub stands : open_record image (ruling_slot m) ≡ Some (ruling_record m)
   pub shut : is_slot_open image (spare_slot m) ≡ false
 
-module _ (m : ManifestState) (n : ℕ) (fits : slot_at 1 + 4096 ≤ n) (sound : is_well_formed m.shape (ruling_slot m) m.ruling ≡ true) where
+module _ (m : ManifestState) (n : ℕ) (fits : slot_at 1 + 4096 ≤ n) where
   -- the zero may be done, done in part or not done
-  close_torn : (place : ℕ) → place ≡ closing_place m → (before after : List ℕ) → (length before ≡ n) × IsRuled m before → Torn place 1 before after → ruling_manifest m.shape after ≡ Some m.ruling
+  close_torn : (place : ℕ) → place ≡ closing_place m → (before after : List ℕ) → (length before ≡ n) × IsRuled m before → Torn place 1 before after → RulesAsHeld m after
   close_torn place is before after (size, ruled) torn =
       let slots = two_slots m in
       elim (cases_Bool m.spare_closed) [
         | inl closed ↦
             let at : place ≡ slot_at (spare_slot m) + 4095 = is ∙ place_closed m closed in
-            still_rules m.shape (ruling_slot m) (spare_slot m) m.ruling before after slots sound ruled.stands ruled.rules
-            (ap body_behind (other_same (ruling_slot m) (spare_slot m) place 1 before after slots (omega arith) (omega arith) (omega arith) torn))
-            (inr (ap body_behind (slot_same place 1 (spare_slot m) before after torn (omega arith) (inr (omega arith)))))
+            still_rules m.shape (ruling_slot m) (spare_slot m) (ruling_record m) before after (version_stays place 1 before after (omega arith) (omega arith) torn) slots ruled.stands ruled.rules
+            (ap record_behind (other_same (ruling_slot m) (spare_slot m) place 1 before after slots (omega arith) (omega arith) (omega arith) torn))
+            (inr (ap record_behind (slot_same place 1 (spare_slot m) before after torn (omega arith) (inr (omega arith)))))
         | inr opened ↦
             let at : place ≡ slot_at (spare_slot m) = is ∙ place_open m opened in
-            still_rules m.shape (ruling_slot m) (spare_slot m) m.ruling before after slots sound ruled.stands ruled.rules
-            (ap body_behind (other_same (ruling_slot m) (spare_slot m) place 1 before after slots (omega arith) (omega arith) (omega arith) torn))
+            still_rules m.shape (ruling_slot m) (spare_slot m) (ruling_record m) before after (version_stays place 1 before after (omega arith) (omega arith) torn) slots ruled.stands ruled.rules
+            (ap record_behind (other_same (ruling_slot m) (spare_slot m) place 1 before after slots (omega arith) (omega arith) (omega arith) torn))
             (gate_torn (spare_slot m) before after (omega arith) (subst (λ (p : ℕ). Torn p 1 before after) at torn) (ruled.spare ∙ ap not opened))
       ]
 
@@ -61,7 +63,7 @@ module _ (m : ManifestState) (n : ℕ) (fits : slot_at 1 + 4096 ≤ n) (sound : 
             record {
               size = torn.size ∙ size;
               rules = close_torn place is before after (size, ruled) torn;
-              stands = ap body_behind (other_same (ruling_slot m) (spare_slot m) place 1 before after slots (omega arith) (omega arith) (omega arith) torn) ∙ ruled.stands;
+              stands = ap record_behind (other_same (ruling_slot m) (spare_slot m) place 1 before after slots (omega arith) (omega arith) (omega arith) torn) ∙ ruled.stands;
               shut = ap (λ bytes. is_open (slice_index bytes 0)) (slot_same place 1 (spare_slot m) before after torn (omega arith) (inr (omega arith))) ∙ ruled.spare ∙ ap not closed;
             }
         | inr opened ↦
@@ -70,34 +72,36 @@ module _ (m : ManifestState) (n : ℕ) (fits : slot_at 1 + 4096 ≤ n) (sound : 
             record {
               size = torn.size ∙ size;
               rules = close_torn place is before after (size, ruled) torn;
-              stands = ap body_behind (other_same (ruling_slot m) (spare_slot m) place 1 before after slots (omega arith) (omega arith) (omega arith) torn) ∙ ruled.stands;
+              stands = ap record_behind (other_same (ruling_slot m) (spare_slot m) place 1 before after slots (omega arith) (omega arith) (omega arith) torn) ∙ ruled.stands;
               shut = ap is_open (ap (λ (p : ℕ). slice_index (slot_of (splice p (0 ∷ []) before) (spare_slot m)) 0) at ∙ gate_written 0 (spare_slot m) before (omega arith));
             }
       ]
 
-  -- the body may be written, or a part of it, behind a closed gate
-  body_torn : (at count : ℕ) → at ≡ slot_at (spare_slot m) + 1 → count ≡ 120 → (before after : List ℕ) → IsShut m n before → Torn at count before after → IsShut m n after
-  body_torn at count is long before after was torn =
+  -- the bytes may be written, or a part of it, behind a closed gate
+  bytes_torn : (at count : ℕ) → at ≡ slot_at (spare_slot m) + 1 → count ≡ 460 → (before after : List ℕ) → IsShut m n before → Torn at count before after → IsShut m n after
+  bytes_torn at count is long before after was torn =
       let slots = two_slots m in
       let size = was.size in
-      let stands : open_body after (ruling_slot m) ≡ Some m.ruling = ap body_behind (other_same (ruling_slot m) (spare_slot m) at count before after slots (omega arith) (omega arith) (omega arith) torn) ∙ was.stands in
+      let same : open_record after (ruling_slot m) ≡ open_record before (ruling_slot m) = ap record_behind (other_same (ruling_slot m) (spare_slot m) at count before after slots (omega arith) (omega arith) (omega arith) torn) in
       let shut : is_slot_open after (spare_slot m) ≡ false = gate_stays at count (spare_slot m) before after (omega arith) (omega arith) torn ∙ was.shut in
       record {
         size = torn.size ∙ was.size;
-        rules = alone_rules m.shape (ruling_slot m) (spare_slot m) m.ruling after slots sound stands (closed_body (slot_of after (spare_slot m)) shut);
-        stands = stands;
+        rules =
+            still_rules m.shape (ruling_slot m) (spare_slot m) (ruling_record m) before after (version_stays at count before after (omega arith) (omega arith) torn) slots was.stands was.rules same
+            (inl (closed_record (slot_of after (spare_slot m)) shut));
+        stands = same ∙ was.stands;
         shut = shut;
       }
 
-  -- the body is written
-  body_written : (at : ℕ) (bytes : List ℕ) (next : Body) → at ≡ slot_at (spare_slot m) + 1 → length bytes ≡ 120 → bytes ≡ body_bytes next → (before : List ℕ) → IsShut m n before → IsReady m next (splice at bytes before)
-  body_written at bytes next is long bytes_are before was =
+  -- the bytes are written
+  bytes_written : (at : ℕ) (bytes : List ℕ) (next : Body) (digests : Digests) → at ≡ slot_at (spare_slot m) + 1 → length bytes ≡ 460 → bytes ≡ record_bytes next digests → (before : List ℕ) → IsShut m n before → IsReady m next digests (splice at bytes before)
+  bytes_written at bytes next digests is long bytes_are before was =
       let slots = two_slots m in
       let size = was.size in
       let room : at + length bytes ≤ length before = omega arith in
       let after = splice at bytes before in
-      let now = body_torn at (length bytes) is long before after was (torn_splice at bytes before room) in
-      let end : at + length bytes ≡ slot_at (spare_slot m) + 121 = omega arith in
+      let now = bytes_torn at (length bytes) is long before after was (torn_splice at bytes before room) in
+      let end : at + length bytes ≡ slot_at (spare_slot m) + 461 = omega arith in
       record {
         rules = now.rules;
         stands = now.stands;
@@ -106,26 +110,26 @@ module _ (m : ManifestState) (n : ℕ) (fits : slot_at 1 + 4096 ≤ n) (sound : 
       }
 
 -- the first write or sync fails
-pub close_fails : (m : ManifestState) (place : ℕ) (old new : Content) → slot_at 1 + 4096 ≤ size old → is_well_formed m.shape (ruling_slot m) m.ruling ≡ true → Rules m old → place ≡ closing_place m → ChangesWithin place 1 old new → LeavesOnly new (λ image. ruling_manifest m.shape image ≡ Some m.ruling)
-close_fails m place old new fits sound rules is changes = within_leaves changes (sized_leaves rules) (close_torn m (size old) fits sound place is)
+pub close_fails : (m : ManifestState) (place : ℕ) (old new : Content) → slot_at 1 + 4096 ≤ size old → Rules m old → place ≡ closing_place m → ChangesWithin place 1 old new → LeavesOnly new (RulesAsHeld m)
+close_fails m place old new fits rules is changes = within_leaves changes (sized_leaves rules) (close_torn m (size old) fits place is)
 
 -- the other slot is closed
-shut_leaves : (m : ManifestState) (place : ℕ) (old between : Content) → slot_at 1 + 4096 ≤ size old → is_well_formed m.shape (ruling_slot m) m.ruling ≡ true → Rules m old → place ≡ closing_place m → Writes place (0 ∷ []) old between → Rests between → LeavesOnly between (IsShut m (size old))
-shut_leaves m place old between fits sound rules is writes rests = rests_leaves rests (write_shows writes (sized_shows (leaves_shows rules)) (close_written m (size old) fits sound place is))
+shut_leaves : (m : ManifestState) (place : ℕ) (old between : Content) → slot_at 1 + 4096 ≤ size old → Rules m old → place ≡ closing_place m → Writes place (0 ∷ []) old between → Rests between → LeavesOnly between (IsShut m (size old))
+shut_leaves m place old between fits rules is writes rests = rests_leaves rests (write_shows writes (sized_shows (leaves_shows rules)) (close_written m (size old) fits place is))
 
 -- the second write or sync fails
-pub body_fails : (m : ManifestState) (place at count : ℕ) (old between new : Content) → slot_at 1 + 4096 ≤ size old → is_well_formed m.shape (ruling_slot m) m.ruling ≡ true → Rules m old → place ≡ closing_place m → at ≡ slot_at (spare_slot m) + 1 → count ≡ 120 → Writes place (0 ∷ []) old between → Rests between → ChangesWithin at count between new → LeavesOnly new (λ image. ruling_manifest m.shape image ≡ Some m.ruling)
-body_fails m place at count old between new fits sound rules is is_at long writes rests changes =
-    weaker_leaves (within_leaves changes (shut_leaves m place old between fits sound rules is writes rests) (body_torn m (size old) fits sound at count is_at long)) (λ image now. now.rules)
+pub bytes_fail : (m : ManifestState) (place at count : ℕ) (old between new : Content) → slot_at 1 + 4096 ≤ size old → Rules m old → place ≡ closing_place m → at ≡ slot_at (spare_slot m) + 1 → count ≡ 460 → Writes place (0 ∷ []) old between → Rests between → ChangesWithin at count between new → LeavesOnly new (RulesAsHeld m)
+bytes_fail m place at count old between new fits rules is is_at long writes rests changes =
+    weaker_leaves (within_leaves changes (shut_leaves m place old between fits rules is writes rests) (bytes_torn m (size old) fits at count is_at long)) (λ image now. now.rules)
 
 -- all is written
-pub all_prepared : (m : ManifestState) (place at : ℕ) (bytes : List ℕ) (next : Body) (old between new : Content) → slot_at 1 + 4096 ≤ size old → is_well_formed m.shape (ruling_slot m) m.ruling ≡ true → Rules m old → place ≡ closing_place m → at ≡ slot_at (spare_slot m) + 1 → length bytes ≡ 120 → bytes ≡ body_bytes next → Writes place (0 ∷ []) old between → Rests between → Writes at bytes between new → Rests new → LeavesOnly new (IsReady m next)
-all_prepared m place at bytes next old between new fits sound rules is is_at long bytes_are first rests second rests_too =
-    rests_leaves rests_too (write_shows second (leaves_shows (shut_leaves m place old between fits sound rules is first rests)) (body_written m (size old) fits sound at bytes next is_at long bytes_are))
+pub all_prepared : (m : ManifestState) (place at : ℕ) (bytes : List ℕ) (next : Body) (digests : Digests) (old between new : Content) → slot_at 1 + 4096 ≤ size old → Rules m old → place ≡ closing_place m → at ≡ slot_at (spare_slot m) + 1 → length bytes ≡ 460 → bytes ≡ record_bytes next digests → Writes place (0 ∷ []) old between → Rests between → Writes at bytes between new → Rests new → LeavesOnly new (IsReady m next digests)
+all_prepared m place at bytes next digests old between new fits rules is is_at long bytes_are first rests second rests_too =
+    rests_leaves rests_too (write_shows second (leaves_shows (shut_leaves m place old between fits rules is first rests)) (bytes_written m (size old) fits at bytes next digests is_at long bytes_are))
 
 -- what is then shown
-pub next_written : (m : ManifestState) (place at : ℕ) (bytes : List ℕ) (next : Body) (old between new : Content) → place ≡ closing_place m → at ≡ slot_at (spare_slot m) + 1 → bytes ≡ body_bytes next → Writes place (0 ∷ []) old between → Writes at bytes between new → WritesNext m next old new
-next_written m place at bytes next old between new is is_at are first second = record {
+pub next_written : (m : ManifestState) (place at : ℕ) (bytes : List ℕ) (next : Body) (digests : Digests) (old between new : Content) → place ≡ closing_place m → at ≡ slot_at (spare_slot m) + 1 → bytes ≡ record_bytes next digests → Writes place (0 ∷ []) old between → Writes at bytes between new → WritesNext m next digests old new
+next_written m place at bytes next digests old between new is is_at are first second = record {
   honest = second.honest ∙ first.honest;
   shown = λ honest.
       second.shown (first.honest ∙ honest)
@@ -135,16 +139,18 @@ next_written m place at bytes next old between new is is_at are first second = r
       ∙ ap (λ (b : List ℕ). splice (slot_at (spare_slot m) + 1) b (splice (closing_place m) (0 ∷ []) old.shown)) are;
 }
 
--- the manifest that holds the next body, of this shape and with this body that rules, is prepared
-pub prepared_state : (m : ManifestState) (shape : Shape) (ruling next : Body) (content : Content) → m.shape ≡ shape → m.ruling ≡ ruling → IsNext m next → FitsSlot next → LeavesOnly content (IsReady m next)
-    → IsPrepared (record { shape = shape; ruling = ruling; spare_closed = true; prepared = Some next }) next content
-prepared_state m shape ruling next content same_shape same_ruling follows held leaves =
-    subst (λ s. IsPrepared (record { shape = s; ruling = ruling; spare_closed = true; prepared = Some next }) next content) same_shape
-    (subst (λ b. IsPrepared (record { shape = m.shape; ruling = b; spare_closed = true; prepared = Some next }) next content) same_ruling
+-- the manifest that holds the next record, of this shape and with this record that rules, is prepared
+pub prepared_state : (m : ManifestState) (shape : Shape) (ruling next : Body) (held : Option Digests) (digests : Digests) (content : Content) → m.shape ≡ shape → m.ruling ≡ ruling → m.digests ≡ held → IsNext m next → FitsSlot next → FitsDigests digests → LeavesOnly content (IsReady m next digests)
+    → IsPrepared (record { shape = shape; ruling = ruling; digests = held; spare_closed = true; prepared = Some (long_record next digests) }) next digests content
+prepared_state m shape ruling next held digests content same_shape same_ruling same_digests follows fits fits_digests leaves =
+    subst (λ s. IsPrepared (record { shape = s; ruling = ruling; digests = held; spare_closed = true; prepared = Some (long_record next digests) }) next digests content) same_shape
+    (subst (λ b. IsPrepared (record { shape = m.shape; ruling = b; digests = held; spare_closed = true; prepared = Some (long_record next digests) }) next digests content) same_ruling
+    (subst (λ d. IsPrepared (record { shape = m.shape; ruling = m.ruling; digests = d; spare_closed = true; prepared = Some (long_record next digests) }) next digests content) same_digests
     (record {
       is = refl;
       closed = refl;
       follows = record { generation = follows.generation; sound = follows.sound };
-      fits = held;
+      fits = fits;
+      fits_digests = fits_digests;
       leaves = weaker_leaves leaves (λ image ready. record { rules = ready.rules; stands = ready.stands; spare = ready.spare; bytes = ready.bytes });
-    }))
+    })))

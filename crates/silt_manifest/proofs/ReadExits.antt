@@ -4,116 +4,124 @@ use Rattle.std.specs.Option.{ok_or}
 use Rattle.std.specs.Result.{IfOk, IfErr}
 use Rattle.std.proofs.lemmas.Bool.{cases_Bool}
 use Rattle.silt_disk.specs.Disk.{Content, Shows, LeavesOnly, Rests}
+use Rattle.silt_disk.specs.Header.{header_of, version_of}
 use Rattle.silt_disk.specs.Layout.{Shape}
-use Rattle.silt_disk.proofs.Images.{weaker_shows, rests_leaves}
+use Rattle.silt_disk.specs.declared.header.Version.{Version}
+use Rattle.silt_disk.proofs.Images.{rests_leaves}
 use Rattle.silt_frame.specs.Gate.{is_open}
-use Rattle.silt_manifest.specs.Body.{body_of}
+use Rattle.silt_manifest.specs.Digests.{record_of}
 use Rattle.silt_manifest.specs.Faults.{IsDamaged, IsNotRead, IsSlotRefused, IsUnsound}
-use Rattle.silt_manifest.specs.Ruling.{HasSlot, body_behind, body_found, is_slot_open, is_sound_body, open_body, ruling_manifest, slot_of, where_found}
+use Rattle.silt_manifest.specs.Ruling.{HasSlot, record_behind, record_found, is_slot_open, is_sound_record, open_record, ruling_manifest, slot_of, where_found}
 use Rattle.silt_manifest.specs.Standing.{IsRuled, ManifestState, manifest_of, ruled_by}
-use Rattle.silt_manifest.specs.declared.body.Body.{Body}
+use Rattle.silt_manifest.specs.declared.slot.SlotRecord.{SlotRecord}
 use Rattle.silt_manifest.specs.declared.slot.Damage.{Damage}
 use Rattle.silt_manifest.specs.declared.slot.Damage.TheVariants.{Slot, NoSlot}
 use Rattle.silt_manifest.specs.declared.slot.ReadFault.{ReadFault}
 use Rattle.silt_manifest.specs.declared.slot.ReadFault.TheVariants.{Damaged, Device}
-use Rattle.silt_manifest.proofs.SlotImages.{opened_body}
-use Rattle.silt_manifest.proofs.SoundBodies.{sound_parts}
-use Rattle.silt_manifest.proofs.RulingLemmas.{alone_rules, found_at, newer_first, newer_second}
+use Rattle.silt_manifest.proofs.SlotImages.{opened_record}
+use Rattle.silt_manifest.proofs.SoundBodies.{sound_body, sound_parts}
+use Rattle.silt_manifest.proofs.RulingLemmas.{alone_found, found_at, newer_first, newer_second}
 use Rattle.silt_manifest.proofs.CommitExits.{holds_open}
 
 -- what was read are a slot's bytes
 abbrev pub ReadsSlot : Content → ℕ → List ℕ → Type 0
 ReadsSlot content slot bytes = IsTrue content.honest → bytes ≡ slot_of content.shown slot
 
--- a slot that is closed, or whose body is well formed
-pub reads_held : (content : Content) (s : Shape) (slot : ℕ) (bytes : List ℕ) (held : Option Body) → ReadsSlot content slot bytes → body_behind bytes ≡ held → is_sound_body s slot held ≡ true → Shows content (HasSlot s slot held)
-reads_held content s slot bytes held reads is sound = record {
-  holds = λ honest. record { held = ap body_behind (sym (reads honest)) ∙ is; sound = sound };
+-- a slot that is closed, or whose record is sound
+pub reads_held : (content : Content) (s : Shape) (v : Version) (slot : ℕ) (bytes : List ℕ) (held : Option SlotRecord) → ReadsSlot content slot bytes → record_behind bytes ≡ held → is_sound_record s v slot held ≡ true → Shows content (HasSlot s v slot held)
+reads_held content s v slot bytes held reads is sound = record {
+  holds = λ honest. record { held = ap record_behind (sym (reads honest)) ∙ is; sound = sound };
 }
 
--- a slot that is open, and whose body is not well formed
-pub reads_damage : (content : Content) (s : Shape) (slot : ℕ) (bytes : List ℕ) (damage : Damage) → ReadsSlot content slot bytes → damage ≡ Slot slot → is_sound_body s slot (body_behind bytes) ≡ false → Shows content (IsUnsound s slot damage)
-reads_damage content s slot bytes damage reads place unsound = record {
-  holds = λ honest. record { place = place; unsound = ap (λ held. is_sound_body s slot (body_behind held)) (sym (reads honest)) ∙ unsound };
+-- a slot that is open, and whose record is not sound
+pub reads_damage : (content : Content) (s : Shape) (v : Version) (slot : ℕ) (bytes : List ℕ) (damage : Damage) → ReadsSlot content slot bytes → damage ≡ Slot slot → is_sound_record s v slot (record_behind bytes) ≡ false → Shows content (IsUnsound s v slot damage)
+reads_damage content s v slot bytes damage reads place unsound = record {
+  holds = λ honest. record { place = place; unsound = ap (λ held. is_sound_record s v slot (record_behind held)) (sym (reads honest)) ∙ unsound };
 }
+
+-- the version is that of the header that is shown
+abbrev pub HasVersion : Content → Version → Type 0
+HasVersion content v = IsTrue content.honest → v ≡ version_of (header_of content.shown)
 
 -- the first slot is damaged
-first_damage : (s : Shape) (damage : Damage) (image : List ℕ) → IsUnsound s 0 damage image → IsDamaged s damage image
-unfolding body_found
-first_damage s damage image unsound = record { found = rw unsound.unsound (ap Err (sym unsound.place)) }
+first_damage : (s : Shape) (v : Version) (damage : Damage) (image : List ℕ) → version_of (header_of image) ≡ v → IsUnsound s v 0 damage image → IsDamaged s damage image
+unfolding record_found
+first_damage s v damage image is unsound =
+    let refused : record_found s v (open_record image 0) (open_record image 1) ≡ Err (Slot 0) = rw unsound.unsound refl in
+    record { found = found_at s v image (open_record image 0) (open_record image 1) is refl refl ∙ refused ∙ ap Err (sym unsound.place) }
 
 -- the second slot is damaged
-second_damage : (s : Shape) (damage : Damage) (first : Option Body) (image : List ℕ) → HasSlot s 0 first image → IsUnsound s 1 damage image → IsDamaged s damage image
-unfolding body_found
-second_damage s damage first image has unsound =
-    let sound : is_sound_body s 0 (open_body image 0) ≡ true = ap (is_sound_body s 0) has.held ∙ has.sound in
-    record { found = rw (sound, unsound.unsound) (ap Err (sym unsound.place)) }
+second_damage : (s : Shape) (v : Version) (damage : Damage) (first : Option SlotRecord) (image : List ℕ) → version_of (header_of image) ≡ v → HasSlot s v 0 first image → IsUnsound s v 1 damage image → IsDamaged s damage image
+unfolding record_found
+second_damage s v damage first image is has unsound =
+    let refused : record_found s v first (open_record image 1) ≡ Err (Slot 1) = rw (has.sound, unsound.unsound) refl in
+    record { found = found_at s v image first (open_record image 1) is has.held refl ∙ refused ∙ ap Err (sym unsound.place) }
 
 -- no slot is open
-no_slot : (s : Shape) (image : List ℕ) → HasSlot s 0 None image → HasSlot s 1 None image → IsDamaged s NoSlot image
-unfolding body_found
-no_slot s image first second = record { found = rw (first.held, second.held) refl }
+no_slot : (s : Shape) (v : Version) (image : List ℕ) → version_of (header_of image) ≡ v → HasSlot s v 0 None image → HasSlot s v 1 None image → IsDamaged s NoSlot image
+unfolding record_found
+no_slot s v image is first second = record { found = found_at s v image None None is first.held second.held }
 
 -- the read of the first slot is refused
-pub first_refused : {F : Type 0} (content : Content) (s : Shape) (W : F → Type 0) (e : ReadFault F) → IsSlotRefused content s W 0 e → IsNotRead content s W e
-first_refused content s W (Damaged damage) refused = weaker_shows refused (first_damage s damage)
-first_refused content s W (Device fault) refused = refused
+pub first_refused : {F : Type 0} (content : Content) (s : Shape) (v : Version) (W : F → Type 0) (e : ReadFault F) → HasVersion content v → IsSlotRefused content s v W 0 e → IsNotRead content s W e
+first_refused content s v W (Damaged damage) is refused = record { holds = λ honest. first_damage s v damage content.shown (sym (is honest)) (refused.holds honest) }
+first_refused content s v W (Device fault) is refused = refused
 
 -- the read of the second slot is refused
-pub second_refused : {F : Type 0} (content : Content) (s : Shape) (W : F → Type 0) (first : Option Body) (e : ReadFault F) → Shows content (HasSlot s 0 first) → IsSlotRefused content s W 1 e → IsNotRead content s W e
-second_refused content s W first (Damaged damage) has refused = record { holds = λ honest. second_damage s damage first content.shown (has.holds honest) (refused.holds honest) }
-second_refused content s W first (Device fault) has refused = refused
+pub second_refused : {F : Type 0} (content : Content) (s : Shape) (v : Version) (W : F → Type 0) (first : Option SlotRecord) (e : ReadFault F) → HasVersion content v → Shows content (HasSlot s v 0 first) → IsSlotRefused content s v W 1 e → IsNotRead content s W e
+second_refused content s v W first (Damaged damage) is has refused = record { holds = λ honest. second_damage s v damage first content.shown (sym (is honest)) (has.holds honest) (refused.holds honest) }
+second_refused content s v W first (Device fault) is has refused = refused
 
 -- both slots are closed
-pub none_refused : (content : Content) (s : Shape) (first second : Option Body) (made : Option ManifestState) → Shows content (HasSlot s 0 first) → Shows content (HasSlot s 1 second) → made ≡ manifest_of s first second → made ≡ None → Shows content (IsDamaged s NoSlot)
-none_refused content s None None made one two is none = record { holds = λ honest. no_slot s content.shown (one.holds honest) (two.holds honest) }
-none_refused content s None (Some b) made one two is none = absurd (cc)
-none_refused content s (Some a) None made one two is none = absurd (cc)
-none_refused content s (Some a) (Some b) made one two is none = absurd (cc)
+pub none_refused : (content : Content) (s : Shape) (v : Version) (first second : Option SlotRecord) (made : Option ManifestState) → HasVersion content v → Shows content (HasSlot s v 0 first) → Shows content (HasSlot s v 1 second) → made ≡ manifest_of s first second → made ≡ None → Shows content (IsDamaged s NoSlot)
+none_refused content s v None None made version one two is none = record { holds = λ honest. no_slot s v content.shown (sym (version honest)) (one.holds honest) (two.holds honest) }
+none_refused content s v None (Some b) made version one two is none = absurd (cc)
+none_refused content s v (Some a) None made version one two is none = absurd (cc)
+none_refused content s v (Some a) (Some b) made version one two is none = absurd (cc)
 
 -- a slot that holds nothing is closed
-holds_closed : (bytes : List ℕ) → body_behind bytes ≡ None → is_open (slice_index bytes 0) ≡ false
+holds_closed : (bytes : List ℕ) → record_behind bytes ≡ None → is_open (slice_index bytes 0) ≡ false
 holds_closed bytes holds =
     elim (cases_Bool (is_open (slice_index bytes 0))) [
-      | inl opened ↦ let some : body_behind bytes ≡ Some (body_of bytes) = opened_body bytes opened in absurd (cc)
+      | inl opened ↦ let some : record_behind bytes ≡ Some (record_of bytes) = opened_record bytes opened in absurd (cc)
       | inr closed ↦ closed
     ]
 
--- a body rules that stands in the one slot, where the gate of the other is so
-ruled_so : (s : Shape) (r o : ℕ) (b : Body) (spare_closed : Bool) (image : List ℕ) → r + o ≡ 1 → HasSlot s r (Some b) image → ruling_manifest s image ≡ Some b → is_slot_open image o ≡ not spare_closed → IsRuled (ruled_by s b spare_closed) image
-ruled_so s r o b spare_closed image slots has rules spare =
-    let own : b.generation % 2 ≡ r = (sound_parts s r b has.sound).slot_is in
-    let other : (b.generation + 1) % 2 ≡ o = omega arith in
+-- a record rules that stands in the one slot, where the gate of the other is so
+ruled_so : (s : Shape) (v : Version) (r o : ℕ) (b : SlotRecord) (spare_closed : Bool) (image : List ℕ) → r + o ≡ 1 → HasSlot s v r (Some b) image → ruling_manifest s image ≡ Some b → is_slot_open image o ≡ not spare_closed → IsRuled (ruled_by s b spare_closed) image
+ruled_so s v r o b spare_closed image slots has rules spare =
+    let own : b.body.generation % 2 ≡ r = (sound_parts s r b.body (sound_body s v r b has.sound)).slot_is in
+    let other : (b.body.generation + 1) % 2 ≡ o = omega arith in
     record {
       rules = rules;
-      stands = ap (open_body image) own ∙ has.held;
+      stands = ap (open_record image) own ∙ has.held;
       spare = ap (is_slot_open image) other ∙ spare;
     }
 
 -- the manifest of two slots is what an image has
-ruled_image : (s : Shape) (first second : Option Body) (m : ManifestState) (image : List ℕ) → HasSlot s 0 first image → HasSlot s 1 second image → manifest_of s first second ≡ Some m → IsRuled m image
-ruled_image s None None m image one two is = absurd (cc)
-ruled_image s None (Some b) m image one two is =
+ruled_image : (s : Shape) (v : Version) (first second : Option SlotRecord) (m : ManifestState) (image : List ℕ) → version_of (header_of image) ≡ v → HasSlot s v 0 first image → HasSlot s v 1 second image → manifest_of s first second ≡ Some m → IsRuled m image
+ruled_image s v None None m image version one two is = absurd (cc)
+ruled_image s v None (Some b) m image version one two is =
     let same : ruled_by s b true ≡ m = cc in
-    subst (λ state. IsRuled state image) same (ruled_so s 1 0 b true image refl two (alone_rules s 1 0 b image refl two.sound two.held one.held) (holds_closed (slot_of image 0) one.held))
-ruled_image s (Some a) None m image one two is =
+    subst (λ state. IsRuled state image) same (ruled_so s v 1 0 b true image refl two (ap where_found (alone_found s v 1 0 b image version refl two.sound two.held one.held)) (holds_closed (slot_of image 0) one.held))
+ruled_image s v (Some a) None m image version one two is =
     let same : ruled_by s a true ≡ m = cc in
-    subst (λ state. IsRuled state image) same (ruled_so s 0 1 a true image refl one (alone_rules s 0 1 a image refl one.sound one.held two.held) (holds_closed (slot_of image 1) two.held))
-ruled_image s (Some a) (Some b) m image one two is =
-    elim (cases_Bool (nat_lt a.generation b.generation)) [
+    subst (λ state. IsRuled state image) same (ruled_so s v 0 1 a true image refl one (ap where_found (alone_found s v 0 1 a image version refl one.sound one.held two.held)) (holds_closed (slot_of image 1) two.held))
+ruled_image s v (Some a) (Some b) m image version one two is =
+    elim (cases_Bool (nat_lt a.body.generation b.body.generation)) [
       | inl newer ↦
-          let chosen : (if nat_lt a.generation b.generation then ruled_by s b false else ruled_by s a false) ≡ ruled_by s b false = rw newer refl in
+          let chosen : (if nat_lt a.body.generation b.body.generation then ruled_by s b false else ruled_by s a false) ≡ ruled_by s b false = rw newer refl in
           let same : ruled_by s b false ≡ m = cc in
-          subst (λ state. IsRuled state image) same (ruled_so s 1 0 b false image refl two (found_at s image (Some a) (Some b) one.held two.held ∙ ap where_found (newer_second s a b one.sound two.sound newer)) (holds_open (slot_of image 0) a one.held))
+          subst (λ state. IsRuled state image) same (ruled_so s v 1 0 b false image refl two (ap where_found (found_at s v image (Some a) (Some b) version one.held two.held ∙ newer_second s v a b one.sound two.sound newer)) (holds_open (slot_of image 0) a one.held))
       | inr older ↦
-          let chosen : (if nat_lt a.generation b.generation then ruled_by s b false else ruled_by s a false) ≡ ruled_by s a false = rw older refl in
+          let chosen : (if nat_lt a.body.generation b.body.generation then ruled_by s b false else ruled_by s a false) ≡ ruled_by s a false = rw older refl in
           let same : ruled_by s a false ≡ m = cc in
-          subst (λ state. IsRuled state image) same (ruled_so s 0 1 a false image refl one (found_at s image (Some a) (Some b) one.held two.held ∙ ap where_found (newer_first s a b one.sound two.sound older)) (holds_open (slot_of image 1) b two.held))
+          subst (λ state. IsRuled state image) same (ruled_so s v 0 1 a false image refl one (ap where_found (found_at s v image (Some a) (Some b) version one.held two.held ∙ newer_first s v a b one.sound two.sound older)) (holds_open (slot_of image 1) b two.held))
     ]
 
 -- what is shown is ruled by the manifest that its slots make
-pub slots_rule : (content : Content) (s : Shape) (first second : Option Body) (made : Option ManifestState) (m : ManifestState) → Shows content (HasSlot s 0 first) → Shows content (HasSlot s 1 second) → made ≡ manifest_of s first second → made ≡ Some m → Shows content (IsRuled m)
-slots_rule content s first second made m one two is some = record { holds = λ honest. ruled_image s first second m content.shown (one.holds honest) (two.holds honest) (sym is ∙ some) }
+pub slots_rule : (content : Content) (s : Shape) (v : Version) (first second : Option SlotRecord) (made : Option ManifestState) (m : ManifestState) → HasVersion content v → Shows content (HasSlot s v 0 first) → Shows content (HasSlot s v 1 second) → made ≡ manifest_of s first second → made ≡ Some m → Shows content (IsRuled m)
+slots_rule content s v first second made m version one two is some = record { holds = λ honest. ruled_image s v first second m content.shown (sym (version honest)) (one.holds honest) (two.holds honest) (sym is ∙ some) }
 
 -- where nothing is pending, so is whatever a stop leaves
 pub rest_rules : (content : Content) (m : ManifestState) → Shows content (IsRuled m) → Rests content → LeavesOnly content (IsRuled m)

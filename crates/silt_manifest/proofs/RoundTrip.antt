@@ -1,5 +1,5 @@
 -- What is written of a body is what is read.
-use Rattle.std.proofs.Common.{◌≡◌, ℕ, zero, suc, ◌+◌, ◌-◌, ◌*◌, ◌^◌, ◌<◌, ◌≤◌, true, nat_lt, List, [], ◌∷◌, ◌++◌, length, map, take, drop, replicate, refl, sym, ap, ◌∙◌, arith, append_assoc, append-nil, length-append}
+use Rattle.std.proofs.Common.{◌≡◌, ℕ, zero, suc, ◌+◌, ◌-◌, ◌*◌, ◌%◌, ◌^◌, ◌<◌, ◌≤◌, true, nat_lt, List, [], ◌∷◌, ◌++◌, length, map, take, drop, replicate, refl, sym, ap, ◌∙◌, arith, append_assoc, append-nil, length-append}
 use Rattle.std.specs.List.{range_with_len, list_all}
 use Rattle.std.proofs.lemmas.List.{drop_at, take_at, length-replicate}
 use Rattle.std.proofs.lemmas.Bool.{and_parts, ltb-true}
@@ -7,7 +7,7 @@ use Rattle.byteorder.specs.Endian.{big_number, big_bytes}
 use Rattle.byteorder.specs.Numbers.{big_number-reads_back, length-bytes_high_first}
 use Rattle.silt_disk.specs.Numbers.{number_at}
 use Rattle.silt_manifest.specs.Numbers.{id_bytes, ids_bytes, ids_at}
-use Rattle.silt_manifest.specs.Body.{BodyLaw, FitsSlot, body_bytes}
+use Rattle.silt_manifest.specs.Body.{BodyLaw, FitsSlot, body_bytes, long_bit}
 use Rattle.silt_manifest.specs.declared.body.Body.{Body}
 
 -- a number behind some bytes
@@ -21,12 +21,12 @@ number_behind n i x pre post e fits =
     ap (big_number n) (cut ∙ sym (append-nil (big_bytes n x))) ∙ big_number-reads_back n x [] fits
 
 -- the same numbers, one place on
-range_on : {X : Type 0} (f : ℕ → X) (a n : ℕ) → map f (range_with_len (a + 1) n) ≡ map (λ k. f (k + 1)) (range_with_len a n)
+pub range_on : {X : Type 0} (f : ℕ → X) (a n : ℕ) → map f (range_with_len (a + 1) n) ≡ map (λ k. f (k + 1)) (range_with_len a n)
 range_on f a zero = refl
 range_on f a (suc n) = ap (λ xs. f (a + 1) ∷ xs) (range_on f (a + 1) n)
 
 -- two functions that agree give the same list
-map_same : {X : Type 0} (f g : ℕ → X) (ns : List ℕ) → ((n : ℕ) → f n ≡ g n) → map f ns ≡ map g ns
+pub map_same : {X : Type 0} (f g : ℕ → X) (ns : List ℕ) → ((n : ℕ) → f n ≡ g n) → map f ns ≡ map g ns
 map_same f g [] same = refl
 map_same f g (n ∷ ns) same = let head = same n in let rest = map_same f g ns same in cc
 
@@ -84,7 +84,7 @@ regroup a b c d e = simp append_assoc
 
 -- the bytes of the slot before the frozen logs
 front : ℕ → Body → List ℕ
-front gate b = gate ∷ big_bytes 8 b.generation ++ big_bytes 4 b.active
+front gate b = gate ∷ big_bytes 8 (b.generation + long_bit) ++ big_bytes 4 b.active
 
 -- the parts of the slot from there on
 parts_of : Body → List ℕ → List ℕ
@@ -94,6 +94,14 @@ parts_of b rest = ids_bytes 7 b.frozen ++ (ids_bytes 16 b.hashed ++ (big_bytes 4
 slot_parts : (gate : ℕ) (b : Body) (rest : List ℕ) → gate ∷ body_bytes b ++ rest ≡ front gate b ++ parts_of b rest
 unfolding front parts_of
 slot_parts gate b rest = ap (λ t. front gate b ++ t) (regroup (ids_bytes 7 b.frozen) (ids_bytes 16 b.hashed) (big_bytes 4 b.sorted) (big_bytes 4 b.sorted_count) rest)
+
+-- the field of the generation of a slot
+pub generation_field : (b : Body) (gate : ℕ) (rest : List ℕ) → FitsSlot b → number_at 8 1 (gate ∷ body_bytes b ++ rest) ≡ b.generation + long_bit
+generation_field b gate rest fits = big_number-reads_back 8 (b.generation + long_bit) [] (let h = fits.generation in omega arith)
+
+-- a generation without the highest bit
+without_bit : (n : ℕ) → n < long_bit → (n + long_bit) % long_bit ≡ n
+without_bit n below = omega arith
 
 -- a body reads back
 pub body_law : BodyLaw
@@ -111,7 +119,8 @@ body_law b gate rest fits =
     let len_f : length (front gate b ++ F) ≡ 45 = omega (arith, length-append (front gate b) F, length_ids_bytes 7 b.frozen fits.frozen_count) in
     let len_h : length ((front gate b ++ F) ++ H) ≡ 113 = omega (arith, length-append (front gate b ++ F) H, length_ids_bytes 16 b.hashed fits.hashed_count, len_f) in
     let len_s : length (((front gate b ++ F) ++ H) ++ S) ≡ 117 = length-append ((front gate b ++ F) ++ H) S ∙ ap (λ (n : ℕ). n + 4) len_h in
-    let generation : number_at 8 1 slot ≡ b.generation = big_number-reads_back 8 b.generation [] fits.generation in
+    let field = generation_field b gate rest fits in
+    let generation : number_at 8 1 slot % long_bit ≡ b.generation = ap (λ (n : ℕ). n % long_bit) field ∙ without_bit b.generation fits.generation in
     let active : number_at 4 9 slot ≡ b.active = big_number-reads_back 4 b.active [] fits.active in
     let frozen : ids_at 13 slot ≡ b.frozen = ap (ids_at 13) whole ∙ ids_at_behind 7 b.frozen 13 (front gate b) (H ++ (S ++ (C ++ rest))) refl (let h = fits.frozen_count in omega arith) fits.frozen in
     let hashed : ids_at 45 slot ≡ b.hashed = ap (ids_at 45) (whole ∙ to_hashed) ∙ ids_at_behind 16 b.hashed 45 (front gate b ++ F) (S ++ (C ++ rest)) len_f (let h = fits.hashed_count in omega arith) fits.hashed in
@@ -128,7 +137,7 @@ pub length_body_bytes : (b : Body) → length b.frozen ≤ 7 → length b.hashed
 length_body_bytes b frozen hashed =
     let F = ids_bytes 7 b.frozen in
     let H = ids_bytes 16 b.hashed in
-    let first = big_bytes 8 b.generation ++ big_bytes 4 b.active in
+    let first = big_bytes 8 (b.generation + long_bit) ++ big_bytes 4 b.active in
     let one = length-append first F in
     let two = length-append (first ++ F) H in
     let three = length-append ((first ++ F) ++ H) (big_bytes 4 b.sorted) in

@@ -1,88 +1,130 @@
--- Which body rules, from what the two slots hold.
-use Rattle.std.proofs.Common.{◌≡◌, ℕ, ◌+◌, ◌⊎◌, inl, inr, true, false, nat_lt, List, Option, Some, None, Ok, refl, sym, ap, ◌∙◌, arith}
-use Rattle.std.proofs.lemmas.Bool.{cases_eq}
+-- Which record rules, from what the two slots hold.
+use Rattle.std.proofs.Common.{◌≡◌, ℕ, ◌+◌, ◌⊎◌, inl, inr, true, false, nat_lt, List, Option, Some, None, Ok, Err, refl, sym, ap, ◌∙◌, arith}
+use Rattle.std.proofs.lemmas.Bool.{cases_Bool, cases_eq}
 use Rattle.std.proofs.lemmas.Bool.Decides.{nat_tests}
+use Rattle.silt_disk.specs.Header.{header_of, version_of}
 use Rattle.silt_disk.specs.Layout.{Shape}
-use Rattle.silt_manifest.specs.Body.{is_well_formed}
-use Rattle.silt_manifest.specs.Ruling.{body_found, open_body, ruling_manifest, where_found}
-use Rattle.silt_manifest.specs.declared.body.Body.{Body}
+use Rattle.silt_disk.specs.declared.header.Version.{Version}
+use Rattle.silt_manifest.specs.Ruling.{is_sound_record, manifest_found, open_record, record_found, ruling_manifest, where_found}
+use Rattle.silt_manifest.specs.declared.slot.Damage.TheVariants.{Slot}
+use Rattle.silt_manifest.specs.declared.slot.SlotRecord.{SlotRecord}
 
 -- the slot 0 alone is open
-alone_first : (s : Shape) (b : Body) → is_well_formed s 0 b ≡ true → body_found s (Some b) None ≡ Ok b
-unfolding body_found
-alone_first s b sound = rw sound refl
+alone_first : (s : Shape) (v : Version) (b : SlotRecord) → is_sound_record s v 0 (Some b) ≡ true → record_found s v (Some b) None ≡ Ok b
+unfolding record_found
+alone_first s v b sound = rw sound refl
 
 -- the slot 1 alone is open
-alone_second : (s : Shape) (b : Body) → is_well_formed s 1 b ≡ true → body_found s None (Some b) ≡ Ok b
-unfolding body_found
-alone_second s b sound = rw sound refl
+alone_second : (s : Shape) (v : Version) (b : SlotRecord) → is_sound_record s v 1 (Some b) ≡ true → record_found s v None (Some b) ≡ Ok b
+unfolding record_found
+alone_second s v b sound = rw sound refl
 
 -- of two, the second is newer
-pub newer_second : (s : Shape) (a b : Body) → is_well_formed s 0 a ≡ true → is_well_formed s 1 b ≡ true → nat_lt a.generation b.generation ≡ true → body_found s (Some a) (Some b) ≡ Ok b
-unfolding body_found
-newer_second s a b sound_a sound_b newer = rw (sound_a, sound_b, newer) refl
+pub newer_second : (s : Shape) (v : Version) (a b : SlotRecord) → is_sound_record s v 0 (Some a) ≡ true → is_sound_record s v 1 (Some b) ≡ true → nat_lt a.body.generation b.body.generation ≡ true → record_found s v (Some a) (Some b) ≡ Ok b
+unfolding record_found
+newer_second s v a b sound_a sound_b newer = rw (sound_a, sound_b, newer) refl
 
 -- of two, the first is newer
-pub newer_first : (s : Shape) (a b : Body) → is_well_formed s 0 a ≡ true → is_well_formed s 1 b ≡ true → nat_lt a.generation b.generation ≡ false → body_found s (Some a) (Some b) ≡ Ok a
-unfolding body_found
-newer_first s a b sound_a sound_b newer = rw (sound_a, sound_b, newer) refl
+pub newer_first : (s : Shape) (v : Version) (a b : SlotRecord) → is_sound_record s v 0 (Some a) ≡ true → is_sound_record s v 1 (Some b) ≡ true → nat_lt a.body.generation b.body.generation ≡ false → record_found s v (Some a) (Some b) ≡ Ok a
+unfolding record_found
+newer_first s v a b sound_a sound_b newer = rw (sound_a, sound_b, newer) refl
 
--- what the slots hold
-pub found_at : (s : Shape) (image : List ℕ) (first second : Option Body) → open_body image 0 ≡ first → open_body image 1 ≡ second → ruling_manifest s image ≡ where_found (body_found s first second)
-found_at s image first second is_first is_second =
-    ap (λ held. where_found (body_found s held (open_body image 1))) is_first ∙ ap (λ held. where_found (body_found s first held)) is_second
+-- what the slots hold, and the version
+pub found_at : (s : Shape) (v : Version) (image : List ℕ) (first second : Option SlotRecord) → version_of (header_of image) ≡ v → open_record image 0 ≡ first → open_record image 1 ≡ second → manifest_found s image ≡ record_found s v first second
+found_at s v image first second is is_first is_second =
+    ap (λ (version : Version). record_found s version (open_record image 0) (open_record image 1)) is
+    ∙ ap (λ held. record_found s v held (open_record image 1)) is_first ∙ ap (λ held. record_found s v first held) is_second
 
--- a body rules whose slot is the only open one
-pub alone_rules : (s : Shape) (r o : ℕ) (b : Body) (image : List ℕ) → r + o ≡ 1 → is_well_formed s r b ≡ true → open_body image r ≡ Some b → open_body image o ≡ None → ruling_manifest s image ≡ Some b
-alone_rules s r o b image slots sound stands closed =
+-- nothing rules where a slot is damaged
+none_rules : (s : Shape) (v : Version) (first second : Option SlotRecord) (slot : ℕ) (b : SlotRecord) → record_found s v first second ≡ Err (Slot slot) → where_found (record_found s v first second) ≡ Some b → ⊥
+none_rules s v first second slot b refused rules = let none : where_found (record_found s v first second) ≡ None = ap where_found refused in absurd (cc)
+
+-- of slots of which one rules the first is sound
+first_is_sound : (s : Shape) (v : Version) (first second : Option SlotRecord) (b : SlotRecord) → where_found (record_found s v first second) ≡ Some b → is_sound_record s v 0 first ≡ true
+unfolding record_found
+first_is_sound s v first second b rules =
+    elim (cases_Bool (is_sound_record s v 0 first)) [
+      | inl sound ↦ sound
+      | inr unsound ↦ let refused : record_found s v first second ≡ Err (Slot 0) = rw unsound refl in absurd (none_rules s v first second 0 b refused rules)
+    ]
+
+-- and the second
+second_is_sound : (s : Shape) (v : Version) (first second : Option SlotRecord) (b : SlotRecord) → where_found (record_found s v first second) ≡ Some b → is_sound_record s v 1 second ≡ true
+unfolding record_found
+second_is_sound s v first second b rules =
+    let sound = first_is_sound s v first second b rules in
+    elim (cases_Bool (is_sound_record s v 1 second)) [
+      | inl sound_too ↦ sound_too
+      | inr unsound ↦ let refused : record_found s v first second ≡ Err (Slot 1) = rw (sound, unsound) refl in absurd (none_rules s v first second 1 b refused rules)
+    ]
+
+-- a record that rules in an image is sound in its slot
+pub rules_sound : (s : Shape) (r o : ℕ) (b : SlotRecord) (image : List ℕ) → r + o ≡ 1 → open_record image r ≡ Some b → ruling_manifest s image ≡ Some b → is_sound_record s (version_of (header_of image)) r (Some b) ≡ true
+rules_sound s r o b image slots stands rules =
+    let v = version_of (header_of image) in
+    elim (cases_eq r 0) [
+      | inl zero_r ↦
+          let here : open_record image 0 ≡ Some b = ap (open_record image) (sym zero_r) ∙ stands in
+          ap (λ (slot : ℕ). is_sound_record s v slot (Some b)) zero_r ∙ ap (is_sound_record s v 0) (sym here)
+          ∙ first_is_sound s v (open_record image 0) (open_record image 1) b rules
+      | inr not_zero ↦
+          let one_r : r ≡ 1 = omega arith in
+          let here : open_record image 1 ≡ Some b = ap (open_record image) (sym one_r) ∙ stands in
+          ap (λ (slot : ℕ). is_sound_record s v slot (Some b)) one_r ∙ ap (is_sound_record s v 1) (sym here)
+          ∙ second_is_sound s v (open_record image 0) (open_record image 1) b rules
+    ]
+
+-- a record is found whose slot is the only open one
+pub alone_found : (s : Shape) (v : Version) (r o : ℕ) (b : SlotRecord) (image : List ℕ) → version_of (header_of image) ≡ v → r + o ≡ 1 → is_sound_record s v r (Some b) ≡ true → open_record image r ≡ Some b → open_record image o ≡ None → manifest_found s image ≡ Ok b
+alone_found s v r o b image is slots sound stands closed =
     elim (cases_eq r 0) [
       | inl zero_r ↦
           let one_o : o ≡ 1 = omega arith in
-          found_at s image (Some b) None (ap (open_body image) (sym zero_r) ∙ stands) (ap (open_body image) (sym one_o) ∙ closed)
-          ∙ ap where_found (alone_first s b (ap (λ slot. is_well_formed s slot b) (sym zero_r) ∙ sound))
+          found_at s v image (Some b) None is (ap (open_record image) (sym zero_r) ∙ stands) (ap (open_record image) (sym one_o) ∙ closed)
+          ∙ alone_first s v b (ap (λ (slot : ℕ). is_sound_record s v slot (Some b)) (sym zero_r) ∙ sound)
       | inr not_zero ↦
           let one_r : r ≡ 1 = omega arith in
           let zero_o : o ≡ 0 = omega arith in
-          found_at s image None (Some b) (ap (open_body image) (sym zero_o) ∙ closed) (ap (open_body image) (sym one_r) ∙ stands)
-          ∙ ap where_found (alone_second s b (ap (λ slot. is_well_formed s slot b) (sym one_r) ∙ sound))
+          found_at s v image None (Some b) is (ap (open_record image) (sym zero_o) ∙ closed) (ap (open_record image) (sym one_r) ∙ stands)
+          ∙ alone_second s v b (ap (λ (slot : ℕ). is_sound_record s v slot (Some b)) (sym one_r) ∙ sound)
     ]
 
--- a body rules that is newer than the other
-pub newer_rules : (s : Shape) (r o : ℕ) (a b : Body) (image : List ℕ) → r + o ≡ 1 → is_well_formed s r a ≡ true → is_well_formed s o b ≡ true → b.generation ≡ a.generation + 1 → open_body image r ≡ Some a → open_body image o ≡ Some b → ruling_manifest s image ≡ Some b
-newer_rules s r o a b image slots sound_a sound_b next stands_a stands_b =
+-- a record rules that is newer than the other
+pub newer_rules : (s : Shape) (v : Version) (r o : ℕ) (a b : SlotRecord) (image : List ℕ) → version_of (header_of image) ≡ v → r + o ≡ 1 → is_sound_record s v r (Some a) ≡ true → is_sound_record s v o (Some b) ≡ true → b.body.generation ≡ a.body.generation + 1 → open_record image r ≡ Some a → open_record image o ≡ Some b → ruling_manifest s image ≡ Some b
+newer_rules s v r o a b image is slots sound_a sound_b next stands_a stands_b =
     elim (cases_eq r 0) [
       | inl zero_r ↦
           let one_o : o ≡ 1 = omega arith in
-          let newer : nat_lt a.generation b.generation ≡ true = grind (arith, nat_tests) in
-          found_at s image (Some a) (Some b) (ap (open_body image) (sym zero_r) ∙ stands_a) (ap (open_body image) (sym one_o) ∙ stands_b)
-          ∙ ap where_found (newer_second s a b (ap (λ slot. is_well_formed s slot a) (sym zero_r) ∙ sound_a) (ap (λ slot. is_well_formed s slot b) (sym one_o) ∙ sound_b) newer)
+          let newer : nat_lt a.body.generation b.body.generation ≡ true = grind (arith, nat_tests) in
+          ap where_found (found_at s v image (Some a) (Some b) is (ap (open_record image) (sym zero_r) ∙ stands_a) (ap (open_record image) (sym one_o) ∙ stands_b)
+          ∙ newer_second s v a b (ap (λ (slot : ℕ). is_sound_record s v slot (Some a)) (sym zero_r) ∙ sound_a) (ap (λ (slot : ℕ). is_sound_record s v slot (Some b)) (sym one_o) ∙ sound_b) newer)
       | inr not_zero ↦
           let one_r : r ≡ 1 = omega arith in
           let zero_o : o ≡ 0 = omega arith in
-          let older : nat_lt b.generation a.generation ≡ false = grind (arith, nat_tests) in
-          found_at s image (Some b) (Some a) (ap (open_body image) (sym zero_o) ∙ stands_b) (ap (open_body image) (sym one_r) ∙ stands_a)
-          ∙ ap where_found (newer_first s b a (ap (λ slot. is_well_formed s slot b) (sym zero_o) ∙ sound_b) (ap (λ slot. is_well_formed s slot a) (sym one_r) ∙ sound_a) older)
+          let older : nat_lt b.body.generation a.body.generation ≡ false = grind (arith, nat_tests) in
+          ap where_found (found_at s v image (Some b) (Some a) is (ap (open_record image) (sym zero_o) ∙ stands_b) (ap (open_record image) (sym one_r) ∙ stands_a)
+          ∙ newer_first s v b a (ap (λ (slot : ℕ). is_sound_record s v slot (Some b)) (sym zero_o) ∙ sound_b) (ap (λ (slot : ℕ). is_sound_record s v slot (Some a)) (sym one_r) ∙ sound_a) older)
     ]
 
--- images whose slots hold the same are ruled alike
-pub same_rules : (s : Shape) (r o : ℕ) (before after : List ℕ) → r + o ≡ 1 → open_body after r ≡ open_body before r → open_body after o ≡ open_body before o → ruling_manifest s after ≡ ruling_manifest s before
-same_rules s r o before after slots same_r same_o =
+-- images of one version whose slots hold the same are ruled alike
+pub same_rules : (s : Shape) (r o : ℕ) (before after : List ℕ) → version_of (header_of after) ≡ version_of (header_of before) → r + o ≡ 1 → open_record after r ≡ open_record before r → open_record after o ≡ open_record before o → ruling_manifest s after ≡ ruling_manifest s before
+same_rules s r o before after is slots same_r same_o =
     elim (cases_eq r 0) [
       | inl zero_r ↦
           let one_o : o ≡ 1 = omega arith in
-          found_at s after (open_body before 0) (open_body before 1)
-          (ap (open_body after) (sym zero_r) ∙ same_r ∙ ap (open_body before) zero_r) (ap (open_body after) (sym one_o) ∙ same_o ∙ ap (open_body before) one_o)
+          ap where_found (found_at s (version_of (header_of before)) after (open_record before 0) (open_record before 1) is
+          (ap (open_record after) (sym zero_r) ∙ same_r ∙ ap (open_record before) zero_r) (ap (open_record after) (sym one_o) ∙ same_o ∙ ap (open_record before) one_o))
       | inr not_zero ↦
           let one_r : r ≡ 1 = omega arith in
           let zero_o : o ≡ 0 = omega arith in
-          found_at s after (open_body before 0) (open_body before 1)
-          (ap (open_body after) (sym zero_o) ∙ same_o ∙ ap (open_body before) zero_o) (ap (open_body after) (sym one_r) ∙ same_r ∙ ap (open_body before) one_r)
+          ap where_found (found_at s (version_of (header_of before)) after (open_record before 0) (open_record before 1) is
+          (ap (open_record after) (sym zero_o) ∙ same_o ∙ ap (open_record before) zero_o) (ap (open_record after) (sym one_r) ∙ same_r ∙ ap (open_record before) one_r))
     ]
 
--- a body rules on where its slot stays, and the other one is closed or stays too
-pub still_rules : (s : Shape) (r o : ℕ) (b : Body) (before after : List ℕ) → r + o ≡ 1 → is_well_formed s r b ≡ true → open_body before r ≡ Some b → ruling_manifest s before ≡ Some b → open_body after r ≡ open_body before r → (open_body after o ≡ None) ⊎ (open_body after o ≡ open_body before o) → ruling_manifest s after ≡ Some b
-still_rules s r o b before after slots sound stands rules same_r other =
+-- a record rules on where its slot stays, and the other one is closed or stays too
+pub still_rules : (s : Shape) (r o : ℕ) (b : SlotRecord) (before after : List ℕ) → version_of (header_of after) ≡ version_of (header_of before) → r + o ≡ 1 → open_record before r ≡ Some b → ruling_manifest s before ≡ Some b → open_record after r ≡ open_record before r → (open_record after o ≡ None) ⊎ (open_record after o ≡ open_record before o) → ruling_manifest s after ≡ Some b
+still_rules s r o b before after is slots stands rules same_r other =
     elim other [
-      | inl closed ↦ alone_rules s r o b after slots sound (same_r ∙ stands) closed
-      | inr same_o ↦ same_rules s r o before after slots same_r same_o ∙ rules
+      | inl closed ↦ ap where_found (alone_found s (version_of (header_of before)) r o b after is slots (rules_sound s r o b before slots stands rules) (same_r ∙ stands) closed)
+      | inr same_o ↦ same_rules s r o before after is slots same_r same_o ∙ rules
     ]

@@ -4,23 +4,24 @@ use Rattle.std.proofs.lemmas.List.{drop_more}
 use Rattle.std.proofs.lemmas.Bool.{cases_Bool, cases_eq}
 use Rattle.std.proofs.lemmas.Bool.Decides.{nat_tests}
 use Rattle.silt_disk.specs.Disk.{Torn, splice}
+use Rattle.silt_disk.specs.Header.{header_of, version_of}
 use Rattle.silt_disk.specs.Layout.{slot_at}
 use Rattle.silt_disk.proofs.Images.{torn_slice_before, torn_slice_after, torn_splice, splice_byte}
 use Rattle.silt_frame.specs.Gate.{is_open}
-use Rattle.silt_manifest.specs.Body.{body_of}
-use Rattle.silt_manifest.specs.Ruling.{slot_of, is_slot_open, body_behind, open_body}
+use Rattle.silt_manifest.specs.Digests.{record_of}
+use Rattle.silt_manifest.specs.Ruling.{slot_of, is_slot_open, record_behind, open_record}
 
 -- a slot is its gate and the bytes behind it
-pub slot_parts : (image : List ℕ) (slot : ℕ) → slot_at slot + 121 ≤ length image → slot_of image slot ≡ get_or image (slot_at slot) 0 ∷ slice_range image (slot_at slot + 1) (slot_at slot + 121)
+pub slot_parts : (image : List ℕ) (slot : ℕ) → slot_at slot + 461 ≤ length image → slot_of image slot ≡ get_or image (slot_at slot) 0 ∷ slice_range image (slot_at slot + 1) (slot_at slot + 461)
 slot_parts image slot fits =
     let cut : drop (slot_at slot) image ≡ get_or image (slot_at slot) 0 ∷ drop (slot_at slot + 1) image = drop_more image (slot_at slot) 0 (omega arith) in
-    let long : slot_at slot + 121 - slot_at slot ≡ 121 = omega arith in
-    let rest : slot_at slot + 121 - (slot_at slot + 1) ≡ 120 = omega arith in
-    ap (λ (n : ℕ). take n (drop (slot_at slot) image)) long ∙ ap (take 121) cut
+    let long : slot_at slot + 461 - slot_at slot ≡ 461 = omega arith in
+    let rest : slot_at slot + 461 - (slot_at slot + 1) ≡ 460 = omega arith in
+    ap (λ (n : ℕ). take n (drop (slot_at slot) image)) long ∙ ap (take 461) cut
     ∙ sym (ap (λ (n : ℕ). get_or image (slot_at slot) 0 ∷ take n (drop (slot_at slot + 1) image)) rest)
 
 -- its first byte is the gate
-pub gate_of : (image : List ℕ) (slot : ℕ) → slot_at slot + 121 ≤ length image → slice_index (slot_of image slot) 0 ≡ get_or image (slot_at slot) 0
+pub gate_of : (image : List ℕ) (slot : ℕ) → slot_at slot + 461 ≤ length image → slice_index (slot_of image slot) 0 ≡ get_or image (slot_at slot) 0
 gate_of image slot fits = ap (λ bytes. slice_index bytes 0) (slot_parts image slot fits)
 
 -- an open gate is 0xA7
@@ -28,21 +29,21 @@ pub open_gate : (gate : ℕ) → is_open gate ≡ true → gate ≡ 167
 open_gate gate opened = grind (arith, nat_tests)
 
 -- a closed slot holds nothing that counts
-pub closed_body : (bytes : List ℕ) → is_open (slice_index bytes 0) ≡ false → body_behind bytes ≡ None
-unfolding body_behind
-closed_body bytes closed = rw closed refl
+pub closed_record : (bytes : List ℕ) → is_open (slice_index bytes 0) ≡ false → record_behind bytes ≡ None
+unfolding record_behind
+closed_record bytes closed = rw closed refl
 
--- an open one holds its body
-pub opened_body : (bytes : List ℕ) → is_open (slice_index bytes 0) ≡ true → body_behind bytes ≡ Some (body_of bytes)
-unfolding body_behind
-opened_body bytes opened = rw opened refl
+-- an open one holds its record
+pub opened_record : (bytes : List ℕ) → is_open (slice_index bytes 0) ≡ true → record_behind bytes ≡ Some (record_of bytes)
+unfolding record_behind
+opened_record bytes opened = rw opened refl
 
 -- a change before or behind a slot's bytes
-pub slot_same : (at count slot : ℕ) (before after : List ℕ) → Torn at count before after → slot_at slot + 121 ≤ length before → (at + count ≤ slot_at slot) ⊎ (slot_at slot + 121 ≤ at) → slot_of after slot ≡ slot_of before slot
+pub slot_same : (at count slot : ℕ) (before after : List ℕ) → Torn at count before after → slot_at slot + 461 ≤ length before → (at + count ≤ slot_at slot) ⊎ (slot_at slot + 461 ≤ at) → slot_of after slot ≡ slot_of before slot
 slot_same at count slot before after torn fits apart =
     elim apart [
-      | inl below ↦ torn_slice_after at count before after torn (slot_at slot) (slot_at slot + 121) below fits
-      | inr above ↦ torn_slice_before at count before after torn (slot_at slot) (slot_at slot + 121) above fits
+      | inl below ↦ torn_slice_after at count before after torn (slot_at slot) (slot_at slot + 461) below fits
+      | inr above ↦ torn_slice_before at count before after torn (slot_at slot) (slot_at slot + 461) above fits
     ]
 
 -- a change in the one slot leaves the other as it is
@@ -55,29 +56,33 @@ other_same r o at count before after slots low high fits torn =
     ])
 
 -- a torn gate of an open slot: the slot is closed now, or as it was
-pub gate_torn : (slot : ℕ) (before after : List ℕ) → slot_at slot + 121 ≤ length before → Torn (slot_at slot) 1 before after → is_slot_open before slot ≡ true → (open_body after slot ≡ None) ⊎ (open_body after slot ≡ open_body before slot)
+pub gate_torn : (slot : ℕ) (before after : List ℕ) → slot_at slot + 461 ≤ length before → Torn (slot_at slot) 1 before after → is_slot_open before slot ≡ true → (open_record after slot ≡ None) ⊎ (open_record after slot ≡ open_record before slot)
 gate_torn slot before after fits torn opened =
-    let fits_after : slot_at slot + 121 ≤ length after = omega (arith, torn.size) in
-    let behind : slice_range after (slot_at slot + 1) (slot_at slot + 121) ≡ slice_range before (slot_at slot + 1) (slot_at slot + 121) = torn_slice_after (slot_at slot) 1 before after torn (slot_at slot + 1) (slot_at slot + 121) (omega arith) fits in
+    let fits_after : slot_at slot + 461 ≤ length after = omega (arith, torn.size) in
+    let behind : slice_range after (slot_at slot + 1) (slot_at slot + 461) ≡ slice_range before (slot_at slot + 1) (slot_at slot + 461) = torn_slice_after (slot_at slot) 1 before after torn (slot_at slot + 1) (slot_at slot + 461) (omega arith) fits in
     let was : get_or before (slot_at slot) 0 ≡ 167 = sym (gate_of before slot fits) ∙ open_gate _ opened in
     elim (cases_Bool (is_slot_open after slot)) [
       | inl still ↦
           let is : get_or after (slot_at slot) 0 ≡ 167 = sym (gate_of after slot fits_after) ∙ open_gate _ still in
-          let same : slot_of after slot ≡ slot_of before slot = slot_parts after slot fits_after ∙ ap (λ (gate : ℕ). gate ∷ slice_range after (slot_at slot + 1) (slot_at slot + 121)) (is ∙ sym was) ∙ ap (λ (rest : List ℕ). get_or before (slot_at slot) 0 ∷ rest) behind ∙ sym (slot_parts before slot fits) in
-          inr (ap body_behind same)
-      | inr closed ↦ inl (closed_body (slot_of after slot) closed)
+          let same : slot_of after slot ≡ slot_of before slot = slot_parts after slot fits_after ∙ ap (λ (gate : ℕ). gate ∷ slice_range after (slot_at slot + 1) (slot_at slot + 461)) (is ∙ sym was) ∙ ap (λ (rest : List ℕ). get_or before (slot_at slot) 0 ∷ rest) behind ∙ sym (slot_parts before slot fits) in
+          inr (ap record_behind same)
+      | inr closed ↦ inl (closed_record (slot_of after slot) closed)
     ]
 
 -- a gate that is not in the range stays
-pub gate_stays : (at count slot : ℕ) (before after : List ℕ) → slot_at slot < at → slot_at slot + 121 ≤ length before → Torn at count before after → is_slot_open after slot ≡ is_slot_open before slot
+pub gate_stays : (at count slot : ℕ) (before after : List ℕ) → slot_at slot < at → slot_at slot + 461 ≤ length before → Torn at count before after → is_slot_open after slot ≡ is_slot_open before slot
 gate_stays at count slot before after behind fits torn =
     ap is_open (gate_of after slot (omega (arith, torn.size)) ∙ torn.before (slot_at slot) behind ∙ sym (gate_of before slot fits))
 
 -- the gate is the byte that was written there
-pub gate_written : (gate slot : ℕ) (before : List ℕ) → slot_at slot + 121 ≤ length before → slice_index (slot_of (splice (slot_at slot) (gate ∷ []) before) slot) 0 ≡ gate
+pub gate_written : (gate slot : ℕ) (before : List ℕ) → slot_at slot + 461 ≤ length before → slice_index (slot_of (splice (slot_at slot) (gate ∷ []) before) slot) 0 ≡ gate
 gate_written gate slot before fits =
     let torn = torn_splice (slot_at slot) (gate ∷ []) before (omega arith) in
     let place : slot_at slot ≡ slot_at slot + 0 = omega arith in
     gate_of (splice (slot_at slot) (gate ∷ []) before) slot (omega (arith, torn.size))
     ∙ ap (λ (n : ℕ). get_or (splice (slot_at slot) (gate ∷ []) before) n 0) place
     ∙ splice_byte (slot_at slot) (gate ∷ []) before 0 (omega arith) (omega arith)
+
+-- a change in a slot leaves the version in the header
+pub version_stays : (at count : ℕ) (before after : List ℕ) → 4096 ≤ at → 4096 ≤ length before → Torn at count before after → version_of (header_of after) ≡ version_of (header_of before)
+version_stays at count before after behind fits torn = ap version_of (torn_slice_before at count before after torn 0 37 (omega arith) (omega arith))

@@ -1,10 +1,15 @@
--- What a body that is well formed has.
-use Rattle.std.proofs.Common.{◌≡◌, ℕ, ◌%◌, ◌^◌, ◌<◌, ◌≤◌, ◌⊎◌, ◌==◌, inl, inr, true, false, nat_lt, nat_le, List, [], ◌∷◌, length, refl, ap, ◌∙◌, arith}
+-- What a body that is well formed has, and a record that is sound.
+use Rattle.std.proofs.Common.{◌≡◌, ℕ, ◌%◌, ◌^◌, ◌<◌, ◌≤◌, ◌⊎◌, ◌==◌, inl, inr, true, false, nat_lt, nat_le, List, [], ◌∷◌, length, Some, refl, ap, ◌∙◌, arith}
+use Rattle.std.specs.Option.{is_some}
 use Rattle.std.proofs.lemmas.Bool.{cases_Bool, and_parts, ltb-true}
 use Rattle.std.proofs.lemmas.Bool.Decides.{nat_tests}
 use Rattle.silt_disk.specs.Layout.{Shape, InLimits}
+use Rattle.silt_disk.specs.declared.header.Version.{Version}
+use Rattle.silt_disk.specs.declared.header.Version.TheVariants.{One, Two}
 use Rattle.silt_manifest.specs.Body.{FitsSlot, all_below, is_well_formed}
+use Rattle.silt_manifest.specs.Ruling.{has_due_digests, is_sound_record}
 use Rattle.silt_manifest.specs.declared.body.Body.{Body}
+use Rattle.silt_manifest.specs.declared.slot.SlotRecord.{SlotRecord}
 
 -- the numbers of a body that is well formed
 pub record SoundParts (s : Shape) (slot : ℕ) (b : Body) : Type 0 where
@@ -91,3 +96,28 @@ fits_slot s slot b limits sound =
 -- a body stands in the slot of its generation
 pub own_slot : (s : Shape) (slot : ℕ) (b : Body) → is_well_formed s slot b ≡ true → is_well_formed s (b.generation % 2) b ≡ true
 own_slot s slot b sound = ap (λ (at : ℕ). is_well_formed s at b) (sound_parts s slot b sound).slot_is ∙ sound
+
+-- a record's body is well formed
+pub sound_body : (s : Shape) (version : Version) (slot : ℕ) (found : SlotRecord) → is_sound_record s version slot (Some found) ≡ true → is_well_formed s slot found.body ≡ true
+sound_body s version slot found sound = (and_parts _ _ sound).1
+
+-- a record that lacks the digests that are due is not sound
+pub without_digests : (s : Shape) (version : Version) (slot : ℕ) (found : SlotRecord) → has_due_digests version found.digests ≡ false → is_sound_record s version slot (Some found) ≡ false
+without_digests s version slot found lacks = rw lacks refl
+
+-- nor is one whose body is not well formed
+pub without_body : (s : Shape) (version : Version) (slot : ℕ) (found : SlotRecord) → is_well_formed s slot found.body ≡ false → is_sound_record s version slot (Some found) ≡ false
+without_body s version slot found unsound =
+    elim (cases_Bool (has_due_digests version found.digests)) [
+      | inl due ↦ rw (due, unsound) refl
+      | inr lacks ↦ rw lacks refl
+    ]
+
+-- a record with a well-formed body and the digests that are due is sound
+pub with_both : (s : Shape) (version : Version) (slot : ℕ) (found : SlotRecord) → has_due_digests version found.digests ≡ true → is_well_formed s slot found.body ≡ true → is_sound_record s version slot (Some found) ≡ true
+with_both s version slot found due sound = rw (due, sound) refl
+
+-- a record with digests may stand on a device of any version
+pub long_sound : (s : Shape) (version : Version) (slot : ℕ) (found : SlotRecord) → is_some found.digests ≡ true → is_well_formed s slot found.body ≡ true → is_sound_record s version slot (Some found) ≡ true
+long_sound s One slot found has sound = sound
+long_sound s Two slot found has sound = rw has sound

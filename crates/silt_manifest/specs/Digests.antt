@@ -1,5 +1,5 @@
 -- The digests behind a body: their bytes, and when a slot has them.
-use Rattle.std.specs.Prelude.{◌≡◌, ℕ, ◌+◌, ◌*◌, ◌<◌, nat_le, Bool, if◌then◌else◌, List, ◌∷◌, ◌++◌, length, map, flat_map, get_or, slice_range, Option, Some, None}
+use Rattle.std.specs.Prelude.{◌≡◌, ℕ, ◌+◌, ◌*◌, ◌<◌, nat_le, Bool, if◌then◌else◌, List, ◌∷◌, ◌++◌, length, map, flat_map, get_or, slice_range, Some, None}
 use Rattle.std.specs.List.{range_with_len}
 use Rattle.silt_disk.specs.Numbers.{number_at}
 use Rattle.silt_frame.specs.declared.digest.Digest.{Digest}

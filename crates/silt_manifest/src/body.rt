@@ -2,6 +2,7 @@
 ghost use Rattle.std.specs.Prelude.{◌≡◌, ◌+◌, ◌*◌, ◌<◌, ◌≤◌, ◌++◌, ◌⊎◌, true, false, length, replicate, take, IfSome, IfNone};
 ghost use Rattle.silt_manifest.specs.Numbers.{ids_bytes};
 ghost use Rattle.silt_manifest.specs.Body.{FitsSlot, all_below, body_bytes, body_of, first_body, has_sound_hashes, has_sound_logs, is_distinct, is_well_formed};
+ghost use Rattle.silt_manifest.specs.Digests.{is_long};
 ghost use Rattle.byteorder.specs.Endian.{big_bytes};
 
 use crate::ids::Ids;
@@ -11,8 +12,11 @@ use silt_disk::Geometry;
 /// The bytes of a body.
 pub(crate) const BODY_LEN: usize = 120;
 
-/// The bytes of a slot that count: the gate and the body.
-pub(crate) const SLOT_LEN: usize = 121;
+/// The bytes of a slot that count: the gate, the body, and the digests behind it.
+pub(crate) const SLOT_LEN: usize = 461;
+
+// The highest bit of the field of a generation: it says that digests follow the body.
+const LONG_BIT: u64 = 1 << 63;
 
 // The room for frozen logs: one fewer than the most log regions.
 const FROZEN_ROOM: usize = 7;
@@ -94,6 +98,13 @@ fn put_ids(bytes: &mut [u8], at: usize, room: usize, ids: &[u32])
     put_zeros(bytes, at + 4 + 4 * ids.len(), 4 * (room - ids.len()));
 }
 
+// Whether digests follow the body of a slot, gate and all.
+pub(crate) fn is_long(slot: &[u8; SLOT_LEN]) -> bool
+    ensures { result ≡ is_long slot.now }
+{
+    LONG_BIT <= BigEndian::read_u64(&slot[1..9])
+}
+
 impl Body {
     /// The body of a store that was just formatted: generation 0, and all else 0 or none.
     pub fn first() -> Self
@@ -143,13 +154,13 @@ impl Body {
             && self.sorted_count <= geometry.sorted_capacity()
     }
 
-    // What follows the gate.
+    // What follows the gate first.
     pub(crate) fn to_bytes(&self) -> [u8; BODY_LEN]
         requires { FitsSlot self.now }
         ensures { result ≡ body_bytes self.now }
     {
         let mut bytes = [0; BODY_LEN];
-        put_long(&mut bytes, 0, self.generation);
+        put_long(&mut bytes, 0, self.generation + LONG_BIT);
         put_number(&mut bytes, 8, self.active);
         put_ids(&mut bytes, 12, FROZEN_ROOM, self.frozen.as_slice());
         put_ids(&mut bytes, 44, HASHED_ROOM, self.hashed.as_slice());
@@ -164,7 +175,7 @@ impl Body {
         ensures too_many { IfNone result ((geometry.now.logs ≤ length (body_of slot.now).frozen) ⊎ (geometry.now.hashes < length (body_of slot.now).hashed)) }
     {
         Some(Body {
-            generation: BigEndian::read_u64(&slot[1..9]),
+            generation: BigEndian::read_u64(&slot[1..9]) % LONG_BIT,
             active: BigEndian::read_u32(&slot[9..13]),
             frozen: Ids::read(slot, 13, geometry.logs() as usize - 1)?,
             hashed: Ids::read(slot, 45, geometry.hashes() as usize)?,

@@ -1,30 +1,37 @@
 // The manifest in memory, and the calls that read and write it.
 ghost use Rattle.std.specs.Prelude.{◌≡◌, ◌+◌, ◌<◌, ◌≤◌, ◌↔◌, IsTrue, Some, None, true, false, IfOk, IfErr, OnOk, OnErr, MatchResult};
 ghost use Rattle.silt_disk.specs.Disk.{ChangesWithin, CountsFault, GaveAny, LeavesOnly, Rests, Shows, size};
+ghost use Rattle.silt_disk.specs.Header.{header_of, version_of};
 ghost use Rattle.silt_disk.specs.Layout.{slot_at, sector};
 ghost use Rattle.silt_manifest.specs.Body.{is_well_formed};
-ghost use Rattle.silt_manifest.specs.Ruling.{ClosedSlotLaw, OtherRegionsLaw, is_slot_open, is_sound_body, ruling_manifest};
+ghost use Rattle.silt_manifest.specs.Digests.{long_record};
+ghost use Rattle.silt_manifest.specs.Ruling.{ClosedSlotLaw, OtherRecordsLaw, OtherRegionsLaw, is_slot_open, is_sound_record};
 ghost use Rattle.silt_manifest.specs.Faults.{IsNotRead};
-ghost use Rattle.silt_manifest.specs.Standing.{CanCommit, IsFirst, IsNext, IsRuled, Rules, RulesOldOrNew, WritesNext, closing_place, manifest_of, ruled_by, ruling_slot, spare_slot};
+ghost use Rattle.silt_manifest.specs.Standing.{CanCommit, FirstRulesLaw, IsFirst, IsNext, IsRuled, Rules, RulesAsHeld, RulesOldOrNew, WritesNext, closing_place, manifest_of, ruled_by, ruling_record, ruling_slot, spare_slot};
 
 use crate::body::Body;
-use crate::slot::{Damage, ReadFault, read_slot, write_body, write_gate};
-use silt_disk::{Disk, Geometry, slot_start, write_synced};
+use crate::digests::Digests;
+use crate::slot::{
+    Damage, ReadFault, SlotRecord, read_slot, record_bytes, write_gate, write_record,
+};
+use silt_disk::{Disk, Geometry, Version, slot_start, write_synced};
 use silt_frame::{GATE_CLOSED, GATE_OPEN};
 use std::marker::Model;
 
 // The last place of a slot, which nothing looks at.
 const UNUSED_PLACE: u64 = 4095;
 
-/// The body that rules a device, and what is known of its slots.
+/// The body that rules a device, the digests behind it, and what is known of its slots.
 #[derive(Clone, Copy)]
 pub struct Manifest {
     geometry: Geometry,
     ruling: Body,
+    // The digests behind the body that rules, if there are any.
+    digests: Option<Digests>,
     // Whether the gate of the slot that does not rule is closed.
     spare_closed: bool,
-    // The next body, once it is written behind that gate.
-    prepared: Option<Body>,
+    // The next record, once it is written behind that gate.
+    prepared: Option<SlotRecord>,
 }
 
 impl Model for Manifest {
@@ -32,29 +39,34 @@ impl Model for Manifest {
 
     ghost Value = { ManifestState };
 
-    ghost view = { λ m. record { shape = m.geometry; ruling = m.ruling; spare_closed = m.spare_closed; prepared = m.prepared } };
+    ghost view = { λ m. record { shape = m.geometry; ruling = m.ruling; digests = m.digests; spare_closed = m.spare_closed; prepared = m.prepared } };
 
-    ghost inverse = { λ s. record { geometry = s.shape; ruling = s.ruling; spare_closed = s.spare_closed; prepared = s.prepared } };
+    ghost inverse = { λ s. record { geometry = s.shape; ruling = s.ruling; digests = s.digests; spare_closed = s.spare_closed; prepared = s.prepared } };
 
-    ghost invariant = { λ m. HasSoundBodies (record { shape = m.geometry; ruling = m.ruling; spare_closed = m.spare_closed; prepared = m.prepared }) };
+    ghost invariant = { λ m. HasSoundBodies (record { shape = m.geometry; ruling = m.ruling; digests = m.digests; spare_closed = m.spare_closed; prepared = m.prepared }) };
 }
 
-/// Reads the slots of a device. A closed slot is passed over; an open one whose body is not well formed is damage, and so is it if
-/// no slot is open. Of two open slots the greater generation rules.
+/// Reads the slots of a device of this version. A closed slot is passed over. An open one is damage if its body is not well formed,
+/// or if it lacks the digests that the version asks for. So is it if no slot is open. Of two open slots the greater generation rules.
 ///
 /// # Errors
 ///
 /// The first damage, of slot 0, then slot 1, then for want of an open slot; or the fault of a read.
-pub fn read_current<D: Disk>(disk: &D, geometry: Geometry) -> Result<Manifest, ReadFault<D::Fault>>
-    requires { slot_at 1 + sector ≤ size (D.content disk.now) }
+pub fn read_current<D: Disk>(
+    disk: &D,
+    geometry: Geometry,
+    version: Version,
+) -> Result<Manifest, ReadFault<D::Fault>>
+    requires size { slot_at 1 + sector ≤ size (D.content disk.now) }
+    requires version { IsTrue (D.content disk.now).honest → version ≡ version_of (header_of (D.content disk.now).shown) }
     ensures shape { IfOk result (λ m. (m.shape ≡ geometry) × (m.prepared ≡ None)) }
     ensures ruled { IfOk result (λ m. Shows (D.content disk.now) (IsRuled m)) }
     ensures rules { IfOk result (λ m. Rests (D.content disk.now) → Rules m (D.content disk.now)) }
     ensures refused { IfErr result (IsNotRead (D.content disk.now) geometry (GaveAny D.gave disk.now)) }
 {
-    let first = read_slot(disk, &geometry, 0)?;
-    let second = read_slot(disk, &geometry, 1)?;
-    Manifest::of_slots(geometry, first, second).ok_or(ReadFault::Damaged(Damage::NoSlot))
+    let first = read_slot(disk, &geometry, version, 0)?;
+    let second = read_slot(disk, &geometry, version, 1)?;
+    Manifest::of_slots(geometry, version, first, second).ok_or(ReadFault::Damaged(Damage::NoSlot))
 }
 
 impl Manifest {
@@ -74,24 +86,38 @@ impl Manifest {
         self.ruling
     }
 
-    // The manifest of a body that rules.
+    /// The digests behind the body that rules, if there are any.
+    pub fn digests(&self) -> Option<Digests>
+        ensures value { result ≡ self.now.digests }
+    {
+        self.digests
+    }
+
+    // The manifest of a record that rules.
     #[tactic(auto, using(crate::proofs::SoundBodies::own_slot))]
-    fn ruled_by(geometry: Geometry, ruling: Body, spare_closed: bool, slot: u32) -> Self
-        requires { is_well_formed geometry slot ruling ≡ true }
-        ensures { result ≡ ruled_by geometry ruling spare_closed }
+    fn ruled_by(geometry: Geometry, found: SlotRecord, spare_closed: bool, slot: u32) -> Self
+        requires { is_well_formed geometry slot found.body ≡ true }
+        ensures { result ≡ ruled_by geometry found spare_closed }
     {
         Manifest {
             geometry,
-            ruling,
+            ruling: found.body,
+            digests: found.digests,
             spare_closed,
             prepared: None,
         }
     }
 
-    // The manifest that two slots make, of which each may hold a body that is well formed.
-    fn of_slots(geometry: Geometry, first: Option<Body>, second: Option<Body>) -> Option<Self>
-        requires first { is_sound_body geometry 0 first ≡ true }
-        requires second { is_sound_body geometry 1 second ≡ true }
+    // The manifest that two slots make, of which each may hold a record that is sound.
+    #[tactic(auto, using(crate::proofs::SoundBodies::sound_body))]
+    fn of_slots(
+        geometry: Geometry,
+        version: Version,
+        first: Option<SlotRecord>,
+        second: Option<SlotRecord>,
+    ) -> Option<Self>
+        requires first { is_sound_record geometry version 0 first ≡ true }
+        requires second { is_sound_record geometry version 1 second ≡ true }
         ensures { result ≡ manifest_of geometry first second }
     {
         match (first, second) {
@@ -99,7 +125,7 @@ impl Manifest {
             (None, Some(second)) => Some(Self::ruled_by(geometry, second, true, 1)),
             (Some(first), None) => Some(Self::ruled_by(geometry, first, true, 0)),
             (Some(first), Some(second)) => {
-                if first.generation < second.generation {
+                if first.body.generation < second.body.generation {
                     Some(Self::ruled_by(geometry, second, false, 1))
                 } else {
                     Some(Self::ruled_by(geometry, first, false, 0))
@@ -116,7 +142,7 @@ impl Manifest {
         ((self.ruling.generation + 1) % 2) as u32
     }
 
-    // Where the zero goes with which a write of the next body begins.
+    // Where the zero goes with which a write of the next record begins.
     fn closing_place(&self) -> u64
         ensures value { result ≡ closing_place self.now }
         ensures least { slot_at (spare_slot self.now) ≤ result }
@@ -130,36 +156,45 @@ impl Manifest {
         }
     }
 
-    /// Writes the next body into the slot that does not rule, behind a closed gate: closes the gate and syncs, then writes the body
-    /// and syncs. At each exit the old body rules in whatever a stop may leave. After Ok, `commit_next` is the next call on the disk.
+    /// Writes the next body and its digests into the slot that does not rule, behind a closed gate: closes the gate and syncs, then
+    /// writes the bytes and syncs. At each exit the old body rules in whatever a stop may leave. After Ok, `commit_next` is the next
+    /// call on the disk.
     ///
     /// # Errors
     ///
     /// The fault of a write or of a sync.
-    pub fn prepare_next<D: Disk>(&mut self, disk: &mut D, next: Body) -> Result<(), D::Fault>
+    pub fn prepare_next<D: Disk>(
+        &mut self,
+        disk: &mut D,
+        next: Body,
+        digests: Digests,
+    ) -> Result<(), D::Fault>
         requires size { slot_at 1 + sector ≤ size (D.content disk.old) }
         requires rules { Rules self.old (D.content disk.old) }
         requires next { IsNext self.old next }
         ensures size { size (D.content disk.new) ≡ size (D.content disk.old) }
         ensures changes { ChangesWithin (slot_at (spare_slot self.old)) sector (D.content disk.old) (D.content disk.new) }
-        ensures each { LeavesOnly (D.content disk.new) (λ image. ruling_manifest self.old.shape image ≡ Some self.old.ruling) }
-        ensures written { OnOk result (WritesNext self.old next (D.content disk.old) (D.content disk.new)) }
+        ensures each { LeavesOnly (D.content disk.new) (RulesAsHeld self.old) }
+        ensures written { OnOk result (WritesNext self.old next digests (D.content disk.old) (D.content disk.new)) }
         ensures ready { OnOk result (CanCommit self.new (D.content disk.new)) }
         ensures rests { OnOk result (Rests (D.content disk.new)) }
-        ensures state { OnOk result (self.new ≡ record self.old { spare_closed = true; prepared = Some next }) }
+        ensures state { OnOk result (self.new ≡ record self.old { spare_closed = true; prepared = Some (long_record next digests) }) }
         ensures unchanged { OnErr result (self.new ≡ self.old) }
         ensures failures { MatchResult result (λ _. D.failures disk.new ≡ D.failures disk.old) (CountsFault D.failures D.gave disk.old disk.new) }
     {
         let _limits = self.geometry.logs(); // at most eight
         let slot = self.spare_slot();
         write_synced(disk, self.closing_place(), &[GATE_CLOSED])?;
-        write_body(disk, slot, &next.to_bytes())?;
+        write_record(disk, slot, &record_bytes(&next, &digests))?;
         self.spare_closed = true;
-        self.prepared = Some(next);
+        self.prepared = Some(SlotRecord {
+            body: next,
+            digests: Some(digests),
+        });
         Ok(())
     }
 
-    /// Opens the gate of the body that `prepare_next` wrote, and syncs. At each exit the old body rules or the new one, in whatever
+    /// Opens the gate of the record that `prepare_next` wrote, and syncs. At each exit the old body rules or the new one, in whatever
     /// a stop may leave; after Ok the new one does.
     ///
     /// # Errors
@@ -173,7 +208,7 @@ impl Manifest {
         ensures each { LeavesOnly (D.content disk.new) (RulesOldOrNew self.old) }
         ensures rules { OnOk result (Rules self.new (D.content disk.new)) }
         ensures rests { OnOk result (Rests (D.content disk.new)) }
-        ensures new { OnOk result (Some self.new.ruling ≡ self.old.prepared) }
+        ensures new { OnOk result (Some (ruling_record self.new) ≡ self.old.prepared) }
         ensures state { OnOk result ((self.new.shape ≡ self.old.shape) × (self.new.spare_closed ≡ false) × (self.new.prepared ≡ None)) }
         ensures unchanged { OnErr result (self.new ≡ self.old) }
         ensures failures { MatchResult result (λ _. D.failures disk.new ≡ D.failures disk.old) (CountsFault D.failures D.gave disk.old disk.new) }
@@ -182,31 +217,32 @@ impl Manifest {
             unreachable!()
         };
         write_gate(disk, self.spare_slot(), GATE_OPEN)?;
-        self.ruling = next;
+        self.ruling = next.body;
+        self.digests = next.digests;
         self.spare_closed = false;
         self.prepared = None;
         Ok(())
     }
 }
 
-/// Writes the body of generation 0 into slot 0, with its gate: closes the gate, writes the body, opens the gate, each with a sync.
-/// After Ok it rules in whatever a stop may leave, since the gate of slot 1 is closed. The zero always goes to the gate: on a
-/// device that is being formatted the header's gate is closed, and no slot counts.
+/// Writes the body of generation 0 with these digests into slot 0, with its gate: closes the gate, writes the bytes, opens the gate,
+/// each with a sync. After Ok it rules in whatever a stop may leave, since the gate of slot 1 is closed. The zero always goes to the
+/// gate: on a device that is being formatted the header's gate is closed, and no slot counts.
 ///
 /// # Errors
 ///
 /// The fault of a write or of a sync.
-pub fn write_first<D: Disk>(disk: &mut D) -> Result<(), D::Fault>
+pub fn write_first<D: Disk>(disk: &mut D, digests: &Digests) -> Result<(), D::Fault>
     requires size { slot_at 1 + sector ≤ size (D.content disk.old) }
     requires closed { LeavesOnly (D.content disk.old) (λ image. is_slot_open image 1 ≡ false) }
     ensures size { size (D.content disk.new) ≡ size (D.content disk.old) }
     ensures changes { ChangesWithin (slot_at 0) sector (D.content disk.old) (D.content disk.new) }
-    ensures rules { OnOk result (LeavesOnly (D.content disk.new) IsFirst) }
+    ensures rules { OnOk result (LeavesOnly (D.content disk.new) (IsFirst digests.now)) }
     ensures rests { OnOk result (Rests (D.content disk.new)) }
     ensures failures { MatchResult result (λ _. D.failures disk.new ≡ D.failures disk.old) (CountsFault D.failures D.gave disk.old disk.new) }
 {
     write_gate(disk, 0, GATE_CLOSED)?;
-    write_body(disk, 0, &Body::first().to_bytes())?;
+    write_record(disk, 0, &record_bytes(&Body::first(), digests))?;
     write_gate(disk, 0, GATE_OPEN)?;
     Ok(())
 }
@@ -216,7 +252,19 @@ pub fn closed_slots_do_not_count()
     ensures { ClosedSlotLaw }
 {}
 
-/// The law of the other regions, by which a reader knows which bytes count: a change outside the two slots does not count.
+/// The law of other records, by which a reader knows which bytes count: what a slot says does not depend on bytes outside the two
+/// slots.
+pub fn other_records_do_not_count()
+    ensures { OtherRecordsLaw }
+{}
+
+/// The law of the other regions, by which a reader knows which bytes count: of what is outside the two slots, only the version in the
+/// header counts for what rules.
 pub fn other_regions_do_not_count()
     ensures { OtherRegionsLaw }
+{}
+
+/// The law of the first record: it rules in any store's geometry, whatever the header's version.
+pub fn first_record_rules()
+    ensures { FirstRulesLaw }
 {}

@@ -1,19 +1,35 @@
 // The two slots of a manifest.
-ghost use Rattle.std.specs.Prelude.{◌≡◌, ◌+◌, ◌<◌, ◌≤◌, true, false, [], ◌∷◌, IfOk, IfErr, OnOk, MatchResult};
+ghost use Rattle.std.specs.Prelude.{◌≡◌, ◌+◌, ◌<◌, ◌≤◌, true, false, Some, [], ◌∷◌, IfOk, IfErr, IfSome, IfNone, OnOk, MatchResult};
 ghost use Rattle.silt_disk.specs.Disk.{ChangesWithin, CountsFault, GaveAny, Rests, Shows, Writes, size};
 ghost use Rattle.silt_disk.specs.Layout.{slot_at, sector};
-ghost use Rattle.silt_manifest.specs.Ruling.{HasSlot, body_behind, is_sound_body};
+ghost use Rattle.silt_manifest.specs.Body.{FitsSlot};
+ghost use Rattle.silt_manifest.specs.Digests.{FitsDigests, record_bytes, record_of};
+ghost use Rattle.silt_manifest.specs.Ruling.{HasSlot, has_due_digests, is_sound_record, record_behind};
 ghost use Rattle.silt_manifest.specs.Faults.{IsSlotRefused};
 ghost use Rattle.silt_manifest.specs.declared.slot.Damage.TheVariants.{Slot};
 
-use crate::body::{BODY_LEN, Body, SLOT_LEN};
-use silt_disk::{Disk, Geometry, slot_start, write_synced};
+use crate::body::{BODY_LEN, Body, SLOT_LEN, is_long};
+use crate::digests::Digests;
+use silt_disk::{Disk, Geometry, Version, slot_start, write_synced};
 use silt_frame::is_open;
+
+// What is written behind a gate: a body, and the digests behind it.
+const RECORD_LEN: usize = 460;
+
+/// What a slot says behind its gate.
+#[derive(Clone, Copy, Debug, PartialEq, Eq)]
+pub struct SlotRecord {
+    /// The body.
+    pub body: Body,
+    /// The digests behind it, if there are any.
+    pub digests: Option<Digests>,
+}
 
 /// Where a manifest is damaged.
 #[derive(Clone, Copy, Debug, PartialEq, Eq)]
 pub enum Damage {
-    /// The slot of this number, 0 or 1, is open, and its body is not well formed.
+    /// The slot of this number, 0 or 1, is open, and its body is not well formed or lacks the digests that the device's version asks
+    /// for.
     Slot(u32),
     /// No slot is open.
     NoSlot,
@@ -28,37 +44,85 @@ pub enum ReadFault<F> {
     Device(F),
 }
 
-// What the bytes of a slot say: nothing where it is closed, and else a body that is well formed.
-#[tactic(auto, unfolding(crate::specs::Ruling::body_behind))]
-fn slot_held(bytes: &[u8; SLOT_LEN], geometry: &Geometry, slot: u32) -> Result<Option<Body>, Damage>
-    ensures held { IfOk result (λ held. (body_behind bytes.now ≡ held) × (is_sound_body geometry.now slot held ≡ true)) }
-    ensures damaged { IfErr result (λ damage. (damage ≡ Slot slot) × (is_sound_body geometry.now slot (body_behind bytes.now) ≡ false)) }
+// Whether a record with these digests may stand on a device of this version.
+fn has_due_digests(version: Version, digests: &Option<Digests>) -> bool
+    ensures { result ≡ has_due_digests version digests.now }
+{
+    match version {
+        Version::One => true,
+        Version::Two => digests.is_some(),
+    }
+}
+
+impl SlotRecord {
+    // What an open slot says, gate and all, where it is sound.
+    #[tactic(auto, using(crate::proofs::SoundBodies::without_digests, crate::proofs::SoundBodies::without_body, crate::proofs::SoundBodies::with_both))]
+    fn from_slot(
+        bytes: &[u8; SLOT_LEN],
+        geometry: &Geometry,
+        version: Version,
+        slot: u32,
+    ) -> Option<Self>
+        ensures sound { IfSome result (λ found. (found ≡ record_of bytes.now) × (is_sound_record geometry.now version slot (Some found) ≡ true)) }
+        ensures unsound { IfNone result (is_sound_record geometry.now version slot (Some (record_of bytes.now)) ≡ false) }
+    {
+        let digests = Self::digests_from(bytes);
+        if !has_due_digests(version, &digests) {
+            return None;
+        }
+        let body = Body::from_slot(bytes, geometry, slot)?;
+        Some(SlotRecord { body, digests })
+    }
+
+    // The digests of a slot, gate and all, if there are any.
+    fn digests_from(bytes: &[u8; SLOT_LEN]) -> Option<Digests>
+        ensures { result ≡ (record_of bytes.now).digests }
+    {
+        if is_long(bytes) {
+            Some(Digests::of_slot(bytes))
+        } else {
+            None
+        }
+    }
+}
+
+// What the bytes of a slot say: nothing where it is closed, and else a record that is sound.
+#[tactic(auto, unfolding(crate::specs::Ruling::record_behind))]
+fn slot_held(
+    bytes: &[u8; SLOT_LEN],
+    geometry: &Geometry,
+    version: Version,
+    slot: u32,
+) -> Result<Option<SlotRecord>, Damage>
+    ensures held { IfOk result (λ held. (record_behind bytes.now ≡ held) × (is_sound_record geometry.now version slot held ≡ true)) }
+    ensures damaged { IfErr result (λ damage. (damage ≡ Slot slot) × (is_sound_record geometry.now version slot (record_behind bytes.now) ≡ false)) }
 {
     if !is_open(bytes[0]) {
         return Ok(None);
     }
-    match Body::from_slot(bytes, geometry, slot) {
-        Some(body) => Ok(Some(body)),
+    match SlotRecord::from_slot(bytes, geometry, version, slot) {
+        Some(found) => Ok(Some(found)),
         None => Err(Damage::Slot(slot)),
     }
 }
 
-// Reads a slot: nothing where it is closed, and else a body that is well formed.
+// Reads a slot: nothing where it is closed, and else a record that is sound.
 pub(crate) fn read_slot<D: Disk>(
     disk: &D,
     geometry: &Geometry,
+    version: Version,
     slot: u32,
-) -> Result<Option<Body>, ReadFault<D::Fault>>
+) -> Result<Option<SlotRecord>, ReadFault<D::Fault>>
     requires slot { slot < 2 }
     requires size { slot_at 1 + sector ≤ size (D.content disk.now) }
-    ensures sound { IfOk result (λ held. is_sound_body geometry.now slot held ≡ true) }
-    ensures held { IfOk result (λ held. Shows (D.content disk.now) (HasSlot geometry.now slot held)) }
-    ensures refused { IfErr result (IsSlotRefused (D.content disk.now) geometry.now (GaveAny D.gave disk.now) slot) }
+    ensures sound { IfOk result (λ held. is_sound_record geometry.now version slot held ≡ true) }
+    ensures held { IfOk result (λ held. Shows (D.content disk.now) (HasSlot geometry.now version slot held)) }
+    ensures refused { IfErr result (IsSlotRefused (D.content disk.now) geometry.now version (GaveAny D.gave disk.now) slot) }
 {
     let mut bytes = [0; SLOT_LEN];
     disk.read(slot_start(slot), &mut bytes)
         .map_err(ReadFault::Device)?;
-    match slot_held(&bytes, geometry, slot) {
+    match slot_held(&bytes, geometry, version, slot) {
         Ok(held) => Ok(held),
         Err(damage) => Err(ReadFault::Damaged(damage)),
     }
@@ -78,20 +142,33 @@ pub(crate) fn write_gate<D: Disk>(disk: &mut D, slot: u32, gate: u8) -> Result<(
     Ok(())
 }
 
-// Writes the bytes of a body behind the gate of a slot, and syncs.
-pub(crate) fn write_body<D: Disk>(
+// What is written of a body and of the digests behind it.
+pub(crate) fn record_bytes(body: &Body, digests: &Digests) -> [u8; RECORD_LEN]
+    requires { FitsSlot body.now }
+    ensures value { result ≡ record_bytes body.now digests.now }
+    ensures fits { FitsDigests digests.now }
+{
+    let mut bytes = [0; RECORD_LEN];
+    let (first, rest) = bytes.split_at_mut(BODY_LEN);
+    first.copy_from_slice(&body.to_bytes());
+    rest.copy_from_slice(&digests.to_bytes());
+    bytes
+}
+
+// Writes these bytes behind the gate of a slot, and syncs.
+pub(crate) fn write_record<D: Disk>(
     disk: &mut D,
     slot: u32,
-    body: &[u8; BODY_LEN],
+    bytes: &[u8; RECORD_LEN],
 ) -> Result<(), D::Fault>
     requires slot { slot < 2 }
     requires size { slot_at 1 + sector ≤ size (D.content disk.old) }
     ensures size { size (D.content disk.new) ≡ size (D.content disk.old) }
-    ensures changes { ChangesWithin (slot_at slot + 1) 120 (D.content disk.old) (D.content disk.new) }
-    ensures written { OnOk result (Writes (slot_at slot + 1) body.now (D.content disk.old) (D.content disk.new)) }
+    ensures changes { ChangesWithin (slot_at slot + 1) 460 (D.content disk.old) (D.content disk.new) }
+    ensures written { OnOk result (Writes (slot_at slot + 1) bytes.now (D.content disk.old) (D.content disk.new)) }
     ensures rests { OnOk result (Rests (D.content disk.new)) }
     ensures failures { MatchResult result (λ _. D.failures disk.new ≡ D.failures disk.old) (CountsFault D.failures D.gave disk.old disk.new) }
 {
-    write_synced(disk, slot_start(slot) + 1, body)?;
+    write_synced(disk, slot_start(slot) + 1, bytes)?;
     Ok(())
 }

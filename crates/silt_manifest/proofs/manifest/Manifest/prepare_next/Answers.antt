@@ -1,15 +1,16 @@
-use Rattle.std.proofs.Common.{◌≡◌, ◌+◌, length, true, refl, sym, ap, subst, ◌∙◌, arith}
+use Rattle.std.proofs.Common.{◌+◌, length, refl, sym, ap, subst, ◌∙◌, arith}
 use Rattle.silt_disk.specs.Layout.{InLimits, slot_at}
 use Rattle.silt_disk.proofs.Laws.{changes_wider, changes_joined}
-use Rattle.silt_manifest.specs.Body.{FitsSlot, is_well_formed}
-use Rattle.silt_manifest.specs.Standing.{spare_slot, ruling_slot}
-use Rattle.silt_manifest.proofs.RoundTrip.{fitting_length}
+use Rattle.silt_manifest.specs.Body.{FitsSlot}
+use Rattle.silt_manifest.specs.Digests.{FitsDigests}
+use Rattle.silt_manifest.specs.Standing.{spare_slot}
+use Rattle.silt_manifest.proofs.DigestTrip.{length_record_bytes}
 use Rattle.silt_manifest.proofs.SoundBodies.{fits_slot}
-use Rattle.silt_manifest.proofs.PrepareExits.{close_fails, body_fails, next_written, all_prepared, prepared_state}
+use Rattle.silt_manifest.proofs.PrepareExits.{close_fails, bytes_fail, next_written, all_prepared, prepared_state}
 use Rattle.silt_manifest.proofs.manifest.Manifest.prepare_next.Goals as goal
 
-pub to_bytes-requires : goal.to_bytes-requires
-to_bytes-requires g c =
+pub record_bytes-requires : goal.record_bytes-requires
+record_bytes-requires g c =
     fits_slot c.args.self.now.shape (spare_slot c.args.self.now) c.args.next (subst (λ state. InLimits state.shape) c.self.view_is c.logs-limits.ensures.limits) c.requires.next.sound
 
 pub returns-in_err-write_synced-clause-changes : goal.returns-in_err-write_synced-clause-changes
@@ -19,51 +20,50 @@ returns-in_err-write_synced-clause-changes g c =
 
 pub returns-in_err-write_synced-clause-each : goal.returns-in_err-write_synced-clause-each
 returns-in_err-write_synced-clause-each g c =
-    let sound = subst (λ state. is_well_formed state.shape (ruling_slot state) state.ruling ≡ true) c.self.view_is c.self.invariant.ruling in
-    close_fails c.args.self.now c.closing_place.result _ _ c.requires.size sound c.requires.rules c.closing_place.ensures.value c.in_err-write_synced.ensures.changes
+    close_fails c.args.self.now c.closing_place.result _ _ c.requires.size c.requires.rules c.closing_place.ensures.value c.in_err-write_synced.ensures.changes
 
-pub returns-in_err-write_body-clause-changes : goal.returns-in_err-write_body-clause-changes
-returns-in_err-write_body-clause-changes g c =
+pub returns-in_err-write_record-clause-changes : goal.returns-in_err-write_record-clause-changes
+returns-in_err-write_record-clause-changes g c =
     let place = c.closing_place.ensures in
     let start = ap slot_at c.spare_slot-slot.ensures.value in
-    changes_joined c.closing_place.result 1 (slot_at c.spare_slot-slot.result + 1) 120 (slot_at (spare_slot c.args.self.now)) 4096 _ _ _
-    c.in_ok-write_synced.ensures.changes c.in_err-write_body.ensures.changes place.least (omega (arith, place.most)) (omega arith) (omega arith)
+    changes_joined c.closing_place.result 1 (slot_at c.spare_slot-slot.result + 1) 460 (slot_at (spare_slot c.args.self.now)) 4096 _ _ _
+    c.in_ok-write_synced.ensures.changes c.in_err-write_record.ensures.changes place.least (omega (arith, place.most)) (omega arith) (omega arith)
 
-pub returns-in_err-write_body-clause-each : goal.returns-in_err-write_body-clause-each
-returns-in_err-write_body-clause-each g c =
-    let sound = subst (λ state. is_well_formed state.shape (ruling_slot state) state.ruling ≡ true) c.self.view_is c.self.invariant.ruling in
+pub returns-in_err-write_record-clause-each : goal.returns-in_err-write_record-clause-each
+returns-in_err-write_record-clause-each g c =
     let start = ap (λ slot. slot_at slot + 1) c.spare_slot-slot.ensures.value in
-    body_fails c.args.self.now c.closing_place.result (slot_at c.spare_slot-slot.result + 1) 120 _ _ _ c.requires.size sound c.requires.rules c.closing_place.ensures.value start refl
-    c.in_ok-write_synced.ensures.written c.in_ok-write_synced.ensures.rests c.in_err-write_body.ensures.changes
+    bytes_fail c.args.self.now c.closing_place.result (slot_at c.spare_slot-slot.result + 1) 460 _ _ _ c.requires.size c.requires.rules c.closing_place.ensures.value start refl
+    c.in_ok-write_synced.ensures.written c.in_ok-write_synced.ensures.rests c.in_err-write_record.ensures.changes
 
 pub returns-clause-changes : goal.returns-clause-changes
 returns-clause-changes g c =
     let place = c.closing_place.ensures in
     let start = ap slot_at c.spare_slot-slot.ensures.value in
-    changes_joined c.closing_place.result 1 (slot_at c.spare_slot-slot.result + 1) 120 (slot_at (spare_slot c.args.self.now)) 4096 _ _ _
-    c.in_ok-write_synced.ensures.changes c.in_ok-write_body.ensures.changes place.least (omega (arith, place.most)) (omega arith) (omega arith)
+    changes_joined c.closing_place.result 1 (slot_at c.spare_slot-slot.result + 1) 460 (slot_at (spare_slot c.args.self.now)) 4096 _ _ _
+    c.in_ok-write_synced.ensures.changes c.in_ok-write_record.ensures.changes place.least (omega (arith, place.most)) (omega arith) (omega arith)
 
 pub returns-clause-each : goal.returns-clause-each
 returns-clause-each g c =
-    let sound = subst (λ state. is_well_formed state.shape (ruling_slot state) state.ruling ≡ true) c.self.view_is c.self.invariant.ruling in
     let start = ap (λ slot. slot_at slot + 1) c.spare_slot-slot.ensures.value in
-    body_fails c.args.self.now c.closing_place.result (slot_at c.spare_slot-slot.result + 1) 120 _ _ _ c.requires.size sound c.requires.rules c.closing_place.ensures.value start refl
-    c.in_ok-write_synced.ensures.written c.in_ok-write_synced.ensures.rests c.in_ok-write_body.ensures.changes
+    bytes_fail c.args.self.now c.closing_place.result (slot_at c.spare_slot-slot.result + 1) 460 _ _ _ c.requires.size c.requires.rules c.closing_place.ensures.value start refl
+    c.in_ok-write_synced.ensures.written c.in_ok-write_synced.ensures.rests c.in_ok-write_record.ensures.changes
 
 pub returns-clause-written : goal.returns-clause-written
 returns-clause-written g c =
     let start = ap (λ slot. slot_at slot + 1) c.spare_slot-slot.ensures.value in
-    next_written c.args.self.now c.closing_place.result (slot_at c.spare_slot-slot.result + 1) c.to_bytes.result c.args.next _ _ _ c.closing_place.ensures.value start c.to_bytes.ensures c.in_ok-write_synced.ensures.written c.in_ok-write_body.ensures.written
+    next_written c.args.self.now c.closing_place.result (slot_at c.spare_slot-slot.result + 1) c.record_bytes.result c.args.next c.args.digests _ _ _ c.closing_place.ensures.value start c.record_bytes.ensures.value c.in_ok-write_synced.ensures.written c.in_ok-write_record.ensures.written
 
 pub returns-clause-ready : goal.returns-clause-ready
 returns-clause-ready g c =
     let m = c.args.self.now in
-    let sound = subst (λ state. is_well_formed state.shape (ruling_slot state) state.ruling ≡ true) c.self.view_is c.self.invariant.ruling in
     let start = ap (λ slot. slot_at slot + 1) c.spare_slot-slot.ensures.value in
     let fits : FitsSlot c.args.next = fits_slot m.shape (spare_slot m) c.args.next (subst (λ state. InLimits state.shape) c.self.view_is c.logs-limits.ensures.limits) c.requires.next.sound in
-    let ready = all_prepared m c.closing_place.result (slot_at c.spare_slot-slot.result + 1) c.to_bytes.result c.args.next _ _ _ c.requires.size sound c.requires.rules c.closing_place.ensures.value start (ap length c.to_bytes.ensures ∙ fitting_length c.args.next fits) c.to_bytes.ensures
-    c.in_ok-write_synced.ensures.written c.in_ok-write_synced.ensures.rests c.in_ok-write_body.ensures.written c.in_ok-write_body.ensures.rests in
+    let fits_digests : FitsDigests c.args.digests = c.record_bytes.ensures.fits in
+    let ready = all_prepared m c.closing_place.result (slot_at c.spare_slot-slot.result + 1) c.record_bytes.result c.args.next c.args.digests _ _ _ c.requires.size c.requires.rules c.closing_place.ensures.value start (ap length c.record_bytes.ensures.value ∙ length_record_bytes c.args.next c.args.digests fits fits_digests) c.record_bytes.ensures.value
+    c.in_ok-write_synced.ensures.written c.in_ok-write_synced.ensures.rests c.in_ok-write_record.ensures.written c.in_ok-write_record.ensures.rests in
     record {
       next = c.args.next;
-      prepared = prepared_state m c.self.inside.geometry c.self.inside.ruling c.args.next _ (sym (ap (λ state. state.shape) c.self.view_is)) (sym (ap (λ state. state.ruling) c.self.view_is)) c.requires.next fits ready;
+      digests = c.args.digests;
+      prepared = prepared_state m c.self.inside.geometry c.self.inside.ruling c.args.next c.self.inside.digests c.args.digests _
+          (sym (ap (λ state. state.shape) c.self.view_is)) (sym (ap (λ state. state.ruling) c.self.view_is)) (sym (ap (λ state. state.digests) c.self.view_is)) c.requires.next fits fits_digests ready;
     }
