@@ -1,5 +1,5 @@
 -- Which bytes of an image count, and what a change leaves of its stores.
-use Rattle.std.proofs.Common.{◌≡◌, ◌≢◌, ℕ, zero, suc, ◌+◌, ◌*◌, ◌%◌, ◌≤◌, ◌<◌, ◌⊎◌, ◌==◌, inl, inr, true, false, nat_lt, List, [], ◌∷◌, length, map, slice_range, slice_get, Contains, Some, Result, Ok, Err, refl, sym, ap, ◌∙◌, arith}
+use Rattle.std.proofs.Common.{◌≡◌, ◌≢◌, ℕ, zero, suc, ◌+◌, ◌*◌, ◌%◌, ◌≤◌, ◌<◌, ◌⊎◌, ◌==◌, inl, inr, true, false, nat_lt, List, [], ◌∷◌, length, map, slice_range, slice_get, Contains, Option, Result, Ok, Err, refl, sym, ap, ◌∙◌, arith}
 use Rattle.std.specs.List.{list_any, prefix_len, range_with_len}
 use Rattle.std.proofs.lemmas.Bool.{and_parts, or_parts, ltb-true, eq-eqb, eqb-false, ne_eqb, cases_eq, cases_order}
 use Rattle.std.proofs.lemmas.List.{ext_get_or}
@@ -14,21 +14,22 @@ use Rattle.silt_frame.specs.Rows.{row_of, StoredRow, entry_row, put_count}
 use Rattle.silt_log.proofs.Bodies.{map_range_same, body_before}
 use Rattle.silt_log.proofs.Counts.{count_most}
 use Rattle.silt_manifest.specs.Body.{all_below, is_well_formed}
-use Rattle.silt_manifest.specs.Ruling.{manifest_found, where_found}
+use Rattle.silt_manifest.specs.Ruling.{manifest_found, open_record, record_behind, record_found}
 use Rattle.silt_manifest.specs.declared.body.Body.{Body}
+use Rattle.silt_manifest.specs.declared.digests.Digests.{Digests}
+use Rattle.silt_manifest.specs.declared.slot.SlotRecord.{SlotRecord}
 use Rattle.silt_manifest.specs.declared.slot.Damage.{Damage}
-use Rattle.silt_manifest.proofs.Laws.{other_regions, same_found}
 use Rattle.silt_manifest.proofs.SoundBodies.{sound_parts}
-use Rattle.silt_disk.specs.Header.{header_of}
+use Rattle.silt_disk.specs.Header.{header_of, header_shape, version_of}
 use Rattle.silt_log.specs.Parts.{Part, log_part}
-use Rattle.silt_image.specs.Stores.{Stores, image_stores, shape_found, stores_named, stores_ruled, stores_shaped}
+use Rattle.silt_image.specs.Stores.{Stores, digests_found, image_digests, image_stores, shape_found, stores_named, stores_ruled, stores_shaped}
 use Rattle.silt_hash_store.specs.Slots.{hash_part, hash_rows}
 use Rattle.silt_sorted_store.specs.State.{sorted_rows}
 use Rattle.silt_image.specs.Meaning.{image_charge, image_fits, image_map, image_rows, image_stands, image_verdict, findings_of, map_where_sound, all_logs_fit, rows_found, with_log_rows, with_new_log, with_part_rows}
 use Rattle.silt_event.specs.Rows.{map_of_rows}
 use Rattle.silt_image.specs.Laws.{Agree, FrameLaw, FreeHashLaw, FreeSortedLaw, FreezeLaw, FreezesActive, HasStores, LogRegionLaw, ManifestLaw, MeaningLaw, SameRegions, SameWithin}
 use Rattle.silt_event.specs.declared.damage.Finding.{Finding}
-use Rattle.silt_image.proofs.Named.{stores_law, ruling_sound, shape_parts}
+use Rattle.silt_image.proofs.Named.{record_with, stores_law, ruling_sound, shape_parts}
 use Rattle.silt_image.proofs.Rows.{keeps_rows, takes_rows}
 
 -- ---- ranges
@@ -214,6 +215,22 @@ stores_named_same s b before after there size fits same =
     (hashes_same s b.hashed before after size fits there.hashes same.hashes)
     (entries_same s b.sorted b.sorted_count before after size fits there.sorted there.sorted_count same.sorted)
 
+-- ---- the manifest
+
+-- one header and two slots that say the same
+same_manifest : (s : Shape) (before after : List ℕ) → header_of after ≡ header_of before → open_record after 0 ≡ open_record before 0 → open_record after 1 ≡ open_record before 1 → manifest_found s after ≡ manifest_found s before
+same_manifest s before after header first second =
+    ap (λ (bytes : List ℕ). record_found s (version_of bytes) (open_record after 0) (open_record after 1)) header
+    ∙ ap (λ (held : Option SlotRecord). record_found s (version_of (header_of before)) held (open_record after 1)) first
+    ∙ ap (λ (held : Option SlotRecord). record_found s (version_of (header_of before)) (open_record before 0) held) second
+
+-- a change behind the slots leaves what they say
+manifest_before : (s : Shape) (at count : ℕ) (before after : List ℕ) → 12288 ≤ at → 12288 ≤ length before → header_of after ≡ header_of before → Torn at count before after → manifest_found s after ≡ manifest_found s before
+manifest_before s at count before after low long header torn =
+    same_manifest s before after header
+    (ap record_behind (torn_slice_before at count before after torn (slot_at 0) (slot_at 0 + 461) (omega arith) (omega arith)))
+    (ap record_behind (torn_slice_before at count before after torn (slot_at 1) (slot_at 1 + 461) (omega arith) (omega arith)))
+
 -- ---- the frame
 
 -- what the images agree on, of the stores that were named
@@ -226,33 +243,44 @@ frame_ruled : (shape : Shape) (before after : List ℕ) → Agree before after �
 unfolding image_stores
 frame_ruled shape before after agree has_shape = go (manifest_found shape before) refl
   where
-    go : (r : Result Body _) → manifest_found shape before ≡ r → stores_ruled shape after r ≡ stores_ruled shape before r
+    go : (r : Result SlotRecord Damage) → manifest_found shape before ≡ r → stores_ruled shape after r ≡ stores_ruled shape before r
     go (Err damaged) has = refl
-    go (Ok body) has =
+    go (Ok found) has =
+        let body : Body = found.body in
         let stores : image_stores before ≡ Ok (stores_named shape body before) = ap (stores_shaped before) has_shape ∙ ap (stores_ruled shape before) has in
         let shaped = shape_parts (length before) (header_of before) shape has_shape in
         let same : SameRegions shape body before after = frame_regions before after shape body agree stores in
-        ap Ok (stores_named_same shape body before after (names_regions shape (body.generation % 2) body (ruling_sound shape before body has)) agree.size (omega (arith, shaped.size)) same)
+        ap Ok (stores_named_same shape body before after (names_regions shape (body.generation % 2) body (ruling_sound shape before found has)) agree.size (omega (arith, shaped.size)) same)
 
 frame_shaped : (before after : List ℕ) → Agree before after → (r : Result Shape Finding) → shape_found (length before) (header_of before) ≡ r → stores_shaped after r ≡ stores_shaped before r
 frame_shaped before after agree (Err finding) has = refl
 frame_shaped before after agree (Ok shape) has =
-    ap (stores_ruled shape after) (same_found shape before after agree.first_slot agree.second_slot) ∙ frame_ruled shape before after agree has
+    ap (stores_ruled shape after) (same_manifest shape before after agree.header agree.first_slot agree.second_slot) ∙ frame_ruled shape before after agree has
 
 -- images that agree on all that counts have the same stores
-pub frame_law : FrameLaw
+frame_stores : (before after : List ℕ) → Agree before after → image_stores after ≡ image_stores before
 unfolding image_stores
-frame_law before after agree =
+frame_stores before after agree =
     ap (λ (n : ℕ). stores_shaped after (shape_found n (header_of after))) agree.size
     ∙ ap (λ (header : List ℕ). stores_shaped after (shape_found (length before) header)) agree.header
     ∙ frame_shaped before after agree (shape_found (length before) (header_of before)) refl
 
--- images with the same stores mean the same
+-- and say the same digests of them
+frame_digests : (before after : List ℕ) → Agree before after → image_digests after ≡ image_digests before
+unfolding image_digests
+frame_digests before after agree =
+    ap (λ (header : List ℕ). digests_found (manifest_found (header_shape header) after)) agree.header
+    ∙ ap digests_found (same_manifest (header_shape (header_of before)) before after agree.header agree.first_slot agree.second_slot)
+
+pub frame_law : FrameLaw
+frame_law before after agree = (frame_stores before after agree, frame_digests before after agree)
+
+-- images with the same stores, that say the same digests of them, mean the same
 pub meaning_law : MeaningLaw
 unfolding image_verdict image_stands image_fits image_rows image_map image_charge
-meaning_law before after same = record {
-  verdict = ap (λ r. slice_get (findings_of r) 0) same;
-  stands = ap map_where_sound same;
+meaning_law before after same said = record {
+  verdict = ap (λ r. slice_get (findings_of (image_digests after) r) 0) same ∙ ap (λ (d : Option Digests). slice_get (findings_of d (image_stores before)) 0) said;
+  stands = ap (map_where_sound (image_digests after)) same ∙ ap (λ (d : Option Digests). map_where_sound d (image_stores before)) said;
   fits = ap all_logs_fit same;
   rows = ap rows_found same;
   map = ap (λ r. map_of_rows (rows_found r)) same;
@@ -269,13 +297,14 @@ stores_after at count before after s other has low torn shape body named =
     let header : header_of after ≡ header_of before = torn_slice_before at count before after torn 0 37 (omega arith) (omega arith) in
     (stores_law after other).1 (record {
       shape = ap (λ (n : ℕ). shape_found n (header_of after)) torn.size ∙ ap (shape_found (length before)) header ∙ has.shape ∙ ap Ok (sym shape);
-      body = ap (λ t. manifest_found t after) shape ∙ other_regions s.shape at count before after (omega arith) (inr low) torn ∙ has.body ∙ ap Ok (sym body);
+      digests = has.digests;
+      rules = ap (λ t. manifest_found t after) shape ∙ manifest_before s.shape at count before after low long header torn ∙ has.rules ∙ ap (λ b. Ok (record_with has.digests b)) (sym body);
       named = named ∙ ap (λ t. stores_named t s.body after) (sym shape) ∙ ap (λ b. stores_named other.shape b after) (sym body);
     })
 
 -- the regions of an image with stores
 stores_regions : (image : List ℕ) (s : Stores) → HasStores s image → NamesRegions s.shape s.body
-stores_regions image s has = names_regions s.shape (s.body.generation % 2) s.body (ruling_sound s.shape image s.body has.body)
+stores_regions image s has = names_regions s.shape (s.body.generation % 2) s.body (ruling_sound s.shape image (record_with has.digests s.body) has.rules)
 
 -- one log, with the rows that it has now
 log_after : (s : Shape) (region id : ℕ) (before after : List ℕ) → Torn (gates_at s region) (log_size s) before after → device_size s ≤ length before → id < s.logs → with_part_rows region (log_rows s region after) (log_part s before id) ≡ log_part s after id
@@ -385,12 +414,13 @@ free_sorted_law before after s region e below other torn =
 -- after a change in a manifest slot the stores are those that the body then ruling names
 pub manifest_law : ManifestLaw
 unfolding stores_named
-manifest_law before after s slot body e below torn found =
+manifest_law before after s slot found e below torn rules =
+    let body : Body = found.body in
     let has = (stores_law before s).0 e in
     let sh = s.shape in
     let shaped = shape_parts (length before) (header_of before) sh has.shape in
     let header : header_of after ≡ header_of before = torn_slice_before (slot_at slot) 4096 before after torn 0 37 (omega arith) (omega (arith, shaped.size)) in
-    let there = names_regions sh (body.generation % 2) body (ruling_sound sh after body found) in
+    let there = names_regions sh (body.generation % 2) body (ruling_sound sh after found rules) in
     let same : SameRegions sh body before after = record {
       logs = λ id named. torn_same (slot_at slot) 4096 (gates_at sh id) (log_size sh) before after torn (inr (omega arith));
       hashes = λ id named. torn_same (slot_at slot) 4096 (hash_at sh id) (hash_size sh) before after torn (inr (omega arith));
@@ -398,7 +428,8 @@ manifest_law before after s slot body e below torn found =
     } in
     (stores_law after (stores_named sh body before)).1 (record {
       shape = ap (λ (n : ℕ). shape_found n (header_of after)) torn.size ∙ ap (shape_found (length before)) header ∙ has.shape;
-      body = found;
+      digests = found.digests;
+      rules = rules;
       named = sym (stores_named_same sh body before after there torn.size (omega (arith, shaped.size)) same);
     })
 
@@ -417,8 +448,3 @@ pub freeze_law : FreezeLaw
 freeze_law image s next e freezes none =
     let has = (stores_law image s).0 e in
     freeze_named s.shape s.body next image freezes none ∙ ap (with_new_log next) (sym has.named)
-
--- a body that rules was found
-found_of : (r : Result Body Damage) (body : Body) → where_found r ≡ Some body → r ≡ Ok body
-found_of (Ok found) body e = cc
-found_of (Err damaged) body e = absurd (cc)

@@ -1,5 +1,5 @@
 -- What an image with stores has.
-use Rattle.std.proofs.Common.{◌≡◌, ℕ, ◌*◌, ◌%◌, ◌≤◌, ◌==◌, Bool, true, false, not, nat_le, nat_lt, ◌&&◌, ◌||◌, if◌then◌else◌, List, [], ◌∷◌, length, map, slice_range, Option, Some, None, Result, Ok, Err, refl, sym, ap, ◌∙◌, arith}
+use Rattle.std.proofs.Common.{◌≡◌, ◌⊎◌, inl, inr, ℕ, ◌*◌, ◌%◌, ◌≤◌, ◌==◌, Bool, true, false, not, nat_le, nat_lt, ◌&&◌, ◌||◌, if◌then◌else◌, List, [], ◌∷◌, length, map, slice_range, Option, Some, None, Result, Ok, Err, refl, sym, ap, ◌∙◌, arith}
 use Rattle.std.specs.List.{list_any}
 use Rattle.std.proofs.lemmas.Bool.{and_parts, not-true, eqb-true}
 use Rattle.std.proofs.lemmas.Bool.Decides.{nat_tests}
@@ -7,15 +7,18 @@ use Rattle.std.proofs.lemmas.List.Edits.{length-between}
 use Rattle.std.proofs.lemmas.Slice.Eq.{bytes_eq-Decides}
 use Rattle.silt_disk.specs.Layout.{Shape, InLimits, device_size, is_bucket_count}
 use Rattle.silt_manifest.specs.Body.{is_well_formed}
-use Rattle.silt_manifest.specs.Ruling.{manifest_found, body_found, greater_body, is_sound_body, open_body}
+use Rattle.silt_manifest.specs.Ruling.{manifest_found, record_found, greater_record, has_due_digests, is_sound_record, open_record}
 use Rattle.silt_manifest.specs.declared.body.Body.{Body}
+use Rattle.silt_manifest.specs.declared.digests.Digests.{Digests}
+use Rattle.silt_manifest.specs.declared.slot.SlotRecord.{SlotRecord}
 use Rattle.silt_manifest.specs.declared.slot.Damage.{Damage}
 use Rattle.silt_manifest.specs.declared.slot.Damage.TheVariants as damage
 use Rattle.silt_manifest.proofs.SoundBodies.{own_slot}
-use Rattle.silt_disk.specs.Header.{IsHeader, header_of, header_shape, is_formatted, is_in_limits, magic}
+use Rattle.silt_disk.specs.Header.{IsHeader, header_of, header_shape, is_formatted, is_in_limits, magic, version_number, version_of}
+use Rattle.silt_disk.specs.declared.header.Version.{Version}
 use Rattle.silt_log.specs.Parts.{Part, log_part}
-use Rattle.silt_image.specs.Stores.{Stores, image_stores, shape_found, stores_named, stores_ruled, stores_shaped}
-use Rattle.silt_image.specs.Laws.{LimitsLaw, StoresLaw, WholeLaw, HasStores}
+use Rattle.silt_image.specs.Stores.{Stores, digests_found, image_digests, image_stores, shape_found, stores_named, stores_ruled, stores_shaped}
+use Rattle.silt_image.specs.Laws.{DigestsLaw, HasStores, LimitsLaw, StoresLaw, WholeLaw}
 use Rattle.silt_event.specs.declared.damage.Finding.{Finding}
 use Rattle.silt_event.specs.declared.damage.Finding.TheVariants.{NotFormatted, Damaged}
 use Rattle.silt_event.specs.declared.place.Place.TheVariants.{Header, Length}
@@ -116,6 +119,14 @@ shape_parts len header shape e =
       is = all.3;
     }
 
+-- a number of one of the two versions
+version_is : (n : ℕ) → ((n == 1) || (n == 2)) ≡ true → (n ≡ 1) ⊎ (n ≡ 2)
+version_is n is = go (n == 1) refl is
+  where
+    go : (b : Bool) → (n == 1) ≡ b → (b || (n == 2)) ≡ true → (n ≡ 1) ⊎ (n ≡ 2)
+    go true first is = inl (eqb-true n 1 first)
+    go false other is = inr (eqb-true n 2 is)
+
 -- the bytes of a header that is formatted
 pub header_is : (header : List ℕ) → length header ≡ 37 → is_formatted header ≡ true → IsHeader header
 header_is header long formatted =
@@ -125,39 +136,45 @@ header_is header long formatted =
       whole = long;
       gate = eqb-true _ 167 gate.0;
       magic = (bytes_eq-Decides (slice_range header 1 9) magic).0 gate.1;
-      version = eqb-true _ 1 front.1;
+      version = version_is (version_number header) front.1;
     }
 
 -- ---- the manifest
 
--- the body of greater generation is one of the two
-greater_sound : (s : Shape) (first second : Option Body) (body : Body) → is_sound_body s 0 first ≡ true → is_sound_body s 1 second ≡ true → greater_body first second ≡ Ok body → (slot : ℕ) × (is_well_formed s slot body ≡ true)
-greater_sound s None None body s0 s1 e = absurd (cc)
-greater_sound s None (Some b) body s0 s1 e = let same : b ≡ body = cc in (1, ap (is_well_formed s 1) (sym same) ∙ s1)
-greater_sound s (Some a) None body s0 s1 e = let same : a ≡ body = cc in (0, ap (is_well_formed s 0) (sym same) ∙ s0)
-greater_sound s (Some a) (Some b) body s0 s1 e = go (nat_lt a.generation b.generation) e
+-- the body of a sound record is well formed
+sound_body : (s : Shape) (version : Version) (slot : ℕ) (held found : SlotRecord) → is_sound_record s version slot (Some held) ≡ true → held ≡ found → is_well_formed s slot found.body ≡ true
+sound_body s version slot held found sound same =
+    ap (λ (r : SlotRecord). is_well_formed s slot r.body) (sym same) ∙ (and_parts (has_due_digests version held.digests) (is_well_formed s slot held.body) sound).1
+
+-- the record of greater generation is one of the two
+greater_sound : (s : Shape) (version : Version) (first second : Option SlotRecord) (found : SlotRecord) → is_sound_record s version 0 first ≡ true → is_sound_record s version 1 second ≡ true → greater_record first second ≡ Ok found → (slot : ℕ) × (is_well_formed s slot found.body ≡ true)
+greater_sound s version None None found s0 s1 e = absurd (cc)
+greater_sound s version None (Some b) found s0 s1 e = (1, sound_body s version 1 b found s1 (cc))
+greater_sound s version (Some a) None found s0 s1 e = (0, sound_body s version 0 a found s0 (cc))
+greater_sound s version (Some a) (Some b) found s0 s1 e = go (nat_lt a.body.generation b.body.generation) e
   where
-    go : (newer : Bool) → (let found : Result Body Damage = Ok (if newer then b else a) in found ≡ Ok body) → (slot : ℕ) × (is_well_formed s slot body ≡ true)
-    go true e = let same : b ≡ body = cc in (1, ap (is_well_formed s 1) (sym same) ∙ s1)
-    go false e = let same : a ≡ body = cc in (0, ap (is_well_formed s 0) (sym same) ∙ s0)
+    go : (newer : Bool) → (let greater : Result SlotRecord Damage = Ok (if newer then b else a) in greater ≡ Ok found) → (slot : ℕ) × (is_well_formed s slot found.body ≡ true)
+    go true e = (1, sound_body s version 1 b found s1 (cc))
+    go false e = (0, sound_body s version 0 a found s0 (cc))
 
 -- the two tests of the slots
-abbrev pub ruled : Bool → Bool → Result Body Damage → Result Body Damage
+abbrev pub ruled : Bool → Bool → Result SlotRecord Damage → Result SlotRecord Damage
 ruled first second found = if not first then Err (damage.Slot 0) else if not second then Err (damage.Slot 1) else found
 
--- they succeed where a body is found
-both_sound : (a b : Bool) (found : Result Body Damage) (body : Body) → ruled a b found ≡ Ok body → (a ≡ true) × (b ≡ true) × (found ≡ Ok body)
-both_sound false b found body e = absurd (cc)
-both_sound true false found body e = absurd (cc)
-both_sound true true found body e = (refl, refl, e)
+-- they succeed where a record is found
+both_sound : (a b : Bool) (r : Result SlotRecord Damage) (found : SlotRecord) → ruled a b r ≡ Ok found → (a ≡ true) × (b ≡ true) × (r ≡ Ok found)
+both_sound false b r found e = absurd (cc)
+both_sound true false r found e = absurd (cc)
+both_sound true true r found e = (refl, refl, e)
 
 -- the body that rules is well formed
-pub ruling_sound : (s : Shape) (image : List ℕ) (body : Body) → manifest_found s image ≡ Ok body → is_well_formed s (body.generation % 2) body ≡ true
-unfolding body_found
-ruling_sound s image body e =
-    let tests = both_sound (is_sound_body s 0 (open_body image 0)) (is_sound_body s 1 (open_body image 1)) (greater_body (open_body image 0) (open_body image 1)) body e in
-    let sound = greater_sound s (open_body image 0) (open_body image 1) body tests.0 tests.1 tests.2 in
-    own_slot s sound.0 body sound.1
+pub ruling_sound : (s : Shape) (image : List ℕ) (found : SlotRecord) → manifest_found s image ≡ Ok found → is_well_formed s (found.body.generation % 2) found.body ≡ true
+unfolding record_found
+ruling_sound s image found e =
+    let version : Version = version_of (header_of image) in
+    let tests = both_sound (is_sound_record s version 0 (open_record image 0)) (is_sound_record s version 1 (open_record image 1)) (greater_record (open_record image 0) (open_record image 1)) found e in
+    let sound = greater_sound s version (open_record image 0) (open_record image 1) found tests.0 tests.1 tests.2 in
+    own_slot s sound.0 found.body sound.1
 
 -- ---- the stores
 
@@ -170,20 +187,25 @@ body_of_named : (shape : Shape) (body : Body) (image : List ℕ) → (stores_nam
 unfolding stores_named
 body_of_named shape body image = refl
 
+-- a record with these digests
+abbrev pub record_with : Option Digests → Body → SlotRecord
+record_with digests body = record { body = body; digests = digests }
+
 -- stores that were named are so by their own shape and body
-pub named_has : (image : List ℕ) (s : Stores) (shape : Shape) (body : Body) → shape_found (length image) (header_of image) ≡ Ok shape → manifest_found shape image ≡ Ok body → stores_named shape body image ≡ s → HasStores s image
-named_has image s shape body has_shape has_body same =
-    let is_shape : shape ≡ s.shape = sym (shape_of_named shape body image) ∙ ap (λ (t : Stores). t.shape) same in
-    let is_body : body ≡ s.body = sym (body_of_named shape body image) ∙ ap (λ (t : Stores). t.body) same in
+pub named_has : (image : List ℕ) (s : Stores) (shape : Shape) (found : SlotRecord) → shape_found (length image) (header_of image) ≡ Ok shape → manifest_found shape image ≡ Ok found → stores_named shape found.body image ≡ s → HasStores s image
+named_has image s shape found has_shape has_record same =
+    let is_shape : shape ≡ s.shape = sym (shape_of_named shape found.body image) ∙ ap (λ (t : Stores). t.shape) same in
+    let is_body : found.body ≡ s.body = sym (body_of_named shape found.body image) ∙ ap (λ (t : Stores). t.body) same in
     record {
       shape = has_shape ∙ ap Ok is_shape;
-      body = ap (λ t. manifest_found t image) (sym is_shape) ∙ has_body ∙ ap Ok is_body;
-      named = sym same ∙ ap (λ t. stores_named t body image) is_shape ∙ ap (λ b. stores_named s.shape b image) is_body;
+      digests = found.digests;
+      rules = ap (λ t. manifest_found t image) (sym is_shape) ∙ has_record ∙ ap (λ b. Ok (record_with found.digests b)) is_body;
+      named = sym same ∙ ap (λ t. stores_named t found.body image) is_shape ∙ ap (λ b. stores_named s.shape b image) is_body;
     }
 
-from_ruled : (image : List ℕ) (s : Stores) (shape : Shape) → shape_found (length image) (header_of image) ≡ Ok shape → (r : Result Body Damage) → manifest_found shape image ≡ r → stores_ruled shape image r ≡ Ok s → HasStores s image
+from_ruled : (image : List ℕ) (s : Stores) (shape : Shape) → shape_found (length image) (header_of image) ≡ Ok shape → (r : Result SlotRecord Damage) → manifest_found shape image ≡ r → stores_ruled shape image r ≡ Ok s → HasStores s image
 from_ruled image s shape has_shape (Err damaged) has e = absurd (cc)
-from_ruled image s shape has_shape (Ok body) has e = named_has image s shape body has_shape has (let same : stores_named shape body image ≡ s = cc in same)
+from_ruled image s shape has_shape (Ok found) has e = named_has image s shape found has_shape has (let same : stores_named shape found.body image ≡ s = cc in same)
 
 from_shaped : (image : List ℕ) (s : Stores) (r : Result Shape Finding) → shape_found (length image) (header_of image) ≡ r → stores_shaped image r ≡ Ok s → HasStores s image
 from_shaped image s (Err finding) has e = absurd (cc)
@@ -194,7 +216,7 @@ pub stores_law : StoresLaw
 unfolding image_stores
 stores_law image s = (
   λ e. from_shaped image s (shape_found (length image) (header_of image)) refl e,
-  λ has. ap (stores_shaped image) has.shape ∙ ap (stores_ruled s.shape image) has.body ∙ ap Ok (sym has.named),
+  λ has. ap (stores_shaped image) has.shape ∙ ap (stores_ruled s.shape image) has.rules ∙ ap Ok (sym has.named),
 )
 
 -- a log of an image is asked for by its region
@@ -223,7 +245,7 @@ pub whole_law : WholeLaw
 whole_law image s e =
     let has = (stores_law image s).0 e in
     let shaped = shape_parts (length image) (header_of image) s.shape has.shape in
-    let sound = ruling_sound s.shape image s.body has.body in
+    let sound = ruling_sound s.shape image (record_with has.digests s.body) has.rules in
     let logs : s.logs ≡ map (log_part s.shape image) (s.body.active ∷ s.body.frozen) = ap (λ (t : Stores). t.logs) has.named ∙ logs_named s.shape s.body image in
     record {
       header = header_is (header_of image) (length-between image 0 37 shaped.long) shaped.formatted;
@@ -238,3 +260,8 @@ whole_law image s e =
       };
       names = λ region. ap (list_any (λ (part : Part). part.region == region)) logs ∙ any_part s.shape image region (s.body.active ∷ s.body.frozen);
     }
+
+-- the digests of an image with stores are those behind the ruling body
+pub digests_law : DigestsLaw
+unfolding image_digests
+digests_law image s found e rules = ap (λ (t : Shape). digests_found (manifest_found t image)) (whole_law image s e).has_shape ∙ ap digests_found rules

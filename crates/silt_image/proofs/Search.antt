@@ -1,5 +1,5 @@
 -- The first finding, as a search comes upon it.
-use Rattle.std.proofs.Common.{◌≡◌, ℕ, zero, suc, ◌+◌, ◌≤◌, Bool, true, not, List, [], ◌∷◌, ◌++◌, take, flat_map, slice_get, Some, sym, ap, ◌∙◌, arith, false}
+use Rattle.std.proofs.Common.{◌≡◌, ℕ, zero, suc, ◌+◌, ◌≤◌, Bool, true, not, List, [], ◌∷◌, ◌++◌, take, flat_map, length, slice_get, Some, sym, ap, ◌∙◌, arith, false}
 use Rattle.std.specs.List.{list_all, enumerate_from}
 use Rattle.std.proofs.lemmas.Bool.{and_parts, lt-ltb}
 use Rattle.std.proofs.lemmas.List.{take-take}
@@ -7,11 +7,10 @@ use Rattle.std.proofs.lemmas.Grind.{flat_map-append}
 use Rattle.silt_disk.specs.Layout.{Shape}
 use Rattle.silt_frame.specs.Rows.{has_known_kind, StoredRow}
 use Rattle.silt_log.specs.Parts.{Part}
-use Rattle.silt_image.specs.Meaning.{charge_findings, charge_of, store_findings}
+use Rattle.silt_image.specs.Stores.{image_digests}
+use Rattle.silt_image.specs.Meaning.{charge_findings, charge_of, said_entry_findings, said_hash_findings, store_findings}
 use Rattle.silt_event.specs.Findings.{finding_if}
 use Rattle.silt_log_store.specs.Findings.{fits_table, log_findings, row_findings}
-use Rattle.silt_hash_store.specs.Findings.{hash_findings}
-use Rattle.silt_sorted_store.specs.Findings.{sorted_findings}
 use Rattle.silt_image.specs.Laws.{ChargeFoundLaw, FirstEntryLaw, FirstFinding, FirstFindingLaw, FirstSlotLaw}
 use Rattle.silt_event.specs.declared.damage.Finding.{Finding}
 use Rattle.silt_event.specs.declared.damage.Finding.TheVariants.{Damaged, Crowded}
@@ -73,10 +72,12 @@ first_finding_law image s before after part place row finding e logs none first 
     let in_logs : slice_get (flat_map (log_findings s.shape) s.logs) 0 ≡ Some finding =
     ap (λ l. slice_get l 0) (ap (flat_map (log_findings s.shape)) logs ∙ flat_map-append (log_findings s.shape) before (part ∷ after))
     ∙ first_behind (flat_map (log_findings s.shape) before) (log_findings s.shape part ++ rest) finding none (first_of_front (log_findings s.shape part) rest finding found) in
+    let hashes : List Finding = flat_map (said_hash_findings s.shape (image_digests image)) (enumerate_from 0 s.hashes) in
+    let entries : List Finding = said_entry_findings (image_digests image) s.entries in
     verdict_of image s e
-    ∙ first_of_front (flat_map (log_findings s.shape) s.logs ++ flat_map (hash_findings s.shape) s.hashes ++ sorted_findings s.entries) (charge_findings s) finding
-    (first_of_front (flat_map (log_findings s.shape) s.logs ++ flat_map (hash_findings s.shape) s.hashes) (sorted_findings s.entries) finding
-    (first_of_front (flat_map (log_findings s.shape) s.logs) (flat_map (hash_findings s.shape) s.hashes) finding in_logs))
+    ∙ first_of_front (flat_map (log_findings s.shape) s.logs ++ hashes ++ entries) (charge_findings s) finding
+    (first_of_front (flat_map (log_findings s.shape) s.logs ++ hashes) entries finding
+    (first_of_front (flat_map (log_findings s.shape) s.logs) hashes finding in_logs))
 
 -- and in one of a known kind without a place
 crowded_row : (shape : Shape) (part : Part) (place : ℕ) (row : StoredRow) → has_known_kind row ≡ true → fits_table shape (take (place + 1) part.rows) ≡ false → slice_get (row_findings shape part (place, row)) 0 ≡ Some Crowded
@@ -84,34 +85,52 @@ crowded_row shape part place row known crowded =
     ap (λ (b : Bool). slice_get (finding_if (not b) (Damaged (Log part.region place)) ++ finding_if (not (fits_table shape (take (place + 1) part.rows))) Crowded) 0) known
     ∙ ap (λ (b : Bool). slice_get (finding_if (not b) Crowded) 0) crowded
 
+-- the places of two lists, one behind the other
+pub places_append : (k : ℕ) (xs ys : List Part) → enumerate_from k (xs ++ ys) ≡ enumerate_from k xs ++ enumerate_from (k + length xs) ys
+places_append k [] ys = let here : k ≡ k + 0 = omega arith in ap (λ (n : ℕ). enumerate_from n ys) here
+places_append k (x ∷ xs) ys =
+    let next : k + 1 + length xs ≡ k + suc (length xs) = omega arith in
+    ap (λ (l : List (ℕ × Part)). (k, x) ∷ l) (places_append (k + 1) xs ys ∙ ap (λ (n : ℕ). enumerate_from (k + 1) xs ++ enumerate_from n ys) next)
+
 -- so is that in the first hash store that has one
 pub first_slot_law : FirstSlotLaw
 unfolding store_findings
 first_slot_law image s before after part finding e logs hashes none found =
-    let rest : List Finding = flat_map (hash_findings s.shape) after in
-    let in_hashes : slice_get (flat_map (hash_findings s.shape) s.hashes) 0 ≡ Some finding =
-    ap (λ l. slice_get l 0) (ap (flat_map (hash_findings s.shape)) hashes ∙ flat_map-append (hash_findings s.shape) before (part ∷ after))
-    ∙ first_behind (flat_map (hash_findings s.shape) before) (hash_findings s.shape part ++ rest) finding none (first_of_front (hash_findings s.shape part) rest finding found) in
+    let said = image_digests image in
+    let own : List Finding = said_hash_findings s.shape said (length before, part) in
+    let rest : List Finding = flat_map (said_hash_findings s.shape said) (enumerate_from (length before + 1) after) in
+    let all : List Finding = flat_map (said_hash_findings s.shape said) (enumerate_from 0 s.hashes) in
+    let entries : List Finding = said_entry_findings said s.entries in
+    let start : 0 + length before ≡ length before = omega arith in
+    let places : enumerate_from 0 s.hashes ≡ enumerate_from 0 before ++ (length before, part) ∷ enumerate_from (length before + 1) after =
+    ap (enumerate_from 0) hashes ∙ places_append 0 before (part ∷ after) ∙ ap (λ (n : ℕ). enumerate_from 0 before ++ enumerate_from n (part ∷ after)) start in
+    let in_hashes : slice_get all 0 ≡ Some finding =
+    ap (λ l. slice_get l 0) (ap (flat_map (said_hash_findings s.shape said)) places ∙ flat_map-append (said_hash_findings s.shape said) (enumerate_from 0 before) ((length before, part) ∷ enumerate_from (length before + 1) after))
+    ∙ first_behind (flat_map (said_hash_findings s.shape said) (enumerate_from 0 before)) (own ++ rest) finding none (first_of_front own rest finding found) in
     verdict_of image s e
-    ∙ first_of_front (flat_map (log_findings s.shape) s.logs ++ flat_map (hash_findings s.shape) s.hashes ++ sorted_findings s.entries) (charge_findings s) finding
-    (first_of_front (flat_map (log_findings s.shape) s.logs ++ flat_map (hash_findings s.shape) s.hashes) (sorted_findings s.entries) finding
-    (first_behind (flat_map (log_findings s.shape) s.logs) (flat_map (hash_findings s.shape) s.hashes) finding logs in_hashes))
+    ∙ first_of_front (flat_map (log_findings s.shape) s.logs ++ all ++ entries) (charge_findings s) finding
+    (first_of_front (flat_map (log_findings s.shape) s.logs ++ all) entries finding
+    (first_behind (flat_map (log_findings s.shape) s.logs) all finding logs in_hashes))
 
--- so is that in the entries
+-- so is that in the sorted store
 pub first_entry_law : FirstEntryLaw
 unfolding store_findings
 first_entry_law image s finding e logs hashes found =
+    let all : List Finding = flat_map (said_hash_findings s.shape (image_digests image)) (enumerate_from 0 s.hashes) in
+    let entries : List Finding = said_entry_findings (image_digests image) s.entries in
     verdict_of image s e
-    ∙ first_of_front (flat_map (log_findings s.shape) s.logs ++ flat_map (hash_findings s.shape) s.hashes ++ sorted_findings s.entries) (charge_findings s) finding
-    (first_behind (flat_map (log_findings s.shape) s.logs ++ flat_map (hash_findings s.shape) s.hashes) (sorted_findings s.entries) finding
-    (nothing_both (flat_map (log_findings s.shape) s.logs) (flat_map (hash_findings s.shape) s.hashes) logs hashes) found)
+    ∙ first_of_front (flat_map (log_findings s.shape) s.logs ++ all ++ entries) (charge_findings s) finding
+    (first_behind (flat_map (log_findings s.shape) s.logs ++ all) entries finding
+    (nothing_both (flat_map (log_findings s.shape) s.logs) all logs hashes) found)
 
 -- where nothing else is found, and there are more puts than the store may hold, that is the verdict
 pub charge_found_law : ChargeFoundLaw
 unfolding store_findings
 charge_found_law image s e logs hashes entries many =
+    let all : List Finding = flat_map (said_hash_findings s.shape (image_digests image)) (enumerate_from 0 s.hashes) in
+    let sorted : List Finding = said_entry_findings (image_digests image) s.entries in
     verdict_of image s e
-    ∙ first_behind (flat_map (log_findings s.shape) s.logs ++ flat_map (hash_findings s.shape) s.hashes ++ sorted_findings s.entries) (charge_findings s) (Damaged Charge)
-    (nothing_both (flat_map (log_findings s.shape) s.logs ++ flat_map (hash_findings s.shape) s.hashes) (sorted_findings s.entries)
-    (nothing_both (flat_map (log_findings s.shape) s.logs) (flat_map (hash_findings s.shape) s.hashes) logs hashes) entries)
+    ∙ first_behind (flat_map (log_findings s.shape) s.logs ++ all ++ sorted) (charge_findings s) (Damaged Charge)
+    (nothing_both (flat_map (log_findings s.shape) s.logs ++ all) sorted
+    (nothing_both (flat_map (log_findings s.shape) s.logs) all logs hashes) entries)
     (ap (λ (b : Bool). slice_get (finding_if b (Damaged Charge)) 0) (lt-ltb s.shape.sorted_capacity (charge_of s) many))

@@ -1,23 +1,107 @@
 -- When nothing is found in stores.
-use Rattle.std.proofs.Common.{◌≡◌, ℕ, ◌+◌, ◌≤◌, ◌==◌, Bool, true, false, nat_lt, List, [], ◌∷◌, ◌++◌, map, take, drop, flat_map, refl, sym, ap, ◌∙◌, subst, arith, append_assoc, take-append-drop}
+use Rattle.std.proofs.Common.{◌≡◌, ℕ, zero, suc, ◌+◌, ◌≤◌, ◌==◌, Bool, true, false, nat_lt, List, [], ◌∷◌, ◌++◌, map, take, drop, flat_map, slice_get, Option, Some, None, refl, sym, ap, ◌∙◌, subst, arith, append_assoc, take-append-drop}
+use Rattle.std.specs.List.{enumerate_from}
+use Rattle.std.specs.Option.{ForSome}
+use Rattle.std.specs.Str.{bytes_eq}
 use Rattle.std.proofs.lemmas.Bool.{and_from, ltb-false, le-ltb}
 use Rattle.std.proofs.lemmas.List.Folds.{list_all-append}
+use Rattle.std.proofs.lemmas.Slice.Eq.{bytes_eq-Decides}
 use Rattle.silt_disk.specs.Layout.{Shape}
 use Rattle.silt_frame.specs.Rows.{has_known_kind, StoredRow, put_count}
 use Rattle.silt_log.specs.Parts.{Part, known_rows, oldest_first, part_rows}
 use Rattle.silt_image.specs.Stores.{Stores}
-use Rattle.silt_image.specs.Meaning.{IsSound, charge_findings, charge_of, rows_of, store_findings, with_log_rows, with_new_log, with_part_rows}
+use Rattle.silt_manifest.specs.declared.digests.Digests.{Digests}
+use Rattle.silt_image.specs.Meaning.{AreDigestsOf, IsSound, charge_findings, charge_of, digest_findings, entries_digest, part_digest, rows_of, said_entry_findings, said_hash, said_hash_findings, said_sorted, store_findings, with_log_rows, with_new_log, with_part_rows}
 use Rattle.silt_event.specs.Findings.{finding_if}
 use Rattle.silt_log_store.specs.Findings.{log_findings}
 use Rattle.silt_hash_store.specs.Findings.{hash_findings}
 use Rattle.silt_sorted_store.specs.Findings.{sorted_findings}
-use Rattle.silt_image.specs.Laws.{BeginningLaw, ChargeLaw, FindsNothing, FrozenLaw, LogsSoundLaw, PartsLaw, TakenLaw}
+use Rattle.silt_image.specs.Laws.{BeginningLaw, ChargeLaw, FindsNothing, FrozenLaw, LogsSoundLaw, PartsLaw, SaidLaw, TakenLaw}
+use Rattle.silt_event.specs.declared.damage.Finding.{Finding}
 use Rattle.silt_event.specs.declared.damage.Finding.TheVariants.{Damaged}
-use Rattle.silt_event.specs.declared.place.Place.TheVariants.{Charge}
+use Rattle.silt_event.specs.declared.place.Place.{Place}
+use Rattle.silt_event.specs.declared.place.Place.TheVariants.{Charge, HashDigest, SortedDigest}
 use Rattle.silt_event.proofs.Rows.{count_law}
 use Rattle.silt_image.proofs.Rows.{keeps_rows, new_log_law, takes_rows}
-use Rattle.silt_event.proofs.Findings.{nothing_first, nothing_second, nothing_both}
+use Rattle.silt_event.proofs.Findings.{nothing_first, nothing_second, nothing_both, nothing_where_passes, passes_where_nothing}
 use Rattle.silt_log_store.proofs.Findings.{AreFine, fine_of, of_fine, fine_front}
+
+-- ---- the digests
+
+-- a digest that is said, where nothing is found, is this one
+pub digest_is : (place : Place) (said : Option (List ℕ)) (digest : List ℕ) → digest_findings place said digest ≡ [] → ForSome said (λ other. other ≡ digest)
+digest_is place None digest none = λ other is. absurd (cc)
+digest_is place (Some first) digest none = λ other is.
+    let same : first ≡ other = cc in
+    sym same ∙ (bytes_eq-Decides first digest).0 (passes_where_nothing (bytes_eq first digest) (Damaged place) none)
+
+-- and where it is this one, nothing is found
+pub nothing_of_digest : (place : Place) (said : Option (List ℕ)) (digest : List ℕ) → ForSome said (λ other. other ≡ digest) → digest_findings place said digest ≡ []
+nothing_of_digest place None digest is = refl
+nothing_of_digest place (Some first) digest is = nothing_where_passes (bytes_eq first digest) (Damaged place) ((bytes_eq-Decides first digest).1 (is first refl))
+
+-- each digest that is said of some hash stores, from a place on, is that of its store
+AreHashDigests : Option Digests → ℕ → List Part → Type 0
+AreHashDigests said k parts = (n : ℕ) (part : Part) → slice_get parts n ≡ Some part → ForSome (said_hash said (k + n)) (λ digest. digest ≡ part_digest part)
+
+-- some hash stores with nothing found in them and in their digests, taken apart
+hashes_are : (shape : Shape) (said : Option Digests) (k : ℕ) (parts : List Part) → flat_map (said_hash_findings shape said) (enumerate_from k parts) ≡ [] → (flat_map (hash_findings shape) parts ≡ []) × AreHashDigests said k parts
+unfolding AreHashDigests
+hashes_are shape said k [] none = (refl, λ n part there. absurd (cc))
+hashes_are shape said k (first ∷ parts) none =
+    let own : said_hash_findings shape said (k, first) ≡ [] = nothing_first (said_hash_findings shape said (k, first)) (flat_map (said_hash_findings shape said) (enumerate_from (k + 1) parts)) none in
+    let others = hashes_are shape said (k + 1) parts (nothing_second (said_hash_findings shape said (k, first)) (flat_map (said_hash_findings shape said) (enumerate_from (k + 1) parts)) none) in
+    let slots = nothing_first (hash_findings shape first) (digest_findings (HashDigest first.region) (said_hash said k) (part_digest first)) own in
+    let digest = digest_is (HashDigest first.region) (said_hash said k) (part_digest first) (nothing_second (hash_findings shape first) (digest_findings (HashDigest first.region) (said_hash said k) (part_digest first)) own) in
+    (nothing_both (hash_findings shape first) (flat_map (hash_findings shape) parts) slots others.0, go digest others.1)
+  where
+    go : ForSome (said_hash said k) (λ digest. digest ≡ part_digest first) → ((n : ℕ) (part : Part) → slice_get parts n ≡ Some part → ForSome (said_hash said (k + 1 + n)) (λ digest. digest ≡ part_digest part))
+        → (n : ℕ) (part : Part) → slice_get (first ∷ parts) n ≡ Some part → ForSome (said_hash said (k + n)) (λ digest. digest ≡ part_digest part)
+    go digest later zero part there =
+        let same : first ≡ part = cc in
+        let here : k ≡ k + 0 = omega arith in
+        subst (λ (p : Part). ForSome (said_hash said (k + 0)) (λ d. d ≡ part_digest p)) same (subst (λ (j : ℕ). ForSome (said_hash said j) (λ d. d ≡ part_digest first)) here digest)
+    go digest later (suc n) part there =
+        let next : k + 1 + n ≡ k + suc n = omega arith in
+        subst (λ (j : ℕ). ForSome (said_hash said j) (λ d. d ≡ part_digest part)) next (later n part there)
+
+-- and put together
+nothing_of_hashes : (shape : Shape) (said : Option Digests) (k : ℕ) (parts : List Part) → flat_map (hash_findings shape) parts ≡ [] → AreHashDigests said k parts → flat_map (said_hash_findings shape said) (enumerate_from k parts) ≡ []
+unfolding AreHashDigests
+nothing_of_hashes shape said k [] none digests = refl
+nothing_of_hashes shape said k (first ∷ parts) none digests =
+    let here : k + 0 ≡ k = omega arith in
+    let digest : ForSome (said_hash said k) (λ d. d ≡ part_digest first) = subst (λ (j : ℕ). ForSome (said_hash said j) (λ d. d ≡ part_digest first)) here (digests 0 first refl) in
+    nothing_both (said_hash_findings shape said (k, first)) (flat_map (said_hash_findings shape said) (enumerate_from (k + 1) parts))
+    (nothing_both (hash_findings shape first) (digest_findings (HashDigest first.region) (said_hash said k) (part_digest first))
+    (nothing_first (hash_findings shape first) (flat_map (hash_findings shape) parts) none)
+    (nothing_of_digest (HashDigest first.region) (said_hash said k) (part_digest first) digest))
+    (nothing_of_hashes shape said (k + 1) parts (nothing_second (hash_findings shape first) (flat_map (hash_findings shape) parts) none) later)
+  where
+    later : (n : ℕ) (part : Part) → slice_get parts n ≡ Some part → ForSome (said_hash said (k + 1 + n)) (λ digest. digest ≡ part_digest part)
+    later n part there =
+        let next : k + suc n ≡ k + 1 + n = omega arith in
+        subst (λ (j : ℕ). ForSome (said_hash said j) (λ d. d ≡ part_digest part)) next (digests (suc n) part there)
+
+-- the same for all hash stores, from the first one on
+from_first : (said : Option Digests) (parts : List Part) → AreHashDigests said 0 parts → (place : ℕ) (part : Part) → slice_get parts place ≡ Some part → ForSome (said_hash said place) (λ digest. digest ≡ part_digest part)
+unfolding AreHashDigests
+from_first said parts digests place part there =
+    let same : 0 + place ≡ place = omega arith in
+    subst (λ (j : ℕ). ForSome (said_hash said j) (λ d. d ≡ part_digest part)) same (digests place part there)
+
+to_first : (said : Option Digests) (parts : List Part) → ((place : ℕ) (part : Part) → slice_get parts place ≡ Some part → ForSome (said_hash said place) (λ digest. digest ≡ part_digest part)) → AreHashDigests said 0 parts
+unfolding AreHashDigests
+to_first said parts digests n part there =
+    let same : n ≡ 0 + n = omega arith in
+    subst (λ (j : ℕ). ForSome (said_hash said j) (λ d. d ≡ part_digest part)) same (digests n part there)
+
+-- where no digest is said, none is wrong
+pub none_said : (s : Stores) → AreDigestsOf None s
+none_said s = record {
+  hashed = λ place part there digest is. absurd (cc);
+  sorted = λ digest is. absurd (cc);
+}
 
 -- ---- the stores
 
@@ -32,26 +116,79 @@ charge_passes n capacity none = ltb-false capacity n (go (nat_lt capacity n) non
 charge_nothing : (n capacity : ℕ) → n ≤ capacity → finding_if (nat_lt capacity n) (Damaged Charge) ≡ []
 charge_nothing n capacity most = ap (λ (b : Bool). finding_if b (Damaged Charge)) (le-ltb capacity n most)
 
+-- the findings of the logs, of the hash stores, of the sorted store and of the charge are none
+pub record FindsNone (said : Option Digests) (s : Stores) : Type 0 where
+  pub logs : flat_map (log_findings s.shape) s.logs ≡ []
+  pub hashes : flat_map (said_hash_findings s.shape said) (enumerate_from 0 s.hashes) ≡ []
+  pub entries : said_entry_findings said s.entries ≡ []
+  pub charge : charge_findings s ≡ []
+
 -- all that is found is nothing
-pub finds_nothing : (s : Stores) → IsSound s → FindsNothing s
+pub finds_none : (said : Option Digests) (s : Stores) → store_findings said s ≡ [] → FindsNone said s
 unfolding store_findings
-finds_nothing s sound =
-    let front = nothing_first (flat_map (log_findings s.shape) s.logs ++ flat_map (hash_findings s.shape) s.hashes ++ sorted_findings s.entries) (charge_findings s) sound in
-    let stores = nothing_first (flat_map (log_findings s.shape) s.logs ++ flat_map (hash_findings s.shape) s.hashes) (sorted_findings s.entries) front in
+finds_none said s none =
+    let logs : List Finding = flat_map (log_findings s.shape) s.logs in
+    let hashes : List Finding = flat_map (said_hash_findings s.shape said) (enumerate_from 0 s.hashes) in
+    let entries : List Finding = said_entry_findings said s.entries in
+    let front = nothing_first (logs ++ hashes ++ entries) (charge_findings s) none in
+    let stores = nothing_first (logs ++ hashes) entries front in
     record {
-      logs = nothing_first (flat_map (log_findings s.shape) s.logs) (flat_map (hash_findings s.shape) s.hashes) stores;
-      hashes = nothing_second (flat_map (log_findings s.shape) s.logs) (flat_map (hash_findings s.shape) s.hashes) stores;
-      entries = nothing_second (flat_map (log_findings s.shape) s.logs ++ flat_map (hash_findings s.shape) s.hashes) (sorted_findings s.entries) front;
-      charge = charge_passes (charge_of s) s.shape.sorted_capacity (nothing_second (flat_map (log_findings s.shape) s.logs ++ flat_map (hash_findings s.shape) s.hashes ++ sorted_findings s.entries) (charge_findings s) sound);
+      logs = nothing_first logs hashes stores;
+      hashes = nothing_second logs hashes stores;
+      entries = nothing_second (logs ++ hashes) entries front;
+      charge = nothing_second (logs ++ hashes ++ entries) (charge_findings s) none;
     }
 
-pub is_sound : (s : Stores) → FindsNothing s → IsSound s
+-- and put together
+pub none_found : (said : Option Digests) (s : Stores) → FindsNone said s → store_findings said s ≡ []
 unfolding store_findings
-is_sound s nothing =
-    nothing_both (flat_map (log_findings s.shape) s.logs ++ flat_map (hash_findings s.shape) s.hashes ++ sorted_findings s.entries) (charge_findings s)
-    (nothing_both (flat_map (log_findings s.shape) s.logs ++ flat_map (hash_findings s.shape) s.hashes) (sorted_findings s.entries)
-    (nothing_both (flat_map (log_findings s.shape) s.logs) (flat_map (hash_findings s.shape) s.hashes) nothing.logs nothing.hashes) nothing.entries)
-    (charge_nothing (charge_of s) s.shape.sorted_capacity nothing.charge)
+none_found said s none =
+    let logs : List Finding = flat_map (log_findings s.shape) s.logs in
+    let hashes : List Finding = flat_map (said_hash_findings s.shape said) (enumerate_from 0 s.hashes) in
+    let entries : List Finding = said_entry_findings said s.entries in
+    nothing_both (logs ++ hashes ++ entries) (charge_findings s)
+    (nothing_both (logs ++ hashes) entries (nothing_both logs hashes none.logs none.hashes) none.entries) none.charge
+
+-- nothing is found in the stores, and the digests that are said are theirs
+said_nothing : (said : Option Digests) (s : Stores) → store_findings said s ≡ [] → FindsNothing s × AreDigestsOf said s
+said_nothing said s none =
+    let parts = finds_none said s none in
+    let hashes = hashes_are s.shape said 0 s.hashes parts.hashes in (
+      record {
+        logs = parts.logs;
+        hashes = hashes.0;
+        entries = nothing_first (sorted_findings s.entries) (digest_findings SortedDigest (said_sorted said) (entries_digest s.entries)) parts.entries;
+        charge = charge_passes (charge_of s) s.shape.sorted_capacity parts.charge;
+      },
+      record {
+        hashed = from_first said s.hashes hashes.1;
+        sorted = digest_is SortedDigest (said_sorted said) (entries_digest s.entries) (nothing_second (sorted_findings s.entries) (digest_findings SortedDigest (said_sorted said) (entries_digest s.entries)) parts.entries);
+      },
+    )
+
+-- and where it is so, nothing is found
+nothing_said : (said : Option Digests) (s : Stores) → FindsNothing s → AreDigestsOf said s → store_findings said s ≡ []
+nothing_said said s nothing digests =
+    none_found said s (record {
+      logs = nothing.logs;
+      hashes = nothing_of_hashes s.shape said 0 s.hashes nothing.hashes (to_first said s.hashes digests.hashed);
+      entries = nothing_both (sorted_findings s.entries) (digest_findings SortedDigest (said_sorted said) (entries_digest s.entries)) nothing.entries (nothing_of_digest SortedDigest (said_sorted said) (entries_digest s.entries) digests.sorted);
+      charge = charge_nothing (charge_of s) s.shape.sorted_capacity nothing.charge;
+    })
+
+-- all that is found in sound stores is nothing
+pub finds_nothing : (s : Stores) → IsSound s → FindsNothing s
+finds_nothing s sound = (said_nothing None s sound).0
+
+pub is_sound : (s : Stores) → FindsNothing s → IsSound s
+is_sound s nothing = nothing_said None s nothing (none_said s)
+
+-- nothing is found in stores of which digests are said exactly where they are sound and the digests are theirs
+pub said_law : SaidLaw
+said_law said s = (
+  λ none. let both = said_nothing said s none in (is_sound s both.0, both.1),
+  λ both. nothing_said said s (finds_nothing s both.0) both.1,
+)
 
 -- nothing is found exactly where nothing is in each part
 pub parts_law : PartsLaw

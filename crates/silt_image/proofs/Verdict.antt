@@ -1,15 +1,19 @@
 -- When an image is good, and what it then stands for.
-use Rattle.std.proofs.Common.{◌≡◌, ◌↔◌, ℕ, ◌+◌, ◌-◌, Bool, true, false, not, nat_lt, if◌then◌else◌, List, [], ◌∷◌, ◌++◌, length, take, flat_map, get_or, slice_get, Some, None, is_some, IsSome, IsTrue, Result, Ok, Err, refl, sym, ap, ◌∙◌, arith}
+use Rattle.std.proofs.Common.{◌≡◌, ◌↔◌, ℕ, ◌+◌, ◌-◌, Bool, true, false, not, nat_lt, if◌then◌else◌, List, [], ◌∷◌, ◌++◌, length, take, flat_map, get_or, slice_get, Option, Some, None, is_some, IsSome, IsTrue, Result, Ok, Err, refl, sym, ap, ◌∙◌, arith}
 use Rattle.std.specs.List.{list_all, enumerate_from, range_with_len}
+use Rattle.std.specs.Str.{bytes_eq}
 use Rattle.std.proofs.lemmas.Bool.{and_parts, and_from}
 use Rattle.silt_disk.specs.Layout.{Shape}
 use Rattle.silt_log.specs.Rows.{log_rows}
 use Rattle.silt_frame.specs.Rows.{has_known_kind, StoredRow, keys_of, put_count}
 use Rattle.silt_manifest.specs.Body.{first_body}
+use Rattle.silt_manifest.specs.Digests.{long_record}
+use Rattle.silt_manifest.specs.Ruling.{manifest_found}
+use Rattle.silt_manifest.specs.declared.digests.Digests.{Digests}
 use Rattle.silt_log.specs.Parts.{Part}
-use Rattle.silt_image.specs.Stores.{Stores, image_stores, stores_named, stores_ruled, stores_shaped}
+use Rattle.silt_image.specs.Stores.{Stores, image_digests, image_stores, stores_named, stores_ruled, stores_shaped}
 use Rattle.silt_sorted_store.specs.State.{sorted_rows}
-use Rattle.silt_image.specs.Meaning.{IsSound, all_logs_fit, charge_findings, charge_of, findings_of, image_fits, image_map, image_rows, image_stands, image_verdict, is_crowding, map_where_sound, rows_found, rows_of, store_findings}
+use Rattle.silt_image.specs.Meaning.{AreDigestsOf, IsSound, all_logs_fit, charge_findings, charge_of, digest_findings, entries_digest, findings_of, image_fits, image_map, image_rows, image_stands, image_verdict, is_crowding, map_where_sound, part_digest, rows_found, rows_of, said_entry_findings, said_hash, said_hash_findings, said_sorted, store_findings}
 use Rattle.silt_sorted_store.specs.Findings.{entry_findings, is_key_below, sorted_findings}
 use Rattle.silt_event.specs.Findings.{finding_if}
 use Rattle.silt_log_store.specs.Findings.{fits_table, log_findings, row_findings}
@@ -18,10 +22,11 @@ use Rattle.silt_event.specs.Rows.{map_of_rows}
 use Rattle.silt_image.specs.Laws.{EmptyLaw, NoStoresLaw, RowsLaw, SoundLaw, StandsLaw, VerdictLaw}
 use Rattle.silt_event.specs.declared.damage.Finding.{Finding}
 use Rattle.silt_event.specs.declared.damage.Finding.TheVariants.{Damaged, Crowded}
-use Rattle.silt_event.specs.declared.place.Place.TheVariants.{Log, Hash, Sorted, Charge}
-use Rattle.silt_image.proofs.Named.{whole_law}
+use Rattle.silt_event.specs.declared.place.Place.{Place}
+use Rattle.silt_event.specs.declared.place.Place.TheVariants.{Log, Hash, HashDigest, Sorted, SortedDigest, Charge}
+use Rattle.silt_image.proofs.Named.{digests_law, whole_law}
 use Rattle.silt_log_store.proofs.Findings.{fine_of, fits_none, fits_take, of_fine}
-use Rattle.silt_image.proofs.Sound.{finds_nothing, logs_sound_law}
+use Rattle.silt_image.proofs.Sound.{finds_none, logs_sound_law, said_law}
 use Rattle.silt_event.proofs.Findings.{nothing_both, nothing_first, nothing_second}
 
 -- ---- findings
@@ -87,16 +92,35 @@ sorted_damage rows =
     all_flat is_damage (λ j. true) (entry_findings rows) (range_with_len 1 (length rows - 1)) (any_passes (range_with_len 1 (length rows - 1)))
     (λ j _. damage_if (not (is_key_below (get_or (keys_of rows) (j - 1) []) (get_or (keys_of rows) j []))) (Damaged (Sorted j)) refl)
 
+-- nor is a digest
+digest_damage : (place : Place) (said : Option (List ℕ)) (digest : List ℕ) → list_all is_damage (digest_findings place said digest) ≡ true
+unfolding is_damage
+digest_damage place None digest = refl
+digest_damage place (Some first) digest = damage_if (not (bytes_eq first digest)) (Damaged place) refl
+
+said_hash_damage : (shape : Shape) (said : Option Digests) (place : ℕ) (part : Part) → list_all is_damage (said_hash_findings shape said (place, part)) ≡ true
+said_hash_damage shape said place part =
+    all_append is_damage (hash_findings shape part) (digest_findings (HashDigest part.region) (said_hash said place) (part_digest part))
+    (hash_damage shape part) (digest_damage (HashDigest part.region) (said_hash said place) (part_digest part))
+
+said_entry_damage : (said : Option Digests) (entries : List StoredRow) → list_all is_damage (said_entry_findings said entries) ≡ true
+said_entry_damage said entries =
+    all_append is_damage (sorted_findings entries) (digest_findings SortedDigest (said_sorted said) (entries_digest entries))
+    (sorted_damage entries) (digest_damage SortedDigest (said_sorted said) (entries_digest entries))
+
 -- where the keys of all logs have places, nothing is crowded
-store_damage : (s : Stores) → list_all (λ (part : Part). fits_table s.shape part.rows) s.logs ≡ true → list_all is_damage (store_findings s) ≡ true
+store_damage : (said : Option Digests) (s : Stores) → list_all (λ (part : Part). fits_table s.shape part.rows) s.logs ≡ true → list_all is_damage (store_findings said s) ≡ true
 unfolding is_damage store_findings
-store_damage s fit =
-    all_append is_damage (flat_map (log_findings s.shape) s.logs ++ flat_map (hash_findings s.shape) s.hashes ++ sorted_findings s.entries) (charge_findings s)
-    (all_append is_damage (flat_map (log_findings s.shape) s.logs ++ flat_map (hash_findings s.shape) s.hashes) (sorted_findings s.entries)
-    (all_append is_damage (flat_map (log_findings s.shape) s.logs) (flat_map (hash_findings s.shape) s.hashes)
+store_damage said s fit =
+    let logs : List Finding = flat_map (log_findings s.shape) s.logs in
+    let hashes : List Finding = flat_map (said_hash_findings s.shape said) (enumerate_from 0 s.hashes) in
+    let entries : List Finding = said_entry_findings said s.entries in
+    all_append is_damage (logs ++ hashes ++ entries) (charge_findings s)
+    (all_append is_damage (logs ++ hashes) entries
+    (all_append is_damage logs hashes
     (all_flat is_damage (λ (part : Part). fits_table s.shape part.rows) (log_findings s.shape) s.logs fit (log_damage s.shape))
-    (all_flat is_damage (λ part. true) (hash_findings s.shape) s.hashes (any_passes s.hashes) (λ part _. hash_damage s.shape part)))
-    (sorted_damage s.entries))
+    (all_flat is_damage (λ j. true) (said_hash_findings s.shape said) (enumerate_from 0 s.hashes) (any_passes (enumerate_from 0 s.hashes)) (λ j _. said_hash_damage s.shape said j.0 j.1)))
+    (said_entry_damage said s.entries))
     (damage_if (nat_lt s.shape.sorted_capacity (charge_of s)) (Damaged Charge) refl)
 
 -- where nothing is found in the logs, their keys have places
@@ -120,29 +144,29 @@ some_if false x e = absurd (cc)
 -- an image is good exactly where it stands for a map and the keys of its logs have places
 pub verdict_law : VerdictLaw
 unfolding image_verdict image_stands image_fits
-verdict_law image = go (image_stores image)
+verdict_law image = go (image_digests image) (image_stores image)
   where
-    go : (r : Result Stores Finding) → (slice_get (findings_of r) 0 ≡ None) ↔ (IsSome (map_where_sound r) × IsTrue (all_logs_fit r))
-    go (Err f) = (λ none. absurd (cc), λ both. absurd (let e = both.0 in cc))
-    go (Ok s) = (
+    go : (said : Option Digests) (r : Result Stores Finding) → (slice_get (findings_of said r) 0 ≡ None) ↔ (IsSome (map_where_sound said r) × IsTrue (all_logs_fit r))
+    go said (Err f) = (λ none. absurd (cc), λ both. absurd (let e = both.0 in cc))
+    go said (Ok s) = (
       λ none.
-          let nothing = first_none (store_findings s) none in
-          (rw nothing refl, all_logs s.shape s.logs (finds_nothing s nothing).logs),
+          let nothing = first_none (store_findings said s) none in
+          (rw nothing refl, all_logs s.shape s.logs (finds_none said s nothing).logs),
       λ both.
-          let nothing = none_left (store_findings s) (some_if (list_all is_crowding (store_findings s)) _ both.0) (store_damage s both.1) in
+          let nothing = none_left (store_findings said s) (some_if (list_all is_crowding (store_findings said s)) _ both.0) (store_damage said s both.1) in
           ap (λ fs. slice_get fs 0) nothing,
     )
 
 -- the verdict of an image with stores is their first finding
-pub verdict_of : (image : List ℕ) (s : Stores) → image_stores image ≡ Ok s → image_verdict image ≡ slice_get (store_findings s) 0
+pub verdict_of : (image : List ℕ) (s : Stores) → image_stores image ≡ Ok s → image_verdict image ≡ slice_get (store_findings (image_digests image) s) 0
 unfolding image_verdict
-verdict_of image s e = ap (λ r. slice_get (findings_of r) 0) e
+verdict_of image s e = ap (λ r. slice_get (findings_of (image_digests image) r) 0) e
 
--- an image with stores is good exactly where nothing is found in them
+-- an image with stores is good exactly where nothing is found in them and the digests that it says are theirs
 pub sound_law : SoundLaw
 sound_law image s e = (
-  λ good. first_none (store_findings s) (sym (verdict_of image s e) ∙ good),
-  λ sound. verdict_of image s e ∙ ap (λ fs. slice_get fs 0) sound,
+  λ good. (said_law (image_digests image) s).0 (first_none (store_findings (image_digests image) s) (sym (verdict_of image s e) ∙ good)),
+  λ both. verdict_of image s e ∙ ap (λ fs. slice_get fs 0) ((said_law (image_digests image) s).1 both),
 )
 
 -- the rows of an image with stores are theirs
@@ -150,11 +174,11 @@ pub rows_law : RowsLaw
 unfolding image_rows
 rows_law image s e = ap rows_found e
 
--- an image with sound stores stands for the map of their rows
+-- an image with sound stores, and with their digests, stands for the map of their rows
 pub stands_law : StandsLaw
 unfolding image_map
-stands_law image s e sound = record {
-  good = (sound_law image s e).1 sound;
+stands_law image s e sound digests = record {
+  good = (sound_law image s e).1 (sound, digests);
   has_shape = (whole_law image s e).has_shape;
   has_map = ap map_of_rows (rows_law image s e);
 }
@@ -162,7 +186,7 @@ stands_law image s e sound = record {
 -- an image without stores has the finding in their place as its verdict
 pub no_stores_law : NoStoresLaw
 unfolding image_verdict
-no_stores_law image finding e = ap (λ r. slice_get (findings_of r) 0) e
+no_stores_law image finding e = ap (λ r. slice_get (findings_of (image_digests image) r) 0) e
 
 -- ---- a device that was just formatted
 
@@ -195,18 +219,31 @@ nothing_found s region logs hashes entries =
     let puts : charge_of s ≡ 0 = ap put_count (no_rows s region logs hashes entries) in
     (logs_sound_law s none hashes entries).1 (omega (arith, puts))
 
+-- the digests of stores without hash stores and entries
+first_digests : (said : Option Digests) (digests : Digests) (s : Stores) → said ≡ Some digests → digests.sorted.0 ≡ entries_digest [] → s.hashes ≡ [] → s.entries ≡ [] → AreDigestsOf said s
+first_digests said digests s is digest hashes entries = record {
+  hashed = λ place part there. absurd (let none = ap (λ (parts : List Part). slice_get parts place) (sym hashes) ∙ there in cc);
+  sorted = λ other says.
+      let same : Some digests.sorted.0 ≡ Some other = ap said_sorted (sym is) ∙ says in
+      let is_other : digests.sorted.0 ≡ other = cc in
+      sym is_other ∙ digest ∙ ap entries_digest (sym entries);
+}
+
 -- it stands for the empty map
 pub empty_law : EmptyLaw
 unfolding image_stores
-empty_law image shape has_shape has_body none =
+empty_law image shape digests has_shape has_record digest none =
     let s : Stores = stores_named shape first_body image in
-    let e : image_stores image ≡ Ok s = ap (stores_shaped image) has_shape ∙ ap (stores_ruled shape image) has_body in
+    let e : image_stores image ≡ Ok s = ap (stores_shaped image) has_shape ∙ ap (stores_ruled shape image) has_record in
     let logs = first_logs shape image none in
     let hashes = first_hashes shape image in
     let entries = first_entries shape image in
-    let stands = stands_law image s e (nothing_found s 0 logs hashes entries) in
+    let is_shape = first_shape shape image in
+    let rules : manifest_found s.shape image ≡ Ok (long_record first_body digests) = ap (λ (t : Shape). manifest_found t image) is_shape ∙ has_record in
+    let said = digests_law image s (long_record first_body digests) e rules in
+    let stands = stands_law image s e (nothing_found s 0 logs hashes entries) (first_digests (image_digests image) digests s said digest hashes entries) in
     record {
       good = stands.good;
-      has_shape = stands.has_shape ∙ first_shape shape image;
+      has_shape = stands.has_shape ∙ is_shape;
       has_map = stands.has_map ∙ ap map_of_rows (no_rows s 0 logs hashes entries);
     }

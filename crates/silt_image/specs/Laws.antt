@@ -1,5 +1,5 @@
 -- Laws of images, for the layers above.
-use Rattle.std.specs.Prelude.{◌≡◌, ◌≢◌, ◌≤◌, ◌<◌, ◌↔◌, ℕ, ◌+◌, ◌%◌, ◌==◌, true, false, IsTrue, IsSome, List, [], ◌∷◌, ◌++◌, length, map, take, flat_map, get_or, slice_get, Contains, Option, Some, Ok, Err}
+use Rattle.std.specs.Prelude.{◌≡◌, ◌≢◌, ◌≤◌, ◌<◌, ◌↔◌, ℕ, ◌+◌, ◌%◌, ◌==◌, true, false, IsTrue, IsSome, List, [], ◌∷◌, ◌++◌, length, take, flat_map, get_or, slice_get, Contains, Option, Some, Ok, Err}
 use Rattle.std.specs.List.{list_any, list_all, enumerate_from}
 use Rattle.std.specs.FinMap.{empty}
 use Rattle.silt_disk.specs.Disk.{Torn}

@@ -1,5 +1,5 @@
 -- What the stores of an image stand for, and what is found wrong in them.
-use Rattle.std.specs.Prelude.{◌≡◌, ℕ, ◌+◌, ◌==◌, nat_lt, Bool, true, false, not, get_or, if◌then◌else◌, List, [], ◌∷◌, ◌++◌}
+use Rattle.std.specs.Prelude.{◌≡◌, ℕ, ◌==◌, nat_lt, Bool, true, false, not, get_or, if◌then◌else◌, List, [], ◌∷◌, ◌++◌}
 use Rattle.std.specs.Prelude.{map, take, drop, sum_by, length, flat_map, slice_get, Option, Some, None, Result, Ok, Err}
 use Rattle.std.specs.List.{list_any, list_all, enumerate_from}
 use Rattle.std.specs.Option.{ForSome}
