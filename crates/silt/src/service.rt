@@ -8,7 +8,7 @@ ghost use Rattle.silt.specs.Services.{EndsServe, LeavesServed, ServesFile, Tells
 ghost use Rattle.silt_jobs.specs.Notes.{NotOpenedTold, ToldFailures, ToldRefusal};
 
 use crate::listener::PatientListener;
-use silt_desk::{Gate, Spot};
+use silt_desk::OpenGate;
 use silt_device::DiskSource;
 use silt_disk::Disk;
 use silt_jobs::{FaultNotes, Notes, SourceNotes, Watched, refuse, refuse_opening, tell_failures};
@@ -21,14 +21,6 @@ use std::net::{Net, TcpListener, TcpStream};
 use std::sync::Wait;
 use std::thread::Threads;
 use std::time::Clock;
-
-// No worker waits for anything but the store.
-#[derive(Drop)]
-struct Open;
-
-impl Gate for Open {
-    fn pass(&self, _spot: Spot) {}
-}
 
 /// Serves the store on the disk of a path to the connections of a port of this machine. Answers the disk and the status: 0 after the
 /// last session, 1 where the disk is not opened, the store is not taken up, or the network fails.
@@ -149,7 +141,7 @@ fn serve_store<
     };
     let listener = PatientListener::new(listener, rt);
     let limits = limits_of(service);
-    let (disk, status) = serve_on(rt, alloc, &listener, core, limits, &Open, writer);
+    let (disk, status) = serve_on(rt, alloc, &listener, core, limits, &OpenGate, writer);
     tell_listener(service.port, listener.failure(), &status, notes);
     (disk, status)
 }

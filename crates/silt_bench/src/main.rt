@@ -25,7 +25,6 @@ mod measurement;
 mod pauses;
 mod read_counter;
 mod store;
-mod threads;
 mod turns;
 mod workers;
 mod writer;

@@ -3,23 +3,16 @@
 use crate::background::Background;
 use crate::error::BenchError;
 use crate::job::Plan;
-use crate::threads::join_over;
 use crate::writer::{Filled, Writer, fill_all};
 use crossbeam_channel::{Receiver, Sender};
-use silt_desk::{Gate, Naming, Seat, Shared, Spot, Trace, Wake, Wakes, converter, merger};
+use silt_desk::{
+    Naming, OpenGate, Seat, Shared, Trace, Wake, Wakes, converter, join_over, merger,
+};
 use silt_device::Disk;
 use std::alloc::{AllocError, Global};
 use std::sync::Wait;
 use std::thread::Threads;
 use std::time::Clock;
-
-/// No worker waits for anything but the store.
-#[derive(Drop)]
-struct Open;
-
-impl Gate for Open {
-    fn pass(&self, _spot: Spot) {}
-}
 
 /// The place of a worker: its seat, where it is woken, and how it wakes the other one.
 #[derive(Drop)]
@@ -123,7 +116,7 @@ fn both_workers<D: Disk, T: Trace + Send + Sync, N: Naming + Send + Sync, R: Thr
         rt,
         shared,
         move |desk: &Shared<D, T, N>| {
-            converter(rt, alloc, desk, first.seat, &Open, first.wakes, first.other)
+            converter(rt, alloc, desk, first.seat, &OpenGate, first.wakes, first.other)
         },
         move |desk: &Shared<D, T, N>| {
             merger(
@@ -131,7 +124,7 @@ fn both_workers<D: Disk, T: Trace + Send + Sync, N: Naming + Send + Sync, R: Thr
                 alloc,
                 desk,
                 second.seat,
-                &Open,
+                &OpenGate,
                 second.wakes,
                 second.other,
             )

@@ -19,6 +19,7 @@ mod kept;
 mod laws;
 mod seat;
 mod shared;
+mod threads;
 mod trace;
 mod wakes;
 mod worker;
@@ -34,6 +35,7 @@ pub use silt_inbox::{
     Answered, EventKind, Feeder, Inbox, MissingFeeders, NotPushed, NotPut, NotPutReason, Post,
     Queue, Taker, answered_law,
 };
+pub use threads::join_over;
 pub use trace::{NotPrepared, Trace};
 pub use wakes::Wakes;
 pub use worker::{

@@ -1,24 +1,13 @@
 // A batch of jobs: each is done, then all is flushed once, and then each has its reply.
 ghost use Rattle.std.specs.Prelude.{◌≡◌};
-ghost use Rattle.silt_desk.specs.Notes.{plain_answer};
 ghost use Rattle.silt_server.specs.Batches.{Flushes, Performs, PerformsAll, RepliesToAll, ServesBatch};
 
 use crate::job::{Job, Request, reply_after};
-use silt_desk::{Desk, Gate, Naming, Seat, Shared, Spot, Trace};
+use silt_desk::{Desk, Gate, Naming, Seat, Shared, Spot, Trace, plain};
 use silt_disk::Disk;
 use silt_event::Refusal;
 use std::alloc::Global;
 use std::sync::Wait;
-
-// An answer without its fault.
-fn plain<F: Drop>(answer: Result<u64, Refusal<F>>) -> Result<u64, Refusal<()>>
-    ensures { result ≡ plain_answer answer }
-{
-    match answer {
-        Ok(count) => Ok(count),
-        Err(refusal) => Err(refusal.plain()),
-    }
-}
 
 // Does what a request asks of the desk, and tells the answer: none to a flush, which the batch does once for all of them, and to a put
 // whose value has another length than the store's.
@@ -36,9 +25,9 @@ fn perform<D: Disk, T: Trace, N: Naming>(
             if desk.geometry().value_len() as usize != bytes.len() {
                 return None;
             }
-            Some(plain(desk.put(alloc, seat, key, bytes)))
+            Some(plain(&desk.put(alloc, seat, key, bytes)))
         }
-        Request::Delete(key) => Some(plain(desk.delete(alloc, seat, key))),
+        Request::Delete(key) => Some(plain(&desk.delete(alloc, seat, key))),
         Request::Flush => None,
     }
 }
@@ -51,7 +40,7 @@ fn flush<D: Disk, T: Trace, N: Naming>(
 ) -> Result<u64, Refusal<()>>
     ensures { Flushes D.Disk T.Trace desk.old desk.new seat.old seat.new result }
 {
-    plain(desk.flush(alloc, seat))
+    plain(&desk.flush(alloc, seat))
 }
 
 // Does what each job asks of the desk, in order and each under a guard of its own.

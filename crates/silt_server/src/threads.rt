@@ -3,32 +3,11 @@ ghost use Rattle.std.specs.Prelude.{◌≡◌};
 
 use crate::job::Job;
 use crossbeam_channel::Sender;
-use silt_desk::{Wake, Wakes};
+use silt_desk::{Wake, Wakes, join_over};
 use silt_inbox::{Inbox, Post};
 use std::sync::Wait;
 use std::thread;
 use std::thread::Threads;
-
-// Two calls on one value, by two threads, until both are done. Where no thread can be made the first call is made last.
-fn join_over<S: Sync, X: Send, Y, A: FnOnce(&S) -> X + Send, B: FnOnce(&S) -> Y, R: Threads>(
-    rt: &R,
-    shared: &S,
-    first: A,
-    second: B,
-) -> (X, Y)
-    requires first { A.IsAlwaysCallable first }
-    requires second { B.IsAlwaysCallable second }
-{
-    thread::join(
-        rt,
-        move || -> X
-            requires { A.IsAlwaysCallable first }
-        { first(shared) },
-        move || -> Y
-            requires { B.IsAlwaysCallable second }
-        { second(shared) },
-    )
-}
 
 // A worker beside other work, until it is done. Then the worker is stopped, and its seat comes back too.
 fn beside<
@@ -90,6 +69,41 @@ fn write_beside<
     )
 }
 
+// The converter and the writer beside the sessions, until these have ended and all that they asked is done. Then the converter is stopped.
+fn convert_beside<
+    S: Sync,
+    P: Post + Send + Sync,
+    X: Send,
+    V: Send + Drop,
+    Y,
+    B: FnOnce(&S) -> X + Send,
+    C: FnOnce(&S) -> V + Send + Drop,
+    F: FnOnce(&S) -> Y,
+    R: Threads + Wait + Sync,
+>(
+    rt: &R,
+    shared: &S,
+    inbox: &Inbox<Job, P>,
+    converter: B,
+    writer: C,
+    sessions: F,
+    stop: Sender<Wake>,
+) -> (X, Option<(V, Y)>)
+    requires converter { B.IsAlwaysCallable converter }
+    requires writer { C.IsAlwaysCallable writer }
+    requires sessions { F.IsAlwaysCallable sessions }
+{
+    beside(
+        rt,
+        shared,
+        converter,
+        move |shared: &S| -> Option<(V, Y)>
+            requires { C.IsAlwaysCallable writer × F.IsAlwaysCallable sessions }
+        { write_beside(rt, shared, inbox, writer, sessions) },
+        stop,
+    )
+}
+
 /// The merger, the converter and the writer beside the sessions, until these have ended and all that they asked is done. Then each worker
 /// is stopped. What the merger, the converter, and the writer and the sessions gave: None of the last two where the writer has no thread.
 pub fn run_beside<
@@ -129,13 +143,13 @@ pub fn run_beside<
         move |shared: &S| -> (X, Option<(V, Y)>)
             requires { B.IsAlwaysCallable converter × C.IsAlwaysCallable writer × F.IsAlwaysCallable sessions }
         {
-            beside(
+            convert_beside(
                 rt,
                 shared,
+                inbox,
                 converter,
-                move |shared: &S| -> Option<(V, Y)>
-                    requires { C.IsAlwaysCallable writer × F.IsAlwaysCallable sessions }
-                { write_beside(rt, shared, inbox, writer, sessions) },
+                writer,
+                sessions,
                 stop_converter,
             )
         },

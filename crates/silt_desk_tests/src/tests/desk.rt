@@ -22,8 +22,6 @@ use std::alloc::{AllocError, Global};
 use std::sync::Wait;
 use std::sync::ledger::Blank;
 use std::test::Fail;
-use std::thread;
-use std::thread::Threads;
 
 // A put, where the store has values of this length.
 fn put<D: Disk, T: Trace, N: Naming>(
@@ -125,27 +123,6 @@ fn settle_two<D: Disk, N: Naming, R: Wait>(
     seats.push(first)?;
     seats.push(second)?;
     Ok(settle(rt, shared, seats).ok())
-}
-
-// Two calls on one value, by two threads, until both are done.
-fn join_over<S: Sync, X: Send, Y, A: FnOnce(&S) -> X + Send, B: FnOnce(&S) -> Y, R: Threads>(
-    rt: &R,
-    shared: &S,
-    first: A,
-    second: B,
-) -> (X, Y)
-    requires first { A.IsAlwaysCallable first }
-    requires second { B.IsAlwaysCallable second }
-{
-    thread::join(
-        rt,
-        move || -> X
-            requires { A.IsAlwaysCallable first }
-        { first(shared) },
-        move || -> Y
-            requires { B.IsAlwaysCallable second }
-        { second(shared) },
-    )
 }
 
 // Puts the keys 1 to 5: the fifth put freezes the first log.

@@ -1,9 +1,9 @@
 // Commands are answered between two steps of a worker.
 ghost use Rattle.std.specs.Prelude.{◌≡◌};
 
-use crate::tests::desk::{get, join_over, put, put_five, two_seats};
+use crate::tests::desk::{get, put, put_five, two_seats};
 use crossbeam_channel::{Receiver, Sender};
-use silt_desk::{Gate, Kept, Naming, Seat, Shared, Spot, Wake, converter};
+use silt_desk::{Gate, Kept, Naming, Seat, Shared, Spot, Wake, converter, join_over};
 use silt_device::Disk;
 use silt_event::Progress;
 use silt_fixtures::{formatted, key, opened_on, reaches};

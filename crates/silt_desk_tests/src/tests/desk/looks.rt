@@ -1,8 +1,8 @@
 // Two looks are made side by side: with a lock that lets one in at a time they are not, and that is seen.
 ghost use Rattle.std.specs.Prelude.{◌≡◌};
 
-use crate::tests::desk::{join_over, look, put, two_seats};
-use silt_desk::{Kept, Naming, Seat, Shared};
+use crate::tests::desk::{look, put, two_seats};
+use silt_desk::{Kept, Naming, Seat, Shared, join_over};
 use silt_device::Disk;
 use silt_fixtures::{formatted, key, opened_on};
 use silt_store_set::Core;

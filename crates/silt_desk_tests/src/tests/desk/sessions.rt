@@ -1,10 +1,11 @@
 // Four threads call at once beside both workers, and what they recorded is done again by a plain map.
 ghost use Rattle.std.specs.Prelude.{◌≡◌};
 
-use crate::tests::desk::{get, join_over, pop_two, put, seated};
+use crate::tests::desk::{get, pop_two, put, seated};
 use crossbeam_channel::{Receiver, Sender};
 use silt_desk::{
-    Desk, Kept, Naming, OpenGate, RecordedCall, Seat, Shared, Wake, converter, merger, settle,
+    Desk, Kept, Naming, OpenGate, RecordedCall, Seat, Shared, Wake, converter, join_over, merger,
+    settle,
 };
 use silt_device::{Disk, Geometry};
 use silt_event::{Event, Reply};
