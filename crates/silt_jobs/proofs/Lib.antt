@@ -9,5 +9,5 @@ pub mod Readings
 pub mod Refusals
 pub mod Stops
 pub mod Tallies
-pub mod Tendings
+pub mod BackgroundWork
 pub mod Texts

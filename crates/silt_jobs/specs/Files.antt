@@ -11,9 +11,9 @@ use Rattle.silt_wire.specs.declared.sessions.SessionEnd.TheVariants.{End}
 use Rattle.silt_words.specs.declared.job.Numbers.{Numbers}
 use Rattle.silt_jobs.specs.Jobs.{EndsCheck, EndsFormat, EndsRun, EndsTend, Tells, TellsCheck, TellsFormat, TellsRun, TellsTend}
 use Rattle.silt_jobs.specs.Numbers.{shape_asked}
-use Rattle.silt_jobs.specs.Overwriting.{Looks, MayOverwrite, MustStay}
+use Rattle.silt_jobs.specs.HeldData.{Looks, MayOverwrite, MustStay}
 use Rattle.silt_jobs.specs.declared.notes.Notes.{Ghosts as NotesOf}
-use Rattle.silt_jobs.specs.declared.overwriting.Holding.{Holding}
+use Rattle.silt_jobs.specs.declared.held_data.Holding.{Holding}
 
 -- it was written that the source gave no disk, and for a cause
 abbrev pub TellsNoDisk : {E : Type 0} → (E → Type 0) → Option (List ℕ) → Option (List ℕ) → Type 0

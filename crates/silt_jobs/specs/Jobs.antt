@@ -24,8 +24,8 @@ use Rattle.silt_wire.specs.declared.sessions.SessionEnd.{SessionEnd}
 use Rattle.silt_wire.specs.declared.sessions.SessionEnd.TheVariants.{End}
 use Rattle.silt_jobs.specs.Damage.{HasShape, LacksShape}
 use Rattle.silt_jobs.specs.Scripts.{reply_line}
-use Rattle.silt_jobs.specs.Tending.{TakesSteps, TendsAll, TendsThenDoes}
-use Rattle.silt_jobs.specs.declared.tending.Steps.{Steps}
+use Rattle.silt_jobs.specs.BackgroundWork.{TakesSteps, TendsAll, TendsThenDoes}
+use Rattle.silt_jobs.specs.declared.background_work.Steps.{Steps}
 
 -- the length of a device that was formatted, in bytes
 abbrev pub formatted_line : ℕ → List ℕ

@@ -5,9 +5,9 @@ pub mod Jobs
 pub mod NewStores
 pub mod Notes
 pub mod Numbers
-pub mod Overwriting
+pub mod HeldData
 pub mod Plans
 pub mod Scripts
 pub mod Stops
 pub mod Tally
-pub mod Tending
+pub mod BackgroundWork

@@ -5,14 +5,14 @@ use Rattle.silt_jobs.specs.declared.tally.Refusals.{Refusals}
 use Rattle.silt_jobs.specs.declared.tally.Tally.{Tally}
 
 -- the number of one digit before a space, or of two digits
-abbrev pub number_in : ℕ → ℕ → ℕ
-number_in first second = if second == 32 then first - 48 else 10 * (first - 48) + (second - 48)
+abbrev pub refusal_number : ℕ → ℕ → ℕ
+refusal_number first second = if second == 32 then first - 48 else 10 * (first - 48) + (second - 48)
 
 -- the number of the refusal on a line that begins so, or 0
 abbrev pub refusal_in : List ℕ → ℕ
 refusal_in begun =
     if nat_lt (length begun) 10 then 0
-    else if bytes_eq (take 8 begun) (codes "refused ") then number_in (slice_index begun 8) (slice_index begun 9) else 0
+    else if bytes_eq (take 8 begun) (codes "refused ") then refusal_number (slice_index begun 8) (slice_index begun 9) else 0
 
 -- with one more refusal, on this line
 abbrev pub counted : Refusals → ℕ → Refusals

@@ -6,14 +6,14 @@ ghost use Rattle.silt_wire.specs.Statuses.{IsStatus};
 ghost use Rattle.silt_jobs.specs.Files.{ChecksFile, FormatsFile, FormatsFound, RunsFile, TellsCheckFile, TellsFormatFile, TellsFound, TellsRunFile, TellsTendFile, TendsFile};
 ghost use Rattle.silt_jobs.specs.Notes.{NotOpenedTold, ToldFailures, ToldRefusal, ToldSession};
 ghost use Rattle.silt_jobs.specs.Numbers.{shape_asked};
-ghost use Rattle.silt_jobs.specs.Overwriting.{Looks};
-ghost use Rattle.silt_jobs.specs.declared.overwriting.Holding.{Holding as HoldingOf};
+ghost use Rattle.silt_jobs.specs.HeldData.{Looks};
+ghost use Rattle.silt_jobs.specs.declared.held_data.Holding.{Holding as HoldingOf};
 
 use crate::failure::Watched;
 use crate::geometry::geometry_of;
 use crate::jobs::{check_on, format_on, run_on, tend_on};
 use crate::notes::{FaultNotes, Notes, SourceNotes};
-use crate::overwriting::may_overwrite;
+use crate::held_data::may_overwrite;
 use crate::refusal::refuse;
 use crate::streams::{KeepsError, KeepsLines, KeepsTally};
 use silt_device::DiskSource;

@@ -16,7 +16,7 @@ use crate::notes::{FaultNotes, Notes, tell_end, tell_failures, tell_refusal};
 use crate::output::write_out;
 use crate::refusal::refuse;
 use crate::streams::{KeepsError, KeepsLines, KeepsTally};
-use crate::tending::{Steps, Tending, tend_all};
+use crate::background_work::{Steps, Tending, tend_all};
 use silt_disk::{Disk, Geometry};
 use silt_recovery::{check, format};
 use silt_store_set::{Core, OpenFault, Refusal, Served};

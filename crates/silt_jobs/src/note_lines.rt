@@ -5,7 +5,7 @@ use crate::failure::Failure;
 use crate::geometry::{NumbersText, out_of_limits};
 use crate::input_lines::InputLines;
 use crate::notes::{FaultNotes, Notes, SourceNotes};
-use crate::overwriting::HeldStore;
+use crate::held_data::HeldStore;
 use crate::streams::StreamError;
 use crate::tally::{KINDS, Refusals, Tally};
 use silt_disk::Geometry;

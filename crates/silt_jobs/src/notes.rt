@@ -7,13 +7,13 @@ ghost use Rattle.silt_disk.specs.Layout.{Shape};
 ghost use Rattle.silt_words.specs.declared.job.Numbers.{Numbers as NumbersOf};
 ghost use Rattle.silt_jobs.specs.declared.failure.Failure.{Failure as FailureOf};
 ghost use Rattle.silt_jobs.specs.declared.input_lines.InputLines.{InputLines as InputLinesOf};
-ghost use Rattle.silt_jobs.specs.declared.overwriting.HeldStore.{HeldStore as HeldStoreOf};
+ghost use Rattle.silt_jobs.specs.declared.held_data.HeldStore.{HeldStore as HeldStoreOf};
 ghost use Rattle.silt_jobs.specs.declared.tally.Tally.{Tally as TallyOf};
 ghost use Rattle.silt_jobs.specs.declared.streams.StreamError.{StreamError as StreamErrorOf};
 
 use crate::failure::{Failure, Watched};
 use crate::input_lines::InputLines;
-use crate::overwriting::HeldStore;
+use crate::held_data::HeldStore;
 use crate::streams::{KeepsError, StreamError};
 use crate::tally::Tally;
 use silt_disk::Geometry;

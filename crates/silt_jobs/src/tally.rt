@@ -1,6 +1,6 @@
 // Which lines of an output are refusals, and which is the first of each kind.
 ghost use Rattle.std.specs.Prelude.{◌≡◌, ◌-◌, ◌++◌, ◌∷◌, ◌<◌, ◌≤◌, [], cond, length, get_or, nat_lt};
-ghost use Rattle.silt_jobs.specs.Tally.{counted, line_ended, none_refused, number_in, refusal_in, tally_after, tally_of, untold};
+ghost use Rattle.silt_jobs.specs.Tally.{counted, line_ended, none_refused, refusal_number, refusal_in, tally_after, tally_of, untold};
 
 use std::marker::Model;
 
@@ -143,12 +143,12 @@ fn refusal_in(begun: &[u8]) -> usize
     if begun.len() < ENOUGH || &begun[..8] != b"refused ".as_slice() {
         return 0;
     }
-    number_in(begun[8], begun[9])
+    refusal_number(begun[8], begun[9])
 }
 
 // The number of one digit before a space, or of two.
-fn number_in(first: u8, second: u8) -> usize
-    ensures { result ≡ number_in first second }
+fn refusal_number(first: u8, second: u8) -> usize
+    ensures { result ≡ refusal_number first second }
 {
     let (tens, ones) = (digit(first), digit(second));
     if second == b' ' {

@@ -6,12 +6,12 @@ mod jobs;
 mod notes;
 mod plans;
 mod progress;
-mod tending;
+mod background_work;
 
 use crate::failure::{Failure, Watched};
 use crate::input_lines::InputLines;
 use crate::notes::{FaultNotes, Notes, SourceNotes};
-use crate::overwriting::HeldStore;
+use crate::held_data::HeldStore;
 use crate::script_lines::read_script;
 use crate::streams::StreamError;
 use crate::tally::Tally;

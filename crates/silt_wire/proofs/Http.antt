@@ -6,7 +6,7 @@ use Rattle.std.proofs.lemmas.List.{append-nil, drop_more, length-take-le, take_a
 use Rattle.std.specs.Io.KnownBytes.{Appends, Consumes, IsAtEnd}
 use Rattle.silt_event.specs.Events.{PlainReply}
 use Rattle.silt_event.specs.declared.event.Event.{Event}
-use Rattle.silt_wire.specs.Http.{Guards, IsHttp, ends_line, handed_on, http_mark, is_passed, is_refused, line_after, open_after}
+use Rattle.silt_wire.specs.Http.{Guards, IsHttp, ends_line, handed_on, http_mark, is_passed, is_turned_away, line_after, open_after}
 use Rattle.silt_wire.specs.Sessions.{AnswersAll, AnswersEach, AnswersSome, Ends, IsBeginning, ServesAll, ServesSome, asks, lines_after}
 use Rattle.silt_wire.specs.declared.http_guard.FirstLine.{FirstLine}
 use Rattle.silt_wire.specs.declared.http_guard.FirstLine.TheVariants.{Open, Passed, Refused}
@@ -30,7 +30,7 @@ passed_is (Open n) e = absurd (cc)
 passed_is Passed e = refl
 passed_is Refused e = absurd (cc)
 
-pub refused_is : (line : FirstLine) → is_refused line ≡ true → line ≡ Refused
+pub refused_is : (line : FirstLine) → is_turned_away line ≡ true → line ≡ Refused
 refused_is (Open n) e = absurd (cc)
 refused_is Passed e = absurd (cc)
 refused_is Refused e = refl
@@ -40,7 +40,7 @@ abbrev pub HandsOn : FirstLine → List ℕ → FirstLine → ℕ → Type 0
 HandsOn line bytes after at = (rest : List ℕ) → handed_on line (bytes ++ rest) ≡ take at bytes ++ handed_on after (drop at bytes ++ rest)
 
 -- the next of the bytes completes the mark
-pub hands_last : (first line : FirstLine) (bytes : List ℕ) (at : ℕ) → at < length bytes → is_refused (line_after line (get_or bytes at 0)) ≡ true
+pub hands_last : (first line : FirstLine) (bytes : List ℕ) (at : ℕ) → at < length bytes → is_turned_away (line_after line (get_or bytes at 0)) ≡ true
     → HandsOn first bytes line at
     → (rest : List ℕ) → handed_on first (bytes ++ rest) ≡ take at bytes ++ handed_on (line_after line (get_or bytes at 0)) rest
 hands_last first line bytes at inside ends so = λ rest.
@@ -70,7 +70,7 @@ hands_read line after (Some xs) None buf count given le took so = absurd took
 hands_read line after (Some xs) (Some ys) buf count given le took so =
     ap (handed_on line) took ∙ so ys ∙ ap (λ l. l ++ handed_on after ys) (take-take given count buf le)
 
-pub refused_end : (line : FirstLine) (known : Option (List ℕ)) → is_refused line ≡ true → IsAtEnd (option_map (handed_on line) known)
+pub refused_end : (line : FirstLine) (known : Option (List ℕ)) → is_turned_away line ≡ true → IsAtEnd (option_map (handed_on line) known)
 refused_end line None is = tt
 refused_end line (Some xs) is = ap (λ l. handed_on l xs) (refused_is line is) ∙ refused_none xs
 
@@ -79,14 +79,14 @@ ended_end line None is = tt
 ended_end line (Some xs) is = ap (handed_on line) is
 
 -- once it is refused, nothing more is given
-pub refused_reads : (line : FirstLine) (known : Option (List ℕ)) → is_refused line ≡ true
+pub refused_reads : (line : FirstLine) (known : Option (List ℕ)) → is_turned_away line ≡ true
     → Consumes (option_map (handed_on line) known) (option_map (handed_on line) known) []
 refused_reads line None is = tt
 refused_reads line (Some xs) is = refl
 
 -- nothing is given only at the end
 pub given_end : (line : FirstLine) (new : Option (List ℕ)) (buf : List ℕ) (count given : ℕ) → count ≤ length buf
-    → (count ≡ 0 → 0 < length buf → IsAtEnd new) → (given ≡ 0 → 0 < length (take count buf) → is_refused line ≡ true)
+    → (count ≡ 0 → 0 < length buf → IsAtEnd new) → (given ≡ 0 → 0 < length (take count buf) → is_turned_away line ≡ true)
     → given ≡ 0 → 0 < length buf → IsAtEnd (option_map (handed_on line) new)
 given_end line new buf zero given le inner mark none room = ended_end line new (inner refl room)
 given_end line new buf (suc n) given le inner mark none room =
@@ -167,7 +167,7 @@ http_given n [] back none = refl
 http_given n (x ∷ front) back none =
     let is_not = not_feed x front none in
     let rest = front ++ (http_mark ++ back) in
-    let Given = λ (line : FirstLine). ends_line (cond (is_refused line) [] (x ∷ handed_on line rest)) ≡ false in
+    let Given = λ (line : FirstLine). ends_line (cond (is_turned_away line) [] (x ∷ handed_on line rest)) ≡ false in
     elim (step n x) as (λ _. Given (open_after n x)) [
       | passes feed line ↦ absurd (cc (is_not.0, ap (λ b. b == 10) feed))
       | refuses mark line ↦ subst Given (sym line) refl
@@ -197,7 +197,7 @@ mark_behind n m x bytes before mark clear has = (
 given_or_http : (n : ℕ) (bytes : List ℕ) → (handed_on (Open n) bytes ≡ bytes) ⊎ HasMark n bytes
 given_or_http n [] = inl refl
 given_or_http n (x ∷ bytes) =
-    let Given = λ (line : FirstLine). (cond (is_refused line) [] (x ∷ handed_on line bytes) ≡ x ∷ bytes) ⊎ HasMark n (x ∷ bytes) in
+    let Given = λ (line : FirstLine). (cond (is_turned_away line) [] (x ∷ handed_on line bytes) ≡ x ∷ bytes) ⊎ HasMark n (x ∷ bytes) in
     elim (step n x) as (λ _. Given (open_after n x)) [
       | passes feed line ↦ subst Given (sym line) (inl (ap (λ l. x ∷ l) (passed_all bytes)))
       | refuses mark line ↦ inr ([], bytes, refl, sym (append_assoc (take n http_mark) (x ∷ []) bytes) ∙ ap (λ l. l ++ bytes) mark)

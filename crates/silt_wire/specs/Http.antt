@@ -39,9 +39,9 @@ line_after (Open matched) b = open_after matched b
 line_after Passed b = Passed
 line_after Refused b = Refused
 
-abbrev pub is_refused : FirstLine → Bool
-is_refused Refused = true
-is_refused line = false
+abbrev pub is_turned_away : FirstLine → Bool
+is_turned_away Refused = true
+is_turned_away line = false
 
 abbrev pub is_passed : FirstLine → Bool
 is_passed Passed = true
@@ -50,7 +50,7 @@ is_passed line = false
 -- what is handed on of bytes: all before the one that completes the mark in the first line
 abbrev pub handed_on : FirstLine → List ℕ → List ℕ
 handed_on line [] = []
-handed_on line (b ∷ bytes) = if is_refused (line_after line b) then [] else b ∷ handed_on (line_after line b) bytes
+handed_on line (b ∷ bytes) = if is_turned_away (line_after line b) then [] else b ∷ handed_on (line_after line b) bytes
 
 -- the bytes that a guard has left
 abbrev pub guard_remaining : {R : Type 0} → (R → Option (List ℕ)) → HttpGuard R → Option (List ℕ)

@@ -2,7 +2,7 @@
 // line of its body would be a line of ours.
 ghost use Rattle.std.specs.Prelude.{◌≡◌, true, ◌≤◌, ◌<◌, ◌++◌, ℕ, List, Option, [], IfSome, length, take};
 ghost use Rattle.std.specs.Io.KnownBytes.{Appends};
-ghost use Rattle.silt_wire.specs.Http.{Guards, IsHttp, guard_remaining, handed_on, is_passed, is_refused, line_after, open_after};
+ghost use Rattle.silt_wire.specs.Http.{Guards, IsHttp, guard_remaining, handed_on, is_passed, is_turned_away, line_after, open_after};
 ghost use Rattle.silt_wire.specs.Sessions.{Ends};
 
 use crate::sessions::{SessionEnd, session};
@@ -36,8 +36,8 @@ impl FirstLine {
         }
     }
 
-    fn is_refused(self) -> bool
-        ensures { result ≡ is_refused self }
+    fn is_turned_away(self) -> bool
+        ensures { result ≡ is_turned_away self }
     {
         matches!(self, FirstLine::Refused)
     }
@@ -73,7 +73,7 @@ fn open_after(matched: usize, byte: u8) -> FirstLine
 fn look_through(line: FirstLine, bytes: &[u8]) -> (FirstLine, usize)
     ensures given { (rest : List ℕ) → handed_on line (bytes.now ++ rest) ≡ take result.1 bytes.now ++ handed_on result.0 rest }
     ensures count { result.1 ≤ length bytes.now }
-    ensures none { result.1 ≡ 0 → 0 < length bytes.now → is_refused result.0 ≡ true }
+    ensures none { result.1 ≡ 0 → 0 < length bytes.now → is_turned_away result.0 ≡ true }
 {
     if line.is_passed() {
         return (line, bytes.len());
@@ -81,7 +81,7 @@ fn look_through(line: FirstLine, bytes: &[u8]) -> (FirstLine, usize)
     let mut line = line;
     for at in 0..bytes.len() {
         line = line.after(bytes[at]);
-        if line.is_refused() {
+        if line.is_turned_away() {
             return (line, at);
         }
     }
@@ -115,7 +115,7 @@ impl<R: Read> Read for HttpGuard<R> {
     ghost remaining = { guard_remaining R.remaining };
 
     fn read(&mut self, buf: &mut [u8]) -> io::Result<usize> {
-        if self.line.is_refused() {
+        if self.line.is_turned_away() {
             return Ok(0);
         }
         let count = self.inner.read(buf)?;

@@ -1,7 +1,7 @@
 use Rattle.std.proofs.Common.{ℕ, true, ap, ◌∙◌, subst}
 use Rattle.silt_disk.specs.Layout.{Shape}
 use Rattle.silt_wire.specs.Sessions.{Ends}
-use Rattle.silt_jobs.specs.Tending.{TendsThenDoes}
+use Rattle.silt_jobs.specs.BackgroundWork.{TendsThenDoes}
 use Rattle.silt_jobs.proofs.jobs.answer_lines.Goals as goal
 
 pub returns-then-tend : goal.returns-then-tend

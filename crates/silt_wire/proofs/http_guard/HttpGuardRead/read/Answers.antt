@@ -2,9 +2,9 @@ use Rattle.std.proofs.Common.{◌≤◌, ◌∙◌, arith, sym}
 use Rattle.silt_wire.proofs.Http.{given_end, hands_read, refused_end, refused_reads}
 use Rattle.silt_wire.proofs.http_guard.HttpGuardRead.read.Goals as goal
 
-pub returns-then-is_refused-clause-bytes : goal.returns-then-is_refused-clause-bytes
-returns-then-is_refused-clause-bytes g c =
-    let is = sym c.is_refused.ensures ∙ c.if-is_refused.true in
+pub returns-then-is_turned_away-clause-bytes : goal.returns-then-is_turned_away-clause-bytes
+returns-then-is_turned_away-clause-bytes g c =
+    let is = sym c.is_turned_away.ensures ∙ c.if-is_turned_away.true in
     let known = g.R.Read.remaining c.args.self.now.inner in
     (refused_reads c.args.self.now.line known is, λ zero room. refused_end c.args.self.now.line known is)
 

@@ -1,9 +1,9 @@
 use Rattle.std.proofs.Common.{refl, sym, ◌∙◌, arith}
 use Rattle.silt_event.specs.declared.event.Event.TheVariants.{Convert, Merge}
 use Rattle.silt_store_set.specs.Replies.{progress_reply}
-use Rattle.silt_jobs.proofs.Tendings.{convert_counted, counted_all, merge_counted, none_counted, taken_more}
-use Rattle.silt_jobs.proofs.tending.tend_all.Goals as goal
-use Rattle.silt_jobs.proofs.tending.tend_all.Goals.{then-wants_convert+in_ok-convert, else-wants_convert+then-wants_merge+in_ok-merge}
+use Rattle.silt_jobs.proofs.BackgroundWork.{convert_counted, counted_all, merge_counted, none_counted, taken_more}
+use Rattle.silt_jobs.proofs.background_work.tend_all.Goals as goal
+use Rattle.silt_jobs.proofs.background_work.tend_all.Goals.{then-wants_convert+in_ok-convert, else-wants_convert+then-wants_merge+in_ok-merge}
 
 pub loop-turn-init : goal.loop-turn-init
 loop-turn-init g c = none_counted g.D.Disk c.args.core.now

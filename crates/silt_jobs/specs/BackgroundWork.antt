@@ -9,7 +9,7 @@ use Rattle.silt_event.specs.declared.progress.Progress.TheVariants.{Idle, Waitin
 use Rattle.silt_event.specs.declared.reply.Reply.{Reply}
 use Rattle.silt_event.specs.declared.reply.Reply.TheVariants.{Progress}
 use Rattle.silt_store_set.specs.CoreState.{CoreState, DoesPlain, Runs, convert_due, is_convert, is_merge, is_refused, wants_convert, wants_merge}
-use Rattle.silt_jobs.specs.declared.tending.Steps.{Steps}
+use Rattle.silt_jobs.specs.declared.background_work.Steps.{Steps}
 
 -- the event is a step of background work
 abbrev pub is_step : Event → Bool

@@ -5,7 +5,7 @@ use Rattle.silt_recovery.specs.Opening.{held_stores}
 use Rattle.silt_recovery.proofs.Shown.{held_good, held_map, held_shown}
 use Rattle.silt_standing.specs.State.{TiersState}
 use Rattle.silt_standing.specs.Standing.{Shows, current_map}
-use Rattle.silt_store_set.proofs.reading.read_entries.Goals as goal
+use Rattle.silt_store_set.proofs.device_entries.read_entries.Goals as goal
 
 pub returns-in-Ok-clause-entries : goal.returns-in-Ok-clause-entries
 returns-in-Ok-clause-entries g c = λ honest key.

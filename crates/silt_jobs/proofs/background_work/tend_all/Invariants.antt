@@ -1,5 +1,5 @@
-use Rattle.silt_jobs.proofs.Tendings.{Counted}
-use Rattle.silt_jobs.proofs.tending.tend_all.Given as goal
+use Rattle.silt_jobs.proofs.BackgroundWork.{Counted}
+use Rattle.silt_jobs.proofs.background_work.tend_all.Given as goal
 
 abbrev pub invariant-loop-turn : goal.invariant-loop-turn
 invariant-loop-turn g l = Counted g.D.Disk l.fn.core l.core l.steps.converted l.steps.merged l.turn

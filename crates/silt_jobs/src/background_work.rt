@@ -1,6 +1,6 @@
 // Background work without workers: between the lines of a session, or all at once.
 ghost use Rattle.std.specs.Prelude.{◌≡◌, true, IfOk, OnErr};
-ghost use Rattle.silt_jobs.specs.Tending.{TakesSteps, TendsAll, TendsThenDoes, is_idle, is_progress, is_waiting};
+ghost use Rattle.silt_jobs.specs.BackgroundWork.{TakesSteps, TendsAll, TendsThenDoes, is_idle, is_progress, is_waiting};
 
 use silt_disk::Disk;
 use silt_event::{Answerer, Event, Reply};
@@ -53,7 +53,7 @@ pub struct Tending<D: Disk> {
 impl<D: Disk> Model for Tending<D> {
     ghost use Rattle.std.specs.Coded.{codes};
     ghost use Rattle.silt_event.specs.Commands.{map_code};
-    ghost use Rattle.silt_jobs.specs.Tending.{TendedState};
+    ghost use Rattle.silt_jobs.specs.BackgroundWork.{TendedState};
 
     ghost Value = { TendedState D };
 

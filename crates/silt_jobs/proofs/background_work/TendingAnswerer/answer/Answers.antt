@@ -1,10 +1,10 @@
 use Rattle.std.proofs.Common.{◌+◌, true, arith, refl, sym, ap, ◌∙◌}
 use Rattle.silt_disk.specs.Layout.{Shape}
 use Rattle.silt_event.specs.declared.event.Event.TheVariants.{Convert, Merge}
-use Rattle.silt_jobs.specs.Tending.{TendedState}
-use Rattle.silt_jobs.proofs.Tendings.{fits_after, going_more, going_two, none_going, tends_idle, tends_off, tends_out, tends_refused, tends_then}
-use Rattle.silt_jobs.proofs.tending.TendingAnswerer.answer.Goals as goal
-use Rattle.silt_jobs.proofs.tending.TendingAnswerer.answer.Goals.{then-is_waiting+else-not-is_progress-2+in-Found-1, then-is_waiting+else-not-is_progress-2+in-Accepted-1, else-is_waiting}
+use Rattle.silt_jobs.specs.BackgroundWork.{TendedState}
+use Rattle.silt_jobs.proofs.BackgroundWork.{fits_after, going_more, going_two, none_going, tends_idle, tends_off, tends_out, tends_refused, tends_then}
+use Rattle.silt_jobs.proofs.background_work.TendingAnswerer.answer.Goals as goal
+use Rattle.silt_jobs.proofs.background_work.TendingAnswerer.answer.Goals.{then-is_waiting+else-not-is_progress-2+in-Found-1, then-is_waiting+else-not-is_progress-2+in-Accepted-1, else-is_waiting}
 
 pub returns-then-not-self-clause-answers : goal.returns-then-not-self-clause-answers
 returns-then-not-self-clause-answers g c =

@@ -15,8 +15,8 @@ use Rattle.silt_event.specs.declared.reply.Reply.{Reply}
 use Rattle.silt_event.specs.declared.reply.Reply.TheVariants.{Progress, Refused}
 use Rattle.silt_store_set.specs.CoreState.{ConvertCause, ConvertsTo, CoreState, Does, DoesPlain, MergeCause, convert_due, is_convert, is_merge, is_refused, wants_convert, wants_merge}
 use Rattle.silt_store_set.proofs.Runs.{runs_more}
-use Rattle.silt_jobs.specs.Tending.{TakesSteps, TendedState, Tends, TendsAll, TendsThenDoes, count_of, is_idle, is_progress, is_step, most_steps}
-use Rattle.silt_jobs.specs.declared.tending.Steps.{Steps}
+use Rattle.silt_jobs.specs.BackgroundWork.{TakesSteps, TendedState, Tends, TendsAll, TendsThenDoes, count_of, is_idle, is_progress, is_step, most_steps}
+use Rattle.silt_jobs.specs.declared.background_work.Steps.{Steps}
 
 -- one event more is one more of its kind
 pub count_more : (is_kind : Event → Bool) (events : List Event) (event : Event) → count_of is_kind (events ++ event ∷ []) ≡ count_of is_kind events + cond (is_kind event) 1 0

@@ -1,6 +1,6 @@
 use Rattle.std.proofs.Common.{◌≡◌, false}
-use Rattle.silt_jobs.proofs.Tendings.{Going}
-use Rattle.silt_jobs.proofs.tending.TendingAnswerer.answer.Given as goal
+use Rattle.silt_jobs.proofs.BackgroundWork.{Going}
+use Rattle.silt_jobs.proofs.background_work.TendingAnswerer.answer.Given as goal
 
 abbrev pub invariant-loop-turn : goal.invariant-loop-turn
 invariant-loop-turn g l = record {

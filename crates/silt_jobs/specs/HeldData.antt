@@ -10,9 +10,9 @@ use Rattle.silt_event.specs.declared.report.Report.{Report}
 use Rattle.silt_recovery.specs.Opening.{IsReported}
 use Rattle.silt_jobs.specs.Damage.{HasShape}
 use Rattle.silt_jobs.specs.declared.notes.Notes.{Ghosts as NotesOf}
-use Rattle.silt_jobs.specs.declared.overwriting.HeldStore.{HeldStore}
-use Rattle.silt_jobs.specs.declared.overwriting.Holding.{Holding}
-use Rattle.silt_jobs.specs.declared.overwriting.Holding.TheVariants.{Nothing, Store, Other}
+use Rattle.silt_jobs.specs.declared.held_data.HeldStore.{HeldStore}
+use Rattle.silt_jobs.specs.declared.held_data.Holding.{Holding}
+use Rattle.silt_jobs.specs.declared.held_data.Holding.TheVariants.{Nothing, Store, Other}
 
 -- these bytes of a header, behind its gate, are those of a store of this program: whole, damaged, or formatted in part
 abbrev pub has_magic : List ℕ → Bool
@@ -23,20 +23,20 @@ abbrev pub is_ours : Content → Bool
 is_ours content = nat_le header_len (size content) && has_magic (header_of content.shown)
 
 -- what is known of the store that a disk holds: its six numbers, and what a report says of its charge
-pub record IsHeldStore (content : Content) (store : HeldStore) : Type 0 where
+pub record IsFoundStore (content : Content) (store : HeldStore) : Type 0 where
   pub geometry : IfSome store.geometry (HasShape content)
   pub charge : IfSome store.charge (λ charge. (report : Report) × IsReported content.shown report × (charge ≡ report.charge))
 
 -- what a disk holds
-abbrev pub Holds : Content → Holding → Type 0
-Holds content Nothing = size content ≡ 0
-Holds content (Store store) = (is_ours content ≡ true) × IsHeldStore content store
-Holds content Other = ((size content == 0) ≡ false) × (is_ours content ≡ false)
+abbrev pub HoldsData : Content → Holding → Type 0
+HoldsData content Nothing = size content ≡ 0
+HoldsData content (Store store) = (is_ours content ≡ true) × IsFoundStore content store
+HoldsData content Other = ((size content == 0) ≡ false) × (is_ours content ≡ false)
 
 module _ {D F : Type 0} (facts : Ghosts D F) where
   -- a disk was looked at: it holds this, or a read failed
   abbrev pub Looks : D → Result Holding F → Type 0
-  Looks disk (Ok holding) = IsTrue (facts.content disk).honest → Holds (facts.content disk) holding
+  Looks disk (Ok holding) = IsTrue (facts.content disk).honest → HoldsData (facts.content disk) holding
   Looks disk (Err fault) = GaveAny facts.gave disk fault
 
 module _ {N F : Type 0} (notes : NotesOf N) (told_refusal : N → N → List ℕ → Refusal F → Type 0) (file : List ℕ) (force : Bool) where

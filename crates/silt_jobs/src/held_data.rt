@@ -3,8 +3,8 @@ ghost use Rattle.std.specs.Prelude.{◌≡◌, IsTrue, IfSome, MatchBool, Result
 ghost use Rattle.silt_event.specs.declared.report.Report.{Report as ReportOf};
 ghost use Rattle.silt_recovery.specs.Opening.{IsReported};
 ghost use Rattle.silt_jobs.specs.Notes.{ToldRefusal};
-ghost use Rattle.silt_jobs.specs.Overwriting.{IsHeldStore, Looks, MayOverwrite, MustStay, has_magic};
-ghost use Rattle.silt_jobs.specs.declared.overwriting.Holding.{Holding as HoldingOf};
+ghost use Rattle.silt_jobs.specs.HeldData.{IsFoundStore, Looks, MayOverwrite, MustStay, has_magic};
+ghost use Rattle.silt_jobs.specs.declared.held_data.Holding.{Holding as HoldingOf};
 
 use crate::damage::geometry_on;
 use crate::geometry::NumbersText;
@@ -106,7 +106,7 @@ fn has_magic(header: &[u8; HEADER_LEN]) -> bool
 
 // What is known of the store that a disk holds.
 fn held_store<D: Disk>(alloc: Global, disk: &D) -> HeldStore
-    ensures { IsTrue (D.content disk.now).honest → IsHeldStore (D.content disk.now) result }
+    ensures { IsTrue (D.content disk.now).honest → IsFoundStore (D.content disk.now) result }
 {
     HeldStore {
         geometry: geometry_on(disk),
