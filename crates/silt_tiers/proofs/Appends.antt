@@ -84,6 +84,7 @@ module _ (old new : Content) (s : TiersState) (after : LogStoreState) (more : Li
     same_body = named_body s.manifest.shape s.manifest.ruling old.shown;
     named = named;
     sound = λ h. subst (λ (rows : List StoredRow). IsSound (with_log_rows s.manifest.ruling.active rows (shown_stores old s))) (sym (all (was h))) (sound (was h));
+    said = λ h. stands.said (was h);
     counted = λ h.
         counted ∙ ap (λ (n : ℕ). n + put_count more) (stands.counted (was h))
         ∙ sym (count_law (rows_of (shown_stores old s) ++ waiting_rows old s.active.log) more)

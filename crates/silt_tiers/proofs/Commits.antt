@@ -1,5 +1,5 @@
 -- A freeze: the body that names the new log, and the stores once it rules.
-use Rattle.std.proofs.Common.{inl, ◌≡◌, ◌≤◌, ◌<◌, ℕ, ◌+◌, IsTrue, List, [], ◌∷◌, ◌++◌, length, map, refl, ap, sym, ◌∙◌, subst, arith}
+use Rattle.std.proofs.Common.{inl, ◌≡◌, ◌≤◌, ◌<◌, ℕ, ◌+◌, IsTrue, List, [], ◌∷◌, ◌++◌, length, map, Option, Some, refl, ap, sym, ◌∙◌, subst, arith}
 use Rattle.std.specs.Prelude.{All, IfSome}
 use Rattle.std.proofs.lemmas.List.Elements.{All-cons}
 use Rattle.silt_disk.specs.Disk.{Content, LeavesOnly, size}
@@ -14,8 +14,9 @@ use Rattle.silt_log_store.specs.State.{IsLogStore, LogStoreState}
 use Rattle.silt_conversion.specs.Conversion.{HasWritten}
 use Rattle.silt_manifest.specs.Standing.{ManifestState, spare_slot}
 use Rattle.silt_manifest.specs.declared.body.Body.{Body}
+use Rattle.silt_manifest.specs.declared.digests.Digests.{Digests}
 use Rattle.silt_image.specs.Stores.{Stores, stores_named}
-use Rattle.silt_image.specs.Meaning.{HasActive, IsSound, rows_of, with_log_rows, with_new_log}
+use Rattle.silt_image.specs.Meaning.{AreDigestsOf, HasActive, IsSound, rows_of, with_log_rows, with_new_log}
 use Rattle.silt_event.specs.Rows.{command_of, map_of_rows}
 use Rattle.silt_image.specs.Laws.{FreezesActive}
 use Rattle.silt_image.proofs.Frame.{freeze_law}
@@ -28,6 +29,7 @@ use Rattle.silt_standing.specs.State.{AreWhole, IsHashOf, IsSettled, TiersState,
 use Rattle.silt_standing.specs.Standing.{IsFrozen, Stands, shown_stores}
 use Rattle.silt_tiers.specs.Calls.{Advances}
 use Rattle.silt_standing.specs.Standing.{IsQuiet}
+use Rattle.silt_tiers.specs.Digests.{own_digests}
 use Rattle.silt_tiers.specs.NextLog.{HasFrozen, IsEmptied, active_replaced, names_region}
 use Rattle.silt_tiers.specs.Succession.{MayRule, NowRules}
 use Rattle.silt_tiers.proofs.Named.{named_body, named_shape, own_rows}
@@ -40,6 +42,7 @@ use Rattle.silt_tiers.proofs.Remains.{digested_stays, frozen_stays, hashed_stays
 use Rattle.silt_tiers.proofs.Holdings.{may_follow}
 use Rattle.silt_tiers.proofs.Flushes.{quiet}
 use Rattle.silt_tiers.proofs.Freezes.{below_two, store_elsewhere}
+use Rattle.silt_tiers.proofs.Said.{frozen_said}
 
 -- the stores with a new log have the next body
 new_shape : (body : Body) (t : Stores) → (with_new_log body t).shape ≡ t.shape
@@ -61,7 +64,7 @@ settled_frozen content store is settled = record {
 
 -- ---- the body that names the new log
 
-module _ (old : Content) (s : TiersState) (next : NextLog) (stands : Stands old s) (is_quiet : IsQuiet old s) (emptied : IsEmptied old s next) where
+module _ (old : Content) (s : TiersState) (next : NextLog) (digests : Digests) (stands : Stands old s) (is_quiet : IsQuiet old s) (emptied : IsEmptied old s next) (digests_are : digests ≡ own_digests s) where
   store_shape : next.store.log.shape ≡ s.manifest.shape
   store_shape = ap (λ (t : LogStoreState). t.log.shape) emptied.follows.store
 
@@ -98,7 +101,7 @@ module _ (old : Content) (s : TiersState) (next : NextLog) (stands : Stands old 
         (ap (λ (sh : Shape). log_rows sh next.body.active image) t_shape ∙ ap (λ (n : ℕ). log_rows s.manifest.shape n image) (sym store_region) ∙ emptied.images.each h image left);
   }
 
-  pub frozen_may_rule : MayRule old s next.body
+  pub frozen_may_rule : MayRule old s next.body digests
   frozen_may_rule = record {
     follows = λ sound. may_follow s next sound emptied.follows;
     stores = frozen_stores;
@@ -106,13 +109,14 @@ module _ (old : Content) (s : TiersState) (next : NextLog) (stands : Stands old 
     has_body = new_body next.body (shown_stores old s);
     names = names;
     sound = λ h. frozen_law (shown_stores old s) next.body (shown_sound old s stands h);
+    said = λ h. subst (λ (d : Digests). AreDigestsOf (Some d) frozen_stores) (sym digests_are) (frozen_said old s stands h next.body);
     same_map = λ h. ap map_of_rows frozen_rows ∙ sym (base_is old s);
     waiting = inl is_quiet;
   }
 
   -- ---- once it rules
 
-  module _ (new : Content) (sizes : size new ≡ size old) (m : ManifestState) (now : NowRules old new s next.body m) where
+  module _ (new : Content) (sizes : size new ≡ size old) (m : ManifestState) (now : NowRules old new s next.body digests m) where
     slot_below : spare_slot s.manifest < 2
     slot_below = below_two (s.manifest.ruling.generation + 1)
 
@@ -188,10 +192,11 @@ module _ (old : Content) (s : TiersState) (next : NextLog) (stands : Stands old 
       merged = merged_stays old new s stands sizes now.changes;
       same_shape = frozen_may_rule.has_shape ∙ sym now.has_shape;
       same_body = frozen_may_rule.has_body ∙ sym now.has_body;
-      named = now_named old new s next.body stands frozen_may_rule sizes m now;
+      named = now_named old new s next.body digests stands frozen_may_rule sizes m now;
       sound = λ h.
           let own : with_log_rows m.ruling.active [] frozen_stores ≡ frozen_stores = own_rows frozen_stores m.ruling.active [] [] (ap (λ (b : Body). b.active) (frozen_may_rule.has_body ∙ sym now.has_body)) (now_active (back h)) in
           subst (λ (rows : List StoredRow). IsSound (with_log_rows m.ruling.active rows frozen_stores)) (sym new_rows) (subst IsSound (sym own) (frozen_may_rule.sound (back h)));
+      said = λ h. subst (λ (o : Option Digests). AreDigestsOf o frozen_stores) (sym now.has_digests) (frozen_may_rule.said (back h));
       counted = λ h.
           stands.counted (back h)
           ∙ ap (λ (rows : List StoredRow). put_count (rows_of (shown_stores old s) ++ rows)) (none_waiting old s.active.log is_quiet.settled ∙ sym (none_waiting new next.store.log none_used))
@@ -200,7 +205,7 @@ module _ (old : Content) (s : TiersState) (next : NextLog) (stands : Stands old 
 
     pub frozen_advances : Advances [] old new s (active_replaced s m next.store)
     unfolding frozen_may_rule
-    frozen_advances = succeeds old new s next.body stands frozen_may_rule sizes m now after fits now.has_shape
+    frozen_advances = succeeds old new s next.body digests stands frozen_may_rule sizes m now after fits now.has_shape
         (λ h. ap (map command_of) (none_waiting new next.store.log none_used) ∙ ap (map command_of) (sym (none_waiting old s.active.log is_quiet.settled)))
 
     pub has_frozen : HasFrozen next new s (active_replaced s m next.store)

@@ -10,6 +10,7 @@ use Rattle.silt_disk.specs.Layout.{Shape}
 use Rattle.silt_manifest.specs.Body.{all_below, has_sound_hashes, has_sound_logs, is_distinct, is_well_formed}
 use Rattle.silt_manifest.specs.Standing.{IsNext, ruling_slot, spare_slot}
 use Rattle.silt_manifest.specs.declared.body.Body.{Body}
+use Rattle.silt_manifest.specs.declared.digests.Digests.{Digests}
 use Rattle.silt_manifest.proofs.SoundBodies.{sound_parts}
 use Rattle.silt_standing.specs.State.{AreWhole, IsUnderWay, TiersState, hash_region_of, names_hash}
 use Rattle.silt_conversion.specs.Conversion.{ConversionState}
@@ -129,8 +130,8 @@ hash_free s slot region whole sound inside free =
     omega (arith, fewer, hash_count s whole)
 
 -- the body that ends a conversion may follow the one that rules
-pub may_end : (s : TiersState) (body : Body) → is_well_formed s.manifest.shape (ruling_slot s.manifest) s.manifest.ruling ≡ true → AreWhole s → EndsConversion s body → IsNext s.manifest body
-may_end s body sound whole ends =
+pub may_end : (s : TiersState) (body : Body) (digests : Digests) → is_well_formed s.manifest.shape (ruling_slot s.manifest) s.manifest.ruling ≡ true → AreWhole s → EndsConversion s body digests → IsNext s.manifest body
+may_end s body digests sound whole ends =
     let way : IsUnderWay s ends.conversion = subst (λ (o : Option ConversionState). IfSome o (IsUnderWay s)) ends.was whole.under_way in
     record {
       generation = ap (λ (b : Body). b.generation) ends.is;

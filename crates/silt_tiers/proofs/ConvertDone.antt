@@ -13,17 +13,17 @@ use Rattle.silt_log_store.proofs.Buckets.{bucket_count_is}
 use Rattle.silt_manifest.specs.declared.body.Body.{Body}
 use Rattle.silt_log.specs.Parts.{Part, known_rows}
 use Rattle.silt_image.specs.Stores.{Stores, image_stores}
-use Rattle.silt_hash_store.specs.Slots.{hash_rows}
-use Rattle.silt_image.specs.Meaning.{IsSound, rows_of, with_log_rows}
+use Rattle.silt_hash_store.specs.Slots.{hash_part, hash_rows}
+use Rattle.silt_image.specs.Meaning.{IsSound, part_digest, rows_of, with_log_rows}
 use Rattle.silt_event.specs.Rows.{map_of_rows}
 use Rattle.silt_image.proofs.Named.{whole_law}
 use Rattle.silt_event.proofs.Rows.{count_law}
-use Rattle.silt_conversion.specs.Conversion.{ConversionState, HasWritten, converted_rows}
+use Rattle.silt_conversion.specs.Conversion.{ConversionState, HasWritten, IsDigestOf, converted_rows}
 use Rattle.silt_tiers.specs.Replacements.{HasOldest, ReplacesLog, with_converted}
 use Rattle.silt_conversion.specs.Laws.{IsTableOf}
 use Rattle.silt_conversion.proofs.Charging.{converted_charge}
 use Rattle.silt_tiers.proofs.LogReplaced.{converts}
-use Rattle.silt_conversion.proofs.Writing.{all_charged, all_due}
+use Rattle.silt_conversion.proofs.Writing.{all_charged, all_digested, all_due}
 use Rattle.silt_standing.specs.State.{IsUnderWay, TiersState, oldest_log, region_of}
 use Rattle.silt_standing.specs.Standing.{IsFrozen, Stands, base_map, shown_stores}
 use Rattle.silt_tiers.specs.Conversion.{converted_body}
@@ -176,6 +176,13 @@ module _ (content : Content) (s : TiersState) (stands : Stands content s) (conve
         ap (λ (sh : Shape). hash_rows sh conversion.region content.shown) (sym way.has_shape)
         ∙ all_due content (oldest_log s) conversion done has_written h
         ∙ ap (λ (sh : Shape). converted_rows sh (oldest_log s).table rows) same_shape
+
+    -- the digest of what was hashed is its digest
+    pub ending_digest : (digest : List ℕ) → IsDigestOf conversion.hasher digest → IsTrue content.honest → digest ≡ part_digest ending_part
+    ending_digest digest finalizes h =
+        all_digested content (oldest_log s) conversion digest done has_written h finalizes
+        ∙ ap (λ (sh : Shape). part_digest (hash_part sh content.shown conversion.region)) way.has_shape
+        ∙ ap (λ (l : List StoredRow). let part : Part = record { region = conversion.region; rows = l } in part_digest part) (ending_slots h)
 
     -- the puts that went away do not count
     pub ending_counted : IsTrue content.honest → (charge : ℕ) → charge ≡ s.charge - ((oldest_log s).puts - conversion.puts) → charge ≡ put_count (rows_of ending_stores ++ waiting_rows content s.active.log)

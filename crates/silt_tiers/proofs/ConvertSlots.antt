@@ -95,7 +95,7 @@ module _ (old new : Content) (s : TiersState) (region slot : ℕ) (stands : Stan
   -- the stores stand on, with the conversion as it is then
   pub slot_advances : (converting : Option ConversionState) → IfSome converting (IsUnderWay s) → IfSome converting (HasWritten new (oldest_log s)) → Advances [] old new s (record s { converting = converting })
   slot_advances converting under_way written = stays_with old new s (hash_slot_at s.manifest.shape region slot) (row_len s.manifest.shape) stands sizes changes slot_apart outside_active
-      s.manifest converting s.merging refl refl stands.idle
+      s.manifest converting s.merging refl refl refl stands.idle
       (rules_elsewhere s.manifest (hash_slot_at s.manifest.shape region slot) (row_len s.manifest.shape) old new (omega (arith, stands.has_size)) (inr (omega arith)) changes stands.rules)
       slot_named under_way written stands.whole.merging
       (merged_on old new s (hash_slot_at s.manifest.shape region slot) (row_len s.manifest.shape) stands sizes changes slot_apart outside_active (λ h. slot_before_entries))
@@ -113,7 +113,7 @@ module _ (old new : Content) (s : TiersState) (stands : Stands old s) (sizes : s
   still_advances : ChangesWithin 0 0 old new → LeavesOnly new (λ image. image_stores image ≡ Ok (shown_stores old s)) → Advances [] old new s s
   still_advances changes named = stays_on old new s 0 0 stands sizes changes
       (λ h. record { active = inl (omega arith); frozen = λ id there. inl (omega arith); hashed = λ id there. inl (omega arith); sorted = inl (omega arith) }) (inl (omega arith))
-      (λ h. nowhere s.converting) (λ h. nowhere_merged s.merging) s.manifest refl refl stands.idle
+      (λ h. nowhere s.converting) (λ h. nowhere_merged s.merging) s.manifest refl refl refl stands.idle
       (rules_elsewhere s.manifest 0 0 old new (omega (arith, stands.has_size)) (inl (omega arith)) changes stands.rules) named
     where
       nowhere : (o : Option ConversionState) → IfSome o (λ conversion. LiesOutside (hash_at s.manifest.shape conversion.region) (slots_len s.manifest.shape) 0 0)

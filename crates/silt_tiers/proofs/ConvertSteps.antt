@@ -1,6 +1,6 @@
 -- The steps of a conversion, at their exits.
-use Rattle.std.proofs.Common.{◌≡◌, ◌≤◌, ◌<◌, ℕ, ◌+◌, ◌-◌, ◌*◌, ◌==◌, Bool, true, if◌then◌else◌, List, [], length, replicate, Option, Some, None, inl, inr, refl, ap, sym, ◌∙◌, subst, arith}
-use Rattle.std.specs.Prelude.{slice_get}
+use Rattle.std.proofs.Common.{◌≡◌, ◌≤◌, ◌<◌, ℕ, ◌+◌, ◌-◌, ◌*◌, ◌^◌, ◌==◌, Bool, true, if◌then◌else◌, List, [], length, replicate, Option, Some, None, inl, inr, refl, ap, sym, ◌∙◌, subst, arith}
+use Rattle.std.specs.Prelude.{IfSome, slice_get}
 use Rattle.std.proofs.lemmas.Bool.{cases_eq, eq-eqb, ne_eqb}
 use Rattle.std.proofs.lemmas.Option.{get_or_from_slice_get, slice_get_within}
 use Rattle.silt_disk.specs.Disk.{ChangesWithin, Content, CountsFault, GaveAny, size}
@@ -11,7 +11,10 @@ use Rattle.silt_log_store.proofs.Buckets.{bucket_count_is}
 use Rattle.silt_manifest.specs.Body.{is_well_formed}
 use Rattle.silt_manifest.specs.Standing.{ruling_slot}
 use Rattle.silt_manifest.specs.declared.body.Body.{Body}
-use Rattle.silt_conversion.specs.Conversion.{ConversionState, FailsStep, HasWritten, Steps}
+use Rattle.silt_manifest.specs.declared.digests.Digests.{Digests}
+use Rattle.silt_frame.specs.declared.digest.Digest.{Digest}
+use Rattle.silt_hash_store.specs.State.{HashState}
+use Rattle.silt_conversion.specs.Conversion.{ConversionState, FailsStep, HasWritten, IsDigestOf, Steps}
 use Rattle.silt_hash_store.specs.Slots.{hash_slot_at}
 use Rattle.silt_conversion.specs.declared.conversion.StepError.{StepError}
 use Rattle.silt_conversion.specs.declared.conversion.StepError.TheVariants as step_error
@@ -20,7 +23,8 @@ use Rattle.silt_event.specs.declared.progress.Progress.TheVariants.{Finished, Id
 use Rattle.silt_standing.specs.State.{AreWhole, IsUnderWay, TiersState, names_hash, oldest_log}
 use Rattle.silt_standing.specs.Standing.{Stands}
 use Rattle.silt_tiers.specs.Calls.{Advances, Breaks, Remaps}
-use Rattle.silt_tiers.specs.Conversion.{AreAllHashesNamed, ConvertErrorCause, Converts, IsLowestFreeHash, IsNextStep, convert_turn, is_work, progress_due, refusal_of_step, written_by}
+use Rattle.silt_tiers.specs.Digests.{digests_with}
+use Rattle.silt_tiers.specs.Conversion.{AreAllHashesNamed, ConvertErrorCause, Converts, EndsConversion, IsLowestFreeHash, IsNextStep, convert_turn, converted_body, is_work, progress_due, refusal_of_step, written_by}
 use Rattle.silt_tiers.proofs.ConvertCounting.{hash_free, no_hash_free}
 use Rattle.silt_tiers.proofs.ConvertDone.{has_written, oldest_stands, way}
 use Rattle.silt_tiers.proofs.ConvertSlots.{slot_advances, slot_breaks, slot_map}
@@ -48,6 +52,15 @@ module _ (s : TiersState) where
     | inr more ↦ subst (λ (sh : Shape). conversion.next < 4 * sh.buckets) (sym way.has_shape) (omega (arith, more, way.most))
   ]
 
+  -- all slots of one that finishes are written
+  all_written : (conversion : ConversionState) → s.converting ≡ Some conversion → IsUnderWay s conversion → convert_turn s ≡ Finished → conversion.next ≡ 4 * conversion.shape.buckets
+  all_written conversion was way turn = elim (cases_eq conversion.next (4 * s.manifest.shape.buckets)) [
+    | inl all ↦ subst (λ (sh : Shape). conversion.next ≡ 4 * sh.buckets) (sym way.has_shape) all
+    | inr more ↦
+        let moved : convert_turn s ≡ Moved = ap due was ∙ ap (λ (b : Bool). if b then Finished else Moved) (ne_eqb conversion.next (4 * s.manifest.shape.buckets) more) in
+        absurd (let no : Finished ≡ Moved = sym turn ∙ moved in cc)
+  ]
+
   -- with frozen logs, no conversion under way, and this many hash stores
   pub begins_turn : s.converting ≡ None → 0 < length s.frozen → convert_turn s ≡ (if length s.hashes == s.manifest.shape.hashes then Waiting else Moved)
   begins_turn none some = ap due none ∙ ap (λ (b : Bool). if b then Idle else if length s.hashes == s.manifest.shape.hashes then Waiting else Moved) (ne_eqb (length s.frozen) 0 (λ e. absurd (omega (arith, e, some))))
@@ -59,6 +72,25 @@ module _ (s : TiersState) where
   -- one is free
   pub moves_turn : s.converting ≡ None → 0 < length s.frozen → length s.hashes < s.manifest.shape.hashes → convert_turn s ≡ Moved
   moves_turn none some fewer = begins_turn none some ∙ ap (λ (b : Bool). if b then Waiting else Moved) (ne_eqb (length s.hashes) s.manifest.shape.hashes (λ e. absurd (omega (arith, e, fewer))))
+
+-- ---- the end
+
+-- a conversion that finishes may end with the next body and these digests
+pub may_finish : (s : TiersState) (body : Body) (digests : Digests) (conversion : ConversionState) (digest sorted : Digest) (hashes : List HashState) → AreWhole s → s.converting ≡ Some conversion → convert_turn s ≡ Finished
+    → s.manifest.ruling.generation < 2 ^ 63 - 1 → body ≡ converted_body s.manifest.ruling conversion.region → IsDigestOf conversion.hasher digest.0 → hashes ≡ s.hashes → sorted.0 ≡ s.digest
+    → digests ≡ digests_with (Some digest) hashes sorted → EndsConversion s body digests
+may_finish s body digests conversion digest sorted hashes whole was turn unspent is digested hashes_are sorted_is digests_are = record {
+  conversion = conversion;
+  was = was;
+  done = all_written s conversion was (subst (λ (o : Option ConversionState). IfSome o (IsUnderWay s)) was whole.under_way) turn;
+  unspent = unspent;
+  is = is;
+  digest = digest.0;
+  digested = digested;
+  digests_are =
+      digests_are ∙ ap (λ (l : List HashState). digests_with (Some digest) l sorted) hashes_are
+      ∙ ap (λ (bytes : List ℕ). digests_with (Some digest) s.hashes (record { 0 = bytes })) sorted_is;
+}
 
 -- ---- a slot
 

@@ -18,8 +18,9 @@ use Rattle.silt_log_store.specs.State.{IsFrozenStore}
 use Rattle.silt_log_store.proofs.Buckets.{bucket_count_is}
 use Rattle.silt_manifest.specs.Standing.{ManifestState, spare_slot}
 use Rattle.silt_manifest.specs.declared.body.Body.{Body}
+use Rattle.silt_manifest.specs.declared.digests.Digests.{Digests}
 use Rattle.silt_image.specs.Stores.{Stores, stores_named}
-use Rattle.silt_image.specs.Meaning.{IsSound, rows_of, with_log_rows}
+use Rattle.silt_image.specs.Meaning.{AreDigestsOf, IsSound, rows_of, with_log_rows}
 use Rattle.silt_event.specs.Rows.{command_of}
 use Rattle.silt_image.proofs.Named.{whole_law}
 use Rattle.silt_conversion.specs.Conversion.{ConversionState, HasWritten, IsDigestOf, converted_rows}
@@ -44,13 +45,14 @@ use Rattle.silt_tiers.proofs.ConvertCounting.{may_end}
 use Rattle.silt_tiers.proofs.Remains.{active_stays, digested_stays, frozen_stays, hashed_stays, located_stays, merged_stays, slot_below, waiting_stays, written_stays}
 use Rattle.silt_tiers.proofs.NextBodies.{now_named, succeeds}
 use Rattle.silt_tiers.proofs.ConvertStores.{converted_named, converted_ruling, converted_shape}
-use Rattle.silt_tiers.proofs.ConvertDone.{ending_counted, ending_full_sound, ending_map, ending_slots, ending_sound, ending_stores, oldest_frozen, oldest_shape, oldest_stands, table_of, way}
+use Rattle.silt_tiers.proofs.Said.{converted_said}
+use Rattle.silt_tiers.proofs.ConvertDone.{ending_counted, ending_digest, ending_full_sound, ending_map, ending_slots, ending_sound, ending_stores, oldest_frozen, oldest_shape, oldest_stands, table_of, way}
 use Rattle.silt_tiers.proofs.ConvertRows.{front_converted, front_named, no_part, oldest_same}
 use Rattle.silt_tiers.proofs.MergeDone.{full_is}
 
 -- ---- the body that names the hash store
 
-module _ (old : Content) (s : TiersState) (body : Body) (stands : Stands old s) (rests : Rests old) (ends : EndsConversion s body) where
+module _ (old : Content) (s : TiersState) (body : Body) (digests : Digests) (stands : Stands old s) (rests : Rests old) (ends : EndsConversion s body digests) where
   under_way : IsUnderWay s ends.conversion
   under_way = way old s stands ends.conversion ends.was
 
@@ -70,21 +72,28 @@ module _ (old : Content) (s : TiersState) (body : Body) (stands : Stands old s) 
         ∙ converted_named s.manifest.shape s.manifest.ruling ends.conversion.region _ old.shown some_ids (ending_slots old s stands ends.conversion ends.was ends.done h);
   }
 
-  pub converted_may_rule : MayRule old s body
+  -- the digests are theirs
+  said : IsTrue old.honest → AreDigestsOf (Some digests) converted_stores
+  said h =
+      subst (λ (d : Digests). AreDigestsOf (Some d) converted_stores) (sym ends.digests_are)
+      (converted_said old s stands h _ _ ends.digest (ending_digest old s stands ends.conversion ends.was ends.done ends.digest ends.digested h))
+
+  pub converted_may_rule : MayRule old s body digests
   converted_may_rule = record {
-    follows = λ sound. may_end s body sound stands.whole ends;
+    follows = λ sound. may_end s body digests sound stands.whole ends;
     stores = converted_stores;
     has_shape = converted_shape _ _ _ ∙ named_shape s.manifest.shape s.manifest.ruling old.shown;
     has_body = converted_ruling _ _ _ ∙ sym ends.is;
     names = names;
     sound = ending_sound old s stands ends.conversion ends.was;
+    said = said;
     same_map = ending_map old s stands ends.conversion ends.was;
     waiting = inr (ap (λ (b : Body). b.active) ends.is);
   }
 
   -- ---- once it rules
 
-  module _ (new : Content) (sizes : size new ≡ size old) (m : ManifestState) (now : NowRules old new s body m) where
+  module _ (new : Content) (sizes : size new ≡ size old) (m : ManifestState) (now : NowRules old new s body digests m) where
     back : IsTrue new.honest → IsTrue old.honest
     back h = subst IsTrue now.changes.honest h
 
@@ -213,11 +222,12 @@ module _ (old : Content) (s : TiersState) (body : Body) (stands : Stands old s) 
         merged = gathered_stays;
         same_shape = converted_may_rule.has_shape ∙ sym now.has_shape;
         same_body = converted_may_rule.has_body ∙ sym now.has_body;
-        named = now_named old new s body stands converted_may_rule sizes m now;
+        named = now_named old new s body digests stands converted_may_rule sizes m now;
         sound = λ h.
             subst (λ (n : ℕ). IsSound (with_log_rows n (all_rows new s.active.log) converted_stores)) (ap (λ (b : Body). b.active) (sym ruling_is))
             (subst (λ (rows : List StoredRow). IsSound (with_log_rows s.manifest.ruling.active rows converted_stores)) (sym (keeps.all (back h)))
             (ending_full_sound old s stands ends.conversion ends.was (back h)));
+        said = λ h. subst (λ (o : Option Digests). AreDigestsOf o converted_stores) (sym now.has_digests) (converted_may_rule.said (back h));
         counted = λ h.
             ending_counted old s stands ends.conversion ends.was ends.done (back h) (s.charge - ((oldest_log s).puts - ends.conversion.puts)) refl
             ∙ ap (λ (rows : List StoredRow). put_count (rows_of converted_stores ++ rows)) (sym (waiting_stays old new s stands sizes now.changes (back h)));
@@ -229,7 +239,7 @@ module _ (old : Content) (s : TiersState) (body : Body) (stands : Stands old s) 
       converted_advances finished is_whole is =
           let whole_after : AreWhole (oldest_replaced s m ends.conversion digest) = subst AreWhole is is_whole in
           subst (λ (t : TiersState). Advances [] old new s t) (sym is)
-          (succeeds old new s body stands converted_may_rule sizes m now after (fits whole_after) now.has_shape (λ h. ap (map command_of) (waiting_stays old new s stands sizes now.changes h)))
+          (succeeds old new s body digests stands converted_may_rule sizes m now after (fits whole_after) now.has_shape (λ h. ap (map command_of) (waiting_stays old new s stands sizes now.changes h)))
 
       -- its slots have the rows that are due
       slots_now : AreWhole (oldest_replaced s m ends.conversion digest) → IsTrue old.honest

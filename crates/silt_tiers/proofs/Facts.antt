@@ -1,7 +1,7 @@
 -- What the images of a disk mean on which the stores stand.
-use Rattle.std.proofs.Common.{◌≡◌, ◌≤◌, ◌<◌, ℕ, ◌+◌, ◌-◌, IsTrue, List, ◌++◌, length, map, replicate, Ok, refl, ap, sym, ◌∙◌, subst, arith}
+use Rattle.std.proofs.Common.{◌≡◌, ◌≤◌, ◌<◌, ℕ, ◌+◌, ◌-◌, IsTrue, List, ◌++◌, length, map, replicate, Ok, inr, refl, ap, sym, ◌∙◌, subst, arith}
 use Rattle.std.proofs.lemmas.List.{length-replicate}
-use Rattle.silt_disk.specs.Disk.{Content, Torn, LeavesOnly, size}
+use Rattle.silt_disk.specs.Disk.{Content, Left, LeavesOnly, Torn, size}
 use Rattle.silt_disk.specs.Layout.{Shape, device_size, gates_at, log_size}
 use Rattle.silt_disk.proofs.Images.{shown_left, torn_splice, torn_wider}
 use Rattle.silt_disk.proofs.Regions.{regions_apart, up_least}
@@ -12,14 +12,19 @@ use Rattle.silt_log.specs.State as log
 use Rattle.silt_log.proofs.Elsewhere.{all_are_settled_and_waiting}
 use Rattle.silt_log.proofs.Exits.{log_inside}
 use Rattle.silt_event.specs.Commands.{Map, map_after}
-use Rattle.silt_image.specs.Stores.{Stores, image_stores}
+use Rattle.silt_image.specs.Stores.{Stores, image_digests, image_stores}
 use Rattle.silt_image.specs.Meaning.{HasActive, IsSound, StandsFor, image_charge, image_map, rows_of, with_log_rows}
 use Rattle.silt_event.specs.Rows.{command_of, map_of_rows}
-use Rattle.silt_image.proofs.Verdict.{rows_law, stands_law}
+use Rattle.silt_image.proofs.Verdict.{rows_law}
+use Rattle.silt_disk.specs.Header.{header_of, version_of}
+use Rattle.silt_disk.proofs.Images.{torn_slice_before}
+use Rattle.silt_manifest.specs.Ruling.{where_found}
+use Rattle.silt_manifest.specs.Standing.{RulesAsHeld, ruling_record}
+use Rattle.silt_manifest.proofs.Laws.{other_regions}
 use Rattle.silt_standing.specs.State.{TiersState}
 use Rattle.silt_standing.specs.Standing.{Stands, base_map, current_map, full_image, shown_stores}
 use Rattle.silt_tiers.specs.Laws.{IsGoodWith}
-use Rattle.silt_tiers.proofs.Named.{active_named, map_with_more, named_body, named_here, named_shape, region_torn, rows_with_more, sound_settled, stands_for, stores_map, with_body, with_shape}
+use Rattle.silt_tiers.proofs.Named.{active_named, map_with_more, named_body, named_here, named_shape, region_torn, rows_with_more, said_with_rows, says_ruling, sound_settled, stands_for, stores_map, with_body, with_shape}
 
 -- the map of the settled rows
 pub base_is : (content : Content) (s : TiersState) → base_map content s ≡ map_of_rows (rows_of (shown_stores content s))
@@ -102,6 +107,24 @@ module _ (content : Content) (s : TiersState) (stands : Stands content s) where
   pub full_rows : IsTrue content.honest → log_rows s.manifest.shape s.manifest.ruling.active (full_image content s) ≡ all_rows content s.active.log
   full_rows honest = active_rows (full_image content s) ∙ stands.active.full honest
 
+  -- an image that the record of the manifest rules, with stores of this shape, says its digests
+  pub says_held : (image : List ℕ) (t : Stores) → image_stores image ≡ Ok t → t.shape ≡ s.manifest.shape → RulesAsHeld s.manifest image → image_digests image ≡ s.manifest.digests
+  says_held image t is same_shape rules = says_ruling s.manifest.shape t (ruling_record s.manifest) image is same_shape rules
+
+  -- in whatever a stop leaves it rules
+  pub left_rules : IsTrue content.honest → (image : List ℕ) → Left content image → RulesAsHeld s.manifest image
+  left_rules honest image left = (stands.rules.each honest image left).rules
+
+  -- and in the full image
+  full_rules : IsTrue content.honest → RulesAsHeld s.manifest (full_image content s)
+  full_rules honest =
+      let torn : Torn (gates_at s.active.log.shape s.active.log.region) (log_size s.active.log.shape) content.shown (full_image content s) = full_torn content s.active.log stands.active.bounds active_size in
+      let same_header : header_of (full_image content s) ≡ header_of content.shown =
+      torn_slice_before (gates_at s.active.log.shape s.active.log.region) (log_size s.active.log.shape) content.shown (full_image content s) torn 0 37 (omega arith) (omega arith) in
+      ap where_found (other_regions s.manifest.shape (gates_at s.active.log.shape s.active.log.region) (log_size s.active.log.shape) content.shown (full_image content s) (omega (arith, active_size)) (inr (omega arith)) torn
+      (ap version_of same_header))
+      ∙ left_rules honest content.shown (shown_left content)
+
   -- an image that is changed in the region of the active log
   pub torn_active : (before image : List ℕ) (rows : List StoredRow) → image_stores before ≡ Ok (shown_stores content s) → Torn (gates_at s.active.log.shape s.active.log.region) (log_size s.active.log.shape) before image
       → log_rows s.active.log.shape s.active.log.region image ≡ rows → image_stores image ≡ Ok (with_log_rows s.manifest.ruling.active rows (shown_stores content s))
@@ -136,11 +159,13 @@ module _ (content : Content) (s : TiersState) (stands : Stands content s) where
       let split : t ≡ with_log_rows s.manifest.ruling.active (settled_rows content s.active.log ++ waiting_rows content s.active.log) (shown_stores content s) =
       ap (λ (rows : List StoredRow). with_log_rows s.manifest.ruling.active rows (shown_stores content s)) rows_split in
       let is : image_stores (full_image content s) ≡ Ok t = full_stores honest in
+      let same_shape : t.shape ≡ s.manifest.shape = with_shape s.manifest.ruling.active (all_rows content s.active.log) (shown_stores content s) ∙ named_shape s.manifest.shape s.manifest.ruling content.shown in
       record {
-        stores = is ∙ ap Ok (sym (named_here s.manifest.shape s.manifest.ruling t (full_image content s) is
-            (with_shape s.manifest.ruling.active (all_rows content s.active.log) (shown_stores content s) ∙ named_shape s.manifest.shape s.manifest.ruling content.shown)
+        stores = is ∙ ap Ok (sym (named_here s.manifest.shape s.manifest.ruling t (full_image content s) is same_shape
             (with_body s.manifest.ruling.active (all_rows content s.active.log) (shown_stores content s) ∙ named_body s.manifest.shape s.manifest.ruling content.shown)));
-        good = (stands_law (full_image content s) t is (subst IsSound (sym split) (all_sound honest))).good;
+        good = (stands_for s.manifest.shape t s.manifest.digests (map_of_rows (rows_of t)) (full_image content s) is same_shape (subst IsSound (sym split) (all_sound honest))
+            (said_with_rows s.manifest.digests s.manifest.ruling.active (all_rows content s.active.log) (shown_stores content s) (stands.said honest))
+            (says_held (full_image content s) t is same_shape (full_rules honest)) refl).good;
         charged = charge_is (full_image content s) t is ∙ ap (λ (u : Stores). put_count (rows_of u)) split
             ∙ ap put_count (rows_with_more (shown_stores content s) s.manifest.ruling.active (settled_rows content s.active.log) (waiting_rows content s.active.log) active_is (has_active honest) (waiting_rows content s.active.log))
             ∙ sym (stands.counted honest);
@@ -151,22 +176,26 @@ module _ (content : Content) (s : TiersState) (stands : Stands content s) where
   shown_map honest = stores_map (shown_stores content s) content.shown (shown_named honest) ∙ sym (base_is content s)
 
   -- each image stands for the base
-  pub base_stands : IsTrue content.honest → (image : List ℕ) → image_stores image ≡ Ok (shown_stores content s) → StandsFor s.manifest.shape (base_map content s) image
-  base_stands honest image is = stands_for s.manifest.shape (shown_stores content s) (base_map content s) image is
-      (named_shape s.manifest.shape s.manifest.ruling content.shown) (shown_sound honest) (sym (base_is content s))
+  pub base_stands : IsTrue content.honest → (image : List ℕ) → image_stores image ≡ Ok (shown_stores content s) → RulesAsHeld s.manifest image → StandsFor s.manifest.shape (base_map content s) image
+  base_stands honest image is rules =
+      let same_shape = named_shape s.manifest.shape s.manifest.ruling content.shown in
+      stands_for s.manifest.shape (shown_stores content s) s.manifest.digests (base_map content s) image is
+      same_shape (shown_sound honest) (stands.said honest) (says_held image (shown_stores content s) is same_shape rules) (sym (base_is content s))
 
   pub base_safe : LeavesOnly content (StandsFor s.manifest.shape (base_map content s))
-  base_safe = record { each = λ honest image left. base_stands honest image (stands.named.each honest image left) }
+  base_safe = record { each = λ honest image left. base_stands honest image (stands.named.each honest image left) (left_rules honest image left) }
 
   -- an image with these rows in the active log, in which nothing is found
   pub stands_with_rows : IsTrue content.honest → (image : List ℕ) (more : List StoredRow)
-      → image_stores image ≡ Ok (with_log_rows s.manifest.ruling.active (settled_rows content s.active.log ++ more) (shown_stores content s))
+      → image_stores image ≡ Ok (with_log_rows s.manifest.ruling.active (settled_rows content s.active.log ++ more) (shown_stores content s)) → RulesAsHeld s.manifest image
       → IsSound (with_log_rows s.manifest.ruling.active (settled_rows content s.active.log ++ more) (shown_stores content s))
       → StandsFor s.manifest.shape (map_after (base_map content s) (map command_of more)) image
-  stands_with_rows honest image more is sound =
+  stands_with_rows honest image more is rules sound =
       let t : Stores = with_log_rows s.manifest.ruling.active (settled_rows content s.active.log ++ more) (shown_stores content s) in
-      stands_for s.manifest.shape t (map_after (base_map content s) (map command_of more)) image is
-      (with_shape s.manifest.ruling.active (settled_rows content s.active.log ++ more) (shown_stores content s) ∙ named_shape s.manifest.shape s.manifest.ruling content.shown)
-      sound
+      let same_shape : t.shape ≡ s.manifest.shape =
+      with_shape s.manifest.ruling.active (settled_rows content s.active.log ++ more) (shown_stores content s) ∙ named_shape s.manifest.shape s.manifest.ruling content.shown in
+      stands_for s.manifest.shape t s.manifest.digests (map_after (base_map content s) (map command_of more)) image is same_shape sound
+      (said_with_rows s.manifest.digests s.manifest.ruling.active (settled_rows content s.active.log ++ more) (shown_stores content s) (stands.said honest))
+      (says_held image t is same_shape rules)
       (map_with_more (shown_stores content s) s.manifest.ruling.active (settled_rows content s.active.log) (waiting_rows content s.active.log) active_is (has_active honest) more
       ∙ ap (λ (m : Map). map_after m (map command_of more)) (sym (base_is content s)))

@@ -14,14 +14,14 @@ use Rattle.silt_log_store.specs.State.{LogStoreState}
 use Rattle.silt_log_store.specs.Calls.{OpensSomeOfStore, OpensStore}
 use Rattle.silt_event.specs.Commands.{Map, map_after}
 use Rattle.silt_image.specs.Stores.{Stores, image_stores}
-use Rattle.silt_image.specs.Meaning.{IsSound, image_map, rows_of, with_log_rows}
+use Rattle.silt_image.specs.Meaning.{AreDigestsOf, IsSound, image_map, rows_of, with_log_rows}
 use Rattle.silt_event.specs.Rows.{command_of, map_of_rows}
 use Rattle.silt_image.proofs.Rows.{again_law}
 use Rattle.silt_standing.specs.State.{TiersState}
 use Rattle.silt_standing.specs.Standing.{Stands, full_image, shown_stores, waiting_commands}
 use Rattle.silt_tiers.specs.Calls.{Advances, Breaks, Remaps}
 use Rattle.silt_standing.specs.Standing.{IsQuiet, SameDisk}
-use Rattle.silt_tiers.proofs.Named.{map_with_more, named_body, named_shape, rows_with_more, sound_some, with_body, with_shape}
+use Rattle.silt_tiers.proofs.Named.{map_with_more, named_body, named_shape, rows_with_more, said_with_rows, sound_some, with_body, with_shape}
 use Rattle.silt_tiers.proofs.Facts.{active_is, all_sound, base_is, full_map, has_active, map_with_rows, rows_split, stands_with_rows, torn_active}
 use Rattle.silt_tiers.proofs.Standing.{Fits, digested_stays, fits_stand, frozen_stay, full_with, hashed_stay, located_stays, merged_stays, named_with, rules_stay, shown_are, written_stays}
 use Rattle.silt_tiers.proofs.Appends.{with_active}
@@ -111,6 +111,8 @@ module _ (old new : Content) (s : TiersState) (after : LogStoreState) (stands : 
           subst (λ (t : Stores). IsSound (with_log_rows s.manifest.ruling.active (all_rows new after.log) t)) (sym now_is)
           (subst IsSound (sym (again_law (shown_stores old s) s.manifest.ruling.active (settled_rows old s.active.log ++ waiting_rows old s.active.log) (all_rows new after.log)))
           (subst (λ (rows : List StoredRow). IsSound (with_log_rows s.manifest.ruling.active rows (shown_stores old s))) (sym (opens.log.all (was h) ∙ rows_split old s stands)) (all_sound old s stands (was h))));
+      said = λ h. subst (λ (t : Stores). AreDigestsOf s.manifest.digests t) (sym now_is)
+          (said_with_rows s.manifest.digests s.manifest.ruling.active (settled_rows old s.active.log ++ waiting_rows old s.active.log) (shown_stores old s) (stands.said (was h)));
       counted = λ h.
           stands.counted (was h) ∙ ap put_count (sym (now_rows (was h)) ∙ sym (append-nil (rows_of now)) ∙ ap (λ (rows : List StoredRow). rows_of now ++ rows) (sym none));
     }
@@ -150,7 +152,7 @@ module _ (old new : Content) (s : TiersState) (after : LogStoreState) (stands : 
           record {
             kept = map command_of some;
             begins = record { rest = map command_of (drop has.0 waiting); is = sym (map-append command_of some (drop has.0 waiting)) ∙ ap (map command_of) (take-append-drop has.0 waiting) };
-            stands = stands_with_rows old s stands o image some is
+            stands = stands_with_rows old s stands o image some is ((rules_stay old new s stands sizes changed).each h image left).rules
                 (sound_some (shown_stores old s) s.manifest.ruling.active (settled_rows old s.active.log) waiting (active_is old s stands) (has_active old s stands o) has.0 (all_sound old s stands o));
           };
     }

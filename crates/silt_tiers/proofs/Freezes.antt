@@ -1,5 +1,5 @@
 -- The steps of freezing.
-use Rattle.std.proofs.Common.{◌≡◌, ◌≢◌, ◌<◌, ℕ, ◌+◌, ◌-◌, ◌%◌, false, IsTrue, List, [], ◌∷◌, ◌++◌, suc, length, map, take, drop, replicate, Option, Some, None, Ok, Err, Result, inr, refl, ap, sym, ◌∙◌, subst, arith}
+use Rattle.std.proofs.Common.{◌≡◌, ◌≢◌, ◌<◌, ℕ, ◌+◌, ◌-◌, ◌%◌, false, IsTrue, List, [], ◌∷◌, ◌++◌, suc, length, map, take, drop, replicate, Option, Some, None, Ok, inr, refl, ap, sym, ◌∙◌, subst, arith}
 use Rattle.std.specs.Prelude.{Contains, IfSome}
 use Rattle.std.proofs.lemmas.List.{append-nil, take-append-drop}
 use Rattle.std.proofs.Math.Nat.{mod-lt}
@@ -15,14 +15,13 @@ use Rattle.silt_log.proofs.Elsewhere.{log_elsewhere}
 use Rattle.silt_log.proofs.Waiting.{waiting_kept}
 use Rattle.silt_log_store.specs.State.{IsLogStore, LogStoreState}
 use Rattle.silt_conversion.specs.Conversion.{ConversionState, HasWritten}
-use Rattle.silt_manifest.specs.Ruling.{where_found}
 use Rattle.silt_manifest.specs.Standing.{ManifestState, Rules}
 use Rattle.silt_manifest.specs.declared.body.Body.{Body}
-use Rattle.silt_manifest.specs.declared.slot.Damage.{Damage}
+use Rattle.silt_manifest.specs.declared.digests.Digests.{Digests}
 use Rattle.silt_manifest.proofs.Laws.{rules_elsewhere}
 use Rattle.silt_event.specs.Commands.{map_after}
 use Rattle.silt_image.specs.Stores.{Stores, image_stores}
-use Rattle.silt_image.specs.Meaning.{IsSound, names_log, rows_of, with_log_rows}
+use Rattle.silt_image.specs.Meaning.{AreDigestsOf, IsSound, names_log, rows_of, with_log_rows}
 use Rattle.silt_event.specs.Rows.{command_of, map_of_rows}
 use Rattle.silt_image.proofs.Named.{whole_law}
 use Rattle.silt_image.proofs.Rows.{unnamed_law}
@@ -75,7 +74,7 @@ module _ (old new : Content) (s : TiersState) (at count : ℕ) (stands : Stands 
   kept = log_elsewhere old new s.active.log at count stands.active (omega (arith, active_size old s stands)) sizes outside changes
 
   -- the stores that stand in this state, with rows that wait as they waited
-  module _ (m : ManifestState) (converting : Option ConversionState) (merging : Option MergeState) (same_shape : m.shape ≡ s.manifest.shape) (same_ruling : m.ruling ≡ s.manifest.ruling) (idle : m.prepared ≡ None) (rules : Rules m new)
+  module _ (m : ManifestState) (converting : Option ConversionState) (merging : Option MergeState) (same_shape : m.shape ≡ s.manifest.shape) (same_ruling : m.ruling ≡ s.manifest.ruling) (same_digests : m.digests ≡ s.manifest.digests) (idle : m.prepared ≡ None) (rules : Rules m new)
       (named : LeavesOnly new (λ image. image_stores image ≡ Ok (shown_stores old s)))
       (under_way : IfSome converting (IsUnderWay s)) (written : IfSome converting (HasWritten new (oldest_log s))) (is_merging : IfSome merging (IsMerging s)) (merged : IfSome merging (HasGathered new s)) where
     abbrev after : TiersState
@@ -110,6 +109,7 @@ module _ (old new : Content) (s : TiersState) (at count : ℕ) (stands : Stands 
           let active_of : s.active.log.region ≡ m.ruling.active = stands.whole.active_region ∙ ap (λ (b : Body). b.active) (sym same_ruling) in
           subst (λ (rows : List StoredRow). IsSound (with_log_rows m.ruling.active rows (shown_stores old s))) (sym (kept.all (back h)))
           (subst (λ (n : ℕ). IsSound (with_log_rows n (all_rows old s.active.log) (shown_stores old s))) active_of (stands.sound (back h)));
+      said = λ h. subst (λ (o : Option Digests). AreDigestsOf o (shown_stores old s)) (sym same_digests) (stands.said (back h));
       counted = λ h.
           stands.counted (back h) ∙ ap (λ (rows : List StoredRow). put_count (rows_of (shown_stores old s) ++ rows)) (sym (waiting_kept old new s.active.log s.active.log stands.active (back h) kept));
     }
@@ -134,10 +134,10 @@ module _ (old new : Content) (s : TiersState) (at count : ℕ) (stands : Stands 
   merged_on outside_merge = merged_all_elsewhere old new s at count s.merging stands changes (λ h. (apart h).hashed) (λ h. (apart h).sorted) outside_merge stands.whole.merging stands.merged
 
   -- so do the stores with their conversion and their merge as they are, after a change outside their slots and entries
-  pub stays_on : (IsTrue old.honest → IsOutsideConversion s at count) → (IsTrue old.honest → IsOutsideMerge s at count) → (m : ManifestState) → m.shape ≡ s.manifest.shape → m.ruling ≡ s.manifest.ruling → m.prepared ≡ None → Rules m new
+  pub stays_on : (IsTrue old.honest → IsOutsideConversion s at count) → (IsTrue old.honest → IsOutsideMerge s at count) → (m : ManifestState) → m.shape ≡ s.manifest.shape → m.ruling ≡ s.manifest.ruling → m.digests ≡ s.manifest.digests → m.prepared ≡ None → Rules m new
       → LeavesOnly new (λ image. image_stores image ≡ Ok (shown_stores old s)) → Advances [] old new s (record s { manifest = m })
-  stays_on outside_slots outside_merge m same_shape same_ruling idle rules named =
-      stays_with m s.converting s.merging same_shape same_ruling idle rules named stands.whole.under_way
+  stays_on outside_slots outside_merge m same_shape same_ruling same_digests idle rules named =
+      stays_with m s.converting s.merging same_shape same_ruling same_digests idle rules named stands.whole.under_way
       (written_all_elsewhere old new s at count s.converting stands changes (λ h. (apart h).frozen) outside_slots stands.whole.under_way stands.written)
       stands.whole.merging (merged_on outside_merge)
 
@@ -200,7 +200,7 @@ module _ (old new : Content) (s : TiersState) (region : ℕ) (stands : Stands ol
   -- the stores stand on
   pub cleared : Advances [] old new s s
   cleared = stays_on old new s (gates_at s.manifest.shape region) (log_size s.manifest.shape) stands sizes in_region (λ h. region_apart s.manifest.shape s.manifest.ruling region below free) outside_active
-      (λ h. region_before_conversion s region below) (λ h. region_before_merge s region below) s.manifest refl refl stands.idle
+      (λ h. region_before_conversion s region below) (λ h. region_before_merge s region below) s.manifest refl refl refl stands.idle
       (rules_elsewhere s.manifest (gates_at s.manifest.shape region) (log_size s.manifest.shape) old new (omega (arith, stands.has_size)) (inr (omega arith)) in_region stands.rules)
       free_named
 
@@ -208,11 +208,6 @@ module _ (old new : Content) (s : TiersState) (region : ℕ) (stands : Stands ol
   cleared_disk = record { size = sizes; honest = gates.honest }
 
 -- ---- the manifest
-
--- a body that rules was found
-pub found_ruling : (r : Result Body Damage) (body : Body) → where_found r ≡ Some body → r ≡ Ok body
-found_ruling (Ok found) body e = ap Ok (let same : found ≡ body = let g : Some found ≡ Some body = e in cc in same)
-found_ruling (Err damage) body e = absurd (let no : None ≡ Some body = e in cc)
 
 -- with no row waiting the full image is what is shown
 pub full_quiet : (content : Content) (s : TiersState) → s.active.log.settled ≡ s.active.log.used → full_image content s ≡ content.shown

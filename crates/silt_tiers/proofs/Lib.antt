@@ -13,6 +13,8 @@ pub mod Exits
 pub mod Lookups
 pub mod Walks
 pub mod Freezes
+pub mod Digesting
+pub mod Said
 pub mod Turns
 pub mod NextBodies
 pub mod Commits

@@ -17,6 +17,7 @@ use Rattle.silt_event.proofs.Rows.{count_law}
 use Rattle.silt_image.proofs.Sound.{charge_law, parts_law}
 use Rattle.silt_log.specs.State.{all_rows, waiting_rows}
 use Rattle.silt_manifest.specs.declared.body.Body.{Body}
+use Rattle.silt_manifest.specs.declared.digests.Digests.{Digests}
 use Rattle.silt_tiers.specs.Replacements.{ReplacesStores, with_merged}
 use Rattle.silt_merge.specs.Merging.{AreSound, HasMerged, IsMergeOf}
 use Rattle.silt_merge.specs.Rows.{entries_in, key_count, merged_rows, sources}
@@ -27,6 +28,7 @@ use Rattle.silt_tiers.proofs.StoresReplaced.{merges, rows_old}
 use Rattle.silt_merge.proofs.Sounding.{sound_stores}
 use Rattle.silt_sorted_store.specs.Index.{IndexedState, IsIndexOf}
 use Rattle.silt_sorted_store.proofs.Entries.{entry_count}
+use Rattle.silt_tiers.specs.Digests.{merged_digests}
 use Rattle.silt_tiers.specs.Merge.{EndsMerge, IsDoneBySteps, charge_without, merge_sources, merged_body, puts_in}
 use Rattle.silt_tiers.specs.Merge as spec
 use Rattle.silt_standing.specs.State.{IsMerging, TiersState}
@@ -177,12 +179,12 @@ module _ (content : Content) (s : TiersState) (merge : MergeState) (stands : Sta
 -- ---- its end
 
 -- a merge that is done may end with a sorted store of its entries and their index
-pub may_end : (s : TiersState) (body : Body) (merge : MergeState) (store : IndexedState) → s.merging ≡ Some merge → is_done merge s.sorted ≡ true → s.manifest.ruling.generation < 2 ^ 63 - 1
-    → store.sorted ≡ record { shape = merge.shape; region = merge.region; count = merge.written } → body ≡ merged_body s.manifest.ruling merge.stores merge.region merge.written
+pub may_end : (s : TiersState) (body : Body) (digests : Digests) (merge : MergeState) (store : IndexedState) → s.merging ≡ Some merge → is_done merge s.sorted ≡ true → s.manifest.ruling.generation < 2 ^ 63 - 1
+    → store.sorted ≡ record { shape = merge.shape; region = merge.region; count = merge.written } → body ≡ merged_body s.manifest.ruling merge.stores merge.region merge.written → digests ≡ merged_digests s merge.stores store
     → ((content : Content) (stores : List HashState) (sorted : SortedState) → is_done merge sorted ≡ true → HasMerged content stores sorted merge → IsTrue content.honest → AreSound content.shown stores sorted
     → IsIndexOf (entries_of content store.sorted) store.index)
-    → ((content : Content) (stores : List HashState) (sorted : SortedState) → HasMerged content stores sorted merge → HasDigest content store.sorted store.digest) → EndsMerge s body store
-may_end s body merge store was done unspent entries is indexed digested = record {
+    → ((content : Content) (stores : List HashState) (sorted : SortedState) → HasMerged content stores sorted merge → HasDigest content store.sorted store.digest) → EndsMerge s body digests store
+may_end s body digests merge store was done unspent entries is digests_are indexed digested = record {
   merge = merge;
   was = was;
   done = done;
@@ -192,4 +194,5 @@ may_end s body merge store was done unspent entries is indexed digested = record
       indexed content (oldest_stores merge.stores s.hashes) s.sorted done (gathered content s merge stands was done) honest (taken_sound content s stands honest merge.stores);
   digested = λ content stands. digested content (oldest_stores merge.stores s.hashes) s.sorted (gathered content s merge stands was done);
   is = is;
+  digests_are = digests_are;
 }

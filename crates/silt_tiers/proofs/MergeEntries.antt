@@ -96,7 +96,7 @@ module _ (old new : Content) (s : TiersState) (region : ℕ) (stands : Stands ol
   -- the stores stand on, with the merge as it is then
   pub entry_advances : (merging : Option MergeState) → IfSome merging (IsMerging s) → IfSome merging (HasGathered new s) → Advances [] old new s (record s { merging = merging })
   entry_advances merging is_merging merged = stays_with old new s (sorted_at s.manifest.shape region) (sorted_size s.manifest.shape) stands sizes changes entry_apart outside_active
-      s.manifest s.converting merging refl refl stands.idle
+      s.manifest s.converting merging refl refl refl stands.idle
       (rules_elsewhere s.manifest (sorted_at s.manifest.shape region) (sorted_size s.manifest.shape) old new (omega (arith, stands.has_size)) (inr (omega arith)) changes stands.rules)
       entry_named stands.whole.under_way
       (written_all_elsewhere old new s (sorted_at s.manifest.shape region) (sorted_size s.manifest.shape) s.converting stands changes (λ h. (entry_apart h).frozen) (λ h. outside_conversion) stands.whole.under_way stands.written)

@@ -12,15 +12,16 @@ use Rattle.silt_log.specs.State.{all_rows}
 use Rattle.silt_log.specs.Calls.{KeepsRows}
 use Rattle.silt_manifest.specs.Standing.{ManifestState, spare_slot}
 use Rattle.silt_manifest.specs.declared.body.Body.{Body}
+use Rattle.silt_manifest.specs.declared.digests.Digests.{Digests}
 use Rattle.silt_image.specs.Stores.{Stores, stores_named}
-use Rattle.silt_image.specs.Meaning.{IsSound, rows_of, with_log_rows}
+use Rattle.silt_image.specs.Meaning.{AreDigestsOf, IsSound, entries_digest, rows_of, with_log_rows}
 use Rattle.silt_event.specs.Rows.{command_of}
 use Rattle.silt_conversion.specs.Conversion.{ConversionState}
 use Rattle.silt_hash_store.specs.State.{IsHashStore}
 use Rattle.silt_merge.specs.Rows.{merged_rows}
 use Rattle.silt_merge.specs.State.{MergeState}
 use Rattle.silt_sorted_store.specs.Index.{IndexedState}
-use Rattle.silt_sorted_store.specs.State.{IsHeldSorted, SortedState}
+use Rattle.silt_sorted_store.specs.State.{IsHeldSorted, SortedState, entries_of, sorted_rows}
 use Rattle.silt_sorted_store.proofs.Elsewhere.{digest_elsewhere, indexed_elsewhere}
 use Rattle.silt_standing.specs.State.{AreWhole, IsHashOf, IsMerging, IsSettled, IsUnderWay, TiersState, hash_region_of, sorted_named}
 use Rattle.silt_standing.specs.Standing.{IsDigested, IsLocated, Stands, shown_stores}
@@ -36,6 +37,7 @@ use Rattle.silt_tiers.proofs.Remains.{active_stays, frozen_stays, hashed_stays, 
 use Rattle.silt_tiers.proofs.NextBodies.{now_named, succeeds}
 use Rattle.silt_tiers.proofs.MergeCounting.{may_end_merge}
 use Rattle.silt_tiers.proofs.MergeStores.{merged_entries, merged_named, merged_ruling, merged_shape, sources_with, with_entries}
+use Rattle.silt_tiers.proofs.Said.{merged_said}
 use Rattle.silt_tiers.proofs.MergeDone.{entries_are, full_is, merged_counted, merged_full_sound, merged_map, merged_sound, merged_stores, way}
 
 -- a conversion is under way in stores with fewer hash stores
@@ -51,7 +53,7 @@ under_way_fewer s t count (Some conversion) same_shape fewer same_frozen is = re
 
 -- ---- the body that names the new sorted store
 
-module _ (old : Content) (s : TiersState) (body : Body) (store : IndexedState) (stands : Stands old s) (rests : Rests old) (ends : EndsMerge s body store) where
+module _ (old : Content) (s : TiersState) (body : Body) (digests : Digests) (store : IndexedState) (stands : Stands old s) (rests : Rests old) (ends : EndsMerge s body digests store) where
   under_way : IsMerging s ends.merge
   under_way = way old s ends.merge stands ends.was ends.done
 
@@ -69,21 +71,31 @@ module _ (old : Content) (s : TiersState) (body : Body) (store : IndexedState) (
         ∙ ap (λ (b : Body). merged_stores old s ends.merge stands ends.was ends.done b) (sym ends.is);
   }
 
-  pub merged_may_rule : MayRule old s body
+  -- the digests are theirs
+  said : IsTrue old.honest → AreDigestsOf (Some digests) now_stores
+  said h =
+      subst (λ (d : Digests). AreDigestsOf (Some d) now_stores) (sym ends.digests_are)
+      (merged_said old s stands h body ends.merge.stores _ store
+      (ends.digested old stands h
+      ∙ ap (λ (t : SortedState). entries_digest (entries_of old t)) ends.entries
+      ∙ ap (λ (sh : Shape). entries_digest (sorted_rows sh ends.merge.region ends.merge.written old.shown)) under_way.has_shape))
+
+  pub merged_may_rule : MayRule old s body digests
   merged_may_rule = record {
-    follows = λ sound. may_end_merge s body store sound stands.whole ends;
+    follows = λ sound. may_end_merge s body digests store sound stands.whole ends;
     stores = now_stores;
     has_shape = merged_shape _ _ _ _ ∙ named_shape s.manifest.shape s.manifest.ruling old.shown;
     has_body = merged_ruling _ _ _ _;
     names = names;
     sound = merged_sound old s ends.merge stands ends.was ends.done body;
+    said = said;
     same_map = merged_map old s ends.merge stands ends.was ends.done body;
     waiting = inr (ap (λ (b : Body). b.active) ends.is);
   }
 
   -- ---- once it rules
 
-  module _ (new : Content) (sizes : size new ≡ size old) (m : ManifestState) (now : NowRules old new s body m) where
+  module _ (new : Content) (sizes : size new ≡ size old) (m : ManifestState) (now : NowRules old new s body digests m) where
     back : IsTrue new.honest → IsTrue old.honest
     back h = subst IsTrue now.changes.honest h
 
@@ -158,11 +170,12 @@ module _ (old : Content) (s : TiersState) (body : Body) (store : IndexedState) (
       merged = tt;
       same_shape = merged_may_rule.has_shape ∙ sym now.has_shape;
       same_body = merged_may_rule.has_body ∙ sym now.has_body;
-      named = now_named old new s body stands merged_may_rule sizes m now;
+      named = now_named old new s body digests stands merged_may_rule sizes m now;
       sound = λ h.
           subst (λ (n : ℕ). IsSound (with_log_rows n (all_rows new s.active.log) now_stores)) (ap (λ (b : Body). b.active) (sym ruling_is))
           (subst (λ (rows : List StoredRow). IsSound (with_log_rows s.manifest.ruling.active rows now_stores)) (sym (keeps.all (back h)))
           (merged_full_sound old s ends.merge stands ends.was ends.done body (back h)));
+      said = λ h. subst (λ (o : Option Digests). AreDigestsOf o now_stores) (sym now.has_digests) (merged_may_rule.said (back h));
       counted = λ h.
           merged_counted old s ends.merge stands ends.was ends.done body (back h) (s.charge - ((s.charge - charge_without s ends.merge.stores) - store.sorted.count))
           (ap (λ (t : SortedState). s.charge - ((s.charge - charge_without s ends.merge.stores) - t.count)) ends.entries)
@@ -172,7 +185,7 @@ module _ (old : Content) (s : TiersState) (body : Body) (store : IndexedState) (
     -- and stand on
     goes : Advances [] old new s (sorted_replaced s m ends.merge.stores store)
     unfolding merged_may_rule
-    goes = succeeds old new s body stands merged_may_rule sizes m now after fits now.has_shape (λ h. ap (map command_of) (waiting_stays old new s stands sizes now.changes h))
+    goes = succeeds old new s body digests stands merged_may_rule sizes m now after fits now.has_shape (λ h. ap (map command_of) (waiting_stays old new s stands sizes now.changes h))
 
     pub merged_advances : (finished : TiersState) → finished ≡ sorted_replaced s m ends.merge.stores store → Advances [] old new s finished
     merged_advances finished is = subst (λ (t : TiersState). Advances [] old new s t) (sym is) goes

@@ -1,16 +1,20 @@
 -- Stores that a body names, and the images that have them.
-use Rattle.std.proofs.Common.{◌≡◌, ◌<◌, ℕ, List, [], ◌++◌, map, take, Ok, refl, ap, sym, ◌∙◌, subst}
+use Rattle.std.proofs.Common.{◌≡◌, ◌<◌, ℕ, List, [], ◌++◌, map, take, Option, Some, None, Result, Ok, Err, refl, ap, sym, ◌∙◌, subst}
 use Rattle.std.proofs.lemmas.List.{append-nil}
 use Rattle.silt_disk.specs.Disk.{Torn}
 use Rattle.silt_disk.specs.Layout.{Shape, gates_at, log_size}
 use Rattle.silt_log.specs.Rows.{log_rows}
 use Rattle.silt_frame.specs.Rows.{StoredRow}
+use Rattle.silt_manifest.specs.Ruling.{manifest_found, ruling_manifest, where_found}
 use Rattle.silt_manifest.specs.declared.body.Body.{Body}
+use Rattle.silt_manifest.specs.declared.digests.Digests.{Digests}
+use Rattle.silt_manifest.specs.declared.slot.Damage.{Damage}
+use Rattle.silt_manifest.specs.declared.slot.SlotRecord.{SlotRecord}
 use Rattle.silt_event.specs.Commands.{Map, map_after}
-use Rattle.silt_image.specs.Stores.{Stores, image_stores, stores_named}
-use Rattle.silt_image.specs.Meaning.{HasActive, IsSound, StandsFor, image_map, rows_of, with_log_rows}
+use Rattle.silt_image.specs.Stores.{Stores, image_digests, image_stores, stores_named}
+use Rattle.silt_image.specs.Meaning.{AreDigestsOf, HasActive, IsSound, StandsFor, image_map, rows_of, with_log_rows}
 use Rattle.silt_event.specs.Rows.{command_of, map_of_rows}
-use Rattle.silt_image.proofs.Named.{stores_law, whole_law}
+use Rattle.silt_image.proofs.Named.{digests_law, stores_law, whole_law}
 use Rattle.silt_image.proofs.Frame.{log_region_law}
 use Rattle.silt_image.proofs.Rows.{append_law, own_rows_law}
 use Rattle.silt_event.proofs.Rows.{map_law}
@@ -60,9 +64,26 @@ pub stores_map : (t : Stores) (image : List ℕ) → image_stores image ≡ Ok t
 unfolding image_map
 stores_map t image is = ap map_of_rows (rows_law image t is)
 
--- an image with sound stores
-pub stands_for : (shape : Shape) (t : Stores) (m : Map) (image : List ℕ) → image_stores image ≡ Ok t → t.shape ≡ shape → IsSound t → map_of_rows (rows_of t) ≡ m → StandsFor shape m image
-stands_for shape t m image is same_shape sound has_map = subst (λ (n : Map). StandsFor shape n image) has_map (subst (λ (s : Shape). StandsFor s (map_of_rows (rows_of t)) image) same_shape (stands_law image t is sound))
+-- an image with sound stores, of which it says these digests, which are theirs
+pub stands_for : (shape : Shape) (t : Stores) (said : Option Digests) (m : Map) (image : List ℕ) → image_stores image ≡ Ok t → t.shape ≡ shape → IsSound t → AreDigestsOf said t → image_digests image ≡ said → map_of_rows (rows_of t) ≡ m → StandsFor shape m image
+stands_for shape t said m image is same_shape sound are says has_map =
+    subst (λ (n : Map). StandsFor shape n image) has_map
+    (subst (λ (s : Shape). StandsFor s (map_of_rows (rows_of t)) image) same_shape (stands_law image t is sound (subst (λ (o : Option Digests). AreDigestsOf o t) (sym says) are)))
+
+-- a record that rules was found
+pub found_ruling : (r : Result SlotRecord Damage) (found : SlotRecord) → where_found r ≡ Some found → r ≡ Ok found
+found_ruling (Ok other) found e = ap Ok (let same : other ≡ found = let g : Some other ≡ Some found = e in cc in same)
+found_ruling (Err damage) found e = absurd (let no : None ≡ Some found = e in cc)
+
+-- an image with stores says the digests of the record that rules
+pub says_ruling : (shape : Shape) (t : Stores) (found : SlotRecord) (image : List ℕ) → image_stores image ≡ Ok t → t.shape ≡ shape → ruling_manifest shape image ≡ Some found → image_digests image ≡ found.digests
+says_ruling shape t found image is same_shape rules =
+    digests_law image t found is (ap (λ (s : Shape). manifest_found s image) same_shape ∙ found_ruling (manifest_found shape image) found rules)
+
+-- the digests of stores do not depend on the rows of the logs
+pub said_with_rows : (said : Option Digests) (region : ℕ) (rows : List StoredRow) (t : Stores) → AreDigestsOf said t → AreDigestsOf said (with_log_rows region rows t)
+unfolding with_log_rows
+said_with_rows said region rows t are = record { hashed = are.hashed; sorted = are.sorted }
 
 -- ---- the rows of the active log
 

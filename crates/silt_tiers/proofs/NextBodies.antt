@@ -1,12 +1,15 @@
--- A change of the manifest: whatever a stop leaves has the stores that were, or those that the next body names.
-use Rattle.std.proofs.Common.{◌≡◌, ◌<◌, ◌⊎◌, ℕ, ◌+◌, true, IsTrue, List, [], Some, None, Ok, inl, inr, refl, ap, sym, ◌∙◌, subst, arith}
+-- A change of the manifest: whatever a stop leaves has the stores that were, or those that the next record names.
+use Rattle.std.proofs.Common.{◌≡◌, ◌<◌, ◌⊎◌, ℕ, ◌+◌, true, IsTrue, List, [], Option, Some, None, Ok, inl, inr, refl, ap, sym, ◌∙◌, subst, arith}
 use Rattle.std.proofs.lemmas.List.{append-nil}
 use Rattle.silt_disk.specs.Disk.{ChangesWithin, Content, Left, LeavesOnly, Torn, size}
 use Rattle.silt_disk.specs.Layout.{Shape, slot_at}
 use Rattle.silt_disk.proofs.Images.{shown_left, within_trans, within_wider}
 use Rattle.silt_manifest.specs.Ruling.{ruling_manifest}
-use Rattle.silt_manifest.specs.Standing.{ManifestState, Rules, RulesOldOrNew, spare_slot}
+use Rattle.silt_manifest.specs.Digests.{long_record}
+use Rattle.silt_manifest.specs.Standing.{ManifestState, Rules, RulesAsHeld, RulesOldOrNew, ruling_record, spare_slot}
 use Rattle.silt_manifest.specs.declared.body.Body.{Body}
+use Rattle.silt_manifest.specs.declared.digests.Digests.{Digests}
+use Rattle.silt_manifest.specs.declared.slot.SlotRecord.{SlotRecord}
 use Rattle.silt_image.specs.Meaning.{StandsFor, image_map, rows_of}
 use Rattle.silt_event.specs.Rows.{map_of_rows}
 use Rattle.silt_image.specs.Stores.{Stores, image_stores}
@@ -16,27 +19,31 @@ use Rattle.silt_tiers.specs.Calls.{Advances, Breaks, Remaps}
 use Rattle.silt_tiers.specs.Succession.{MayRule, NowRules}
 use Rattle.silt_tiers.proofs.Facts.{active_is, base_is, base_stands}
 use Rattle.silt_tiers.proofs.Freezes.{below_two}
-use Rattle.silt_tiers.proofs.Named.{named_shape, stands_for, stores_map}
+use Rattle.silt_tiers.proofs.Named.{named_shape, says_ruling, stands_for, stores_map}
 use Rattle.silt_tiers.proofs.Standing.{Fits, fits_stand, shown_are}
 use Rattle.silt_tiers.proofs.Turns.{begun_none, quiet_remap, ruled_named, same_named, waiting_remap}
 
--- the body that was prepared
-same_some : (a b : Body) → Some a ≡ Some b → a ≡ b
+-- the record that was prepared
+same_some : (a b : SlotRecord) → Some a ≡ Some b → a ≡ b
 same_some a b e = cc
 
--- in an image the body that ruled rules, or this one
-abbrev EitherRules : TiersState → Body → List ℕ → Type 0
-EitherRules s body image = (ruling_manifest s.manifest.shape image ≡ Some s.manifest.ruling) ⊎ (ruling_manifest s.manifest.shape image ≡ Some body)
+-- in an image this record rules
+abbrev RulesNext : TiersState → Body → Digests → List ℕ → Type 0
+RulesNext s body digests image = ruling_manifest s.manifest.shape image ≡ Some (long_record body digests)
+
+-- in an image the record that ruled rules, or this one
+abbrev EitherRules : TiersState → Body → Digests → List ℕ → Type 0
+EitherRules s body digests image = RulesAsHeld s.manifest image ⊎ RulesNext s body digests image
 
 -- ---- the two steps
 
--- before the gate the body rules that ruled
-pub before_gate : (new : Content) (s : TiersState) (body : Body) → LeavesOnly new (λ image. ruling_manifest s.manifest.shape image ≡ Some s.manifest.ruling) → LeavesOnly new (EitherRules s body)
-before_gate new s body each = record { each = λ h image left. inl (each.each h image left) }
+-- before the gate the record rules that ruled
+pub before_gate : (new : Content) (s : TiersState) (body : Body) (digests : Digests) → LeavesOnly new (RulesAsHeld s.manifest) → LeavesOnly new (EitherRules s body digests)
+before_gate new s body digests each = record { each = λ h image left. inl (each.each h image left) }
 
-module _ (s : TiersState) (body : Body) (m : ManifestState) (is : m ≡ record s.manifest { spare_closed = true; prepared = Some body }) where
+module _ (s : TiersState) (body : Body) (digests : Digests) (m : ManifestState) (is : m ≡ record s.manifest { spare_closed = true; prepared = Some (long_record body digests) }) where
   -- at the gate either
-  pub at_gate : (new : Content) → LeavesOnly new (RulesOldOrNew m) → LeavesOnly new (EitherRules s body)
+  pub at_gate : (new : Content) → LeavesOnly new (RulesOldOrNew m) → LeavesOnly new (EitherRules s body digests)
   at_gate new each = subst (λ (n : ManifestState). LeavesOnly new (RulesOldOrNew n)) is each
 
   -- both steps change the spare slot alone
@@ -46,20 +53,23 @@ module _ (s : TiersState) (body : Body) (m : ManifestState) (is : m ≡ record s
       let gate : ChangesWithin (slot_at (spare_slot s.manifest)) 1 middle new = subst (λ (slot : ℕ). ChangesWithin (slot_at slot) 1 middle new) same second in
       within_trans first (within_wider (slot_at (spare_slot s.manifest)) 4096 (omega arith) (omega arith) gate)
 
-  -- after them the next body rules
+  -- after them the next record rules
   pub now_rules : (old middle new : Content) (after : ManifestState) → ChangesWithin (slot_at (spare_slot s.manifest)) 4096 old middle → ChangesWithin (slot_at (spare_slot m)) 1 middle new
-      → Rules after new → after.shape ≡ m.shape → Some after.ruling ≡ m.prepared → after.prepared ≡ None → NowRules old new s body after
-  now_rules old middle new after first second rules same_shape opened idle = record {
-    rules = rules;
-    has_shape = same_shape ∙ ap (λ (n : ManifestState). n.shape) is;
-    has_body = same_some after.ruling body (opened ∙ ap (λ (n : ManifestState). n.prepared) is);
-    idle = idle;
-    changes = both_steps old middle new first second;
-  }
+      → Rules after new → after.shape ≡ m.shape → Some (ruling_record after) ≡ m.prepared → after.prepared ≡ None → NowRules old new s body digests after
+  now_rules old middle new after first second rules same_shape opened idle =
+      let next : ruling_record after ≡ long_record body digests = same_some (ruling_record after) (long_record body digests) (opened ∙ ap (λ (n : ManifestState). n.prepared) is) in
+      record {
+        rules = rules;
+        has_shape = same_shape ∙ ap (λ (n : ManifestState). n.shape) is;
+        has_body = ap (λ (r : SlotRecord). r.body) next;
+        has_digests = ap (λ (r : SlotRecord). r.digests) next;
+        idle = idle;
+        changes = both_steps old middle new first second;
+      }
 
 -- ---- at every exit
 
-module _ (old new : Content) (s : TiersState) (body : Body) (stands : Stands old s) (may : MayRule old s body) (sizes : size new ≡ size old)
+module _ (old new : Content) (s : TiersState) (body : Body) (digests : Digests) (stands : Stands old s) (may : MayRule old s body digests) (sizes : size new ≡ size old)
     (changes : ChangesWithin (slot_at (spare_slot s.manifest)) 4096 old new) where
   slot_below : spare_slot s.manifest < 2
   slot_below = below_two (s.manifest.ruling.generation + 1)
@@ -70,32 +80,41 @@ module _ (old new : Content) (s : TiersState) (body : Body) (stands : Stands old
   there : IsTrue old.honest → IsTrue new.honest
   there h = subst IsTrue (sym changes.honest) h
 
-  -- an image in which the body rules has the stores that it names
-  next_named : (h : IsTrue new.honest) (before image : List ℕ) → Left old before → Torn (slot_at (spare_slot s.manifest)) 4096 before image → ruling_manifest s.manifest.shape image ≡ Some body → image_stores image ≡ Ok may.stores
+  -- an image in which the record rules has the stores that its body names
+  next_named : (h : IsTrue new.honest) (before image : List ℕ) → Left old before → Torn (slot_at (spare_slot s.manifest)) 4096 before image → RulesNext s body digests image → image_stores image ≡ Ok may.stores
   next_named h before image left torn rules =
-      ruled_named old new s (spare_slot s.manifest) slot_below stands sizes changes h before image body (stands.named.each (back h) before left) torn rules
+      ruled_named old new s (spare_slot s.manifest) slot_below stands sizes changes h before image (long_record body digests) (stands.named.each (back h) before left) torn rules
       ∙ ap Ok (may.names.each (back h) before left)
 
-  module _ (each : LeavesOnly new (EitherRules s body)) where
+  -- an image has the stores that were, and the record rules that ruled
+  abbrev StaysNamed : List ℕ → Type 0
+  StaysNamed image = (image_stores image ≡ Ok (shown_stores old s)) × RulesAsHeld s.manifest image
+
+  -- or it has the next ones, and the next record rules
+  abbrev TurnsNamed : List ℕ → Type 0
+  TurnsNamed image = (image_stores image ≡ Ok may.stores) × RulesNext s body digests image
+
+  module _ (each : LeavesOnly new (EitherRules s body digests)) where
     -- each image has the stores that were or these
-    old_or_new : LeavesOnly new (λ image. (image_stores image ≡ Ok (shown_stores old s)) ⊎ (image_stores image ≡ Ok may.stores))
+    old_or_new : LeavesOnly new (λ image. StaysNamed image ⊎ TurnsNamed image)
     old_or_new = record {
       each = λ h image left.
           let from = changes.left (back h) image left in
           elim (each.each h image left) [
-            | inl stays ↦ inl (same_named old new s (spare_slot s.manifest) slot_below stands sizes changes h from.0 image (stands.named.each (back h) from.0 from.1) from.2 stays)
-            | inr turns ↦ inr (next_named h from.0 image from.1 from.2 turns)
+            | inl stays ↦ inl (same_named old new s (spare_slot s.manifest) slot_below stands sizes changes h from.0 image (stands.named.each (back h) from.0 from.1) from.2 stays, stays)
+            | inr turns ↦ inr (next_named h from.0 image from.1 from.2 turns, turns)
           ];
     }
 
-    next_stands : IsTrue old.honest → (image : List ℕ) → image_stores image ≡ Ok may.stores → StandsFor s.manifest.shape (base_map old s) image
-    next_stands h image is = stands_for s.manifest.shape may.stores (base_map old s) image is may.has_shape (may.sound h) (may.same_map h)
+    next_stands : IsTrue old.honest → (image : List ℕ) → TurnsNamed image → StandsFor s.manifest.shape (base_map old s) image
+    next_stands h image (is, rules) = stands_for s.manifest.shape may.stores (Some digests) (base_map old s) image is may.has_shape (may.sound h) (may.said h)
+        (says_ruling s.manifest.shape may.stores (long_record body digests) image is may.has_shape rules) (may.same_map h)
 
     -- whatever a stop leaves stands for the base
     pub manifest_breaks : Breaks old new s
     manifest_breaks = record {
       each = λ h image left. elim (old_or_new.each h image left) [
-        | inl stays ↦ begun_none old s image (base_stands old s stands (back h) image stays)
+        | inl stays ↦ begun_none old s image (base_stands old s stands (back h) image stays.0 stays.1)
         | inr turns ↦ begun_none old s image (next_stands (back h) image turns)
       ];
     }
@@ -103,8 +122,8 @@ module _ (old new : Content) (s : TiersState) (body : Body) (stands : Stands old
     -- the map of what is shown
     shown_base : IsTrue old.honest → image_map new.shown ≡ base_map old s
     shown_base h = elim (old_or_new.each (there h) new.shown (shown_left new)) [
-      | inl stays ↦ stores_map (shown_stores old s) new.shown stays ∙ sym (base_is old s)
-      | inr turns ↦ stores_map may.stores new.shown turns ∙ may.same_map h
+      | inl stays ↦ stores_map (shown_stores old s) new.shown stays.0 ∙ sym (base_is old s)
+      | inr turns ↦ stores_map may.stores new.shown turns.0 ∙ may.same_map h
     ]
 
     -- and of the full image: no row waits, or the same rows wait in the same log
@@ -113,22 +132,24 @@ module _ (old new : Content) (s : TiersState) (body : Body) (stands : Stands old
       | inl quiet ↦ quiet_remap old new s (spare_slot s.manifest) slot_below stands sizes changes quiet s quiet.settled h (shown_base h)
       | inr same ↦ elim (old_or_new.each (there h) new.shown (shown_left new)) [
         | inl stays ↦ waiting_remap old new s (spare_slot s.manifest) slot_below stands sizes changes s (shown_stores old s) refl
-            (named_shape s.manifest.shape s.manifest.ruling old.shown) (active_is old s stands) h stays (sym (base_is old s))
+            (named_shape s.manifest.shape s.manifest.ruling old.shown) (active_is old s stands) h stays.0 (sym (base_is old s))
         | inr turns ↦ waiting_remap old new s (spare_slot s.manifest) slot_below stands sizes changes s may.stores refl
-            may.has_shape (ap (λ (b : Body). b.active) may.has_body ∙ same) h turns (may.same_map h)
+            may.has_shape (ap (λ (b : Body). b.active) may.has_body ∙ same) h turns.0 (may.same_map h)
       ]
     ]
 
--- ---- once the body rules
+-- ---- once the record rules
 
-module _ (old new : Content) (s : TiersState) (body : Body) (stands : Stands old s) (may : MayRule old s body) (sizes : size new ≡ size old) (m : ManifestState) (now : NowRules old new s body m) where
+module _ (old new : Content) (s : TiersState) (body : Body) (digests : Digests) (stands : Stands old s) (may : MayRule old s body digests) (sizes : size new ≡ size old) (m : ManifestState) (now : NowRules old new s body digests m) where
   -- each image has the stores that it names
   pub now_named : LeavesOnly new (λ image. image_stores image ≡ Ok may.stores)
   now_named = record {
     each = λ h image left.
         let from = now.changes.left (subst IsTrue now.changes.honest h) image left in
-        next_named old new s body stands may sizes now.changes h from.0 image from.1 from.2
-        (ap (λ (sh : Shape). ruling_manifest sh image) (sym now.has_shape) ∙ (now.rules.each h image left).rules ∙ ap Some now.has_body);
+        next_named old new s body digests stands may sizes now.changes h from.0 image from.1 from.2
+        (ap (λ (sh : Shape). ruling_manifest sh image) (sym now.has_shape) ∙ (now.rules.each h image left).rules
+        ∙ ap (λ (b : Body). let r : SlotRecord = record { body = b; digests = m.digests } in Some r) now.has_body
+        ∙ ap (λ (o : Option Digests). let r : SlotRecord = record { body = body; digests = o } in Some r) now.has_digests);
   }
 
   -- stores that fit the disk with them, in which the same rows wait, stand

@@ -12,7 +12,7 @@ use Rattle.silt_log_store.specs.State.{IsLogStore}
 use Rattle.silt_conversion.specs.Conversion.{ConversionState, HasWritten}
 use Rattle.silt_hash_store.specs.State.{IsHashStore}
 use Rattle.silt_image.specs.Stores.{Stores, image_stores}
-use Rattle.silt_image.specs.Meaning.{IsSound, rows_of, with_log_rows}
+use Rattle.silt_image.specs.Meaning.{AreDigestsOf, IsSound, rows_of, with_log_rows}
 use Rattle.silt_manifest.specs.Standing.{Rules}
 use Rattle.silt_manifest.proofs.Laws.{rules_elsewhere}
 use Rattle.silt_standing.specs.State.{AreWhole, TiersState, oldest_log}
@@ -44,6 +44,7 @@ pub record Fits (content : Content) (s : TiersState) (t : Stores) : Type 0 where
   pub same_body : t.body ≡ s.manifest.ruling
   pub named : LeavesOnly content (λ image. image_stores image ≡ Ok t)
   pub sound : IsTrue content.honest → IsSound (with_log_rows s.manifest.ruling.active (all_rows content s.active.log) t)
+  pub said : IsTrue content.honest → AreDigestsOf s.manifest.digests t
   pub counted : IsTrue content.honest → s.charge ≡ put_count (rows_of t ++ waiting_rows content s.active.log)
 
 pub fits_stand : (content : Content) (s : TiersState) (t : Stores) → Fits content s t → Stands content s
@@ -65,6 +66,7 @@ fits_stand content s t fits =
       named = record { each = λ h image left. fits.named.each h image left ∙ ap Ok (sym (is h)) };
       sound = λ h. subst (λ (u : Stores). IsSound (with_log_rows s.active.log.region (all_rows content s.active.log) u)) (sym (is h))
           (subst (λ (n : ℕ). IsSound (with_log_rows n (all_rows content s.active.log) t)) (sym fits.whole.active_region) (fits.sound h));
+      said = λ h. subst (λ (u : Stores). AreDigestsOf s.manifest.digests u) (sym (is h)) (fits.said h);
       counted = λ h. fits.counted h ∙ ap (λ (u : Stores). put_count (rows_of u ++ waiting_rows content s.active.log)) (sym (is h));
     }
 

@@ -1,4 +1,4 @@
--- A change of a slot of the manifest, in whose images the body that ruled rules or another one.
+-- A change of a slot of the manifest, in whose images the record that ruled rules or another one.
 use Rattle.std.proofs.Common.{◌≡◌, ◌<◌, ℕ, IsTrue, List, [], map, Some, Ok, refl, ap, sym, ◌∙◌, subst}
 use Rattle.silt_disk.specs.Disk.{ChangesWithin, Content, LiesOutside, Torn, size}
 use Rattle.silt_disk.specs.Layout.{Shape, device_size, gates_at, log_len, slot_at}
@@ -8,7 +8,8 @@ use Rattle.silt_log.specs.State.{LogState, waiting_rows}
 use Rattle.silt_log.specs.State as log
 use Rattle.silt_log.proofs.Waiting.{waiting_kept}
 use Rattle.silt_manifest.specs.Ruling.{manifest_found, ruling_manifest}
-use Rattle.silt_manifest.specs.declared.body.Body.{Body}
+use Rattle.silt_manifest.specs.Standing.{RulesAsHeld, ruling_record}
+use Rattle.silt_manifest.specs.declared.slot.SlotRecord.{SlotRecord}
 use Rattle.silt_image.specs.Stores.{Stores, image_stores, stores_named}
 use Rattle.silt_event.specs.Commands.{Map, map_after}
 use Rattle.silt_image.specs.Meaning.{StandsFor, image_map, rows_of}
@@ -18,10 +19,10 @@ use Rattle.silt_standing.specs.State.{TiersState}
 use Rattle.silt_standing.specs.Standing.{Stands, base_map, full_image, shown_stores, waiting_commands}
 use Rattle.silt_tiers.specs.Calls.{HasBegun}
 use Rattle.silt_standing.specs.Standing.{IsQuiet}
-use Rattle.silt_tiers.proofs.Named.{named_body, named_here, named_shape}
+use Rattle.silt_tiers.proofs.Named.{found_ruling, named_body, named_here, named_shape}
 use Rattle.silt_tiers.proofs.Facts.{full_map, opened_map}
 use Rattle.silt_tiers.proofs.Elsewhere.{outside_slot}
-use Rattle.silt_tiers.proofs.Freezes.{IsApart, found_ruling, full_quiet, kept, quiet_map, slot_apart}
+use Rattle.silt_tiers.proofs.Freezes.{IsApart, full_quiet, kept, quiet_map, slot_apart}
 
 -- an image that stands for the base stands for it after none of what waited
 pub begun_none : (content : Content) (s : TiersState) (image : List ℕ) → StandsFor s.manifest.shape (base_map content s) image → HasBegun s.manifest.shape (base_map content s) (waiting_commands content s) image
@@ -45,20 +46,20 @@ module _ (old new : Content) (s : TiersState) (slot : ℕ) (below : slot < 2) (s
   pub active_kept : KeepsRows old new s.active.log s.active.log
   active_kept = kept old new s (slot_at slot) 4096 stands sizes changes apart (active_outside s slot below)
 
-  -- an image in which this body rules has the stores that it names in an earlier image
-  pub ruled_named : (h : IsTrue new.honest) (before image : List ℕ) (body : Body) → image_stores before ≡ Ok (shown_stores old s) → Torn (slot_at slot) 4096 before image
-      → ruling_manifest s.manifest.shape image ≡ Some body → image_stores image ≡ Ok (stores_named s.manifest.shape body before)
-  ruled_named h before image body named torn rules =
+  -- an image in which this record rules has the stores that its body names in an earlier image
+  pub ruled_named : (h : IsTrue new.honest) (before image : List ℕ) (found : SlotRecord) → image_stores before ≡ Ok (shown_stores old s) → Torn (slot_at slot) 4096 before image
+      → ruling_manifest s.manifest.shape image ≡ Some found → image_stores image ≡ Ok (stores_named s.manifest.shape found.body before)
+  ruled_named h before image found named torn rules =
       let t : Stores = shown_stores old s in
       let t_shape : t.shape ≡ s.manifest.shape = named_shape s.manifest.shape s.manifest.ruling old.shown in
-      manifest_law before image t slot body named below torn (ap (λ (sh : Shape). manifest_found sh image) t_shape ∙ found_ruling (manifest_found s.manifest.shape image) body rules)
-      ∙ ap (λ (sh : Shape). Ok (stores_named sh body before)) t_shape
+      manifest_law before image t slot found named below torn (ap (λ (sh : Shape). manifest_found sh image) t_shape ∙ found_ruling (manifest_found s.manifest.shape image) found rules)
+      ∙ ap (λ (sh : Shape). Ok (stores_named sh found.body before)) t_shape
 
-  -- where the body rules that ruled, the stores are those that were
+  -- where the record rules that ruled, the stores are those that were
   pub same_named : (h : IsTrue new.honest) (before image : List ℕ) → image_stores before ≡ Ok (shown_stores old s) → Torn (slot_at slot) 4096 before image
-      → ruling_manifest s.manifest.shape image ≡ Some s.manifest.ruling → image_stores image ≡ Ok (shown_stores old s)
+      → RulesAsHeld s.manifest image → image_stores image ≡ Ok (shown_stores old s)
   same_named h before image named torn rules =
-      ruled_named h before image s.manifest.ruling named torn rules
+      ruled_named h before image (ruling_record s.manifest) named torn rules
       ∙ ap Ok (named_here s.manifest.shape s.manifest.ruling (shown_stores old s) before named (named_shape s.manifest.shape s.manifest.ruling old.shown) (named_body s.manifest.shape s.manifest.ruling old.shown))
 
   -- the map of the full image, where nothing waited and nothing waits

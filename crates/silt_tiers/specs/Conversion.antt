@@ -14,12 +14,14 @@ use Rattle.silt_conversion.specs.declared.conversion.StepError.TheVariants as st
 use Rattle.silt_log.specs.Rows.{log_rows}
 use Rattle.silt_manifest.specs.Standing.{ManifestState}
 use Rattle.silt_manifest.specs.declared.body.Body.{Body}
+use Rattle.silt_manifest.specs.declared.digests.Digests.{Digests}
 use Rattle.silt_tiers.specs.declared.conversion.ConvertError.{ConvertError}
 use Rattle.silt_tiers.specs.declared.conversion.ConvertError.TheVariants.{Spent, NoMemory, Read, Write}
 use Rattle.silt_event.specs.declared.progress.Progress.{Progress}
 use Rattle.silt_event.specs.declared.progress.Progress.TheVariants.{Idle, Waiting, Moved, Finished}
 use Rattle.silt_standing.specs.State.{AreWhole, TiersState, names_hash, oldest_log}
 use Rattle.silt_tiers.specs.Calls.{BreaksOff, IsLastGeneration}
+use Rattle.silt_tiers.specs.Digests.{converted_digests}
 use Rattle.silt_standing.specs.Standing.{full_image}
 
 -- the next progress, with so many frozen logs, hash stores and hash regions, where so many of all slots are written: none where no
@@ -125,13 +127,17 @@ module _ {D F : Type 0} (facts : Ghosts D F) (old new : D) (before after : Tiers
 
 -- ---- between the steps
 
--- the body that ends a conversion, all of whose slots are written
-pub record EndsConversion (s : TiersState) (body : Body) : Type 0 where
+-- the body that ends a conversion, all of whose slots are written, and the digests of the stores that it names: that of what the
+-- conversion's hasher was fed in front of the others
+pub record EndsConversion (s : TiersState) (body : Body) (digests : Digests) : Type 0 where
   pub conversion : ConversionState
   pub was : s.converting ≡ Some conversion
   pub done : conversion.next ≡ 4 * conversion.shape.buckets
   pub unspent : s.manifest.ruling.generation < 2 ^ 63 - 1
   pub is : body ≡ converted_body s.manifest.ruling conversion.region
+  pub digest : List ℕ
+  pub digested : IsDigestOf conversion.hasher digest
+  pub digests_are : digests ≡ converted_digests s digest
 
 -- the hash store of a conversion, with this digest
 abbrev pub store_of : ConversionState → List ℕ → HashState

@@ -1,5 +1,6 @@
 pub mod Replacements
 pub mod Calls
+pub mod Digests
 pub mod Lookup
 pub mod Entries
 pub mod Succession

@@ -10,6 +10,7 @@ use Rattle.silt_image.specs.Stores.{Stores, stores_named}
 use Rattle.silt_hash_store.specs.State.{HashState}
 use Rattle.silt_manifest.specs.Standing.{ManifestState}
 use Rattle.silt_manifest.specs.declared.body.Body.{Body}
+use Rattle.silt_manifest.specs.declared.digests.Digests.{Digests}
 use Rattle.silt_tiers.specs.Replacements.{taken_rows}
 use Rattle.silt_merge.specs.Merging.{IsSameMerge, TakesMemory}
 use Rattle.silt_merge.specs.Rows.{key_count, merged_rows}
@@ -19,6 +20,7 @@ use Rattle.silt_merge.specs.declared.merge.StepError.TheVariants as step_error
 use Rattle.silt_tiers.specs.declared.merge.MergeError.{MergeError}
 use Rattle.silt_tiers.specs.declared.merge.MergeError.TheVariants.{Spent, NoMemory, Read, Write}
 use Rattle.silt_tiers.specs.Calls.{BreaksOff, IsLastGeneration}
+use Rattle.silt_tiers.specs.Digests.{merged_digests}
 use Rattle.silt_tiers.specs.Conversion.{is_work}
 use Rattle.silt_standing.specs.Standing.{Stands, full_image}
 use Rattle.silt_sorted_store.specs.Index.{HasIndex, IndexedState}
@@ -115,8 +117,8 @@ module _ {D F : Type 0} (facts : Ghosts D F) (old new : D) (before after : Tiers
 -- ---- between the steps
 
 -- the entries of this sorted store are those of a merge that has decided all keys, its index and its digest are theirs wherever the
--- stores stand, and this body ends the merge
-pub record EndsMerge (s : TiersState) (body : Body) (store : IndexedState) : Type 0 where
+-- stores stand, and this body ends the merge, with the digests of the hash stores that stay and that of the entries
+pub record EndsMerge (s : TiersState) (body : Body) (digests : Digests) (store : IndexedState) : Type 0 where
   pub merge : MergeState
   pub was : s.merging ≡ Some merge
   pub done : is_done merge s.sorted ≡ true
@@ -125,6 +127,7 @@ pub record EndsMerge (s : TiersState) (body : Body) (store : IndexedState) : Typ
   pub located : (content : Content) → Stands content s → HasIndex content store.sorted store.index
   pub digested : (content : Content) → Stands content s → HasDigest content store.sorted store.digest
   pub is : body ≡ merged_body s.manifest.ruling merge.stores merge.region merge.written
+  pub digests_are : digests ≡ merged_digests s merge.stores store
 
 -- how many of the rows of hash stores are puts
 abbrev pub puts_in : List HashState → ℕ

@@ -8,11 +8,12 @@ ghost use Rattle.silt_event.specs.declared.progress.Progress.TheVariants.{Finish
 ghost use Rattle.silt_standing.specs.State.{AreWhole, names_hash};
 ghost use Rattle.silt_standing.specs.Standing.{Stands, shown_stores};
 
+use crate::digests::digests_with;
 use crate::tiers::{LAST_GENERATION, Tiers};
 use silt_conversion::{Conversion, StepError};
 use silt_disk::Disk;
 use silt_event::Progress;
-use silt_manifest::{Body, Manifest};
+use silt_manifest::{Body, Digests, Manifest};
 use std::alloc::Global;
 
 /// Why a step of conversion was not done.
@@ -175,17 +176,23 @@ impl Tiers {
         self.manifest = manifest;
     }
 
-    // Ends the conversion, all of whose slots are written: syncs them, and then has the manifest name the hash store.
-    fn end_conversion<D: Disk>(&mut self, disk: &mut D, body: &Body) -> Result<(), D::Fault>
+    // Ends the conversion, all of whose slots are written: syncs them, and then has the manifest name the hash store, with its digest
+    // in front of the others.
+    fn end_conversion<D: Disk>(
+        &mut self,
+        disk: &mut D,
+        body: &Body,
+        digests: &Digests,
+    ) -> Result<(), D::Fault>
         requires stands { Stands (D.content disk.old) self.old }
-        requires ends { EndsConversion self.old body.now }
+        requires ends { EndsConversion self.old body.now digests.now }
         ensures works { Works D.Disk [] disk.old disk.new self.old self.new result }
         ensures finishes { OnOk result (Finishes self.old self.new) }
         ensures rows { OnOk result (IsTrue (D.content disk.old).honest → HasConvertedRows (D.content disk.old) (D.content disk.new) self.old self.new) }
         ensures err { IfErr result (BreaksOff D.Disk disk.old disk.new self.old self.new) }
     {
         self.settle_work(disk)?;
-        let manifest = self.change_manifest(disk, body)?;
+        let manifest = self.change_manifest(disk, body, digests)?;
         self.replace_oldest(manifest);
         Ok(())
     }
@@ -211,7 +218,9 @@ impl Tiers {
         };
         let _limits = self.manifest.geometry().hashes(); // so that the body has room for one hash store more
         let body = converted_body(&ruling, conversion.region());
-        match self.end_conversion(disk, &body) {
+        let sorted = *self.sorted.digest();
+        let digests = digests_with(Some(conversion.digest()), &self.hashes, sorted);
+        match self.end_conversion(disk, &body, &digests) {
             Ok(()) => Ok(Progress::Finished),
             Err(fault) => Err(ConvertError::Write(fault)),
         }

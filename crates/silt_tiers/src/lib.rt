@@ -17,11 +17,14 @@
 //! A lookup goes through the active log, the frozen ones and the hash stores, each the newest first, and then the sorted store, whose
 //! index names the one entry that is read. The first row of the key that it finds decides: a delete ends it as well as a put.
 //!
+//! Each manifest that is written says the digests of the hash stores and of the sorted store that it names, as these are in memory.
+//!
 //! Each call that writes says what a stop may leave of the device at each of its exits: an image that stands for the map of the
 //! settled rows, after a beginning of those that waited.
 #![tactic(auto)]
 
 mod conversion;
+mod digests;
 mod entries;
 mod laws;
 mod lookup;

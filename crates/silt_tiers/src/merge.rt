@@ -3,15 +3,17 @@ ghost use Rattle.std.specs.Prelude.{◌≡◌, ◌<◌, ◌≤◌, ◌-◌, ◌^
 ghost use Rattle.silt_event.specs.declared.progress.Progress.TheVariants.{Finished, Moved};
 ghost use Rattle.silt_tiers.specs.Calls.{BreaksOff, Works};
 ghost use Rattle.silt_tiers.specs.Conversion.{is_work};
+ghost use Rattle.silt_tiers.specs.Digests.{merged_digests};
 ghost use Rattle.silt_tiers.specs.Merge.{EndsMerge, EndsMerged, HasMergedEntries, MayStandFor, MergeErrorCause, Merges, merge_turn, merged_body, puts_in, sorted_replaced};
 ghost use Rattle.silt_standing.specs.State.{AreWhole};
 ghost use Rattle.silt_standing.specs.Standing.{Stands};
 
+use crate::digests::digests_with;
 use crate::tiers::{LAST_GENERATION, Tiers};
 use silt_disk::Disk;
 use silt_event::Progress;
 use silt_hash_store::HashStore;
-use silt_manifest::{Body, Manifest};
+use silt_manifest::{Body, Digests, Manifest};
 use silt_merge::{Merge, StepError};
 use silt_sorted_store::SortedStore;
 use std::alloc::Global;
@@ -149,22 +151,35 @@ impl Tiers {
         self.manifest = manifest;
     }
 
-    // Ends the merge, all of whose keys are decided: syncs the entries, and then has the manifest name the new sorted store.
+    // The digests of the stores without so many of the oldest hash stores, and with this sorted store.
+    fn merged_digests(&self, count: usize, sorted: &SortedStore) -> Digests
+        requires { count ≤ length self.now.hashes }
+        ensures { result ≡ merged_digests self.now count sorted.now }
+    {
+        let _sound = self.manifest.ruling(); // so there are no more hash stores than regions
+        let _limits = self.manifest.geometry().hashes();
+        let newer = &self.hashes[..self.hashes.len() - count];
+        digests_with(None, newer, *sorted.digest())
+    }
+
+    // Ends the merge, all of whose keys are decided: syncs the entries, and then has the manifest name the new sorted store, with the
+    // digests of the hash stores that stay.
     fn end_merge<D: Disk>(
         &mut self,
         disk: &mut D,
         body: &Body,
+        digests: &Digests,
         sorted: SortedStore,
     ) -> Result<(), D::Fault>
         requires stands { Stands (D.content disk.old) self.old }
-        requires ends { EndsMerge self.old body.now sorted }
+        requires ends { EndsMerge self.old body.now digests.now sorted }
         ensures works { Works D.Disk [] disk.old disk.new self.old self.new result }
         ensures ends { OnOk result (EndsMerged self.old self.new) }
         ensures entries { OnOk result (IsTrue (D.content disk.old).honest → HasMergedEntries (D.content disk.old) (D.content disk.new) self.old self.new) }
         ensures err { IfErr result (BreaksOff D.Disk disk.old disk.new self.old self.new) }
     {
         self.settle_work(disk)?;
-        let manifest = self.change_manifest(disk, body)?;
+        let manifest = self.change_manifest(disk, body, digests)?;
         self.replace_sorted(manifest, sorted);
         Ok(())
     }
@@ -196,7 +211,8 @@ impl Tiers {
         };
         let count = merge.stores() as usize;
         let body = merged_body(&ruling, count, sorted.region(), sorted.len());
-        match self.end_merge(disk, &body, sorted) {
+        let digests = self.merged_digests(count, &sorted);
+        match self.end_merge(disk, &body, &digests, sorted) {
             Ok(()) => Ok(Progress::Finished),
             Err(fault) => Err(MergeError::Write(fault)),
         }

@@ -200,7 +200,7 @@ impl Tiers {
     }
 
     // Freezes the active log: settles what waits, closes the gates of the new log's region, and writes the manifest's next body,
-    // which names the new log first. Then that is the active log.
+    // which names the new log first, with the digests of the other stores. Then that is the active log.
     fn freeze<D: Disk>(&mut self, disk: &mut D, mut next: NextLog) -> Result<(), D::Fault>
         requires stands { Stands (D.content disk.old) self.old }
         requires next { IsNextLog self.old next }
@@ -210,7 +210,8 @@ impl Tiers {
     {
         self.settle(disk)?;
         self.clear_region(disk, &mut next)?;
-        let manifest = self.change_manifest(disk, &next.body)?;
+        let digests = self.own_digests();
+        let manifest = self.change_manifest(disk, &next.body, &digests)?;
         self.replace_active(manifest, next.store);
         Ok(())
     }

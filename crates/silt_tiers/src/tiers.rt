@@ -5,7 +5,7 @@ use silt_conversion::Conversion;
 use silt_disk::{Disk, Geometry};
 use silt_hash_store::HashStore;
 use silt_log_store::LogStore;
-use silt_manifest::{Body, Manifest};
+use silt_manifest::{Body, Digests, Manifest};
 use silt_merge::Merge;
 use silt_sorted_store::SortedStore;
 use std::marker::Model;
@@ -161,24 +161,25 @@ impl Tiers {
         Ok(())
     }
 
-    // Changes the manifest of the disk: writes the next body behind a closed gate, and opens that gate. In memory nothing changes
-    // until the manifest that it answers is taken, together with the stores that the body names.
+    // Changes the manifest of the disk: writes the next body with these digests behind a closed gate, and opens that gate. In memory
+    // nothing changes until the manifest that it answers is taken, together with the stores that the body names.
     pub(crate) fn change_manifest<D: Disk>(
         &self,
         disk: &mut D,
         next: &Body,
+        digests: &Digests,
     ) -> Result<Manifest, D::Fault>
         requires stands { Stands (D.content disk.old) self.now }
-        requires next { MayRule (D.content disk.old) self.now next.now }
+        requires next { MayRule (D.content disk.old) self.now next.now digests.now }
         ensures same { SameDisk (D.content disk.old) (D.content disk.new) }
         ensures failures { OnOk result (D.failures disk.new ≡ D.failures disk.old) }
-        ensures ok { IfOk result (NowRules (D.content disk.old) (D.content disk.new) self.now next.now) }
+        ensures ok { IfOk result (NowRules (D.content disk.old) (D.content disk.new) self.now next.now digests.now) }
         ensures map { OnOk result (Remaps [] (D.content disk.old) (D.content disk.new) self.now self.now) }
         ensures err { IfErr result (BreaksOff D.Disk disk.old disk.new self.now self.now) }
     {
         let _sound = self.manifest.ruling(); // the next body is well formed as it is
         let mut manifest = self.manifest;
-        manifest.prepare_next(disk, *next)?;
+        manifest.prepare_next(disk, *next, *digests)?;
         manifest.commit_next(disk)?;
         Ok(manifest)
     }

@@ -5,7 +5,11 @@ use Rattle.silt_disk.specs.Layout.{Shape}
 use Rattle.silt_conversion.specs.Conversion.{ConversionState}
 use Rattle.silt_manifest.specs.declared.body.Body.{Body}
 use Rattle.silt_standing.specs.State.{IsUnderWay, TiersState, region_of}
-use Rattle.silt_tiers.proofs.ConvertCounting.{room_for_hash}
+use Rattle.silt_event.specs.declared.progress.Progress.TheVariants.{Finished}
+use Rattle.silt_tiers.specs.Conversion.{convert_turn, converted_body}
+use Rattle.silt_tiers.proofs.ConvertSteps.{may_finish}
+use Rattle.silt_tiers.proofs.Holdings.{before_last}
+use Rattle.silt_tiers.proofs.ConvertCounting.{hash_count, room_for_hash}
 use Rattle.silt_tiers.proofs.Viewing.{state_of}
 use Rattle.silt_tiers.proofs.tiers.Tiers.finish_conversion.Goals as goal
 
@@ -22,3 +26,19 @@ converted_body-body-requires-clause-frozen g c =
     let some : 0 < length stores.frozen = going.some_frozen in
     let count : length c.ruling-ruling.result.frozen ≡ length stores.frozen = ap (λ (b : Body). length b.frozen) c.ruling-ruling.ensures.value ∙ ap length (sym c.self.invariant.whole.frozen_regions) ∙ length-map stores.frozen region_of in
     omega (arith, some, count)
+
+pub digests_with-digests-requires : goal.digests_with-digests-requires
+digests_with-digests-requires g c =
+    let stores : TiersState = state_of c.self.inside in
+    let room = room_for_hash stores c.ruling-ruling.result c.in-Some.conversion c.hashes-limits.result c.self.invariant.whole c.ruling-ruling.ensures.sound c.in-Some.is
+    (c.hashes-limits.ensures.value ∙ ap (λ (sh : Shape). sh.hashes) c.geometry.ensures.value) (omega (arith, c.hashes-limits.ensures.value, c.hashes-limits.ensures.limits.hashes_most)) c.ruling-ruling.ensures.value in
+    omega (arith, room, hash_count stores c.self.invariant.whole, ap (λ (b : Body). length b.hashed) c.ruling-ruling.ensures.value, ap length c.deref.ensures.value)
+
+pub end_conversion-requires-clause-ends : goal.end_conversion-requires-clause-ends
+end_conversion-requires-clause-ends g c κs within =
+    let stores : TiersState = state_of c.self.inside in
+    let turn = subst (λ (v : TiersState). convert_turn v ≡ Finished) (sym c.self.view_is) c.requires.turn in
+    let unspent = before_last stores.manifest.shape _ stores.manifest.ruling c.ruling-ruling.ensures.sound (λ e. c.if-ruling-eq-LAST_GENERATION.false (ap (λ (b : Body). b.generation) c.ruling-ruling.ensures.value ∙ e)) in
+    let body = c.converted_body-body.ensures ∙ ap (λ (b : Body). converted_body b c.region.result) c.ruling-ruling.ensures.value ∙ ap (converted_body stores.manifest.ruling) c.region.ensures.value in
+    rw (← c.self.view_is) (may_finish stores c.converted_body-body.result c.digests_with-digests.result c.in-Some.conversion c.digest.result c.digest-sorted.result.now c.deref.result.now c.self.invariant.whole c.in-Some.is turn unspent body
+    c.digest.ensures c.deref.ensures.value c.digest-sorted.ensures c.digests_with-digests.ensures)

@@ -2,6 +2,7 @@ use Rattle.std.proofs.Common.{◌≡◌, ◌<◌, ◌-◌, ◌^◌, length, ap, 
 use Rattle.std.proofs.lemmas.List.{length-map}
 use Rattle.silt_event.specs.declared.progress.Progress.TheVariants.{Finished}
 use Rattle.silt_manifest.specs.declared.body.Body.{Body}
+use Rattle.silt_tiers.specs.Digests.{merged_digests}
 use Rattle.silt_tiers.specs.Merge.{merge_turn, merged_body}
 use Rattle.silt_standing.specs.State.{TiersState, hash_region_of}
 use Rattle.silt_tiers.proofs.Holdings.{before_last}
@@ -22,7 +23,9 @@ end_merge-requires-clause-ends g c κs within =
     ∙ ap (λ n. merged_body stores.manifest.ruling n c.region.result c.len.result) count
     ∙ ap (λ n. merged_body stores.manifest.ruling c.in-Some.merge.stores n c.len.result) region
     ∙ ap (λ n. merged_body stores.manifest.ruling c.in-Some.merge.stores c.in-Some.merge.region n) written in
-    rw (← c.self.view_is) (may_end stores c.merged_body-body.result c.in-Some.merge c.in-Ok.sorted c.in-Some.is (is_finished stores c.in-Some.merge c.in-Some.is turn) unspent c.in-Ok.ensures.store body c.in-Ok.ensures.indexed c.in-Ok.ensures.digested)
+    let digests = subst (λ (v : TiersState). c.merged_digests-digests.result ≡ merged_digests v c.stores-count.result c.in-Ok.sorted) (sym c.self.view_is) c.merged_digests-digests.ensures
+    ∙ ap (λ n. merged_digests stores n c.in-Ok.sorted) count in
+    rw (← c.self.view_is) (may_end stores c.merged_body-body.result c.merged_digests-digests.result c.in-Some.merge c.in-Ok.sorted c.in-Some.is (is_finished stores c.in-Some.merge c.in-Some.is turn) unspent c.in-Ok.ensures.store body digests c.in-Ok.ensures.indexed c.in-Ok.ensures.digested)
 
 pub merged_body-body-requires-clause-count : goal.merged_body-body-requires-clause-count
 merged_body-body-requires-clause-count g c =
@@ -37,3 +40,9 @@ merged_body-body-requires-clause-unspent g c =
     let same = ap (λ (b : Body). b.generation) c.ruling-ruling.ensures.value in
     let unspent = before_last stores.manifest.shape _ stores.manifest.ruling c.ruling-ruling.ensures.sound (λ e. c.if-ruling-eq-LAST_GENERATION.false (same ∙ e)) in
     subst (λ (b : Body). b.generation < 2 ^ 63 - 1) (sym c.ruling-ruling.ensures.value) unspent
+
+pub merged_digests-digests-requires : goal.merged_digests-digests-requires
+merged_digests-digests-requires g c =
+    let stores : TiersState = state_of c.self.inside in
+    let most = (merging_of stores c.in-Some.merge c.self.invariant.whole c.in-Some.is).most in
+    rw (← c.self.view_is) (omega (arith, most, c.stores-count.ensures.value))
