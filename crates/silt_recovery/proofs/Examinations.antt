@@ -1,6 +1,6 @@
 -- What an examination holds, or why it is refused.
-use Rattle.std.proofs.Common.{◌≡◌, ◌≤◌, ◌<◌, ◌+◌, ℕ, nat_lt, true, IsTrue, List, [], ◌∷◌, ◌++◌, All, length, sum_by, None, Ok, refl, ap, sym, ◌∙◌, subst, arith}
-use Rattle.std.specs.List.{list_all}
+use Rattle.std.proofs.Common.{◌≡◌, ◌≤◌, ◌<◌, ◌+◌, ℕ, nat_lt, true, IsTrue, List, [], ◌∷◌, ◌++◌, All, length, flat_map, sum_by, Option, None, Ok, refl, ap, sym, ◌∙◌, subst, arith}
+use Rattle.std.specs.List.{enumerate_from, list_all}
 use Rattle.std.proofs.lemmas.Bool.{and_parts, ltb-true}
 use Rattle.std.proofs.lemmas.List.{append-nil}
 use Rattle.std.proofs.lemmas.List.Elements.{All-cons, All-nil, All-weaker}
@@ -8,19 +8,21 @@ use Rattle.std.proofs.lemmas.List.Sums.{sum_by-cons}
 use Rattle.silt_disk.specs.Disk.{Content, Rests, size}
 use Rattle.silt_disk.specs.Layout.{Shape, InLimits, device_size}
 use Rattle.silt_hash_store.specs.State.{HashState, IsHashStore}
-use Rattle.silt_image.specs.Meaning.{IsSound, charge_of}
+use Rattle.silt_image.specs.Meaning.{AreDigestsOf, IsSound, charge_of, said_entry_findings, said_hash_findings}
 use Rattle.silt_frame.specs.Rows.{put_count}
-use Rattle.silt_image.specs.Stores.{Stores, image_stores, stores_named}
+use Rattle.silt_image.specs.Stores.{Stores, image_digests, image_stores, stores_named}
 use Rattle.silt_event.specs.declared.damage.Finding.{Finding}
 use Rattle.silt_event.specs.declared.damage.Finding.TheVariants.{Damaged}
 use Rattle.silt_event.specs.declared.place.Place.TheVariants.{Charge}
 use Rattle.silt_image.proofs.Search.{charge_found_law}
-use Rattle.silt_image.proofs.Sound.{parts_law}
+use Rattle.silt_image.proofs.Sound.{none_found, said_law}
 use Rattle.silt_log.specs.Rows.{log_rows}
+use Rattle.silt_log_store.specs.Findings.{log_findings}
 use Rattle.silt_log_store.specs.State.{LogStoreState}
 use Rattle.silt_manifest.specs.Body.{all_below, is_well_formed}
 use Rattle.silt_manifest.specs.Standing.{ManifestState, Rules}
 use Rattle.silt_manifest.specs.declared.body.Body.{Body}
+use Rattle.silt_manifest.specs.declared.digests.Digests.{Digests}
 use Rattle.silt_manifest.proofs.SoundBodies.{sound_parts}
 use Rattle.silt_sorted_store.specs.Index.{HasIndex}
 use Rattle.silt_sorted_store.specs.State.{HasDigest, IsHeldSorted, SortedState}
@@ -32,6 +34,7 @@ use Rattle.silt_recovery.specs.Logs.{AreReadLogs, AreSoundLogs, HasFirstFinding,
 use Rattle.silt_recovery.specs.Opening.{Holds}
 use Rattle.silt_recovery.specs.Refusals.{IsFound}
 use Rattle.silt_recovery.proofs.EntrySearches.{entry_verdict}
+use Rattle.silt_recovery.proofs.Firsts.{charge_nothing}
 use Rattle.silt_recovery.proofs.HashSearches.{charge_of_named, known_count, rows_of_hashes, slot_verdict}
 use Rattle.silt_recovery.proofs.Searches.{found_within, log_verdict, sound_both}
 
@@ -40,6 +43,21 @@ pub named_so : (content : Content) (manifest : ManifestState) (shape : Shape) (b
     → (IsTrue content.honest → image_stores content.shown ≡ Ok (stores_named manifest.shape manifest.ruling content.shown)) → IsTrue content.honest → image_stores content.shown ≡ Ok (stores_named shape body content.shown)
 named_so content manifest shape body same_shape same_body named h =
     named h ∙ ap (λ (s : Shape). Ok (stores_named s manifest.ruling content.shown)) (sym same_shape) ∙ ap (λ (b : Body). Ok (stores_named shape b content.shown)) (sym same_body)
+
+-- nothing is found in the stores, and the digests that are said are theirs
+all_found : (said : Option Digests) (s : Stores) → flat_map (log_findings s.shape) s.logs ≡ [] → flat_map (said_hash_findings s.shape said) (enumerate_from 0 s.hashes) ≡ [] → said_entry_findings said s.entries ≡ []
+    → charge_of s ≤ s.shape.sorted_capacity → IsSound s × AreDigestsOf said s
+all_found said s logs hashes entries charge =
+    (said_law said s).0 (none_found said s (record {
+      logs = logs;
+      hashes = hashes;
+      entries = entries;
+      charge = charge_nothing (charge_of s) s.shape.sorted_capacity (Damaged Charge) charge;
+    }))
+
+-- the digests in the words of the manifest
+pub says_so : (content : Content) (manifest : ManifestState) (said : Option Digests) → said ≡ manifest.digests → (IsTrue content.honest → image_digests content.shown ≡ manifest.digests) → IsTrue content.honest → image_digests content.shown ≡ said
+says_so content manifest said same says h = says h ∙ sym same
 
 module _ (content : Content) (shape : Shape) (body : Body) (named : IsTrue content.honest → image_stores content.shown ≡ Ok (stores_named shape body content.shown)) where
   -- the stores in the words of the manifest
@@ -59,26 +77,33 @@ module _ (content : Content) (shape : Shape) (body : Body) (named : IsTrue conte
         log_verdict shape body content.shown finding (named h)
         (subst (λ (ids : List ℕ). HasFirstFinding shape content.shown ids finding) all (found_within shape content.shown (body.active ∷ []) regions [] finding (sound h) (found h)))
 
-    module _ (regions : List ℕ) (frozen_are : regions ≡ body.frozen) (frozen : List LogStoreState) (older : ℕ) (read : AreReadLogs content shape regions frozen older) where
+    module _ (regions : List ℕ) (frozen_are : regions ≡ body.frozen) (frozen : List LogStoreState) (older : ℕ) (read : AreReadLogs content shape regions frozen older) (said : Option Digests)
+        (says : IsTrue content.honest → image_digests content.shown ≡ said) where
       -- nothing is found in any log
       all_sound : IsTrue content.honest → AreSoundLogs shape content.shown (body.active ∷ body.frozen)
       all_sound h =
           subst (λ (ids : List ℕ). AreSoundLogs shape content.shown (body.active ∷ ids)) frozen_are (sound_both shape content.shown (body.active ∷ []) regions (sound h) (read.sound h))
 
       -- or in a hash store
-      pub hashed_refused : (ids : List ℕ) → ids ≡ body.hashed → (finding : Finding) → (IsTrue content.honest → HasFirstSlot shape content.shown ids finding) → IsTrue content.honest → IsFound content.shown finding
+      pub hashed_refused : (ids : List ℕ) → ids ≡ body.hashed → (finding : Finding) → (IsTrue content.honest → HasFirstSlot shape said content.shown ids finding) → IsTrue content.honest → IsFound content.shown finding
       hashed_refused ids named_ids finding found h =
           slot_verdict shape body content.shown finding (named h) (all_sound h)
-          (subst (λ (hashed : List ℕ). HasFirstSlot shape content.shown hashed finding) named_ids (found h))
+          (subst (λ (d : Option Digests). HasFirstSlot shape d content.shown body.hashed finding) (sym (says h)) (subst (λ (hashed : List ℕ). HasFirstSlot shape said content.shown hashed finding) named_ids (found h)))
 
-      module _ (ids : List ℕ) (named_ids : ids ≡ body.hashed) (hashes : List HashState) (hash_puts hash_rows : ℕ) (hashed : AreReadHashes content shape ids hashes hash_puts hash_rows) where
+      module _ (ids : List ℕ) (named_ids : ids ≡ body.hashed) (hashes : List HashState) (hash_puts hash_rows : ℕ) (hashed : AreReadHashes content shape said ids hashes hash_puts hash_rows) where
         -- nothing is found in any hash store
-        hashes_sound : IsTrue content.honest → AreSoundHashes shape content.shown body.hashed
-        hashes_sound h = subst (λ (all : List ℕ). AreSoundHashes shape content.shown all) named_ids (hashed.sound h)
+        hashes_sound : IsTrue content.honest → AreSoundHashes shape said content.shown body.hashed
+        hashes_sound h = subst (λ (all : List ℕ). AreSoundHashes shape said content.shown all) named_ids (hashed.sound h)
+
+        -- in the words of the image
+        image_sound : IsTrue content.honest → AreSoundHashes shape (image_digests content.shown) content.shown body.hashed
+        image_sound h = subst (λ (d : Option Digests). AreSoundHashes shape d content.shown body.hashed) (sym (says h)) (hashes_sound h)
 
         -- or in an entry
-        pub entry_refused : (finding : Finding) → (IsTrue content.honest → HasFirstEntry shape content.shown body.sorted body.sorted_count finding) → IsTrue content.honest → IsFound content.shown finding
-        entry_refused finding found h = entry_verdict shape body content.shown finding (named h) (all_sound h) (hashes_sound h) (found h)
+        pub entry_refused : (finding : Finding) → (IsTrue content.honest → HasFirstEntry shape said content.shown body.sorted body.sorted_count finding) → IsTrue content.honest → IsFound content.shown finding
+        entry_refused finding found h =
+            entry_verdict shape body content.shown finding (named h) (all_sound h) (image_sound h)
+            (subst (λ (d : Option Digests). HasFirstEntry shape d content.shown body.sorted body.sorted_count finding) (sym (says h)) (found h))
 
         -- the rows that were counted are all
         pub rows_counted : (manifest : ManifestState) → shape ≡ manifest.shape → body ≡ manifest.ruling → IsTrue content.honest → hash_rows ≡ sum_by known_count (stores_named manifest.shape manifest.ruling content.shown).hashes
@@ -87,7 +112,7 @@ module _ (content : Content) (shape : Shape) (body : Body) (named : IsTrue conte
             hashed.counted h ∙ ap (sum_by (region_rows shape content.shown)) named_ids ∙ rows_of_hashes shape content.shown body.hashed
             ∙ ap (λ (s : Stores). sum_by known_count s.hashes) (same_stores manifest same_shape same_body)
 
-        module _ (sorted : SortedState) (are : sorted ≡ sorted_named shape body) (held_sorted : IsHeldSorted sorted) (entries_sound : IsTrue content.honest → AreSoundEntries shape content.shown body.sorted body.sorted_count)
+        module _ (sorted : SortedState) (are : sorted ≡ sorted_named shape body) (held_sorted : IsHeldSorted sorted) (entries_sound : IsTrue content.honest → AreSoundEntries shape said content.shown body.sorted body.sorted_count)
             (newest : ℕ) (counted : IsTrue content.honest → newest ≡ put_count (log_rows shape body.active content.shown)) where
           -- the puts that were counted are all
           charge_is : IsTrue content.honest → newest + older + hash_puts + sorted.count ≡ charge_of (stores_named shape body content.shown)
@@ -103,20 +128,15 @@ module _ (content : Content) (shape : Shape) (body : Body) (named : IsTrue conte
           pub charge_refused : shape.sorted_capacity < newest + older + hash_puts + sorted.count → IsTrue content.honest → IsFound content.shown (Damaged Charge)
           unfolding stores_named
           charge_refused many h =
-              charge_found_law content.shown (stores_named shape body content.shown) (named h) (all_sound h) (hashes_sound h) (entries_sound h) (subst (λ (n : ℕ). shape.sorted_capacity < n) (charge_is h) many)
+              charge_found_law content.shown (stores_named shape body content.shown) (named h) (all_sound h) (image_sound h)
+              (subst (λ (d : Option Digests). AreSoundEntries shape d content.shown body.sorted body.sorted_count) (sym (says h)) (entries_sound h)) (subst (λ (n : ℕ). shape.sorted_capacity < n) (charge_is h) many)
 
-          -- nothing is found
-          nothing_found : newest + older + hash_puts + sorted.count ≤ shape.sorted_capacity → IsTrue content.honest → IsSound (stores_named shape body content.shown)
+          -- nothing is found, and the digests that are said are theirs
+          nothing_found : newest + older + hash_puts + sorted.count ≤ shape.sorted_capacity → IsTrue content.honest → IsSound (stores_named shape body content.shown) × AreDigestsOf said (stores_named shape body content.shown)
           unfolding stores_named
-          nothing_found most h =
-              (parts_law (stores_named shape body content.shown)).1 (record {
-                logs = all_sound h;
-                hashes = hashes_sound h;
-                entries = entries_sound h;
-                charge = subst (λ (n : ℕ). n ≤ shape.sorted_capacity) (charge_is h) most;
-              })
+          nothing_found most h = all_found said (stores_named shape body content.shown) (all_sound h) (hashes_sound h) (entries_sound h) (subst (λ (n : ℕ). n ≤ shape.sorted_capacity) (charge_is h) most)
 
-          module _ (manifest : ManifestState) (same_shape : shape ≡ manifest.shape) (same_body : body ≡ manifest.ruling) where
+          module _ (manifest : ManifestState) (same_shape : shape ≡ manifest.shape) (same_body : body ≡ manifest.ruling) (same_said : said ≡ manifest.digests) where
             -- what is held
             pub held : (active : LogStoreState) (index : MarkedCode) (digest : List ℕ) (charge : ℕ) → InLimits shape → size content ≡ device_size manifest.shape → manifest.prepared ≡ None → (Rests content → Rules manifest content)
                 → IsReadLog content shape active → active.log.region ≡ body.active → HasIndex content sorted index → HasDigest content sorted digest → charge ≡ newest + older + hash_puts + sorted.count → charge ≤ shape.sorted_capacity
@@ -147,7 +167,11 @@ module _ (content : Content) (shape : Shape) (body : Body) (named : IsTrue conte
               located = located;
               digested = digested;
               named = λ h. named h ∙ ap Ok (same_stores manifest same_shape same_body);
-              sound = λ h. subst IsSound (same_stores manifest same_shape same_body) (nothing_found (subst (λ (n : ℕ). n ≤ shape.sorted_capacity) total most) h);
+              says = λ h. says h ∙ same_said;
+              sound = λ h. subst IsSound (same_stores manifest same_shape same_body) (nothing_found (subst (λ (n : ℕ). n ≤ shape.sorted_capacity) total most) h).0;
+              said = λ h.
+                  subst (λ (d : Option Digests). AreDigestsOf d (stores_named manifest.shape manifest.ruling content.shown)) same_said
+                  (subst (AreDigestsOf said) (same_stores manifest same_shape same_body) (nothing_found (subst (λ (n : ℕ). n ≤ shape.sorted_capacity) total most) h).1);
               counted = λ h. total ∙ charge_is h ∙ ap charge_of (same_stores manifest same_shape same_body);
             }
 

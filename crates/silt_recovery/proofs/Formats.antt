@@ -6,15 +6,17 @@ use Rattle.silt_disk.specs.Disk.{Content, Torn, ChangesWithin, Writes, LeavesOnl
 use Rattle.silt_disk.specs.Layout.{Shape, InLimits, device_size, gates_at, slot_at}
 use Rattle.silt_disk.proofs.Images.{splice_slice, torn_splice, length-splice, torn_slice_after, left_at_rest, shown_left, rests_leaves}
 use Rattle.silt_disk.specs.Header.{header_bytes, header_of}
-use Rattle.silt_image.specs.Meaning.{StandsFor}
+use Rattle.silt_image.specs.Meaning.{StandsFor, entries_digest}
 use Rattle.silt_image.specs.Stores.{shape_found}
 use Rattle.silt_log.specs.Rows.{log_rows}
 use Rattle.silt_log.proofs.Elsewhere.{log_rows_elsewhere}
 use Rattle.silt_manifest.specs.Body.{first_body}
+use Rattle.silt_manifest.specs.Digests.{long_record}
 use Rattle.silt_manifest.specs.Ruling.{is_slot_open, manifest_found}
 use Rattle.silt_manifest.specs.Standing.{IsFirst}
+use Rattle.silt_manifest.specs.declared.digests.Digests.{Digests}
 use Rattle.silt_manifest.proofs.Laws.{closed_shown, closed_elsewhere, first_elsewhere}
-use Rattle.silt_recovery.proofs.Manifests.{found_body}
+use Rattle.silt_manifest.proofs.FirstExits.{first_rules}
 use Rattle.silt_image.proofs.Headers.{formatted_law}
 use Rattle.silt_image.proofs.Verdict.{empty_law}
 
@@ -36,12 +38,13 @@ gated at bytes old mid new fits first second =
     torn_slice_after at 1 mid new torn (at + 1) (at + 1 + length bytes) (omega arith) (omega (arith, long)) ∙ ap (λ (image : List ℕ). slice_range image (at + 1) (at + 1 + length bytes)) first ∙ splice_slice (at + 1) bytes old fits in
     slice_join new at (at + 1) (at + 1 + length bytes) (omega arith) (omega arith) ∙ ap (λ (xs : List ℕ). xs ++ slice_range new (at + 1) (at + 1 + length bytes)) gate ∙ ap (λ (xs : List ℕ). 167 ∷ xs) body
 
--- an image with the header, the first manifest body and an empty log 0
-pub fresh_store : (shape : Shape) (image : List ℕ) → InLimits shape → length image ≡ device_size shape → header_of image ≡ 167 ∷ header_bytes shape → IsFirst image → log_rows shape 0 image ≡ [] → StandsFor shape empty image
-fresh_store shape image limits long header first rows =
+-- an image with the header, the first manifest body with the digest of no entries, and an empty log 0
+pub fresh_store : (shape : Shape) (digests : Digests) (image : List ℕ) → InLimits shape → digests.sorted.0 ≡ entries_digest [] → length image ≡ device_size shape → header_of image ≡ 167 ∷ header_bytes shape → IsFirst digests image
+    → log_rows shape 0 image ≡ [] → StandsFor shape empty image
+fresh_store shape digests image limits of_none long header first rows =
     let is : shape_found (length image) (header_of image) ≡ Ok shape = ap (λ (n : ℕ). shape_found n (header_of image)) long ∙ ap (shape_found (device_size shape)) header ∙ formatted_law shape limits in
-    let body : manifest_found shape image ≡ Ok first_body = found_body (manifest_found shape image) first_body (first.rules shape limits) in
-    empty_law image shape is body rows
+    let rules : manifest_found shape image ≡ Ok (long_record first_body digests) = first_rules shape digests image limits first.first first.second in
+    empty_law image shape digests is rules of_none rows
 
 module _ (shape : Shape) (limits : InLimits shape) (c1 c2 c3 : Content) (sized : size c1 ≡ device_size shape) (long2 : size c2 ≡ size c1) (slot : Writes (slot_at 1) (0 ∷ []) c1 c2)
     (prepared : ChangesWithin (gates_at shape 0) shape.log_capacity c2 c3) where
@@ -53,11 +56,11 @@ module _ (shape : Shape) (limits : InLimits shape) (c1 c2 c3 : Content) (sized :
       rests_leaves rests (closed_elsewhere 1 (gates_at shape 0) shape.log_capacity c2 c3 (omega arith) (omega (arith, long2, sized, end)) (inr low) prepared (closed_shown 1 c1 c2 (omega (arith, sized, end)) slot))
 
 -- whatever a stop leaves of the device is an empty store
-pub formatted : (shape : Shape) (c3 c4 c5 : Content) → InLimits shape → size c3 ≡ device_size shape → size c4 ≡ device_size shape → size c5 ≡ device_size shape
-    → LeavesOnly c3 (λ image. log_rows shape 0 image ≡ []) → ChangesWithin (slot_at 0) 4096 c3 c4 → LeavesOnly c4 IsFirst → ChangesWithin 0 37 c4 c5 → (IsTrue c5.honest → header_of c5.shown ≡ 167 ∷ header_bytes shape) → Rests c5
+pub formatted : (shape : Shape) (digests : Digests) (c3 c4 c5 : Content) → InLimits shape → digests.sorted.0 ≡ entries_digest [] → size c3 ≡ device_size shape → size c4 ≡ device_size shape → size c5 ≡ device_size shape
+    → LeavesOnly c3 (λ image. log_rows shape 0 image ≡ []) → ChangesWithin (slot_at 0) 4096 c3 c4 → LeavesOnly c4 (IsFirst digests) → ChangesWithin 0 37 c4 c5 → (IsTrue c5.honest → header_of c5.shown ≡ 167 ∷ header_bytes shape) → Rests c5
     → LeavesOnly c5 (StandsFor shape empty)
-formatted shape c3 c4 c5 limits size3 size4 size5 empties manifest first header has_header rests =
-    let first5 : LeavesOnly c5 IsFirst = first_elsewhere 0 37 c4 c5 (omega (arith, size4)) (inl (omega arith)) header first in
+formatted shape digests c3 c4 c5 limits of_none size3 size4 size5 empties manifest first header has_header rests =
+    let first5 : LeavesOnly c5 (IsFirst digests) = first_elsewhere 0 37 c4 c5 (omega (arith, size4)) (inl (omega arith)) header first in
     record {
       each = λ h5 image left.
           let h4 : IsTrue c4.honest = sym header.honest ∙ h5 in
@@ -65,6 +68,6 @@ formatted shape c3 c4 c5 limits size3 size4 size5 empties manifest first header 
           let least : 0 < shape.logs = omega (arith, limits.logs_least) in
           let rows4 : log_rows shape 0 c4.shown ≡ log_rows shape 0 c3.shown = log_rows_elsewhere shape 0 (slot_at 0) 4096 c3.shown c4.shown least (omega (arith, size3)) (inl (omega arith)) (manifest.shown h3) in
           let rows5 : log_rows shape 0 c5.shown ≡ log_rows shape 0 c4.shown = log_rows_elsewhere shape 0 0 37 c4.shown c5.shown least (omega (arith, size4)) (inl (omega arith)) (header.shown h4) in
-          let shown : StandsFor shape empty c5.shown = fresh_store shape c5.shown limits size5 (has_header h5) (first5.each h5 c5.shown (shown_left c5)) (rows5 ∙ rows4 ∙ empties.each h3 c3.shown (shown_left c3)) in
+          let shown : StandsFor shape empty c5.shown = fresh_store shape digests c5.shown limits of_none size5 (has_header h5) (first5.each h5 c5.shown (shown_left c5)) (rows5 ∙ rows4 ∙ empties.each h3 c3.shown (shown_left c3)) in
           subst (StandsFor shape empty) (sym (left_at_rest rests h5 image left)) shown;
     }

@@ -1,5 +1,5 @@
 -- What a stopped formatting leaves.
-use Rattle.std.proofs.Common.{◌≡◌, ◌≢◌, ◌≤◌, ◌<◌, ℕ, ◌+◌, ◌==◌, Bool, false, ◌&&◌, IsTrue, List, [], ◌∷◌, ◌++◌, length, get_or, slice_range, slice_index, Result, Ok, Err, Some, inl, inr, refl, ap, sym, ◌∙◌, subst, arith}
+use Rattle.std.proofs.Common.{◌≡◌, ◌≢◌, ◌≤◌, ◌<◌, ℕ, ◌+◌, ◌==◌, Bool, false, ◌&&◌, ◌||◌, IsTrue, List, [], ◌∷◌, ◌++◌, length, get_or, slice_range, slice_index, Result, Ok, Err, Some, inl, inr, refl, ap, sym, ◌∙◌, subst, arith}
 use Rattle.std.specs.Result.{OnErr}
 use Rattle.std.proofs.lemmas.Bool.{cases_Bool, cases_eq}
 use Rattle.std.proofs.lemmas.Bool.Decides.{nat_tests}
@@ -9,15 +9,15 @@ use Rattle.silt_disk.specs.Layout.{Shape, InLimits, device_size, slot_at}
 use Rattle.silt_disk.proofs.Images.{left_at_rest, rests_leaves, sized_leaves, splice_byte, splice_slice, torn_refl, torn_slice_after, within_leaves, write_within}
 use Rattle.std.specs.Str.{bytes_eq}
 use Rattle.silt_frame.specs.Gate.{is_open}
-use Rattle.silt_disk.specs.Header.{header_bytes, header_of, is_formatted, magic}
-use Rattle.silt_disk.specs.Numbers.{number_at}
-use Rattle.silt_image.specs.Meaning.{image_verdict}
+use Rattle.silt_disk.specs.Header.{header_bytes, header_of, is_formatted, magic, version_number}
+use Rattle.silt_image.specs.Meaning.{entries_digest, image_verdict}
 use Rattle.silt_image.specs.Stores.{image_stores, stores_shaped}
 use Rattle.silt_event.specs.declared.damage.Finding.TheVariants.{NotFormatted}
 use Rattle.silt_image.proofs.Verdict.{no_stores_law}
 use Rattle.silt_log.specs.Rows.{log_rows}
 use Rattle.silt_log.proofs.Elsewhere.{log_rows_elsewhere}
 use Rattle.silt_manifest.specs.Standing.{IsFirst}
+use Rattle.silt_manifest.specs.declared.digests.Digests.{Digests}
 use Rattle.silt_manifest.proofs.Laws.{first_elsewhere}
 use Rattle.silt_recovery.specs.Format.{HasHeaderOrNone, IsGateClosed, IsHalfFormatted}
 use Rattle.silt_recovery.proofs.Formats.{fresh_store, slice_join}
@@ -59,7 +59,7 @@ closed_verdict image closed =
       | inl opened ↦ absurd (other (sym gate ∙ (let same : slice_index (header_of image) 0 ≡ 167 = grind (arith, nat_tests) in same)))
       | inr none ↦ none
     ]) in
-    let none : is_formatted (header_of image) ≡ false = ap (λ (b : Bool). b && (bytes_eq (slice_range (header_of image) 1 9) magic) && (number_at 4 9 (header_of image) == 1)) shut in
+    let none : is_formatted (header_of image) ≡ false = ap (λ (b : Bool). b && (bytes_eq (slice_range (header_of image) 1 9) magic) && ((version_number (header_of image) == 1) || (version_number (header_of image) == 2))) shut in
     no_stores_law image NotFormatted (ap (stores_shaped image) (not_formatted (length image) (header_of image) none))
 
 -- ---- the exits of writing the header
@@ -114,11 +114,11 @@ rows_stay shape at count old new least sized low changes none =
     log_rows_elsewhere shape 0 at count before after least (omega (arith, had.0, sized)) (inl (omega (arith, low))) torn ∙ had.1)
 
 -- with any of the header's gate
-pub left_at_last : (shape : Shape) (old c3 c4 c5 : Content) → InLimits shape → size c3 ≡ device_size shape → size c4 ≡ device_size shape → size c5 ≡ device_size shape
-    → LeavesOnly c3 (λ image. log_rows shape 0 image ≡ []) → ChangesWithin (slot_at 0) 4096 c3 c4 → LeavesOnly c4 IsFirst → ChangesWithin 0 37 c4 c5 → LeavesOnly c5 (HasHeaderOrNone shape) → LeavesOnly c5 (IsHalfFormatted old shape)
-left_at_last shape old c3 c4 c5 limits size3 size4 size5 empties manifest first header has_header =
+pub left_at_last : (shape : Shape) (digests : Digests) (old c3 c4 c5 : Content) → InLimits shape → digests.sorted.0 ≡ entries_digest [] → size c3 ≡ device_size shape → size c4 ≡ device_size shape → size c5 ≡ device_size shape
+    → LeavesOnly c3 (λ image. log_rows shape 0 image ≡ []) → ChangesWithin (slot_at 0) 4096 c3 c4 → LeavesOnly c4 (IsFirst digests) → ChangesWithin 0 37 c4 c5 → LeavesOnly c5 (HasHeaderOrNone shape) → LeavesOnly c5 (IsHalfFormatted old shape)
+left_at_last shape digests old c3 c4 c5 limits of_none size3 size4 size5 empties manifest first header has_header =
     let least : 0 < shape.logs = omega (arith, limits.logs_least) in
-    let first5 : LeavesOnly c5 IsFirst = first_elsewhere 0 37 c4 c5 (omega (arith, size4)) (inl (omega arith)) header first in
+    let first5 : LeavesOnly c5 (IsFirst digests) = first_elsewhere 0 37 c4 c5 (omega (arith, size4)) (inl (omega arith)) header first in
     let rows4 = rows_stay shape (slot_at 0) 4096 c3 c4 least size3 (omega arith) manifest empties in
     let rows5 = rows_stay shape 0 37 c4 c5 least size4 (omega arith) header rows4 in
     record {
@@ -127,7 +127,7 @@ left_at_last shape old c3 c4 c5 limits size3 size4 size5 empties manifest first 
             | inl closed ↦ inr (inl (closed_verdict image closed))
             | inr is ↦
                 let long : length image ≡ device_size shape = left.size ∙ sym c5.sizes ∙ size5 in
-                inr (inr (fresh_store shape image limits long is (first5.each honest image left) (rows5.each honest image left)))
+                inr (inr (fresh_store shape digests image limits of_none long is (first5.each honest image left) (rows5.each honest image left)))
           ];
     }
 

@@ -1,67 +1,100 @@
 -- Findings in hash stores that are read one after the other.
-use Rattle.std.proofs.Common.{◌≡◌, ◌<◌, ℕ, ◌+◌, IsTrue, List, [], ◌∷◌, ◌++◌, length, map, take, drop, flat_map, get_or, sum_by, Some, Ok, refl, ap, sym, ◌∙◌, subst, arith, append_assoc}
-use Rattle.std.proofs.lemmas.List.{drop_more, map-append, take-append-drop, take_more}
+use Rattle.std.proofs.Common.{◌≡◌, ◌<◌, ℕ, ◌+◌, Bool, true, false, IsTrue, List, [], ◌∷◌, ◌++◌, length, map, take, drop, flat_map, get_or, sum_by, slice_get, Option, Some, Ok, refl, ap, sym, ◌∙◌, subst, arith}
+use Rattle.std.specs.List.{enumerate_from}
+use Rattle.std.proofs.Common.{length-take-le}
+use Rattle.std.proofs.lemmas.List.{append-nil, drop_more, length-map, map-append, take-append-drop, take_more}
 use Rattle.std.proofs.lemmas.List.Elements.{All-push}
 use Rattle.std.proofs.lemmas.List.Sums.{sum_by-cons, sum_by_push}
 use Rattle.std.proofs.lemmas.Grind.{flat_map-append}
 use Rattle.silt_disk.specs.Disk.{Content}
 use Rattle.silt_disk.specs.Layout.{Shape}
 use Rattle.silt_hash_store.specs.Rebuild.{IsFirstUnsound}
-use Rattle.silt_hash_store.specs.State.{HashState}
-use Rattle.silt_image.specs.Meaning.{charge_of, image_verdict, rows_of}
+use Rattle.silt_hash_store.specs.State.{HashState, IsHashStore}
+use Rattle.silt_image.specs.Meaning.{charge_of, digest_findings, image_verdict, part_digest, rows_of, said_hash, said_hash_findings}
 use Rattle.silt_hash_store.specs.Findings.{hash_findings}
 use Rattle.silt_log.specs.Parts.{known_rows, oldest_first, part_rows, Part, log_part}
 use Rattle.silt_frame.specs.Rows.{put_count, StoredRow}
 use Rattle.silt_hash_store.specs.Slots.{hash_part}
-use Rattle.silt_image.specs.Stores.{image_stores, stores_named}
+use Rattle.silt_image.specs.Stores.{image_digests, image_stores, stores_named}
 use Rattle.silt_sorted_store.specs.State.{sorted_rows}
 use Rattle.silt_event.specs.declared.damage.Finding.{Finding}
 use Rattle.silt_event.specs.declared.damage.Finding.TheVariants.{Damaged}
-use Rattle.silt_event.specs.declared.place.Place.TheVariants.{Hash}
+use Rattle.silt_event.specs.declared.place.Place.{Place}
+use Rattle.silt_event.specs.declared.place.Place.TheVariants.{Hash, HashDigest}
+use Rattle.silt_event.specs.Findings.{finding_if}
+use Rattle.silt_event.proofs.Findings.{nothing_both}
 use Rattle.silt_event.proofs.Rows.{count_law}
-use Rattle.silt_image.proofs.Search.{first_slot_law}
+use Rattle.silt_image.proofs.Search.{first_slot_law, places_append}
 use Rattle.silt_manifest.specs.declared.body.Body.{Body}
+use Rattle.silt_manifest.specs.declared.digests.Digests.{Digests}
 use Rattle.silt_standing.specs.State.{hash_region_of}
-use Rattle.silt_recovery.specs.Hashes.{AreReadHashes, AreSoundHashes, HasFirstSlot, IsReadHash, region_puts, region_rows}
+use Rattle.silt_recovery.specs.Hashes.{AreReadHashes, AreSoundHashes, HasFirstInRegion, HasFirstSlot, IsReadHash, region_findings, region_puts, region_rows}
 use Rattle.silt_recovery.specs.Logs.{AreSoundLogs, put_rows}
 use Rattle.silt_recovery.proofs.EntrySearches.{charge_of_entries}
+use Rattle.silt_recovery.proofs.Firsts.{first_behind, first_of_front, none_other, other_found}
 use Rattle.silt_recovery.proofs.Searches.{charge_of_logs}
 
 -- ---- in one hash store
 
--- the first slot in which something is found
-pub damaged_slot : (content : Content) (shape : Shape) (region slot : ℕ) → IsFirstUnsound content shape region slot → HasFirstSlot shape content.shown (region ∷ []) (Damaged (Hash region slot))
-damaged_slot content shape region slot found = record { before = []; region = region; after = []; all = refl; sound = refl; first = found.first }
+module _ (content : Content) (shape : Shape) (region : ℕ) (said : Option (List ℕ)) where
+  -- the first slot in which something is found
+  pub damaged_slot : (slot : ℕ) → IsFirstUnsound content shape region slot → HasFirstInRegion shape said content.shown region (Damaged (Hash region slot))
+  damaged_slot slot found = record {
+    first =
+        first_of_front (hash_findings shape (hash_part shape content.shown region)) (digest_findings (HashDigest region) said (part_digest (hash_part shape content.shown region))) (Damaged (Hash region slot)) found.first;
+  }
+
+  module _ (store : HashState) (has_shape : store.shape ≡ shape) (has_region : store.region ≡ region) (stands : IsHashStore content store) where
+    -- nothing is found in the slots of a store that was read
+    slots_sound : IsTrue content.honest → hash_findings shape (hash_part shape content.shown region) ≡ []
+    slots_sound h =
+        subst (λ (s : Shape). hash_findings s (hash_part s content.shown region) ≡ []) has_shape
+        (subst (λ (r : ℕ). hash_findings store.shape (hash_part store.shape content.shown r) ≡ []) has_region (stands.sound h))
+
+    -- its digest is that of what is shown
+    digest_shown : IsTrue content.honest → store.digest ≡ part_digest (hash_part shape content.shown region)
+    digest_shown h =
+        stands.digested h ∙ ap (λ (s : Shape). part_digest (hash_part s content.shown store.region)) has_shape ∙ ap (λ (r : ℕ). part_digest (hash_part shape content.shown r)) has_region
+
+    module _ (test : Bool) (tests : (place : Place) → digest_findings place said store.digest ≡ finding_if test (Damaged place)) where
+      -- another digest is said
+      pub other_digest : test ≡ true → IsTrue content.honest → HasFirstInRegion shape said content.shown region (Damaged (HashDigest region))
+      other_digest is h = record {
+        first =
+            first_behind (hash_findings shape (hash_part shape content.shown region)) (digest_findings (HashDigest region) said (part_digest (hash_part shape content.shown region))) (Damaged (HashDigest region))
+            (slots_sound h) (other_found said (part_digest (hash_part shape content.shown region)) store.digest test tests (digest_shown h) (HashDigest region) is);
+      }
+
+      -- this one is said, or none
+      pub sound_hash : test ≡ false → IsTrue content.honest → region_findings shape said content.shown region ≡ []
+      sound_hash is h =
+          nothing_both (hash_findings shape (hash_part shape content.shown region)) (digest_findings (HashDigest region) said (part_digest (hash_part shape content.shown region)))
+          (slots_sound h) (none_other said (part_digest (hash_part shape content.shown region)) store.digest test tests (digest_shown h) (HashDigest region) is)
 
 -- ---- in several
 
--- some hash stores and those behind them
-both_sound : (shape : Shape) (image some more : List ℕ) → AreSoundHashes shape image some → AreSoundHashes shape image more → AreSoundHashes shape image (some ++ more)
-both_sound shape image some more first second =
-    ap (flat_map (hash_findings shape)) (map-append (hash_part shape image) some more)
-    ∙ flat_map-append (hash_findings shape) (map (hash_part shape image) some) (map (hash_part shape image) more)
-    ∙ ap (λ (l : List Finding). l ++ flat_map (hash_findings shape) (map (hash_part shape image) more)) first ∙ second
-
--- the first finding among some of the hash stores, behind others in which nothing is found
-slot_within : (shape : Shape) (image before regions after : List ℕ) (finding : Finding) → AreSoundHashes shape image before → HasFirstSlot shape image regions finding → HasFirstSlot shape image (before ++ regions ++ after) finding
-slot_within shape image before regions after finding sound found = record {
-  before = before ++ found.before;
-  region = found.region;
-  after = found.after ++ after;
-  all = ap (λ (l : List ℕ). before ++ l ++ after) found.all
-      ∙ ap (λ (l : List ℕ). l ++ after) (sym (append_assoc before found.before (found.region ∷ found.after)))
-      ∙ append_assoc (before ++ found.before) (found.region ∷ found.after) after;
-  sound = both_sound shape image before found.before sound found.sound;
-  first = found.first;
-}
+-- some hash stores and the next one behind them
+one_more_sound : (shape : Shape) (said : Option Digests) (image some : List ℕ) (region place : ℕ) → length some ≡ place → AreSoundHashes shape said image some → region_findings shape (said_hash said place) image region ≡ []
+    → AreSoundHashes shape said image (some ++ region ∷ [])
+one_more_sound shape said image some region place counted first second =
+    let parts : List Part = map (hash_part shape image) some in
+    let last : List Part = hash_part shape image region ∷ [] in
+    let number : 0 + length parts ≡ place = omega (arith, length-map some (hash_part shape image), counted) in
+    let own : flat_map (said_hash_findings shape said) (enumerate_from (0 + length parts) last) ≡ [] =
+    ap (λ (n : ℕ). flat_map (said_hash_findings shape said) (enumerate_from n last)) number ∙ append-nil (said_hash_findings shape said (place, hash_part shape image region)) ∙ second in
+    ap (λ (l : List Part). flat_map (said_hash_findings shape said) (enumerate_from 0 l)) (map-append (hash_part shape image) some (region ∷ []))
+    ∙ ap (flat_map (said_hash_findings shape said)) (places_append 0 parts last)
+    ∙ flat_map-append (said_hash_findings shape said) (enumerate_from 0 parts) (enumerate_from (0 + length parts) last)
+    ∙ nothing_both (flat_map (said_hash_findings shape said) (enumerate_from 0 parts)) (flat_map (said_hash_findings shape said) (enumerate_from (0 + length parts) last)) first own
 
 -- the first finding in the hash stores that the ruling body names is the verdict, where nothing is found in the logs
-pub slot_verdict : (shape : Shape) (body : Body) (image : List ℕ) (finding : Finding) → image_stores image ≡ Ok (stores_named shape body image) → AreSoundLogs shape image (body.active ∷ body.frozen) → HasFirstSlot shape image body.hashed finding
-    → image_verdict image ≡ Some finding
+pub slot_verdict : (shape : Shape) (body : Body) (image : List ℕ) (finding : Finding) → image_stores image ≡ Ok (stores_named shape body image) → AreSoundLogs shape image (body.active ∷ body.frozen)
+    → HasFirstSlot shape (image_digests image) image body.hashed finding → image_verdict image ≡ Some finding
 unfolding stores_named
 slot_verdict shape body image finding stores logs found =
     first_slot_law image (stores_named shape body image) (map (hash_part shape image) found.before) (map (hash_part shape image) found.after) (hash_part shape image found.region) finding stores logs
-    (ap (map (hash_part shape image)) found.all ∙ map-append (hash_part shape image) found.before (found.region ∷ found.after)) found.sound found.first
+    (ap (map (hash_part shape image)) found.all ∙ map-append (hash_part shape image) found.before (found.region ∷ found.after)) found.sound
+    (ap (λ (n : ℕ). slice_get (said_hash_findings shape (image_digests image) (n, hash_part shape image found.region)) 0) (length-map found.before (hash_part shape image)) ∙ found.first)
 
 -- ---- the puts
 
@@ -111,31 +144,44 @@ puts_read : (content : Content) (shape : Shape) (store : HashState) (region : �
 puts_read content shape store region has_region own h =
     own.stands.counted h ∙ ap (λ (s : Shape). region_puts s content.shown store.region) own.hash.has_shape ∙ ap (region_puts shape content.shown) has_region
 
-module _ (content : Content) (shape : Shape) (regions : List ℕ) (i : ℕ) (stores : List HashState) (puts rows : ℕ) (before : i < length regions) (read : AreReadHashes content shape (take i regions) stores puts rows) where
-  -- one hash store more
-  pub one_more_hash : (store : HashState) (more_puts more_rows : ℕ) → store.region ≡ get_or regions i 0 → IsReadHash content shape store → (IsTrue content.honest → AreSoundHashes shape content.shown (get_or regions i 0 ∷ []))
-      → more_puts ≡ store.puts → (IsTrue content.honest → more_rows ≡ region_rows shape content.shown (get_or regions i 0))
-      → AreReadHashes content shape (take (i + 1) regions) (stores ++ store ∷ []) (puts + more_puts) (rows + more_rows)
-  one_more_hash store more_puts more_rows has_region own sound are_puts counted =
-      let region : ℕ = get_or regions i 0 in
-      let charged : IsTrue content.honest → more_puts ≡ region_puts shape content.shown region = λ h. are_puts ∙ puts_read content shape store region has_region own h in
-      let next : take (i + 1) regions ≡ take i regions ++ region ∷ [] = take_more regions i 0 before in
-      subst (λ (ids : List ℕ). AreReadHashes content shape ids (stores ++ store ∷ []) (puts + more_puts) (rows + more_rows)) (sym next) (record {
-        has_regions = map-append hash_region_of stores (store ∷ []) ∙ ap (λ (ids : List ℕ). ids ++ store.region ∷ []) read.has_regions ∙ ap (λ (id : ℕ). take i regions ++ id ∷ []) has_region;
-        each = All-push (IsReadHash content shape) stores store read.each own;
-        sound = λ h. both_sound shape content.shown (take i regions) (region ∷ []) (read.sound h) (sound h);
-        charged = λ h.
-            ap (λ (n : ℕ). n + more_puts) (read.charged h) ∙ ap (λ (n : ℕ). sum_by (region_puts shape content.shown) (take i regions) + n) (charged h)
-            ∙ sym (sum_by_push (region_puts shape content.shown) (take i regions) region);
-        counted = λ h.
-            ap (λ (n : ℕ). n + more_rows) (read.counted h) ∙ ap (λ (n : ℕ). sum_by (region_rows shape content.shown) (take i regions) + n) (counted h)
-            ∙ sym (sum_by_push (region_rows shape content.shown) (take i regions) region);
-      })
+module _ (content : Content) (shape : Shape) (said : Option Digests) (regions : List ℕ) (i : ℕ) (stores : List HashState) (puts rows : ℕ) (before : i < length regions) (read : AreReadHashes content shape said (take i regions) stores puts rows) where
+  -- so many are read
+  so_many : length (take i regions) ≡ i
+  so_many = length-take-le i regions (omega (arith, before))
 
-  -- a finding in the next hash store
-  pub next_slot_finding : (finding : Finding) → (IsTrue content.honest → HasFirstSlot shape content.shown (get_or regions i 0 ∷ []) finding) → IsTrue content.honest → HasFirstSlot shape content.shown regions finding
-  next_slot_finding finding found h =
-      let region : ℕ = get_or regions i 0 in
-      let all : take i regions ++ (region ∷ []) ++ drop (i + 1) regions ≡ regions =
-      append_assoc (take i regions) (region ∷ []) (drop (i + 1) regions) ∙ ap (λ (ids : List ℕ). take i regions ++ ids) (sym (drop_more regions i 0 before)) ∙ take-append-drop i regions in
-      subst (λ (ids : List ℕ). HasFirstSlot shape content.shown ids finding) all (slot_within shape content.shown (take i regions) (region ∷ []) (drop (i + 1) regions) finding (read.sound h) (found h))
+  module _ (digest : Option (List ℕ)) (is_said : digest ≡ said_hash said i) where
+    -- one hash store more
+    pub one_more_hash : (store : HashState) (more_puts more_rows : ℕ) → store.region ≡ get_or regions i 0 → IsReadHash content shape store
+        → (IsTrue content.honest → region_findings shape digest content.shown (get_or regions i 0) ≡ []) → more_puts ≡ store.puts
+        → (IsTrue content.honest → more_rows ≡ region_rows shape content.shown (get_or regions i 0)) → AreReadHashes content shape said (take (i + 1) regions) (stores ++ store ∷ []) (puts + more_puts) (rows + more_rows)
+    one_more_hash store more_puts more_rows has_region own sound are_puts counted =
+        let region : ℕ = get_or regions i 0 in
+        let charged : IsTrue content.honest → more_puts ≡ region_puts shape content.shown region = λ h. are_puts ∙ puts_read content shape store region has_region own h in
+        let next : take (i + 1) regions ≡ take i regions ++ region ∷ [] = take_more regions i 0 before in
+        subst (λ (ids : List ℕ). AreReadHashes content shape said ids (stores ++ store ∷ []) (puts + more_puts) (rows + more_rows)) (sym next) (record {
+          has_regions = map-append hash_region_of stores (store ∷ []) ∙ ap (λ (ids : List ℕ). ids ++ store.region ∷ []) read.has_regions ∙ ap (λ (id : ℕ). take i regions ++ id ∷ []) has_region;
+          each = All-push (IsReadHash content shape) stores store read.each own;
+          sound = λ h.
+              one_more_sound shape said content.shown (take i regions) region i so_many (read.sound h)
+              (subst (λ (d : Option (List ℕ)). region_findings shape d content.shown region ≡ []) is_said (sound h));
+          charged = λ h.
+              ap (λ (n : ℕ). n + more_puts) (read.charged h) ∙ ap (λ (n : ℕ). sum_by (region_puts shape content.shown) (take i regions) + n) (charged h)
+              ∙ sym (sum_by_push (region_puts shape content.shown) (take i regions) region);
+          counted = λ h.
+              ap (λ (n : ℕ). n + more_rows) (read.counted h) ∙ ap (λ (n : ℕ). sum_by (region_rows shape content.shown) (take i regions) + n) (counted h)
+              ∙ sym (sum_by_push (region_rows shape content.shown) (take i regions) region);
+        })
+
+    -- a finding in the next hash store
+    pub next_slot_finding : (finding : Finding) → (IsTrue content.honest → HasFirstInRegion shape digest content.shown (get_or regions i 0) finding) → IsTrue content.honest
+        → HasFirstSlot shape said content.shown regions finding
+    next_slot_finding finding found h = record {
+      before = take i regions;
+      region = get_or regions i 0;
+      after = drop (i + 1) regions;
+      all = sym (ap (λ (ids : List ℕ). take i regions ++ ids) (sym (drop_more regions i 0 before)) ∙ take-append-drop i regions);
+      sound = read.sound h;
+      first =
+          ap (λ (n : ℕ). slice_get (said_hash_findings shape said (n, hash_part shape content.shown (get_or regions i 0))) 0) so_many
+          ∙ ap (λ (d : Option (List ℕ)). slice_get (region_findings shape d content.shown (get_or regions i 0)) 0) (sym is_said) ∙ (found h).first;
+    }

@@ -1,4 +1,5 @@
 pub mod Refusals
+pub mod Firsts
 pub mod Manifests
 pub mod Formats
 pub mod HalfFormats
@@ -7,6 +8,6 @@ pub mod HashSearches
 pub mod Frozen
 pub mod EntrySearches
 pub mod Examinations
+pub mod Shown
 pub mod Takings
 pub mod Reports
-pub mod Shown

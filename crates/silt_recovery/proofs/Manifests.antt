@@ -2,28 +2,36 @@
 use Rattle.std.proofs.Common.{◌≡◌, ℕ, List, length, Some, Ok, Err, Result, refl, ap, sym, ◌∙◌}
 use Rattle.silt_disk.specs.Layout.{Shape}
 use Rattle.silt_disk.specs.Header.{header_of}
-use Rattle.silt_image.specs.Stores.{damage_finding, image_stores, shape_found, stores_named, stores_ruled, stores_shaped}
-use Rattle.silt_image.proofs.Named.{stores_law}
+use Rattle.silt_image.specs.Stores.{damage_finding, image_digests, image_stores, shape_found, stores_named, stores_ruled, stores_shaped}
+use Rattle.silt_image.proofs.Named.{digests_law, stores_law}
 use Rattle.silt_image.proofs.Verdict.{no_stores_law}
 use Rattle.silt_event.specs.declared.damage.Finding.{Finding}
 use Rattle.silt_manifest.specs.Faults.{IsDamaged}
 use Rattle.silt_manifest.specs.Ruling.{manifest_found, where_found}
-use Rattle.silt_manifest.specs.Standing.{IsRuled, ManifestState}
-use Rattle.silt_manifest.specs.declared.body.Body.{Body}
+use Rattle.silt_manifest.specs.Standing.{IsRuled, ManifestState, ruling_record}
+use Rattle.silt_manifest.specs.declared.slot.SlotRecord.{SlotRecord}
 use Rattle.silt_manifest.specs.declared.slot.Damage.{Damage}
 use Rattle.silt_recovery.specs.Refusals.{IsFound}
 
--- a body that was found
-pub found_body : (found : Result Body Damage) (body : Body) → where_found found ≡ Some body → found ≡ Ok body
-found_body (Ok b) body is = cc
-found_body (Err damage) body is = absurd (cc)
+-- a record that was found
+pub found_record : (found : Result SlotRecord Damage) (held : SlotRecord) → where_found found ≡ Some held → found ≡ Ok held
+found_record (Ok other) held is = cc
+found_record (Err damage) held is = absurd (cc)
+
+-- the record that rules, in a shape of another name
+pub record_that_rules : (shape : Shape) (image : List ℕ) (m : ManifestState) → m.shape ≡ shape → IsRuled m image → manifest_found shape image ≡ Ok (ruling_record m)
+record_that_rules shape image m same ruled = ap (λ (s : Shape). manifest_found s image) (sym same) ∙ found_record (manifest_found m.shape image) (ruling_record m) ruled.rules
 
 -- the stores of the body that rules
 pub ruled_stores : (shape : Shape) (image : List ℕ) (m : ManifestState) → shape_found (length image) (header_of image) ≡ Ok shape → m.shape ≡ shape → IsRuled m image → image_stores image ≡ Ok (stores_named shape m.ruling image)
 unfolding stores_named
 ruled_stores shape image m header same ruled =
-    let body : manifest_found shape image ≡ Ok m.ruling = ap (λ (s : Shape). manifest_found s image) (sym same) ∙ found_body (manifest_found m.shape image) m.ruling ruled.rules in
-    (stores_law image (stores_named shape m.ruling image)).1 (record { shape = header; body = body; named = refl })
+    (stores_law image (stores_named shape m.ruling image)).1 (record { shape = header; digests = m.digests; rules = record_that_rules shape image m same ruled; named = refl })
+
+-- the digests behind it
+pub ruled_digests : (shape : Shape) (image : List ℕ) (m : ManifestState) → image_stores image ≡ Ok (stores_named shape m.ruling image) → m.shape ≡ shape → IsRuled m image → image_digests image ≡ m.digests
+unfolding stores_named
+ruled_digests shape image m stores same ruled = digests_law image (stores_named shape m.ruling image) (ruling_record m) stores (record_that_rules shape image m same ruled)
 
 -- a finding in the header is the verdict
 pub header_verdict : (image : List ℕ) (finding : Finding) → shape_found (length image) (header_of image) ≡ Err finding → IsFound image finding

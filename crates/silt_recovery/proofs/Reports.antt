@@ -1,5 +1,5 @@
 -- The numbers of what is held of a device.
-use Rattle.std.proofs.Common.{◌≡◌, ◌≤◌, ℕ, ◌+◌, IsTrue, List, [], ◌∷◌, All, length, map, refl, ap, sym, ◌∙◌, subst, arith, sum_by, true}
+use Rattle.std.proofs.Common.{◌≡◌, ◌≤◌, ℕ, ◌+◌, IsTrue, List, [], ◌∷◌, All, length, map, Option, refl, ap, sym, ◌∙◌, subst, arith, sum_by, true}
 use Rattle.std.proofs.lemmas.List.{length-map}
 use Rattle.std.proofs.lemmas.List.Elements.{All-head, All-tail, All-weaker}
 use Rattle.std.proofs.lemmas.List.Sums.{sum_by-cons}
@@ -9,8 +9,10 @@ use Rattle.silt_disk.proofs.Regions.{bucket_count_most}
 use Rattle.silt_log.specs.Parts.{Part, log_part}
 use Rattle.silt_image.specs.Stores.{Stores, stores_named}
 use Rattle.silt_hash_store.specs.Slots.{hash_part}
+use Rattle.silt_event.specs.declared.report.Layout.{Layout}
 use Rattle.silt_event.specs.declared.report.Report.{Report}
-use Rattle.silt_image.proofs.Verdict.{sound_law}
+use Rattle.silt_image.specs.Meaning.{charge_of, layout_of}
+use Rattle.silt_manifest.specs.declared.digests.Digests.{Digests}
 use Rattle.silt_log.specs.Rows.{log_rows}
 use Rattle.silt_log_store.specs.State.{LogStoreState}
 use Rattle.silt_manifest.specs.Body.{is_well_formed}
@@ -21,6 +23,7 @@ use Rattle.silt_recovery.specs.Logs.{IsReadLog}
 use Rattle.silt_recovery.specs.Opening.{CountsHashRows, Holds, IsReported}
 use Rattle.silt_recovery.proofs.Examinations.{HasRegions, named_regions}
 use Rattle.silt_recovery.proofs.HashSearches.{known_count}
+use Rattle.silt_recovery.proofs.Shown.{held_good}
 use Rattle.silt_recovery.proofs.Takings.{row_count}
 
 -- how many rows a log has, in memory and on the device
@@ -56,6 +59,7 @@ pub reported : (content : Content) (s : TiersState) (body : Body) (hash_rows : �
   hash_rows = hash_rows;
   entries = body.sorted_count;
   charge = s.charge;
+  layout = layout_of s.manifest.digests;
 })
 unfolding stores_named
 reported content s body hash_rows holds counts same h =
@@ -68,7 +72,7 @@ reported content s body hash_rows holds counts same h =
     ∙ sym (sum_by-cons part_count first []) in
     let frozen_rows : sum_by used_rows s.frozen ≡ sum_by part_count (map (log_part s.manifest.shape content.shown) s.manifest.ruling.frozen) =
     counts_read content s.manifest.shape s.frozen h holds.frozen ∙ ap (λ (ids : List ℕ). sum_by part_count (map (log_part s.manifest.shape content.shown) ids)) holds.whole.frozen_regions in
-    let told : Body → ℕ → ℕ → ℕ → ℕ → Report = λ b n older hashed charge. record {
+    let told : Option Digests → Body → ℕ → ℕ → ℕ → ℕ → Report = λ said b n older hashed charge. record {
       generation = b.generation;
       active = b.active;
       active_rows = n;
@@ -78,18 +82,22 @@ reported content s body hash_rows holds counts same h =
       hash_rows = hashed;
       entries = b.sorted_count;
       charge = charge;
+      layout = layout_of said;
     } in
+    let said : Option Digests = s.manifest.digests in
     record {
       stores = shown_stores content s;
       are = holds.named h;
-      good = (sound_law content.shown (shown_stores content s) (holds.named h)).1 (holds.sound h);
+      good = held_good content s holds h;
       numbers =
-          ap (λ (b : Body). told b s.active.log.used (sum_by used_rows s.frozen) hash_rows s.charge) same
-          ∙ ap (λ (n : ℕ). told s.manifest.ruling n (sum_by used_rows s.frozen) hash_rows s.charge) active_rows
-          ∙ ap (λ (n : ℕ). told s.manifest.ruling (sum_by part_count (first ∷ [])) n hash_rows s.charge) frozen_rows
-          ∙ ap (λ (n : ℕ). told s.manifest.ruling (sum_by part_count (first ∷ [])) (sum_by part_count (map (log_part s.manifest.shape content.shown) s.manifest.ruling.frozen)) n s.charge) (counts h)
-          ∙ ap (λ (n : ℕ). told s.manifest.ruling (sum_by part_count (first ∷ [])) (sum_by part_count (map (log_part s.manifest.shape content.shown) s.manifest.ruling.frozen))
-          (sum_by known_count (map (hash_part s.manifest.shape content.shown) s.manifest.ruling.hashed)) n) (holds.counted h);
+          ap (λ (b : Body). told said b s.active.log.used (sum_by used_rows s.frozen) hash_rows s.charge) same
+          ∙ ap (λ (n : ℕ). told said s.manifest.ruling n (sum_by used_rows s.frozen) hash_rows s.charge) active_rows
+          ∙ ap (λ (n : ℕ). told said s.manifest.ruling (sum_by part_count (first ∷ [])) n hash_rows s.charge) frozen_rows
+          ∙ ap (λ (n : ℕ). told said s.manifest.ruling (sum_by part_count (first ∷ [])) (sum_by part_count (map (log_part s.manifest.shape content.shown) s.manifest.ruling.frozen)) n s.charge) (counts h)
+          ∙ ap (λ (n : ℕ). told said s.manifest.ruling (sum_by part_count (first ∷ [])) (sum_by part_count (map (log_part s.manifest.shape content.shown) s.manifest.ruling.frozen))
+          (sum_by known_count (map (hash_part s.manifest.shape content.shown) s.manifest.ruling.hashed)) n) (holds.counted h)
+          ∙ ap (λ (d : Option Digests). told d s.manifest.ruling (sum_by part_count (first ∷ [])) (sum_by part_count (map (log_part s.manifest.shape content.shown) s.manifest.ruling.frozen))
+          (sum_by known_count (map (hash_part s.manifest.shape content.shown) s.manifest.ruling.hashed)) (charge_of (shown_stores content s))) (sym (holds.says h));
     }
 
 -- no log has more rows than a table has room for
@@ -100,7 +108,7 @@ few_rows content shape stores limits read =
     omega (arith, room, limits.log_capacity_most, bucket_count_most shape.buckets limits.buckets)) stores read
 
 -- the same of numbers that are named in another way
-pub reported_so : (content : Content) (s : TiersState) (body : Body) (rows frozen older hashes hash_rows : ℕ) → Holds content s → CountsHashRows content s hash_rows → body ≡ s.manifest.ruling → rows ≡ s.active.log.used → frozen ≡ length body.frozen → older ≡ sum_by used_rows s.frozen → hashes ≡ length body.hashed
+pub reported_so : (content : Content) (s : TiersState) (body : Body) (rows frozen older hashes hash_rows : ℕ) (layout : Layout) → Holds content s → CountsHashRows content s hash_rows → body ≡ s.manifest.ruling → rows ≡ s.active.log.used → frozen ≡ length body.frozen → older ≡ sum_by used_rows s.frozen → hashes ≡ length body.hashed → layout ≡ layout_of s.manifest.digests
     → IsTrue content.honest → IsReported content.shown (record {
       generation = body.generation;
       active = body.active;
@@ -111,9 +119,10 @@ pub reported_so : (content : Content) (s : TiersState) (body : Body) (rows froze
       hash_rows = hash_rows;
       entries = body.sorted_count;
       charge = s.charge;
+      layout = layout;
     })
-reported_so content s body rows frozen older hashes hash_rows holds counts same are_rows are_frozen are_older are_hashes h =
-    let told : ℕ → ℕ → ℕ → ℕ → Report = λ a b c d. record {
+reported_so content s body rows frozen older hashes hash_rows layout holds counts same are_rows are_frozen are_older are_hashes is_layout h =
+    let told : ℕ → ℕ → ℕ → ℕ → Layout → Report = λ a b c d l. record {
       generation = body.generation;
       active = body.active;
       active_rows = a;
@@ -123,11 +132,13 @@ reported_so content s body rows frozen older hashes hash_rows holds counts same 
       hash_rows = hash_rows;
       entries = body.sorted_count;
       charge = s.charge;
+      layout = l;
     } in
-    subst (λ (n : ℕ). IsReported content.shown (told n frozen older hashes)) (sym are_rows)
-    (subst (λ (n : ℕ). IsReported content.shown (told s.active.log.used n older hashes)) (sym are_frozen)
-    (subst (λ (n : ℕ). IsReported content.shown (told s.active.log.used (length body.frozen) n hashes)) (sym are_older)
-    (subst (λ (n : ℕ). IsReported content.shown (told s.active.log.used (length body.frozen) (sum_by used_rows s.frozen) n)) (sym are_hashes) (reported content s body hash_rows holds counts same h))))
+    subst (λ (n : ℕ). IsReported content.shown (told n frozen older hashes layout)) (sym are_rows)
+    (subst (λ (n : ℕ). IsReported content.shown (told s.active.log.used n older hashes layout)) (sym are_frozen)
+    (subst (λ (n : ℕ). IsReported content.shown (told s.active.log.used (length body.frozen) n hashes layout)) (sym are_older)
+    (subst (λ (n : ℕ). IsReported content.shown (told s.active.log.used (length body.frozen) (sum_by used_rows s.frozen) n layout)) (sym are_hashes)
+    (subst (λ (l : Layout). IsReported content.shown (told s.active.log.used (length body.frozen) (sum_by used_rows s.frozen) (length body.hashed) l)) (sym is_layout) (reported content s body hash_rows holds counts same h)))))
 
 -- no more logs are frozen than a device can have
 pub few_frozen : (content : Content) (s : TiersState) (slot : ℕ) → Holds content s → is_well_formed s.manifest.shape slot s.manifest.ruling ≡ true → length s.frozen ≤ 7

@@ -1,16 +1,16 @@
 -- What a device shows in which nothing is found.
-use Rattle.std.proofs.Common.{◌≡◌, IsTrue, List, [], map, slice_index_or, ap, sym, ◌∙◌}
+use Rattle.std.proofs.Common.{◌≡◌, IsTrue, List, map, slice_index_or, Option, ap, sym, ◌∙◌, subst}
 use Rattle.silt_disk.specs.Disk.{Content}
-use Rattle.silt_event.specs.Commands.{Command, Map, map_after}
+use Rattle.silt_event.specs.Commands.{map_after}
 use Rattle.silt_event.specs.Rows.{command_of, map_of_rows}
 use Rattle.silt_frame.specs.Rows.{StoredRow}
-use Rattle.silt_image.specs.Meaning.{IsGood, image_map}
+use Rattle.silt_image.specs.Meaning.{AreDigestsOf, IsGood, image_map}
 use Rattle.silt_image.proofs.Verdict.{rows_law, sound_law}
 use Rattle.silt_log.specs.Rows.{first_rows, log_rows}
 use Rattle.silt_log.specs.State.{settled_rows}
 use Rattle.silt_log.proofs.Waiting.{none_waiting}
-use Rattle.silt_log_store.specs.State.{LogStoreState}
-use Rattle.silt_standing.specs.Standing.{IsFrozen, Shows, base_map, current_map, shown_stores}
+use Rattle.silt_manifest.specs.declared.digests.Digests.{Digests}
+use Rattle.silt_standing.specs.Standing.{Shows, base_map, current_map, shown_stores}
 use Rattle.silt_standing.specs.State.{TiersState}
 use Rattle.silt_recovery.specs.Logs.{IsReadLog}
 use Rattle.silt_recovery.specs.Opening.{Holds}
@@ -41,4 +41,6 @@ module _ (content : Content) (s : TiersState) (holds : Holds content s) where
 
   -- which is good
   pub held_good : IsTrue content.honest → IsGood content.shown
-  held_good h = (sound_law content.shown (shown_stores content s) (holds.named h)).1 (holds.sound h)
+  held_good h =
+      (sound_law content.shown (shown_stores content s) (holds.named h)).1
+      (holds.sound h, subst (λ (d : Option Digests). AreDigestsOf d (shown_stores content s)) (sym (holds.says h)) (holds.said h))

@@ -1,5 +1,5 @@
 -- What stands at the exits of an opening.
-use Rattle.std.proofs.Common.{◌≡◌, ◌≤◌, ◌<◌, ℕ, ◌+◌, ◌-◌, ◌*◌, inl, inr, false, IsTrue, List, [], ◌∷◌, ◌++◌, All, length, map, slice_index_or, Option, None, Ok, ap, sym, ◌∙◌, subst, arith}
+use Rattle.std.proofs.Common.{◌≡◌, ◌≤◌, ◌<◌, ℕ, ◌+◌, ◌-◌, ◌*◌, inl, inr, false, IsTrue, List, [], ◌∷◌, ◌++◌, All, length, map, slice_index_or, Option, None, Ok, refl, ap, sym, ◌∙◌, subst, arith}
 use Rattle.std.specs.List.{list_all}
 use Rattle.std.specs.Option.{IfSome}
 use Rattle.std.proofs.lemmas.List.{append-nil}
@@ -16,21 +16,23 @@ use Rattle.silt_hash_store.specs.State.{HashState, IsHashStore}
 use Rattle.silt_hash_store.proofs.Elsewhere.{hash_elsewhere}
 use Rattle.silt_disk.specs.Header.{shape_of}
 use Rattle.silt_image.specs.Laws.{IsWhole}
-use Rattle.silt_image.specs.Meaning.{IsGood, IsSound, StandsFor, charge_of, image_map, rows_of, with_log_rows}
+use Rattle.silt_image.specs.Meaning.{AreDigestsOf, IsGood, IsSound, StandsFor, charge_of, image_map, rows_of, with_log_rows}
 use Rattle.silt_event.specs.Rows.{map_of_rows}
 use Rattle.silt_frame.specs.Rows.{has_known_kind, StoredRow, keys_of, put_count}
 use Rattle.silt_log.specs.Parts.{Part, log_part}
-use Rattle.silt_image.specs.Stores.{Stores, image_stores, stores_named}
+use Rattle.silt_image.specs.Stores.{Stores, image_digests, image_stores, stores_named}
 use Rattle.silt_image.proofs.Frame.{log_region_law}
-use Rattle.silt_image.proofs.Named.{stores_law, whole_law}
+use Rattle.silt_image.proofs.Named.{digests_law, stores_law, whole_law}
 use Rattle.silt_image.proofs.Rows.{own_rows_law}
-use Rattle.silt_image.proofs.Verdict.{rows_law, sound_law, stands_law}
+use Rattle.silt_image.proofs.Verdict.{rows_law, stands_law}
 use Rattle.silt_log.specs.Rows.{first_rows, log_rows, open_count, rows_from}
 use Rattle.silt_log.specs.State.{LogState, InBounds, all_rows, waiting_rows}
 use Rattle.silt_log.proofs.Waiting.{none_waiting}
 use Rattle.silt_log_store.specs.Calls.{SealsStore}
 use Rattle.silt_log_store.specs.State.{LogStoreState}
 use Rattle.silt_manifest.proofs.Laws.{rules_elsewhere}
+use Rattle.silt_manifest.specs.Standing.{IsRuled, Rules, ruling_record}
+use Rattle.silt_manifest.specs.declared.digests.Digests.{Digests}
 use Rattle.silt_merge.specs.State.{MergeState}
 use Rattle.silt_standing.specs.Standing.{HasGathered, IsDigested, IsFrozen, IsLocated, Stands, base_map, shown_stores}
 use Rattle.silt_sorted_store.specs.State.{SortedState}
@@ -42,7 +44,9 @@ use Rattle.silt_recovery.specs.Opening.{Holds, IsUnwritten, IsUnwrittenUnlessFai
 use Rattle.silt_recovery.specs.Refusals.{IsFound, IsRefusedLook}
 use Rattle.silt_recovery.specs.declared.fault.OpenError.{OpenError}
 use Rattle.silt_recovery.specs.declared.fault.OpenError.TheVariants.{NotFormatted, Damaged, Crowded, Device, NoMemory}
+use Rattle.silt_recovery.proofs.Manifests.{record_that_rules}
 use Rattle.silt_recovery.proofs.Refusals.{refused_weaker}
+use Rattle.silt_recovery.proofs.Shown.{held_good}
 
 -- ---- where nothing was written
 
@@ -228,18 +232,33 @@ module _ (old between new : Content) (s : TiersState) (settles : Settles old bet
   unfolding stores_named
   shown_same h = sym ((stores_law new.shown (shown_stores between s)).0 (same_stores.each (changes.honest ∙ h) new.shown (shown_left new))).named
 
+  -- the same record rules in whatever a stop leaves
+  still_ruled : Rules s.manifest new
+  still_ruled =
+      let least : slot_at 1 + 4096 ≤ size between = omega (arith, holds.has_size) in
+      rules_elsewhere s.manifest (gates_at s.manifest.shape s.manifest.ruling.active) (log_size s.manifest.shape) between new least (inr (omega arith)) changed (holds.rules settles.rests)
+
+  -- so the same digests are said
+  said_in : (image : List ℕ) → image_stores image ≡ Ok (shown_stores between s) → IsRuled s.manifest image → image_digests image ≡ s.manifest.digests
+  unfolding stores_named
+  said_in image stores ruled = digests_law image (shown_stores between s) (ruling_record s.manifest) stores (record_that_rules s.manifest.shape image s.manifest refl ruled)
+
+  same_said : LeavesOnly new (λ image. image_digests image ≡ s.manifest.digests)
+  same_said = record { each = λ honest image left. said_in image (same_stores.each honest image left) (still_ruled.each honest image left) }
+
   -- each image stands for what was shown
-  stands_for : IsTrue old.honest → (image : List ℕ) → image_stores image ≡ Ok (shown_stores between s) → StandsFor (shape_of old.shown) (image_map old.shown) image
+  stands_for : IsTrue old.honest → (image : List ℕ) → image_stores image ≡ Ok (shown_stores between s) → image_digests image ≡ s.manifest.digests → StandsFor (shape_of old.shown) (image_map old.shown) image
   unfolding stores_named image_map
-  stands_for o image stores =
+  stands_for o image stores says =
       let h : IsTrue between.honest = here o in
-      let stands : StandsFor s.manifest.shape (map_of_rows (rows_of (shown_stores between s))) image = stands_law image (shown_stores between s) stores (holds.sound h) in
+      let stands : StandsFor s.manifest.shape (map_of_rows (rows_of (shown_stores between s))) image =
+      stands_law image (shown_stores between s) stores (holds.sound h) (subst (λ (d : Option Digests). AreDigestsOf d (shown_stores between s)) (sym says) (holds.said h)) in
       let has_shape : s.manifest.shape ≡ shape_of old.shown = sym (whole h).has_shape ∙ ap shape_of (settles.shown o) in
       let has_map : map_of_rows (rows_of (shown_stores between s)) ≡ image_map old.shown = ap map_of_rows (sym (rows_law between.shown (shown_stores between s) (holds.named h))) ∙ ap image_map (settles.shown o) in
       subst (λ (x : Shape). StandsFor x (image_map old.shown) image) has_shape (subst (λ m. StandsFor s.manifest.shape m image) has_map stands)
 
   pub sealed_images : LeavesNoOther old new
-  sealed_images = record { each = λ honest image left. inr (stands_for (sym settles.honest ∙ was honest) image (same_stores.each honest image left)) }
+  sealed_images = record { each = λ honest image left. inr (stands_for (sym settles.honest ∙ was honest) image (same_stores.each honest image left) (same_said.each honest image left)) }
 
   module _ (after : LogStoreState) (sizes : size new ≡ size between) (long_as : size between ≡ size old) (seals : SealsStore between new s.active after) where
     same_log : after.log ≡ record s.active.log { loose = false }
@@ -285,7 +304,6 @@ module _ (old between new : Content) (s : TiersState) (settles : Settles old bet
     stands : Stands new (record s { active = after })
     stands =
         let sealed = seals.stands holds.active.indexed in
-        let least : slot_at 1 + 4096 ≤ size between = omega (arith, holds.has_size) in
         record {
           has_size = sizes ∙ holds.has_size;
           whole = record {
@@ -302,7 +320,7 @@ module _ (old between new : Content) (s : TiersState) (settles : Settles old bet
             most = holds.whole.most;
           };
           idle = holds.idle;
-          rules = rules_elsewhere s.manifest (gates_at s.manifest.shape s.manifest.ruling.active) (log_size s.manifest.shape) between new least (inr (omega arith)) changed (holds.rules settles.rests);
+          rules = still_ruled;
           active = sealed.log;
           indexed = sealed.index;
           frozen = λ k d inside. frozen_stands between new s.manifest.shape (slice_index_or s.frozen k d) changes.honest (holds.frozen k d inside) (λ h. frozen_rows h k d inside);
@@ -313,6 +331,7 @@ module _ (old between new : Content) (s : TiersState) (settles : Settles old bet
           merged = none_gathered new (record s { active = after }) holds.none_merged;
           named = record { each = λ honest image left. same_stores.each honest image left ∙ ap Ok (sym (shown_same (was honest))) };
           sound = λ h. all_sound (was h);
+          said = λ h. subst (AreDigestsOf s.manifest.digests) (sym (shown_same (was h))) (holds.said (was h));
           counted = λ h. all_counted (was h);
         }
 
@@ -323,7 +342,7 @@ module _ (old between new : Content) (s : TiersState) (settles : Settles old bet
       disk = record { size = sizes ∙ long_as; honest = changes.honest ∙ settles.honest };
       stands = stands;
       quiet = record { settled = settled; none_wait = ap (map _) (none_waiting new after.log settled) };
-      good = λ o. subst IsGood (settles.shown o) ((sound_law between.shown (shown_stores between s) (holds.named (here o))).1 (holds.sound (here o)));
+      good = λ o. subst IsGood (settles.shown o) (held_good between s holds (here o));
       none_converted = holds.none_converted;
       none_merged = holds.none_merged;
       has_shape = λ o. sym (whole (here o)).has_shape ∙ ap shape_of (settles.shown o);

@@ -1,16 +1,27 @@
 -- Hash stores as they are read from a device.
-use Rattle.std.specs.Prelude.{◌≡◌, ℕ, IsTrue, List, [], ◌∷◌, ◌++◌, All, length, map, sum_by, slice_get, Option, Some}
+use Rattle.std.specs.Prelude.{◌≡◌, ℕ, IsTrue, List, ◌∷◌, ◌++◌, All, length, map, sum_by, slice_get, Option, Some}
 use Rattle.silt_disk.specs.Disk.{Content}
 use Rattle.silt_disk.specs.Layout.{Shape}
 use Rattle.silt_hash_store.specs.State.{HashState, IsHashStore}
 use Rattle.silt_image.specs.Laws.{AreSoundParts}
-use Rattle.silt_image.specs.Meaning.{said_hash_findings}
+use Rattle.silt_image.specs.Meaning.{digest_findings, part_digest, said_hash_findings}
 use Rattle.silt_manifest.specs.declared.digests.Digests.{Digests}
 use Rattle.silt_log.specs.Parts.{known_rows}
 use Rattle.silt_frame.specs.Rows.{put_count}
+use Rattle.silt_hash_store.specs.Findings.{hash_findings}
 use Rattle.silt_hash_store.specs.Slots.{hash_part}
 use Rattle.silt_event.specs.declared.damage.Finding.{Finding}
+use Rattle.silt_event.specs.declared.place.Place.TheVariants.{HashDigest}
 use Rattle.silt_standing.specs.State.{IsHashOf, hash_region_of}
+
+-- what is found in a hash store of an image: in its slots, and behind them in the digest that is said of it
+abbrev pub region_findings : Shape → Option (List ℕ) → List ℕ → ℕ → List Finding
+region_findings shape said image region =
+    hash_findings shape (hash_part shape image region) ++ digest_findings (HashDigest region) said (part_digest (hash_part shape image region))
+
+-- this is the first finding in a hash store of an image and in the digest that is said of it
+pub record HasFirstInRegion (shape : Shape) (said : Option (List ℕ)) (image : List ℕ) (region : ℕ) (finding : Finding) : Type 0 where
+  pub first : slice_get (region_findings shape said image region) 0 ≡ Some finding
 
 -- nothing is found in these hash stores of an image, and the digests that are said of them are theirs
 abbrev pub AreSoundHashes : Shape → Option Digests → List ℕ → List ℕ → Type 0

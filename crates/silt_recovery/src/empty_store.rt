@@ -1,18 +1,19 @@
 // The empty store that a device is given.
-ghost use Rattle.std.specs.Prelude.{◌≡◌, ◌≤◌, ◌+◌, false, slice_range, length, IsTrue, OnOk, OnErr, IfErr, MatchResult};
+ghost use Rattle.std.specs.Prelude.{◌≡◌, [], ◌≤◌, ◌+◌, false, slice_range, length, IsTrue, OnOk, OnErr, IfErr, MatchResult};
 ghost use Rattle.std.specs.FinMap.{empty};
 ghost use Rattle.silt_disk.specs.Disk.{GaveAny, LeavesOnly, size};
 ghost use Rattle.silt_disk.specs.Layout.{InLimits, device_size};
-ghost use Rattle.silt_image.specs.Meaning.{StandsFor};
+ghost use Rattle.silt_image.specs.Meaning.{StandsFor, entries_digest};
 ghost use Rattle.silt_recovery.specs.Format.{FormatCause, IsHalfFormatted};
 ghost use Rattle.silt_standing.specs.Standing.{SameDisk};
 
 use crate::fault::{FormatError, FormatFault};
 use crate::header::write_header;
+use sha1::Sha1;
 use silt_disk::{Disk, Geometry, slot_start, write_synced};
-use silt_frame::GATE_CLOSED;
+use silt_frame::{Digest, GATE_CLOSED};
 use silt_log::Log;
-use silt_manifest::write_first;
+use silt_manifest::{Digests, write_first};
 use std::alloc::Global;
 
 /// Makes an empty store of this geometry, and gives the device back. What it held is lost. The header's gate is closed first and
@@ -50,6 +51,16 @@ pub fn format<D: Disk>(alloc: Global, mut disk: D, geometry: Geometry) -> Result
     }
 }
 
+// The digests of an empty store: there is no hash store, and the sorted store has no entries.
+fn empty_digests() -> Digests
+    ensures { result.sorted.0 ≡ entries_digest [] }
+{
+    Digests {
+        hashed: [Digest([0; 20]); 16],
+        sorted: Digest(Sha1::new().finalize()),
+    }
+}
+
 // Writes the empty store: the header's gate is closed first and opened last.
 fn write_store<D: Disk>(disk: &mut D, log: &mut Log, geometry: &Geometry) -> Result<(), D::Fault>
     requires size { size (D.content disk.old) ≡ device_size geometry.now }
@@ -63,7 +74,8 @@ fn write_store<D: Disk>(disk: &mut D, log: &mut Log, geometry: &Geometry) -> Res
     write_synced(disk, 0, &[GATE_CLOSED])?;
     disk.write(slot_start(1), &[GATE_CLOSED])?;
     log.prepare(disk)?;
-    write_first(disk)?;
+    let digests = empty_digests();
+    write_first(disk, &digests)?;
     write_header(disk, geometry)?;
     Ok(())
 }

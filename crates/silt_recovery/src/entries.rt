@@ -7,24 +7,28 @@ ghost use Rattle.silt_recovery.specs.Refusals.{IsRefusedLook};
 ghost use Rattle.silt_sorted_store.specs.Index.{HasIndex};
 ghost use Rattle.silt_sorted_store.specs.State.{HasDigest};
 
+use crate::digests::{is_other, sorted_said};
 use crate::fault::OpenError;
 use silt_disk::{Disk, Geometry};
 use silt_event::Place;
+use silt_manifest::Digests;
 use silt_sorted_store::{ScanError, SortedStore};
 use std::alloc::Global;
 
-/// Reads the first `count` entries of a sorted region once, and makes the index of their keys and the digest of their bytes.
+/// Reads the first `count` entries of a sorted region once, and makes the index of their keys and the digest of their bytes. Behind
+/// the last entry the digest is compared with the one that is said, if one is.
 ///
 /// # Errors
 ///
-/// `Damaged` with the number of the first entry that is not above the one before it; `Device` with the fault of a read, and
-/// `NoMemory`, where what is read or the index finds none.
+/// `Damaged` with the number of the first entry that is not above the one before it, or else at the digest, where it is another;
+/// `Device` with the fault of a read, and `NoMemory`, where what is read or the index finds none.
 pub fn read_entries<D: Disk>(
     alloc: Global,
     disk: &D,
     geometry: Geometry,
     region: u32,
     count: u32,
+    said: &Option<Digests>,
 ) -> Result<SortedStore, OpenError<D::Fault>>
     requires region { region < 2 }
     requires count { count ≤ geometry.sorted_capacity }
@@ -32,13 +36,18 @@ pub fn read_entries<D: Disk>(
     ensures store { IfOk result (λ store. store.sorted ≡ record { shape = geometry; region = region; count = count }) }
     ensures indexed { IfOk result (λ store. HasIndex (D.content disk.now) store.sorted store.index) }
     ensures digested { IfOk result (λ store. HasDigest (D.content disk.now) store.sorted store.digest) }
-    ensures sound { IsTrue (D.content disk.now).honest → OnOk result (AreSoundEntries geometry (D.content disk.now).shown region count) }
+    ensures sound { IsTrue (D.content disk.now).honest → OnOk result (AreSoundEntries geometry said.now (D.content disk.now).shown region count) }
     ensures cause { IfErr result (IsRefusedLook
-        (λ finding. IsTrue (D.content disk.now).honest → HasFirstEntry geometry (D.content disk.now).shown region count finding)
+        (λ finding. IsTrue (D.content disk.now).honest → HasFirstEntry geometry said.now (D.content disk.now).shown region count finding)
         (GaveAny D.gave disk.now)) }
 {
     match SortedStore::rebuild(alloc, disk, geometry, region, count) {
-        Ok(store) => Ok(store),
+        Ok(store) => {
+            if is_other(sorted_said(said), store.digest()) {
+                return Err(OpenError::Damaged(Place::SortedDigest));
+            }
+            Ok(store)
+        }
         Err(ScanError::Damaged(place)) => Err(OpenError::Damaged(Place::Sorted(place))),
         Err(ScanError::Device(fault)) => Err(OpenError::Device(fault)),
         Err(ScanError::NoMemory) => Err(OpenError::NoMemory),

@@ -2,8 +2,8 @@
 ghost use Rattle.std.specs.Prelude.{◌≡◌, ◌≤◌, IsTrue, IfOk, IfErr, OnOk, None, Ok, vec_capacity};
 ghost use Rattle.silt_disk.specs.Disk.{GaveAny, Rests, size};
 ghost use Rattle.silt_disk.specs.Layout.{device_size};
-ghost use Rattle.silt_disk.specs.Header.{header_of};
-ghost use Rattle.silt_image.specs.Stores.{image_stores, shape_found, stores_named};
+ghost use Rattle.silt_disk.specs.Header.{header_of, version_of};
+ghost use Rattle.silt_image.specs.Stores.{image_digests, image_stores, shape_found, stores_named};
 ghost use Rattle.silt_manifest.specs.Standing.{Rules};
 ghost use Rattle.silt_recovery.specs.Opening.{CountsHashRows, Holds, held_stores};
 ghost use Rattle.silt_recovery.specs.Refusals.{IsFound, IsRefusedLook};
@@ -13,7 +13,7 @@ use crate::fault::OpenError;
 use crate::hashes::read_hashes;
 use crate::header::read_geometry;
 use crate::logs::{read_frozen, read_log};
-use silt_disk::{Disk, Geometry};
+use silt_disk::{Disk, Geometry, Version};
 use silt_event::Place;
 use silt_hash_store::HashStore;
 use silt_image::finding_of;
@@ -36,25 +36,32 @@ pub struct Holding {
     pub charge: u32,
 }
 
-// Reads the manifest of a device of this geometry.
-fn read_manifest<D: Disk>(disk: &D, geometry: Geometry) -> Result<Manifest, OpenError<D::Fault>>
+// Reads the manifest of a device of this geometry and version.
+fn read_manifest<D: Disk>(
+    disk: &D,
+    geometry: Geometry,
+    version: Version,
+) -> Result<Manifest, OpenError<D::Fault>>
     requires size { size (D.content disk.now) ≡ device_size geometry }
     requires shape { IsTrue (D.content disk.now).honest → shape_found (size (D.content disk.now)) (header_of (D.content disk.now).shown) ≡ Ok geometry }
+    requires version { IsTrue (D.content disk.now).honest → version ≡ version_of (header_of (D.content disk.now).shown) }
     ensures shape { IfOk result (λ m. (m.shape ≡ geometry) × (m.prepared ≡ None)) }
     ensures rules { IfOk result (λ m. Rests (D.content disk.now) → Rules m (D.content disk.now)) }
     ensures named { IsTrue (D.content disk.now).honest → IfOk result (λ m. image_stores (D.content disk.now).shown ≡ Ok (stores_named geometry m.ruling (D.content disk.now).shown)) }
+    ensures says { IsTrue (D.content disk.now).honest → IfOk result (λ m. image_digests (D.content disk.now).shown ≡ m.digests) }
     ensures cause { IfErr result (IsRefusedLook
         (λ finding. IsTrue (D.content disk.now).honest → IsFound (D.content disk.now).shown finding)
         (GaveAny D.gave disk.now)) }
 {
-    match read_current(disk, geometry) {
+    match read_current(disk, geometry, version) {
         Ok(manifest) => Ok(manifest),
         Err(ReadFault::Damaged(damage)) => Err(OpenError::from(finding_of(damage))),
         Err(ReadFault::Device(fault)) => Err(OpenError::Device(fault)),
     }
 }
 
-// Reads the logs that a manifest names, the active one first, the hash stores and the sorted entries, and counts their puts.
+// Reads the logs that a manifest names, the active one first, the hash stores and the sorted entries, compares the digests that it
+// says, and counts the puts.
 fn read_stores<D: Disk>(
     alloc: Global,
     disk: &D,
@@ -63,6 +70,7 @@ fn read_stores<D: Disk>(
     requires size { size (D.content disk.now) ≡ device_size manifest.shape }
     requires idle { manifest.prepared ≡ None }
     requires named { IsTrue (D.content disk.now).honest → image_stores (D.content disk.now).shown ≡ Ok (stores_named manifest.shape manifest.ruling (D.content disk.now).shown) }
+    requires says { IsTrue (D.content disk.now).honest → image_digests (D.content disk.now).shown ≡ manifest.digests }
     requires rules { Rests (D.content disk.now) → Rules manifest (D.content disk.now) }
     ensures holds { IfOk result (λ held. Holds (D.content disk.now) (held_stores held)) }
     ensures hash_rows { IfOk result (λ held. CountsHashRows (D.content disk.now) (held_stores held) held.hash_rows) }
@@ -73,11 +81,12 @@ fn read_stores<D: Disk>(
 {
     let geometry = manifest.geometry();
     let body = manifest.ruling();
+    let said = manifest.digests();
     let most = u64::from(geometry.sorted_capacity());
     let active = read_log(alloc, disk, geometry, body.active)?;
     let frozen = read_frozen(alloc, disk, geometry, body.frozen.as_slice())?;
-    let hashes = read_hashes(alloc, disk, geometry, body.hashed.as_slice())?;
-    let sorted = read_entries(alloc, disk, geometry, body.sorted, body.sorted_count)?;
+    let hashes = read_hashes(alloc, disk, geometry, body.hashed.as_slice(), &said)?;
+    let sorted = read_entries(alloc, disk, geometry, body.sorted, body.sorted_count, &said)?;
     let newest = u64::from(active.puts());
     let entries = u64::from(sorted.len());
     let charge = newest + frozen.puts + hashes.puts + entries;
@@ -96,7 +105,8 @@ fn read_stores<D: Disk>(
 }
 
 /// Looks at a device, in this order: the header, the manifest, the active log, the frozen logs from the newest on, the hash stores
-/// from the newest on, the sorted entries, the number of puts. It writes nothing.
+/// from the newest on, the sorted entries, the number of puts. Behind the slots of a hash store, and behind the sorted entries, the
+/// digest is compared with the one that the manifest says, if it says digests. It writes nothing.
 ///
 /// # Errors
 ///
@@ -109,7 +119,7 @@ pub fn examine<D: Disk>(alloc: Global, disk: &D) -> Result<Holding, OpenError<D:
         (λ finding. IsTrue (D.content disk.now).honest → IsFound (D.content disk.now).shown finding)
         (GaveAny D.gave disk.now)) }
 {
-    let geometry = read_geometry(disk)?;
-    let manifest = read_manifest(disk, geometry)?;
+    let header = read_geometry(disk)?;
+    let manifest = read_manifest(disk, header.geometry, header.version)?;
     read_stores(alloc, disk, manifest)
 }

@@ -3,15 +3,22 @@ ghost use Rattle.std.specs.Prelude.{◌≡◌, ◌∷◌, ◌≤◌, IsTrue, IfO
 ghost use Rattle.silt_disk.specs.Disk.{ChangesWithin, GaveAny, LeavesOnly, Rests, size};
 ghost use Rattle.silt_disk.specs.Layout.{device_size};
 ghost use Rattle.silt_frame.specs.Gate.{gate_open};
-ghost use Rattle.silt_disk.specs.Header.{header_bytes, header_of};
+ghost use Rattle.silt_disk.specs.Header.{header_bytes, header_of, version_of};
 ghost use Rattle.silt_image.specs.Stores.{shape_found};
 ghost use Rattle.silt_recovery.specs.Format.{HasHeaderOrNone, IsGateClosed};
 ghost use Rattle.silt_recovery.specs.Refusals.{IsRefusedLook};
 
 use crate::fault::OpenError;
-use silt_disk::{Disk, Geometry, HEADER_LEN, header_bytes, write_synced};
+use silt_disk::{Disk, Geometry, HEADER_LEN, Version, header_bytes, version_of, write_synced};
 use silt_frame::GATE_OPEN;
 use silt_image::read_header;
+
+/// What the header of a device says: its six numbers, and the version of its layout.
+#[derive(Clone, Copy)]
+pub struct Header {
+    pub geometry: Geometry,
+    pub version: Version,
+}
 
 // The bytes of the header.
 fn read_bytes<D: Disk>(disk: &D) -> Result<[u8; 37], D::Fault>
@@ -24,14 +31,15 @@ fn read_bytes<D: Disk>(disk: &D) -> Result<[u8; 37], D::Fault>
     Ok(header)
 }
 
-/// The geometry that the header of a device says, on a device of the length that this asks.
+/// The geometry and the version that the header of a device says, on a device of the length that this geometry asks.
 ///
 /// # Errors
 ///
 /// `NotFormatted`, `Damaged` at the header or the length, or `Device` with the fault of the read.
-pub fn read_geometry<D: Disk>(disk: &D) -> Result<Geometry, OpenError<D::Fault>>
-    ensures shape { IsTrue (D.content disk.now).honest → IfOk result (λ geometry. shape_found (size (D.content disk.now)) (header_of (D.content disk.now).shown) ≡ Ok geometry) }
-    ensures size { IfOk result (λ geometry. size (D.content disk.now) ≡ device_size geometry) }
+pub fn read_geometry<D: Disk>(disk: &D) -> Result<Header, OpenError<D::Fault>>
+    ensures shape { IsTrue (D.content disk.now).honest → IfOk result (λ header. shape_found (size (D.content disk.now)) (header_of (D.content disk.now).shown) ≡ Ok header.geometry) }
+    ensures version { IsTrue (D.content disk.now).honest → IfOk result (λ header. header.version ≡ version_of (header_of (D.content disk.now).shown)) }
+    ensures size { IfOk result (λ header. size (D.content disk.now) ≡ device_size header.geometry) }
     ensures cause { IfErr result (IsRefusedLook
         (λ finding. IsTrue (D.content disk.now).honest → shape_found (size (D.content disk.now)) (header_of (D.content disk.now).shown) ≡ Err finding)
         (GaveAny D.gave disk.now)) }
@@ -44,7 +52,10 @@ pub fn read_geometry<D: Disk>(disk: &D) -> Result<Geometry, OpenError<D::Fault>>
         Err(fault) => return Err(OpenError::Device(fault)),
     };
     match read_header(disk.len(), &header) {
-        Ok(geometry) => Ok(geometry),
+        Ok(geometry) => Ok(Header {
+            geometry,
+            version: version_of(&header),
+        }),
         Err(finding) => Err(OpenError::from(finding)),
     }
 }

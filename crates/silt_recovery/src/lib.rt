@@ -4,12 +4,15 @@
 //! holds no store, or the empty one.
 //!
 //! `open` and `check` look at a device in one order: the header, the manifest, the active log, the frozen logs from the newest
-//! on, the hash stores from the newest on, the sorted entries, the number of puts. The first thing that is found decides. `open`
+//! on, the hash stores from the newest on, the sorted entries, the number of puts. Where the manifest says digests of the stores, those
+//! of what was read are compared with them: that of a hash store behind its slots, that of the sorted store behind its last entry.
+//! Where it says none, nothing is compared. The first thing that is found decides. `open`
 //! settles what is shown before it looks, and then closes the gates of the active log past its first closed one: a row behind such
 //! a gate was dropped by a stop, and is not to come back. At each exit of an opening, whatever a stop leaves might have been left
 //! before, or stands for the map that was shown.
 #![tactic(auto)]
 
+mod digests;
 mod empty_store;
 mod entries;
 mod examination;

@@ -6,6 +6,7 @@ ghost use Rattle.silt_recovery.specs.Opening.{CountsHashRows, Holds, IsReported,
 ghost use Rattle.silt_recovery.specs.Refusals.{IsFound, IsRefusedLook};
 ghost use Rattle.silt_standing.specs.Standing.{shown_stores};
 
+use crate::digests::layout_of;
 use crate::examination::{Holding, examine};
 use crate::fault::OpenError;
 use silt_disk::Disk;
@@ -35,6 +36,7 @@ fn report_of<D: Disk>(disk: &D, held: &Holding) -> Report
     ensures { IsTrue (D.content disk.now).honest → IsReported (D.content disk.now).shown result }
 {
     let body = held.manifest.ruling();
+    let said = held.manifest.digests();
     Report {
         generation: body.generation,
         active: body.active,
@@ -45,6 +47,7 @@ fn report_of<D: Disk>(disk: &D, held: &Holding) -> Report
         hash_rows: held.hash_rows,
         entries: body.sorted_count,
         charge: held.charge,
+        layout: layout_of(&said),
     }
 }
 

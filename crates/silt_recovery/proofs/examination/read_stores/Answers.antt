@@ -6,7 +6,7 @@ use Rattle.silt_recovery.specs.Entries.{HasFirstEntry}
 use Rattle.silt_recovery.specs.Hashes.{HasFirstSlot}
 use Rattle.silt_recovery.specs.Logs.{HasFirstFinding}
 use Rattle.silt_recovery.specs.Refusals.{IsFound}
-use Rattle.silt_recovery.proofs.Examinations.{HasRegions, active_refused, charge_refused, entry_refused, frozen_refused, hashed_refused, held, named_so, regions_so, rows_counted}
+use Rattle.silt_recovery.proofs.Examinations.{HasRegions, active_refused, charge_refused, entry_refused, frozen_refused, hashed_refused, held, named_so, regions_so, rows_counted, says_so}
 use Rattle.silt_recovery.proofs.Refusals.{refused_weaker}
 use Rattle.silt_recovery.proofs.examination.read_stores.Goals as goal
 
@@ -60,10 +60,11 @@ returns-in_err-hashes-clause-cause g c =
     let shape = c.geometry-geometry.result in
     let body = c.ruling-body.result in
     let named = named_so content c.args.manifest shape body c.geometry-geometry.ensures.value c.ruling-body.ensures.value c.requires.named in
+    let says = says_so content c.args.manifest c.digests-said.result c.digests-said.ensures.value c.requires.says in
     let refused = err_from_is_err_and c.from_residual-in_err-hashes.result c.from_residual-in_err-hashes.ensures.1 in
-    rw (refused.1, refused.2) (refused_weaker (λ finding. IsTrue content.honest → HasFirstSlot shape content.shown c.as_slice-2.result.now finding) (λ finding. IsTrue content.honest → IsFound content.shown finding)
+    rw (refused.1, refused.2) (refused_weaker (λ finding. IsTrue content.honest → HasFirstSlot shape c.digests-said.result content.shown c.as_slice-2.result.now finding) (λ finding. IsTrue content.honest → IsFound content.shown finding)
     (GaveAny g.D.Disk.gave c.args.disk.now) c.in_err-hashes.field-0.0
-    (hashed_refused content shape body named c.in_ok-active.ensures.sound c.as_slice.result.now c.as_slice.ensures.value c.in_ok-frozen.frozen.stores.items c.in_ok-frozen.frozen.puts c.in_ok-frozen.ensures.read
+    (hashed_refused content shape body named c.in_ok-active.ensures.sound c.as_slice.result.now c.as_slice.ensures.value c.in_ok-frozen.frozen.stores.items c.in_ok-frozen.frozen.puts c.in_ok-frozen.ensures.read c.digests-said.result says
     c.as_slice-2.result.now c.as_slice-2.ensures.value) c.in_err-hashes.ensures.cause)
 
 pub read_entries-requires-clause-region : goal.read_entries-requires-clause-region
@@ -84,10 +85,11 @@ returns-in_err-sorted-clause-cause g c =
     let shape = c.geometry-geometry.result in
     let body = c.ruling-body.result in
     let named = named_so content c.args.manifest shape body c.geometry-geometry.ensures.value c.ruling-body.ensures.value c.requires.named in
+    let says = says_so content c.args.manifest c.digests-said.result c.digests-said.ensures.value c.requires.says in
     let refused = err_from_is_err_and c.from_residual-in_err-sorted.result c.from_residual-in_err-sorted.ensures.1 in
-    rw (refused.1, refused.2) (refused_weaker (λ finding. IsTrue content.honest → HasFirstEntry shape content.shown body.sorted body.sorted_count finding) (λ finding. IsTrue content.honest → IsFound content.shown finding)
+    rw (refused.1, refused.2) (refused_weaker (λ finding. IsTrue content.honest → HasFirstEntry shape c.digests-said.result content.shown body.sorted body.sorted_count finding) (λ finding. IsTrue content.honest → IsFound content.shown finding)
     (GaveAny g.D.Disk.gave c.args.disk.now) c.in_err-sorted.field-0.0
-    (entry_refused content shape body named c.in_ok-active.ensures.sound c.as_slice.result.now c.as_slice.ensures.value c.in_ok-frozen.frozen.stores.items c.in_ok-frozen.frozen.puts c.in_ok-frozen.ensures.read
+    (entry_refused content shape body named c.in_ok-active.ensures.sound c.as_slice.result.now c.as_slice.ensures.value c.in_ok-frozen.frozen.stores.items c.in_ok-frozen.frozen.puts c.in_ok-frozen.ensures.read c.digests-said.result says
     c.as_slice-2.result.now c.as_slice-2.ensures.value c.in_ok-hashes.hashes.stores.items c.in_ok-hashes.hashes.puts c.in_ok-hashes.hashes.rows c.in_ok-hashes.ensures.read) c.in_err-sorted.ensures.cause)
 
 pub returns-then-charge-most-clause-cause : goal.returns-then-charge-most-clause-cause
@@ -96,9 +98,10 @@ returns-then-charge-most-clause-cause g c =
     let shape = c.geometry-geometry.result in
     let body = c.ruling-body.result in
     let named = named_so content c.args.manifest shape body c.geometry-geometry.ensures.value c.ruling-body.ensures.value c.requires.named in
+    let says = says_so content c.args.manifest c.digests-said.result c.digests-said.ensures.value c.requires.says in
     let many : shape.sorted_capacity < c.from-newest.result + c.in_ok-frozen.frozen.puts + c.in_ok-hashes.hashes.puts + c.in_ok-sorted.sorted.sorted.count =
     omega (arith, c.if-charge-most.true, c.from-most.ensures, c.sorted_capacity.ensures.value, c.from-entries.ensures, c.len.ensures.value) in
-    charge_refused content shape body named c.in_ok-active.ensures.sound c.as_slice.result.now c.as_slice.ensures.value c.in_ok-frozen.frozen.stores.items c.in_ok-frozen.frozen.puts c.in_ok-frozen.ensures.read
+    charge_refused content shape body named c.in_ok-active.ensures.sound c.as_slice.result.now c.as_slice.ensures.value c.in_ok-frozen.frozen.stores.items c.in_ok-frozen.frozen.puts c.in_ok-frozen.ensures.read c.digests-said.result says
     c.as_slice-2.result.now c.as_slice-2.ensures.value c.in_ok-hashes.hashes.stores.items c.in_ok-hashes.hashes.puts c.in_ok-hashes.hashes.rows c.in_ok-hashes.ensures.read
     c.in_ok-sorted.sorted.sorted c.in_ok-sorted.ensures.store c.len.ensures.held c.in_ok-sorted.ensures.sound
     c.from-newest.result (λ h. c.from-newest.ensures ∙ c.puts.ensures.value ∙ c.in_ok-active.ensures.counted h) many
@@ -109,13 +112,14 @@ returns-clause-holds g c =
     let shape = c.geometry-geometry.result in
     let body = c.ruling-body.result in
     let named = named_so content c.args.manifest shape body c.geometry-geometry.ensures.value c.ruling-body.ensures.value c.requires.named in
+    let says = says_so content c.args.manifest c.digests-said.result c.digests-said.ensures.value c.requires.says in
     let charge : ℕ = c.from-newest.result + c.in_ok-frozen.frozen.puts + c.in_ok-hashes.hashes.puts + c.from-entries.result in
     let total : charge ≡ c.from-newest.result + c.in_ok-frozen.frozen.puts + c.in_ok-hashes.hashes.puts + c.in_ok-sorted.sorted.sorted.count = omega (arith, c.from-entries.ensures, c.len.ensures.value) in
     let most : charge ≤ shape.sorted_capacity = omega (arith, c.if-charge-most.false, c.from-most.ensures, c.sorted_capacity.ensures.value) in
-    held content shape body named c.in_ok-active.ensures.sound c.as_slice.result.now c.as_slice.ensures.value c.in_ok-frozen.frozen.stores.items c.in_ok-frozen.frozen.puts c.in_ok-frozen.ensures.read
+    held content shape body named c.in_ok-active.ensures.sound c.as_slice.result.now c.as_slice.ensures.value c.in_ok-frozen.frozen.stores.items c.in_ok-frozen.frozen.puts c.in_ok-frozen.ensures.read c.digests-said.result says
     c.as_slice-2.result.now c.as_slice-2.ensures.value c.in_ok-hashes.hashes.stores.items c.in_ok-hashes.hashes.puts c.in_ok-hashes.hashes.rows c.in_ok-hashes.ensures.read
     c.in_ok-sorted.sorted.sorted c.in_ok-sorted.ensures.store c.len.ensures.held c.in_ok-sorted.ensures.sound
-    c.from-newest.result (λ h. c.from-newest.ensures ∙ c.puts.ensures.value ∙ c.in_ok-active.ensures.counted h) c.args.manifest c.geometry-geometry.ensures.value c.ruling-body.ensures.value
+    c.from-newest.result (λ h. c.from-newest.ensures ∙ c.puts.ensures.value ∙ c.in_ok-active.ensures.counted h) c.args.manifest c.geometry-geometry.ensures.value c.ruling-body.ensures.value c.digests-said.ensures.value
     c.in_ok-active.active c.in_ok-sorted.sorted.index c.in_ok-sorted.sorted.digest charge c.sorted_capacity.ensures.limits c.requires.size c.requires.idle c.requires.rules c.in_ok-active.ensures.read c.in_ok-active.ensures.region c.in_ok-sorted.ensures.indexed
     c.in_ok-sorted.ensures.digested total most
 
@@ -125,7 +129,8 @@ returns-clause-hash_rows g c =
     let shape = c.geometry-geometry.result in
     let body = c.ruling-body.result in
     let named = named_so content c.args.manifest shape body c.geometry-geometry.ensures.value c.ruling-body.ensures.value c.requires.named in
-    rows_counted content shape body named c.in_ok-active.ensures.sound c.as_slice.result.now c.as_slice.ensures.value c.in_ok-frozen.frozen.stores.items c.in_ok-frozen.frozen.puts c.in_ok-frozen.ensures.read
+    let says = says_so content c.args.manifest c.digests-said.result c.digests-said.ensures.value c.requires.says in
+    rows_counted content shape body named c.in_ok-active.ensures.sound c.as_slice.result.now c.as_slice.ensures.value c.in_ok-frozen.frozen.stores.items c.in_ok-frozen.frozen.puts c.in_ok-frozen.ensures.read c.digests-said.result says
     c.as_slice-2.result.now c.as_slice-2.ensures.value c.in_ok-hashes.hashes.stores.items c.in_ok-hashes.hashes.puts c.in_ok-hashes.hashes.rows c.in_ok-hashes.ensures.read
     c.args.manifest c.geometry-geometry.ensures.value c.ruling-body.ensures.value
 

@@ -1,4 +1,5 @@
 use Rattle.std.proofs.Common.{◌≤◌, List, All, length, sum_by, sym, ap, ◌∙◌, subst}
+use Rattle.silt_image.specs.Meaning.{layout_of}
 use Rattle.silt_log_store.specs.State.{LogStoreState}
 use Rattle.silt_manifest.specs.Standing.{ruling_slot}
 use Rattle.silt_standing.specs.State.{TiersState}
@@ -19,5 +20,5 @@ row_count-requires-clause-most g c =
 pub returns : goal.returns
 returns g c =
     let held : TiersState = held_stores c.args.held.now in
-    reported_so (g.D.Disk.content c.args.disk.now) held c.ruling-body.result c.len.result c.len-2.result c.row_count.result c.len-3.result c.args.held.now.hash_rows c.requires.holds c.requires.hash_rows c.ruling-body.ensures.value c.len.ensures.value c.len-2.ensures.value
-    (c.row_count.ensures ∙ ap (λ (stores : List LogStoreState). sum_by used_rows stores) c.deref.ensures.value) c.len-3.ensures.value
+    reported_so (g.D.Disk.content c.args.disk.now) held c.ruling-body.result c.len.result c.len-2.result c.row_count.result c.len-3.result c.args.held.now.hash_rows c.layout_of.result c.requires.holds c.requires.hash_rows c.ruling-body.ensures.value c.len.ensures.value c.len-2.ensures.value
+    (c.row_count.ensures ∙ ap (λ (stores : List LogStoreState). sum_by used_rows stores) c.deref.ensures.value) c.len-3.ensures.value (c.layout_of.ensures ∙ ap layout_of c.digests-said.ensures.value)
