@@ -51,13 +51,13 @@ seen_core facts disk stores count failed basis = record (seen facts disk stores 
   failed = failed;
 }
 
--- the map is the base after the waiting commands, the numbers are the full image's, and each image stands for the base
+-- the map is the base after the waiting commands, the numbers are the full image's, and each possible crash image represents the base
 pub record Standing {D F : Type 0} (facts : Ghosts D F) (core : CoreState D) : Type 0 where
   pub numbers : IsTrue (facts.content core.disk).honest → IsGoodWith core.shape core.body core.charge core.full
   pub has_map : IsTrue (facts.content core.disk).honest → map_of core ≡ map_after core.base core.waiting
   pub safe : LeavesOnly (facts.content core.disk) (StandsFor core.shape core.base)
 
--- a store that is not failed stands
+-- this is true of a store that is not failed
 pub stands_seen : {D F : Type 0} (facts : Ghosts D F) (disk : D) (stores : TiersState) (count : ℕ) → Stands (facts.content disk) stores → Standing facts (seen facts disk stores count)
 stands_seen facts disk stores count stands = record {
   numbers = (meaning (facts.content disk) stores stands).numbers;
@@ -99,7 +99,7 @@ pub endures_seen : {D F : Type 0} (facts : Ghosts D F) (disk : D) (stores : Tier
     → IsCore (facts.content disk) stores count failed basis → Endures facts core
 endures_seen facts disk stores count failed basis core is holds = subst (Endures facts) is (endures facts disk stores count failed basis holds)
 
--- what is true of a store stays where its disk and its stores do
+-- what is true of a store stays true if its disk and its stores stay
 pub core_stays : {D : Type 0} (content : D → Content) (old new : D) (stores after : TiersState) (count : ℕ) (failed : Bool) (basis : BasisState) → IsCore (content old) stores count failed basis → after ≡ stores → new ≡ old
     → IsCore (content new) after count failed basis
 core_stays content old new stores after count failed basis holds same same_disk = rw (same_disk, same) holds
@@ -126,7 +126,7 @@ core_broke old new stores after count failed basis holds working same shape brea
       };
     }
 
--- what is true of a store after a call that was answered, by which these commands were accepted
+-- what is true of a store after a successful call that accepted these commands
 pub core_went : (adds : List Command) (old new : Content) (stores after : TiersState) (count next : ℕ) (failed : Bool) (basis : BasisState) → IsCore old stores count failed basis → failed ≡ false → SameDisk old new
     → Advances adds old new stores after → next ≡ count + length adds → next < 2 ^ 63 → IsCore new after next failed basis
 core_went adds old new stores after count next failed basis holds working same goes is most = record {
@@ -203,7 +203,7 @@ module _ {D F : Type 0} (facts : Ghosts D F) where
       unchanged core event (Refused Failed) refl cause (λ _. refl) (λ _. failed) (λ f. absurd (let no : false ≡ true = sym f ∙ failed in cc)) (none_refused {F = F} event Failed) (λ _. tt)
       (λ f. absurd (let no : false ≡ true = sym f ∙ failed in cc))
 
-  -- a store that is not failed refuses, for another cause than a failure, and is as it was
+  -- a store that is not failed refuses, for another cause than a failure, and stays as it was
   pub refused : (disk : D) (stores : TiersState) (count : ℕ) (event : Event) (refusal : Refusal F) → Stands (facts.content disk) stores → is_failed (Refused refusal) ≡ false
       → Cause facts (seen facts disk stores count) (seen facts disk stores count) event (Refused refusal)
       → Does facts (seen facts disk stores count) (seen facts disk stores count) event (Refused refusal)
@@ -211,7 +211,7 @@ module _ {D F : Type 0} (facts : Ghosts D F) where
       unchanged (seen facts disk stores count) event (Refused refusal) refl cause (λ f. absurd (cc)) (λ t. absurd (let no : false ≡ true = sym other ∙ t in cc))
       (λ _ _. step_refused (image_map (full_image (facts.content disk) stores)) event refusal) (none_refused event refusal) (λ _. tt) (λ _. stands_seen facts disk stores count stands)
 
-  -- a store that is not failed answers without a change
+  -- a store that is not failed replies without a change
   pub answered : (disk : D) (stores : TiersState) (count : ℕ) (event : Event) (reply : Reply F)
       → Stands (facts.content disk) stores → Counts count reply count → is_failed reply ≡ false → accepted_command event reply ≡ []
       → Cause facts (seen facts disk stores count) (seen facts disk stores count) event reply
@@ -231,7 +231,7 @@ module _ {D F : Type 0} (facts : Ghosts D F) where
     back : IsTrue (facts.content new).honest → IsTrue (facts.content disk).honest
     back h = sym same.honest ∙ h
 
-    -- the map after a call that was answered
+    -- the map after a successful call
     pub advanced_map : (adds : List Command) → Advances adds (facts.content disk) (facts.content new) stores after → IsTrue (facts.content disk).honest
         → image_map (full_image (facts.content new) after) ≡ map_after (image_map (full_image (facts.content disk) stores)) adds
     advanced_map adds goes h =
@@ -243,7 +243,7 @@ module _ {D F : Type 0} (facts : Ghosts D F) where
         ∙ map_after-append (base_map (facts.content disk) stores) (waiting_commands (facts.content disk) stores) adds
         ∙ ap (λ m. map_after m adds) (sym ((meaning (facts.content disk) stores stands).full h))
 
-    -- a call is answered, and these commands are accepted
+    -- a call succeeds, and these commands are accepted
     pub advanced : (adds : List Command) (count next : ℕ) (event : Event) (reply : Reply F) → Advances adds (facts.content disk) (facts.content new) stores after
         → Counts count reply next → accepted_command event reply ≡ adds → is_refused reply ≡ false → is_failed reply ≡ false
         → Cause facts (seen facts disk stores count) (seen facts new after next) event reply

@@ -1,4 +1,4 @@
--- What a step of conversion does, from what that of the stores in memory does.
+-- What a step of conversion does, from what the same step of the stores in memory does.
 use Rattle.std.proofs.Common.{◌≡◌, ℕ, ◌+◌, ◌*◌, ◌%◌, ◌^◌, inl, inr, false, true, IsTrue, [], length, Option, Some, None, IfSome, refl, ap, sym, ◌∙◌, subst}
 use Rattle.std.proofs.lemmas.List.{length-map}
 use Rattle.silt_disk.specs.Disk.{GaveAny}
@@ -19,12 +19,12 @@ use Rattle.silt_store_set.specs.Basis.{basis_of}
 use Rattle.silt_store_set.specs.CoreState.{CoreState, ConvertGoesOn, ConvertsTo, Does, convert_due, convert_work, written_of}
 use Rattle.silt_store_set.proofs.Calls.{seen, seen_failed, advanced, answered, broke, refused}
 
--- a conversion in memory and as contracts see it have written as many slots
+-- a conversion in memory and the contracts' view of it have written the same number of slots
 written_same : (o : Option ConversionState) → written_of (convert_work o) ≡ written_by o
 written_same None = refl
 written_same (Some conversion) = refl
 
--- a step in memory as contracts see it
+-- the contracts' view of a step in memory
 goes_on : (s : TiersState) (before : Option ConversionState) (after : ConversionState) → IsNextStep s before after → ConvertGoesOn s.manifest.shape.hashes s.manifest.ruling (convert_work before) (convert_work (Some after))
 goes_on s None after step = step
 goes_on s (Some before) after step = step
@@ -34,7 +34,7 @@ module _ {D F : Type 0} (facts : Ghosts D F) (disk : D) (stores : TiersState) (c
   abbrev before : CoreState D
   before = seen facts disk stores count
 
-  -- what is due is the same in memory and in the body's words
+  -- the next step is the same in memory and by the manifest record
   pub due_same : convert_due before ≡ convert_turn stores
   due_same =
       let frozen : length stores.manifest.ruling.frozen ≡ length stores.frozen = ap length (sym stands.whole.frozen_regions) ∙ length-map stores.frozen region_of in
@@ -43,7 +43,7 @@ module _ {D F : Type 0} (facts : Ghosts D F) (disk : D) (stores : TiersState) (c
       ∙ ap (λ (n : ℕ). progress_due (length stores.frozen) n stores.manifest.shape.hashes (4 * stores.manifest.shape.buckets) (written_of (convert_work stores.converting))) hashed
       ∙ ap (progress_due (length stores.frozen) (length stores.hashes) stores.manifest.shape.hashes (4 * stores.manifest.shape.buckets)) (written_same stores.converting)
 
-  -- nothing was to be done
+  -- there was nothing to do
   stood : (progress : ProgressOf) (new : D) (after : TiersState) → progress ≡ convert_turn stores → new ≡ disk → after ≡ stores → facts.failures new ≡ facts.failures disk
       → ConvertsTo facts before before progress → is_work progress ≡ false → Does facts before (seen facts new after count) Convert (Progress progress)
   stood progress new after due same_disk same counted does idle =
@@ -56,7 +56,7 @@ module _ {D F : Type 0} (facts : Ghosts D F) (disk : D) (stores : TiersState) (c
       subst (λ (o : Option ConversionState). IfSome o (λ c.
       AreConverted stores.manifest.shape (oldest_rows stores.manifest.shape stores.manifest.ruling (full_image (facts.content disk) stores)) (hash_rows stores.manifest.shape c.region (full_image (facts.content new) after)))) was has
 
-  -- a step was answered
+  -- a step succeeded
   pub stepped : (progress : ProgressOf) (new : D) (after : TiersState) → SameDisk (facts.content disk) (facts.content new) → Advances [] (facts.content disk) (facts.content new) stores after
       → Converts progress stores after → (progress ≡ Finished → IsTrue (facts.content disk).honest → HasConvertedRows (facts.content disk) (facts.content new) stores after) → (is_work progress ≡ false → new ≡ disk) → facts.failures new ≡ facts.failures disk
       → Does facts before (seen facts new after count) Convert (Progress progress)

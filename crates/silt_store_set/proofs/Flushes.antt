@@ -23,7 +23,7 @@ use Rattle.silt_store_set.proofs.Openings.{none_wait}
 tells_below : (a b : ℕ) → nat_lt a b ≡ true → a < b
 tells_below a b some = grind (arith, nat_tests, some)
 
--- where a row is not settled a command waits
+-- if a row is not settled a command waits
 some_wait : (content : Content) (log : LogState) → log.settled < log.used → map command_of (waiting_rows content log) ≡ [] → ⊥
 unfolding rows_from
 some_wait content log waits none =
@@ -31,7 +31,7 @@ some_wait content log waits none =
     omega (arith, waits, len, length-map (waiting_rows content log) command_of, ap length none)
 
 module _ {D F : Type 0} (facts : Ghosts D F) (disk : D) (stores : TiersState) (count : ℕ) (stands : Stands (facts.content disk) stores) where
-  -- where no row waits nothing is done
+  -- if no row waits nothing is done
   pub flushed_none : nat_lt stores.active.log.settled stores.active.log.used ≡ false
       → Does facts (seen facts disk stores count) (seen facts disk stores count) Flush (Acknowledged count)
   flushed_none none =
@@ -49,7 +49,7 @@ module _ {D F : Type 0} (facts : Ghosts D F) (disk : D) (stores : TiersState) (c
       (refl, counted, λ none. absurd (some_wait (facts.content disk) stores.active.log waits none)) (λ m to e. e)
       (λ _ _. ap (λ m. m.ruling) manifest) (λ _. converting) (λ _. merging) (λ _. quiet.none_wait) counted
 
-  -- a sync or the write of the gates failed
+  -- a sync or the write of the commit bytes failed
   pub flush_broke : (new : D) (after : TiersState) (fault : F) → SameDisk (facts.content disk) (facts.content new) → Breaks (facts.content disk) (facts.content new) stores → Remaps [] (facts.content disk) (facts.content new) stores after
       → after.manifest ≡ stores.manifest → GaveAny facts.gave new fault → facts.failures new ≡ (facts.failures disk + 1) % 2 ^ 64
       → Does facts (seen facts disk stores count) (seen_failed facts (basis_of (facts.content disk) stores) new after count) Flush (Refused (Device fault))

@@ -1,4 +1,4 @@
--- The slot that a merge gathers next, where it lacks memory: it has the first row of a key.
+-- If a merge is out of memory, the slot that it gathers next has the first row of a key.
 use Rattle.std.proofs.Common.{◌≡◌, ℕ, zero, suc, ◌+◌, ◌-◌, ◌*◌, ◌<◌, ◌≤◌, true, IsTrue, cond, List, [], ◌∷◌, ◌++◌, drop, filter, flat_map, length, map, take, get_or, slice_get, Option, Some, None, option_map, refl, sym, subst, ap, ◌∙◌, arith, append_assoc, suc-mul}
 use Rattle.std.specs.Option.{option_or}
 use Rattle.std.proofs.lemmas.List.{length-append, length-map, take-append-drop}
@@ -31,7 +31,7 @@ use Rattle.silt_store_set.specs.CoreState.{HasNewKey}
 -- ---- lists one after the other
 
 module _ {X : Type 0} where
-  -- the element behind so many, and those before it
+  -- the element behind this many others, and those before it
   next_there : (before : List X) (x : X) (behind : List X) (n : ℕ) → length before ≡ n → slice_get (before ++ x ∷ behind) n ≡ Some x
   next_there before x behind n long =
       let inside : length before < length (before ++ x ∷ behind) = omega (arith, length-append before (x ∷ behind)) in
@@ -48,7 +48,7 @@ module _ {X : Type 0} where
   lists_long f each all (n ∷ ns) (suc k) most =
       omega (arith, length-append (f n) (flat_map f (take k ns)), all n, lists_long f each all ns k (omega arith), suc-mul k each)
 
-  -- an element of one of the lists stands behind the lists before, and behind those before it
+  -- an element of one of the lists comes behind the lists before, and behind the elements before it
   stands_behind : (f : ℕ → List X) (ns : List ℕ) (k d : ℕ) (before : List X) (x : X) (rest : List X) → k < length ns → f (get_or ns k d) ≡ before ++ x ∷ rest
       → (behind : List X) × (flat_map f ns ≡ (flat_map f (take k ns) ++ before) ++ x ∷ behind)
   stands_behind f [] k d before x rest below is = absurd (omega arith)
@@ -62,7 +62,7 @@ module _ {X : Type 0} where
 
 -- ---- keys that no row has
 
--- none of two is none of each
+-- if neither option has a value, each is None
 none_of_both : {A : Type 0} (o p : Option A) → option_or o p ≡ None → (o ≡ None) × (p ≡ None)
 none_of_both None p none = (refl, none)
 none_of_both (Some x) p none = absurd (cc)
@@ -74,7 +74,7 @@ module _ (key : List ℕ) where
       let both = none_of_both (newest_row newer key) (newest_row older key) (sym (newest_append older newer key) ∙ none) in
       (both.1, both.0)
 
-  -- and none of both
+  -- if neither part has a row of the key, both together have none
   none_together : (older newer : List StoredRow) → newest_row older key ≡ None → newest_row newer key ≡ None → newest_row (older ++ newer) key ≡ None
   none_together older newer old new = newest_append older newer key ∙ ap (λ o. option_or o (newest_row older key)) new ∙ old
 
@@ -97,7 +97,7 @@ module _ (s : Shape) (image : List ℕ) where
   region_long : (region : ℕ) → length (hash_rows s region image) ≡ 4 * s.buckets
   region_long region = ap length (all_before s region image) ∙ before_count s region image (4 * s.buckets)
 
-  -- the row of a slot stands behind those before it
+  -- the row of a slot comes behind the rows before it
   row_behind : (region slot : ℕ) → slot < 4 * s.buckets → hash_rows s region image ≡ rows_before s region image slot ++ slot_row s region image slot ∷ drop (slot + 1) (hash_rows s region image)
   row_behind region slot inside =
       let rest : List StoredRow = drop (slot + 1) (hash_rows s region image) in
@@ -143,7 +143,7 @@ module _ (s : Shape) (image : List ℕ) where
             ∙ none_before row.key regions store slot none;
       }
 
--- ---- a merge under way
+-- ---- a merge in progress
 
 -- other rows of a log leave the hash stores
 hashes_with : (region : ℕ) (rows : List StoredRow) (shape : Shape) (body : Body) (image : List ℕ) → (with_log_rows region rows (stores_named shape body image)).hashes ≡ map (hash_part shape image) body.hashed
@@ -168,14 +168,14 @@ module _ (content : Content) (s : TiersState) (stands : Stands content s) (hones
     abbrev regions : List ℕ
     regions = regions_of stores
 
-    -- the row in the slot that is due
+    -- the row in the slot that is gathered next
     abbrev due_in : Shape → StoredRow
     due_in sh = slot_row sh (get_or regions merge.store 0) content.shown merge.slot
 
     was : IsMergedIn content.shown stores s.sorted merge
     was = merged.merged honest (taken_sound content s stands honest merge.stores)
 
-    -- where no row of a key waits, none of its rows is gathered
+    -- if no row of a key waits, none of its rows is gathered
     none_gathered : (key : List ℕ) → source_at merge.waiting key ≡ None → newest_row (gathered_rows s.manifest.shape content.shown regions merge.store merge.slot) key ≡ None
     none_gathered key none =
         let rows : Shape → List StoredRow = λ sh. gathered_rows sh content.shown regions merge.store merge.slot in

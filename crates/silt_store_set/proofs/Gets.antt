@@ -1,4 +1,4 @@
--- What a get answers.
+-- What a get returns.
 use Rattle.std.proofs.Common.{◌≡◌, ℕ, Bool, true, false, IsTrue, List, Option, Some, None, Ok, refl, ap, ◌∙◌}
 use Rattle.std.specs.FinMap.{get}
 use Rattle.silt_disk.specs.Disk.{GaveAny}
@@ -18,7 +18,7 @@ use Rattle.silt_store_set.specs.Replies.{ReadCause, get_reply}
 use Rattle.silt_store_set.proofs.Calls.{seen, answered, refused}
 
 module _ {D F : Type 0} (facts : Ghosts D F) (disk : D) (stores : TiersState) (count : ℕ) (key : Key) (stands : Stands (facts.content disk) stores) where
-  -- the map that lookups answer from is that of the full image
+  -- the map that lookups read is that of the full image
   looked_up : (value : Option (List ℕ)) → (IsTrue (facts.content disk).honest → get (current_map (facts.content disk) stores) key.0 ≡ value) → IsTrue (facts.content disk).honest → get (image_map (full_image (facts.content disk) stores)) key.0 ≡ value
   looked_up value found h = ap (λ (m : Map). get m key.0) ((meaning (facts.content disk) stores stands).full h) ∙ found h
 
@@ -30,7 +30,7 @@ module _ {D F : Type 0} (facts : Ghosts D F) (disk : D) (stores : TiersState) (c
       → Does facts (seen facts disk stores count) (seen facts disk stores count) (Get key) Absent
   get_absent none = answered facts disk stores count (Get key) Absent stands refl refl refl (refl, refl) (λ h. (looked_up None none h, refl)) (λ _. tt)
 
-  -- a lookup was answered
+  -- a lookup returned
   pub get_answered : (found : Bool) (out : List ℕ) → (found ≡ true → IsTrue (facts.content disk).honest → get (current_map (facts.content disk) stores) key.0 ≡ Some out)
       → (found ≡ false → IsTrue (facts.content disk).honest → get (current_map (facts.content disk) stores) key.0 ≡ None)
       → Does facts (seen facts disk stores count) (seen facts disk stores count) (Get key) (get_reply {F = F} out (Ok found))

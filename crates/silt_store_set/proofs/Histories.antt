@@ -1,4 +1,4 @@
--- Lives, from their openings, runs and stops.
+-- Lives, from their openings, runs and crashes.
 use Rattle.std.proofs.Common.{◌≡◌, ℕ, ◌+◌, inl, inr, false, IsTrue, List, [], ◌∷◌, ◌++◌, length, Vec, refl, ap, sym, ◌∙◌, subst, arith}
 use Rattle.std.specs.declared.alloc.Global.{Global}
 use Rattle.silt_disk.specs.Disk.{Content, Left, LeavesOnly, Restarts}
@@ -24,9 +24,9 @@ use Rattle.silt_store_set.proofs.Keeps.{keeps_runs, nines}
 use Rattle.silt_store_set.proofs.Openings.{opening_refused}
 use Rattle.silt_store_set.proofs.Runs.{legal_runs}
 
--- ---- after a stop
+-- ---- after a crash
 
--- what stands in each image of the stopped disk stands in each of the restarted one
+-- what is true of each crash image of the stopped disk is true of each of the restarted one
 restarted : (value_len : ℕ) (m : Map) (old new : Content) → Restarts old new → (IsTrue old.honest → (image : List ℕ) → Left old image → IsSafe value_len m image) → LeavesOnly new (IsSafe value_len m)
 restarted value_len m old new restarts safe = record {
   each = λ honest image left.
@@ -34,7 +34,7 @@ restarted value_len m old new restarts safe = record {
       subst (IsSafe value_len m) (sym (left_at_rest restarts.rests honest image left)) (safe was new.shown (restarts.left was));
 }
 
--- an image that stands for the map of a store of this shape is safe
+-- an image that represents the map of a store of this shape is safe
 stands_safe : (value_len : ℕ) (shape : Shape) (m : Map) (image : List ℕ) → shape.value_len ≡ value_len → StandsFor shape m image → IsSafe value_len m image
 stands_safe value_len shape m image same stands = record {
   good = stands.good;
@@ -62,7 +62,7 @@ module _ {D F : Type 0} (facts : Ghosts D F) (old : Content) (value_len : ℕ) (
   pub opened_len : (core : CoreState D) → Opens facts old core → core.shape.value_len ≡ value_len
   opened_len core opens = ap (λ (s : Shape). s.value_len) (opens.has_shape h) ∙ shown_safe.has_len
 
-  -- a store that was opened, and whose replies found no memory
+  -- a store that was opened, and was out of memory for its replies
   pub life_idle : (core : CoreState D) (new : Content) → Opens facts old core → Restarts (facts.content core.disk) new
       → (to : Map) × LifeHistory {F = F} m events (NotOpened NoMemory) to × LeavesOnly new (IsSafe value_len to)
   life_idle core new opens restarts = (

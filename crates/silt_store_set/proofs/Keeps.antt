@@ -1,4 +1,4 @@
--- What a stop keeps of a run.
+-- What a crash keeps of a run.
 use Rattle.std.proofs.Common.{◌≡◌, ◌≤◌, ℕ, ◌+◌, ◌||◌, Bool, true, false, IsTrue, List, [], ◌∷◌, ◌++◌, length, refl, ap, sym, ◌∙◌, subst, arith, append_assoc, length-append}
 use Rattle.silt_disk.specs.Disk.{Left, LeavesOnly}
 use Rattle.silt_disk.specs.Layout.{Shape}
@@ -81,7 +81,7 @@ acknowledged_more a b (NotServed ∷ replies) less = acknowledged_more a b repli
 
 -- ---- runs of a failed store
 
--- a failed store answers no more
+-- a failed store does no further event
 pub record Ended {D F : Type 0} (old new : CoreState D) (events : List Event) (replies : List (Reply F)) : Type 0 where
   pub same : new ≡ old
   pub none : accepted_commands events replies ≡ []
@@ -184,7 +184,7 @@ module _ {D F : Type 0} (facts : Ghosts D F) where
         torn.stands,
       )
 
-  -- after a run each image stands for the base after what a stop may keep
+  -- after a run each crash image represents the base after what a crash may keep
   pub keeps_runs : (old new : CoreState D) (events : List Event) (replies : List (Reply F)) → old.failed ≡ false → LeavesOnly (facts.content old.disk) (StandsFor old.shape old.base)
       → Runs facts old events replies new → IsTrue (facts.content old.disk).honest → (image : List ℕ) → Left (facts.content new.disk) image → StandsKept old events replies image
   keeps_runs old new [] [] working safe runs h image left = (

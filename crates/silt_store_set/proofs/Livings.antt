@@ -37,7 +37,7 @@ module _ {D F : Type 0} (facts : Ghosts D F) (value_len : ℕ) where
       → LifeEnds facts value_len events (NotOpened BadGeometry) disk next
   ends_other events disk next core opens other restarts = (core.disk, record { first = core; opens = opens; has_len = other; is = refl }, restarts)
 
-  -- a store whose replies found no memory
+  -- a store that was out of memory for its replies
   pub ends_idle : (events : List Event) (disk next : D) (core : CoreState D) → Opens facts (facts.content disk) core → core.shape.value_len ≡ value_len → Restarts (facts.content core.disk) (facts.content next)
       → LifeEnds facts value_len events (NotOpened NoMemory) disk next
   ends_idle events disk next core opens len restarts = (core.disk, inr (record { first = core; opens = opens; has_len = len; is = refl }), restarts)

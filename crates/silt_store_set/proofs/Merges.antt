@@ -1,4 +1,4 @@
--- What a step of merging does, from what that of the stores in memory does.
+-- What a step of merging does, from what the same step of the stores in memory does.
 use Rattle.std.proofs.Common.{◌≡◌, ◌<◌, ℕ, ◌+◌, ◌-◌, ◌*◌, ◌%◌, ◌^◌, ◌==◌, ◌⊎◌, inl, inr, Bool, false, true, IsTrue, [], length, Option, Some, None, IfSome, refl, ap, sym, ◌∙◌, subst, arith}
 use Rattle.std.specs.Option.{option_map}
 use Rattle.std.proofs.lemmas.Bool.{cases_Bool, eqb-true, eq-eqb}
@@ -28,7 +28,7 @@ use Rattle.silt_store_set.specs.CoreState.{CoreState, Does, GathersNewKey, Gathe
 use Rattle.silt_store_set.proofs.Calls.{seen, seen_failed, advanced, answered, broke, refused}
 use Rattle.silt_store_set.proofs.Gatherings.{new_key_next}
 
--- a test of two numbers tells what holds exactly where they are the same
+-- a test is equality if it is true exactly when the two numbers are the same
 tells_same : (a b : ℕ) (c : Bool) → (c ≡ true → a ≡ b) → (a ≡ b → c ≡ true) → (a == b) ≡ c
 tells_same a b true gives takes = eq-eqb a b (gives refl)
 tells_same a b false gives takes = elim (cases_Bool (a == b)) [
@@ -36,7 +36,7 @@ tells_same a b false gives takes = elim (cases_Bool (a == b)) [
   | inr other ↦ other
 ]
 
--- where a merge is under way there is work
+-- if a merge is in progress there is work
 some_work : (hashes : ℕ) (done : Bool) → is_work (merge_progress hashes (Some done)) ≡ true
 some_work hashes true = refl
 some_work hashes false = refl
@@ -45,7 +45,7 @@ some_work hashes false = refl
 slot_below : (store stores slot slots : ℕ) → store < stores → slot < slots → store * slots + slot < stores * slots
 slot_below store stores slot slots store_in slot_in = subst (λ (n : ℕ). store * slots + slot < n) (mul_comm slots stores) (mul-add-lt store slots slot stores store_in slot_in)
 
--- a step in memory as contracts see it
+-- the contracts' view of a step in memory
 goes_on : (s : TiersState) (before : Option MergeState) (after : MergeState) → length s.hashes ≡ length s.manifest.ruling.hashed → IsNextMerge s before after
     → MergeGoesOn s.manifest.ruling (merge_work before) (merge_work (Some after))
 goes_on s None after named step = (step.0 ∙ named, step.1)
@@ -56,11 +56,11 @@ module _ {D F : Type 0} (facts : Ghosts D F) (disk : D) (stores : TiersState) (c
   abbrev before : CoreState D
   before = seen facts disk stores count
 
-  -- as many hash stores are in memory as the body names
+  -- memory has as many hash stores as the manifest record names
   hash_count : length stores.hashes ≡ length stores.manifest.ruling.hashed
   hash_count = sym (length-map stores.hashes hash_region_of) ∙ ap length stands.whole.hash_regions
 
-  -- ---- what is due
+  -- ---- the next step
 
   decided_same : (o : Option MergeState) → IfSome o (IsMerging stores) → IfSome o (IsDoneBySteps (facts.content disk) stores)
       → option_map (has_decided before) (merge_work o) ≡ option_map (λ (merge : MergeState). is_done merge stores.sorted) o
@@ -70,7 +70,7 @@ module _ {D F : Type 0} (facts : Ghosts D F) (disk : D) (stores : TiersState) (c
       let slots : merge.stores * (4 * stores.manifest.shape.buckets) + keys ≡ merge.stores * (4 * merge.shape.buckets) + keys = ap (λ (s : Shape). merge.stores * (4 * s.buckets) + keys) (sym merging.has_shape) in
       ap Some (tells_same (steps_of merge) (merge.stores * (4 * stores.manifest.shape.buckets) + keys) (is_done merge stores.sorted) (λ d. done.0 d ∙ sym slots) (λ e. done.1 (e ∙ slots)))
 
-  -- what is due is the same in memory and in the body's words: on an honest disk
+  -- on an honest disk, the next step is the same in memory and by the manifest record
   due_same : IsTrue (facts.content disk).honest → merge_due before ≡ merge_turn stores
   due_same h =
       ap (λ (n : ℕ). merge_progress n (option_map (has_decided before) (merge_work stores.merging))) (sym hash_count)
@@ -81,7 +81,7 @@ module _ {D F : Type 0} (facts : Ghosts D F) (disk : D) (stores : TiersState) (c
   both_work None = refl
   both_work (Some merge) = some_work (length stores.hashes) _ ∙ sym (some_work (length stores.hashes) (is_done merge stores.sorted))
 
-  -- there is work in memory where there is in the body's words: on any disk
+  -- on any disk, there is work in memory exactly if there is by the manifest record
   pub work_same : is_work (merge_due before) ≡ is_work (merge_turn stores)
   work_same =
       ap (λ (n : ℕ). is_work (merge_progress n (option_map (has_decided before) (merge_work stores.merging)))) (sym hash_count)
@@ -90,9 +90,9 @@ module _ {D F : Type 0} (facts : Ghosts D F) (disk : D) (stores : TiersState) (c
   due : (progress : ProgressOf) → progress ≡ merge_turn stores → IsMergeDue facts before progress
   due progress is = record { work = ap is_work is ∙ sym work_same; exact = λ h. is ∙ sym (due_same h) }
 
-  -- ---- a step was answered
+  -- ---- a step succeeded
 
-  -- the merge under way writes the sorted region that is not named
+  -- the merge in progress writes the sorted region that the manifest record does not name
   other_region : (o : Option MergeState) → IfSome o (IsMerging stores) → (merge : MergeState) → o ≡ Some merge → merge.region ≡ 1 - stores.manifest.ruling.sorted
   other_region None merging merge was = absurd (cc)
   other_region (Some same) merging merge was =

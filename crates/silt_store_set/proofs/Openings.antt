@@ -1,4 +1,4 @@
--- What an opening answers, from what recovery finds.
+-- What opening returns, from what recovery finds.
 use Rattle.std.proofs.Common.{◌≡◌, ◌-◌, IsTrue, [], Option, Some, None, refl, ap, sym, ◌∙◌, arith}
 use Rattle.silt_disk.specs.Disk.{Content, GaveAny}
 use Rattle.silt_disk.specs.declared.disk.Disk.{Ghosts}
@@ -36,7 +36,7 @@ opening_cause facts old disk NoMemory none unwritten = unwritten
 never : {A : Type 0} (found : Option A) (x : A) → found ≡ None → found ≡ Some x → ⊥
 never found x none some = absurd (let no : None ≡ Some x = sym none ∙ some in cc)
 
--- an opening of a good image is refused by its device or for want of memory alone
+-- opening a good image is refused only by its device or if out of memory
 pub opening_refused : {D F : Type 0} (facts : Ghosts D F) (old : Content) (disk : D) (r : Refusal F)
     → IsTrue old.honest → IsGood old.shown → OpeningCause facts old disk r → IsOpeningRefusal r
 opening_refused facts old disk refusal.NotFormatted h good cause = absurd (never _ _ good (cause.0 h))
@@ -46,16 +46,16 @@ opening_refused facts old disk (refusal.Device fault) h good cause = tt
 opening_refused facts old disk refusal.NoMemory h good cause = tt
 opening_refused facts old disk r h good cause = absurd cause
 
--- ---- what an opening takes up
+-- ---- what is opened
 
--- where all rows are settled none waits
+-- if all rows are settled none waits
 pub none_wait : (content : Content) (log : LogState) → log.settled ≡ log.used → waiting_rows content log ≡ []
 unfolding rows_from
 none_wait content log settled =
     let none : log.used - log.settled ≡ 0 = omega (arith, settled) in
     rw none refl
 
--- a store that was taken up
+-- a store that was opened
 pub opened : {D F : Type 0} (facts : Ghosts D F) (old : Content) (disk : D) (stores : TiersState) → TakesUp old (facts.content disk) stores → Opens facts old (seen facts disk stores 0)
 opened facts old disk stores takes =
     let means = meaning (facts.content disk) stores takes.stands in

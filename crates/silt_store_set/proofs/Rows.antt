@@ -38,7 +38,7 @@ pub may_count : {D : Type 0} (k : Kind) (core : CoreState D) → MayWrite k core
 may_count kind.Put core may = omega (arith, may.may_count.count)
 may_count kind.Delete core may = omega (arith, may.count)
 
--- a body that is the next one with the lowest free region
+-- the manifest record is the next one, with the lowest free region
 freezes : (logs : ℕ) (old new : Body) (region : ℕ) → IsLowestFree logs old region → new ≡ next_body old region → Freezes logs old new
 freezes logs old new region lowest is =
     let active : region ≡ new.active = sym (ap (λ (b : Body). b.active) is) in
@@ -49,14 +49,14 @@ module _ {D F : Type 0} (facts : Ghosts D F) (disk : D) (stores : TiersState) (c
   abbrev before : CoreState D
   before = seen facts disk stores count
 
-  -- the rows of the active log, in memory's words and in those of the full image
+  -- the rows of the active log are the same in memory and in the full image
   rows_are : IsTrue (facts.content disk).honest → all_rows (facts.content disk) stores.active.log ≡ log_rows stores.manifest.shape stores.manifest.ruling.active (full_image (facts.content disk) stores)
   rows_are h = sym ((meaning (facts.content disk) stores stands).rows h)
 
   stopped : (next : CoreState D) (key : List ℕ) → NeedsNext (facts.content disk) stores key → IsStuck facts before next key
   stopped next key needs = λ h. subst (λ (rows : List StoredRow). CannotTake stores.manifest.shape rows key) (rows_are h) (needs h)
 
-  -- as many logs are frozen as the body names
+  -- memory has as many frozen logs as the manifest record names
   frozen_count : length stores.frozen ≡ length stores.manifest.ruling.frozen
   frozen_count = sym (length-map stores.frozen region_of) ∙ ap length stands.whole.frozen_regions
 

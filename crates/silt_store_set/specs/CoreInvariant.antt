@@ -10,22 +10,22 @@ use Rattle.silt_standing.specs.Standing.{Stands, full_image, waiting_commands}
 use Rattle.silt_standing.specs.State.{TiersState}
 use Rattle.silt_store_set.specs.Basis.{BasisState}
 
--- There are a map and a list of commands such that each image that a stop may leave stands for the map after a beginning of the list: what is known of a
--- disk whose store is gone.
+-- What is known of a disk whose store is gone: for some map and list of commands, each possible crash image represents the map after some
+-- first part of the list.
 pub record LeavesBegun (content : Content) (shape : Shape) : Type 0 where
   pub base : Map
   pub waiting : List Command
   pub begun : LeavesOnly content (HasBegun shape base waiting)
 
--- Each image that a stop may leave stands for the base after a beginning of what waited, the full image for the base after all of it, and no more
--- waited than the store accepted.
+-- Each possible crash image represents the base after some first part of the waiting commands. The full image represents the base after
+-- all of them, and no more wait than the store accepted.
 pub record BreaksFrom (basis : BasisState) (content : Content) (stores : TiersState) (count : ℕ) : Type 0 where
   pub begun : LeavesOnly content (HasBegun stores.manifest.shape basis.base basis.waiting)
   pub has_map : IsTrue content.honest → image_map (full_image content stores) ≡ map_after basis.base basis.waiting
   pub few : IsTrue content.honest → length basis.waiting ≤ count
 
--- What is true of each store: as long as it is not failed, what it holds in memory fits its disk, and no more commands wait than it accepted. Once it is failed
--- it stands as its failing call broke off from the basis.
+-- What is true of each store. If it is not failed, its memory fits its disk, and no more commands wait than it accepted. If it is failed,
+-- its failing call broke off from the basis.
 pub record IsCore (content : Content) (stores : TiersState) (count : ℕ) (failed : Bool) (basis : BasisState) : Type 0 where
   pub has_size : size content ≡ device_size stores.manifest.shape
   pub count_most : count < 2 ^ 63
@@ -33,7 +33,7 @@ pub record IsCore (content : Content) (stores : TiersState) (count : ℕ) (faile
   pub few : failed ≡ false → IsTrue content.honest → length (waiting_commands content stores) ≤ count
   pub breaks : failed ≡ true → BreaksFrom basis content stores count
 
--- a good image, with values of this length, stands for this map
+-- the image is good, has values of this length, and represents this map
 pub record IsSafe (value_len : ℕ) (map : Map) (image : List ℕ) : Type 0 where
   pub good : IsGood image
   pub has_len : (shape_of image).value_len ≡ value_len

@@ -37,22 +37,22 @@ use Rattle.silt_event.specs.declared.reply.Reply.{Reply}
 use Rattle.silt_event.specs.declared.reply.Reply.TheVariants.{Accepted, Acknowledged, Found, Absent, Progress, Refused}
 use Rattle.silt_event.specs.Events.{Step, Counts, accepted_command, accepted_commands, acknowledged_after, is_fault, is_failed, plain, PlainReply}
 
--- a conversion under way: the hash region that it writes, and how many of the region's slots are written
+-- a conversion in progress: the hash region that it writes, and how many of the region's slots are written
 pub record ConvertWork : Type 0 where
   pub region : ℕ
   pub written : ℕ
 
--- a merge under way: how many hash stores it takes, the oldest ones, and how many steps it took
+-- a merge in progress: how many of the oldest hash stores it takes, and how many steps it took
 pub record MergeWork : Type 0 where
   pub stores : ℕ
   pub steps : ℕ
 
--- of a conversion in memory
+-- the contracts' view of a conversion in memory
 abbrev pub convert_work : Option ConversionState → Option ConvertWork
 convert_work None = None
 convert_work (Some conversion) = Some (record { region = conversion.region; written = conversion.next })
 
--- of a merge in memory
+-- the contracts' view of a merge in memory
 abbrev pub merge_work : Option MergeState → Option MergeWork
 merge_work None = None
 merge_work (Some merge) = Some (record { stores = merge.stores; steps = steps_of merge })
@@ -60,14 +60,14 @@ merge_work (Some merge) = Some (record { stores = merge.stores; steps = steps_of
 pub record CoreState (D : Type 0) : Type 0 where
   pub disk : D
   pub shape : Shape
-  -- which regions are the store
+  -- the manifest record: which regions make up the store
   pub body : Body
-  -- what is shown, with the gates of the waiting rows open
+  -- the device's bytes, with the commit bytes (gates) of the waiting rows set
   pub full : List ℕ
-  -- the map of what is shown, and the commands of the waiting rows; of a failed store both as its failing call began, for contracts alone to see
+  -- the map of the device's bytes, and the commands of the waiting rows; if the store is failed, both are as its failing call began
   pub base : Map
   pub waiting : List Command
-  -- the conversion and the merge under way
+  -- the conversion and the merge in progress
   pub converting : Option ConvertWork
   pub merging : Option MergeWork
   -- how many put rows there are
@@ -76,7 +76,7 @@ pub record CoreState (D : Type 0) : Type 0 where
   pub count : ℕ
   pub failed : Bool
 
--- the map that gets answer from: what the full image stands for
+-- the map that gets read: the map of the full image
 abbrev pub map_of : {D : Type 0} → CoreState D → Map
 map_of core = image_map core.full
 
@@ -92,7 +92,7 @@ last_generation = 2 ^ 63 - 1
 abbrev pub active_rows : {D : Type 0} → CoreState D → List StoredRow
 active_rows core = log_rows core.shape core.body.active core.full
 
--- ---- why a reply is due
+-- ---- why the store gives a reply
 
 -- the next command still has a number
 pub record MayCount {D : Type 0} (core : CoreState D) : Type 0 where
@@ -109,7 +109,7 @@ abbrev pub MayWrite : {D : Type 0} → Kind → CoreState D → Type 0
 MayWrite kind.Put core = MayPut core
 MayWrite kind.Delete core = MayCount core
 
--- the event whose row is of this kind
+-- the event that writes a row of this kind
 abbrev pub row_event : Kind → Key → List ℕ → Event
 row_event kind.Put key value = Put key value
 row_event kind.Delete key value = Delete key
@@ -141,7 +141,7 @@ ConvertGoesOn hashes body (Some before) (Some after) = (after.region ≡ before.
 ConvertGoesOn hashes body None (Some after) = IsLowestFreeHash hashes body after.region × (after.written ≡ 1)
 ConvertGoesOn hashes body before None = ⊥
 
--- the stores of what is shown, with the gates of the waiting rows open
+-- the stores of the full image: the device's bytes with the commit bytes of the waiting rows set
 abbrev pub stores_of : {D : Type 0} → CoreState D → Stores
 stores_of core = stores_named core.shape core.body core.full
 
@@ -161,11 +161,11 @@ merge_due core = merge_progress (length core.body.hashed) (option_map (has_decid
 abbrev pub wants_merge : {D : Type 0} → CoreState D → Bool
 wants_merge core = not core.failed && is_work (merge_due core)
 
--- In what follows `facts` is what the trait of disks states of a disk's type: the content, how many writes and syncs have failed, and which call gave
--- which fault. A clause at `D: Disk` passes `D.Disk`.
+-- Below, `facts` is what the trait of disks states of a type of disks: its content, how many writes and syncs have failed, and which call
+-- gave which fault. A clause at `D: Disk` passes `D.Disk`.
 
--- A conversion is finished: the hash store stands in front of the others, and the oldest log is no longer named. The slots of the hash
--- store have the last row of each key of that log, and no other.
+-- A conversion is finished: the manifest names the new hash store before the others, and no longer the oldest log. The slots of the hash
+-- store have the last row of each key of that log, and no other row.
 pub record IsConverted {D F : Type 0} (facts : Ghosts D F) (old new : CoreState D) : Type 0 where
   pub work : ConvertWork
   pub was : old.converting ≡ Some work
@@ -173,7 +173,7 @@ pub record IsConverted {D F : Type 0} (facts : Ghosts D F) (old new : CoreState 
   pub body : new.body ≡ converted_body old.body work.region
   pub rows : IsTrue (facts.content old.disk).honest → AreConverted old.shape (oldest_rows old.shape old.body old.full) (hash_rows old.shape work.region new.full)
 
--- this progress of merging is due: on any device where there is work, and on an honest one exactly this
+-- the next step of merging makes this progress: on any disk it is work exactly if a step is due, and on an honest disk it is exact
 pub record IsMergeDue {D F : Type 0} (facts : Ghosts D F) (core : CoreState D) (progress : ProgressOf) : Type 0 where
   pub work : is_work progress ≡ is_work (merge_due core)
   pub exact : IsTrue (facts.content core.disk).honest → progress ≡ merge_due core
@@ -183,11 +183,11 @@ abbrev pub GathersNext : Shape → Option MergeWork → Type 0
 GathersNext shape None = Unit {0}
 GathersNext shape (Some work) = work.steps < work.stores * (4 * shape.buckets)
 
--- the rows in the slots of the hash stores that a merge takes, in the order in which it gathers them
+-- the rows in the slots of the hash stores that a merge takes, in the order in which the merge reads them
 abbrev pub slots_taken : {D : Type 0} → CoreState D → MergeWork → List StoredRow
 slots_taken core work = flat_map part_rows (drop (length (stores_of core).hashes - work.stores) (stores_of core).hashes)
 
--- the slot behind so many has a row of a known kind, and none of these has one of its key
+-- the next slot, after this many gathered ones, has a row of a known kind, and no gathered slot has a row of its key
 pub record HasNewKey (slots : List StoredRow) (gathered : ℕ) : Type 0 where
   pub row : StoredRow
   pub next : slice_get slots gathered ≡ Some row
@@ -205,8 +205,8 @@ MergeGoesOn body (Some before) (Some after) = (after.stores ≡ before.stores) �
 MergeGoesOn body None (Some after) = (after.stores ≡ length body.hashed) × (after.steps ≡ 1)
 MergeGoesOn body before None = ⊥
 
--- A merge is finished: its hash stores are no longer named, and the other sorted region has the newest rows of what it took, where they
--- are puts, in the order of their keys.
+-- A merge is finished: the manifest no longer names its hash stores, and the other sorted region has the newest row of each key that it
+-- took, if that row is a put, in key order.
 pub record IsMerged {D F : Type 0} (facts : Ghosts D F) (old new : CoreState D) : Type 0 where
   pub work : MergeWork
   pub was : old.merging ≡ Some work
@@ -221,13 +221,13 @@ pub record FailsBy {D F : Type 0} (facts : Ghosts D F) (old new : CoreState D) (
   pub counted : facts.failures new.disk ≡ (facts.failures old.disk + 1) % 2 ^ 64
   pub failed : new.failed ≡ true
 
--- the read that failed gave this fault in this very call, and nothing is changed
+-- a read failed in this very call and gave this fault, and nothing changes
 pub record FailsRead {D F : Type 0} (facts : Ghosts D F) (old new : CoreState D) (fault : F) : Type 0 where
   pub given : GaveAny facts.gave new.disk fault
   pub working : old.failed ≡ false
   pub same : new ≡ old
 
--- the active log was frozen: it stands in front of the other frozen logs, and the lowest free region takes writes
+-- the active log is frozen and comes before the other frozen logs, and the lowest free region becomes the active log
 pub record Freezes (logs : ℕ) (old new : Body) : Type 0 where
   pub lowest : IsLowestFree logs old new.active
   pub is : new ≡ next_body old new.active
@@ -241,18 +241,18 @@ module _ {D F : Type 0} (facts : Ghosts D F) (old new : CoreState D) where
   abbrev pub StaysActive : List ℕ → Type 0
   StaysActive key = (new.body ≡ old.body) × (IsTrue (facts.content old.disk).honest → ¬ CannotTake old.shape (active_rows old) key)
 
-  -- the active log takes the row, whose command waits behind the others; or where it cannot it is frozen, and another one takes the
-  -- row, whose command alone waits
+  -- Either the active log takes the row, and its command waits behind the others. Or the log cannot take it and is frozen, a new log
+  -- takes the row, and its command alone waits.
   abbrev pub Takes : List ℕ → Command → Type 0
   Takes key command =
       (StaysActive key × (IsTrue (facts.content old.disk).honest → WaitsBehind command old.base new.base old.waiting new.waiting))
       ⊎ ((Freezes old.shape.logs old.body new.body × IsStuck key) × (IsTrue (facts.content old.disk).honest → WaitsAlone command old.base new.base old.waiting new.waiting))
 
-  -- a row of this key, which does this command, was written, and no call failed
+  -- a row of this key with this command is written, and no device call fails
   abbrev pub WritesRow : List ℕ → Command → Type 0
   WritesRow key command = Takes key command × (facts.failures new.disk ≡ facts.failures old.disk)
 
-  -- why a row of this key is not written: a fault, no free log, no further generation, or no memory for a new log
+  -- why a row is not written: a device fault, no free log, no further generation, or out of memory for a new log
   abbrev pub NoRowCause : List ℕ → Refusal F → Type 0
   NoRowCause key NoRoom = IsStuck key × AreAllInUse old
   NoRowCause key Spent = IsStuck key × HasFreeLog old × (old.body.generation ≡ last_generation)
@@ -277,18 +277,18 @@ module _ {D F : Type 0} (facts : Ghosts D F) (old new : CoreState D) where
   DeleteCause key (Refused refusal) = MayCount old × NoRowCause key refusal
   DeleteCause key reply = ⊥
 
-  -- where nothing waited a flush changes nothing
+  -- if no command waits, a flush changes nothing
   abbrev pub FlushCause : Reply F → Type 0
   FlushCause (Acknowledged n) = (old.failed ≡ false) × (facts.failures new.disk ≡ facts.failures old.disk) × (old.waiting ≡ [] → new ≡ old)
   FlushCause (Refused Failed) = old.failed ≡ true
   FlushCause (Refused (Device fault)) = FailsBy facts old new fault
   FlushCause reply = ⊥
 
-  -- on an honest disk, this key has a value
+  -- if the disk is honest (it obeys the crash model), this key has a value
   abbrev pub HasKey : List ℕ → Type 0
   HasKey key = IsTrue (facts.content old.disk).honest → (value : List ℕ) × (get (map_of old) key ≡ Some value)
 
-  -- a get changes nothing, and takes memory for a value alone
+  -- a get changes nothing, and needs memory only if it finds a value
   abbrev pub GetCause : List ℕ → Reply F → Type 0
   GetCause key (Found value) = (old.failed ≡ false) × (new ≡ old)
   GetCause key Absent = (old.failed ≡ false) × (new ≡ old)
@@ -297,14 +297,14 @@ module _ {D F : Type 0} (facts : Ghosts D F) (old new : CoreState D) where
   GetCause key (Refused NoMemory) = (old.failed ≡ false) × HasKey key
   GetCause key reply = ⊥
 
-  -- what an answered step of conversion does
+  -- what a successful step of conversion does
   abbrev pub ConvertsTo : ProgressOf → Type 0
   ConvertsTo Idle = new ≡ old
   ConvertsTo Waiting = new ≡ old
   ConvertsTo Moved = (new.body ≡ old.body) × ConvertGoesOn old.shape.hashes old.body old.converting new.converting
   ConvertsTo Finished = IsConverted facts old new
 
-  -- a step of conversion: what is due is done; only a first step takes memory, and only the last one writes the manifest
+  -- a step of conversion does the next thing that is due; only a first step needs memory, and only the last one writes the manifest
   abbrev pub ConvertCause : Reply F → Type 0
   ConvertCause (Progress progress) = (old.failed ≡ false) × (progress ≡ convert_due old) × ConvertsTo progress × (facts.failures new.disk ≡ facts.failures old.disk)
   ConvertCause (Refused Failed) = old.failed ≡ true
@@ -314,20 +314,20 @@ module _ {D F : Type 0} (facts : Ghosts D F) (old new : CoreState D) where
       ((convert_due old ≡ Moved) × FailsRead facts old new fault) ⊎ ((is_work (convert_due old) ≡ true) × FailsBy facts old new fault)
   ConvertCause reply = ⊥
 
-  -- what an answered step of merging does: it never waits
+  -- what a successful step of merging does: it never waits
   abbrev pub AnswersMerge : ProgressOf → Type 0
   AnswersMerge Idle = new ≡ old
   AnswersMerge Waiting = ⊥
   AnswersMerge Moved = (new.body ≡ old.body) × MergeGoesOn old.body old.merging new.merging
   AnswersMerge Finished = IsMerged facts old new
 
-  -- why a step of merging lacks memory: the merge begins, the first row of a key is gathered, or what the new sorted store keeps is made
+  -- why merging is out of memory: the merge begins, it gathers the first row of a key, or it makes what the new sorted store keeps
   abbrev pub MergeLacksMemory : Type 0
   MergeLacksMemory =
       (IsMergeDue facts old Moved × GathersNext old.shape old.merging × (IsTrue (facts.content old.disk).honest → GathersNewKey old old.merging))
       ⊎ (IsMergeDue facts old Finished × (old.body.generation ≢ last_generation))
 
-  -- a step of merging: what is due is done, and only the last one writes the manifest
+  -- a step of merging does the next thing that is due, and only the last one writes the manifest
   abbrev pub MergeCause : Reply F → Type 0
   MergeCause (Progress progress) = (old.failed ≡ false) × IsMergeDue facts old progress × AnswersMerge progress × (facts.failures new.disk ≡ facts.failures old.disk)
   MergeCause (Refused Failed) = old.failed ≡ true
@@ -337,7 +337,7 @@ module _ {D F : Type 0} (facts : Ghosts D F) (old new : CoreState D) where
       (IsMergeDue facts old Moved × FailsRead facts old new fault) ⊎ ((is_work (merge_due old) ≡ true) × FailsBy facts old new fault)
   MergeCause reply = ⊥
 
-  -- what stands where an event is given this reply
+  -- what is true if the event has this reply
   abbrev pub Cause : Event → Reply F → Type 0
   Cause (Put key value) = PutCause key.0 value
   Cause (Delete key) = DeleteCause key.0
@@ -354,17 +354,17 @@ pub record Moves {D : Type 0} (old new : CoreState D) (adds : List Command) : Ty
   pub rest : moved ++ new.waiting ≡ old.waiting ++ adds
   pub base : new.base ≡ map_after old.base moved
 
--- what an acknowledging reply says: nothing waits, so the base is the map
+-- what an acknowledging reply promises: no command waits, so the base is the map
 abbrev pub Durable : {D F : Type 0} → CoreState D → Reply F → Type 0
 Durable new (Acknowledged n) = new.waiting ≡ []
 Durable new reply = Unit {0}
 
--- a call is refused
+-- the reply is a refusal
 abbrev pub is_refused : {F : Type 0} → Reply F → Bool
 is_refused (Refused refusal) = true
 is_refused reply = false
 
--- a step of background work is finished
+-- the reply finishes a conversion or a merge
 abbrev pub is_finished : {F : Type 0} → Reply F → Bool
 is_finished (Progress Finished) = true
 is_finished reply = false
@@ -379,51 +379,51 @@ abbrev pub is_merge : Event → Bool
 is_merge Merge = true
 is_merge event = false
 
--- What one call does, whatever it answers: what its reply tells, what becomes of the store, and what a stop may leave.
+-- What one call does, whatever it returns: its reply, the store after it, and the possible crash images.
 pub record Does {D F : Type 0} (facts : Ghosts D F) (old new : CoreState D) (event : Event) (reply : Reply F) : Type 0 where
-  -- ---- what the reply tells
+  -- ---- the reply
 
-  -- the reply has its cause, and the store is then as this reply has it
+  -- the reply has its cause, and the store is as that cause says
   pub cause : Cause facts old new event reply
-  -- an accepted command is counted, and the reply tells the count
+  -- an accepted command is counted, and the reply returns the count
   pub counts : Counts old.count reply new.count
-  -- the reply is that of a map
+  -- a plain map gives the same reply
   pub step : old.failed ≡ false → IsTrue (facts.content old.disk).honest → Step (map_of old) event reply (map_of new)
-  -- a failed store answers so and changes nothing
+  -- a failed store replies Failed and changes nothing
   pub failed : old.failed ≡ true → (new ≡ old) × (reply ≡ Refused Failed)
-  -- only a failed store answers Failed
+  -- only a failed store replies Failed
   pub failed_only : IsTrue (is_failed reply) → old.failed ≡ true
-  -- a store fails only where it answers a fault of its device
+  -- a store fails only if it replies with a fault of its device
   pub faulted : old.failed ≡ false → new.failed ≡ true → IsTrue (is_fault reply)
-  -- ---- what becomes of the store
+  -- ---- the store after the call
 
-  -- the disk is as long and as honest as before, and the store has the same shape
+  -- the disk keeps its length and whether it is honest, and the store keeps its shape
   pub disk : SameDisk (facts.content old.disk) (facts.content new.disk)
   pub shape : new.shape ≡ old.shape
-  -- in a call by which the store does not fail no write or sync fails, and in one by which it does exactly one
+  -- if the call does not make the store fail, no write or sync fails; if it does, exactly one fails
   pub quiet : new.failed ≡ old.failed → facts.failures new.disk ≡ facts.failures old.disk
   pub counted : old.failed ≡ false → new.failed ≡ true → facts.failures new.disk ≡ (facts.failures old.disk + 1) % 2 ^ 64
-  -- a refusal by which the store does not fail changes nothing
+  -- a refusal that does not make the store fail changes nothing
   pub stays : IsTrue (is_refused reply) → new.failed ≡ old.failed → new ≡ old
-  -- a call that accepts nothing and finishes nothing leaves the named regions as they are
+  -- a call that accepts nothing and finishes nothing leaves the manifest record as it is
   pub keeps_body : new.failed ≡ false → accepted_command event reply ≡ [] → is_finished reply ≡ false → new.body ≡ old.body
-  -- only steps of conversion touch the conversion under way, and only steps of merging the merge under way
+  -- only steps of conversion change the conversion in progress, and only steps of merging the merge in progress
   pub keeps_converting : new.failed ≡ false → is_convert event ≡ false → new.converting ≡ old.converting
   pub keeps_merging : new.failed ≡ false → is_merge event ≡ false → new.merging ≡ old.merging
-  -- the map is the base after the commands that wait
+  -- the map is the base after the waiting commands
   pub has_map : new.failed ≡ false → IsTrue (facts.content old.disk).honest → map_of new ≡ map_after new.base new.waiting
-  -- the numbers by which the store refuses are those of what is shown with the gates of the waiting rows open
+  -- the numbers by which the store refuses are those of the full image
   pub numbers : new.failed ≡ false → IsTrue (facts.content old.disk).honest → IsGoodWith new.shape new.body new.charge new.full
-  -- ---- what a stop may leave
+  -- ---- the possible crash images
 
-  -- a beginning of what waited, and of what is accepted behind it, goes into the base, and the rest waits
+  -- some first part of the waiting commands and the accepted one goes into the base, and the rest waits
   pub moves : new.failed ≡ false → IsTrue (facts.content old.disk).honest → Moves old new (accepted_command event reply)
-  -- an acknowledging reply leaves nothing waiting
+  -- after an acknowledging reply no command waits
   pub settles : IsTrue (facts.content old.disk).honest → Durable new reply
-  -- whatever a stop leaves stands for the base, or, where the call failed, for the base as it was after a beginning of what waited
+  -- each possible crash image represents the base, or, if the call failed, the old base after a first part of the waiting commands
   pub safe : new.failed ≡ false → LeavesOnly (facts.content new.disk) (StandsFor new.shape new.base)
   pub crash : old.failed ≡ false → new.failed ≡ true → LeavesOnly (facts.content new.disk) (HasBegun old.shape old.base old.waiting)
-  -- and a store that failed keeps both as they were
+  -- a store that fails keeps its base and its waiting commands
   pub keeps_basis : old.failed ≡ false → new.failed ≡ true → (new.base ≡ old.base) × (new.waiting ≡ old.waiting)
 
 -- why the entries are refused
@@ -435,26 +435,26 @@ EntriesCause facts core refusal = ⊥
 
 -- ---- runs
 
--- one call after the other, each given its event and giving its reply
+-- one call after the other, each with its event and its reply
 abbrev pub Runs : {D F : Type 0} → Ghosts D F → CoreState D → List Event → List (Reply F) → CoreState D → Type 0
 Runs facts old [] [] new = new ≡ old
 Runs {D} facts old (event ∷ events) (reply ∷ replies) new =
     (next : CoreState D) × Does facts old next event reply × Runs facts next events replies new
 Runs facts old events replies new = ⊥
 
--- What a stop may keep of a run: a beginning of what waited and of what was then accepted, with each command that was
--- acknowledged. Of the commands counted before the run all but the waiting ones were settled.
+-- What a crash may keep of a run: a first part of the waiting and then accepted commands, with each acknowledged one. Before the run, all
+-- counted commands but the waiting ones were settled.
 pub record KeepsFrom {F : Type 0} (waiting : List Command) (count : ℕ) (events : List Event) (replies : List (Reply F)) (kept : List Command) : Type 0 where
   pub begins : Begins kept (waiting ++ accepted_commands events replies)
   pub acknowledged : (settled : ℕ) → settled + length waiting ≡ count → acknowledged_after settled replies ≤ settled + length kept
 
--- an image stands for the base after what a stop may keep of the run
+-- the image represents the base after commands that a crash may keep of the run
 abbrev pub StandsKept : {D F : Type 0} → CoreState D → List Event → List (Reply F) → List ℕ → Type 0
 StandsKept old events replies image = (kept : List Command) × KeepsFrom old.waiting old.count events replies kept × StandsFor old.shape (map_after old.base kept) image
 
 -- ---- opening
 
--- a store that was taken up from a device: as the device stood, with nothing waiting, and no conversion and no merge under way
+-- a store that was opened on a device: it has the device's map, no command waits, and no conversion or merge is in progress
 pub record Opens {D F : Type 0} (facts : Ghosts D F) (old : Content) (core : CoreState D) : Type 0 where
   pub disk : SameDisk old (facts.content core.disk)
   pub count : core.count ≡ 0
@@ -472,6 +472,6 @@ pub record Opens {D F : Type 0} (facts : Ghosts D F) (old : Content) (core : Cor
 -- ---- a store as an answerer
 
 module _ {D F : Type 0} (facts : Ghosts D F) where
-  -- a store does the event, and its reply is told without its fault
+  -- the store does the event, and this is its reply without the device's fault
   abbrev pub DoesPlain : CoreState D → CoreState D → Event → PlainReply → Type 0
   DoesPlain old new event reply = (told : Reply F) × Does facts old new event told × (reply ≡ plain told)

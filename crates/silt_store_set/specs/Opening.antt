@@ -9,11 +9,11 @@ use Rattle.silt_recovery.specs.Refusals.{IsFound}
 use Rattle.silt_event.specs.declared.refusal.Refusal.{Refusal}
 use Rattle.silt_event.specs.declared.refusal.Refusal.TheVariants.{NotFormatted, Damaged, Crowded, Device, NoMemory}
 
--- this is found in what is shown, and nothing was written
+-- the device's bytes give this finding, and nothing was written
 abbrev pub FoundUnwritten : Content → Content → Finding → Type 0
 FoundUnwritten old new found = (IsTrue old.honest → IsFound old.shown found) × IsUnwritten old new
 
--- why an opening is refused, and what it leaves: nothing was written but where a write or the sync after it failed
+-- why opening is refused, and what it leaves: nothing is written unless a write or the sync after it failed
 abbrev pub OpeningCause : {D F : Type 0} → Ghosts D F → Content → D → Refusal F → Type 0
 OpeningCause facts old disk NotFormatted = FoundUnwritten old (facts.content disk) finding.NotFormatted
 OpeningCause facts old disk (Damaged place) = FoundUnwritten old (facts.content disk) (finding.Damaged place)

@@ -14,13 +14,13 @@ abbrev pub flush_reply : {F : Type 0} → Result ℕ (Refusal F) → Reply F
 flush_reply (Ok n) = Acknowledged n
 flush_reply (Err refusal) = Refused refusal
 
--- what is in the buffer of a get that found the key, or nothing
+-- the value in the buffer if the get found the key, else Absent
 abbrev pub get_reply : {F : Type 0} → List ℕ → Result Bool (Refusal F) → Reply F
 get_reply out (Ok true) = Found out
 get_reply out (Ok false) = Absent
 get_reply out (Err refusal) = Refused refusal
 
--- what a read answers
+-- the reply for the result of a read
 abbrev pub read_reply : {F : Type 0} → Result (Option (List ℕ)) (Refusal F) → Reply F
 read_reply (Ok (Some value)) = Found value
 read_reply (Ok None) = Absent
@@ -30,7 +30,7 @@ abbrev pub progress_reply : {F : Type 0} → Result ProgressOf (Refusal F) → R
 progress_reply (Ok progress) = Progress progress
 progress_reply (Err refusal) = Refused refusal
 
--- a read is refused for want of memory, or with a fault that the device gave
+-- why a read is refused: out of memory, or a fault that the device gave
 abbrev pub ReadCause : {F : Type 0} → (F → Type 0) → Refusal F → Type 0
 ReadCause gave NoMemory = Unit {0}
 ReadCause gave (Device fault) = gave fault

@@ -1,4 +1,4 @@
-// A store as what answers events.
+// Stores that reply to events.
 ghost use Rattle.silt_event.specs.Events.{HasValueOf};
 ghost use Rattle.silt_store_set.specs.CoreState.{DoesPlain};
 
@@ -8,7 +8,7 @@ use silt_disk::Disk;
 use silt_event::{Answerer, Event, Reply};
 use std::alloc::Global;
 
-/// A disk whose stores are answerers.
+/// A disk whose stores reply to events.
 pub trait Served: Disk + Sized {
     /// The reply of a store on such a disk to an event, without its fault.
     fn answer_on(core: &mut Core<Self>, alloc: Global, event: &Event) -> Reply<()>

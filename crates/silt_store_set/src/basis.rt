@@ -1,4 +1,4 @@
-// What a call begins with, which contracts alone see.
+// What a call begins with. Only contracts see it, and it has no bytes.
 ghost use Rattle.std.specs.Prelude.{◌≡◌};
 ghost use Rattle.silt_store_set.specs.Basis.{basis_of};
 
@@ -7,7 +7,7 @@ use silt_disk::Disk;
 use silt_tiers::Tiers;
 use std::marker::Model;
 
-// The map that the images of a store stand for, and the commands that wait, as they were when it was taken. It has no bytes.
+// The map that a store's possible crash images represent, and the commands that wait, as they were when this was taken.
 #[derive(Drop)]
 pub struct Basis<D: Disk> {
     disk: Remembered<D>,
@@ -27,7 +27,7 @@ impl<D: Disk> Model for Basis<D> {
 }
 
 impl<D: Disk> Basis<D> {
-    // Takes that of a disk and what memory holds of it.
+    // Takes the basis of a disk and of what memory holds of it.
     pub fn of(disk: &D, tiers: &Tiers) -> Basis<D>
         ensures { result ≡ basis_of (D.content disk.now) tiers.now }
     {

@@ -1,4 +1,4 @@
-// What a store has, read from its device with no opening.
+// The entries of a store, read from its device without opening it.
 ghost use Rattle.std.specs.Prelude.{IsTrue, IfOk, IfErr, OnOk};
 ghost use Rattle.silt_disk.specs.Disk.{GaveAny};
 ghost use Rattle.silt_image.specs.Meaning.{IsGood, image_map};
@@ -12,12 +12,12 @@ use silt_tiers::{EntriesError, Tiers};
 use std::alloc::Global;
 use std::collections::BTreeMap;
 
-/// All keys with their values, of the store that a device shows. It looks at the device as `check` does, and then reads each row and
-/// each entry once. It makes no write and no sync.
+/// Returns all keys with their values, of the store on a device. It looks at the device as `check` does, and then reads
+/// each row and each entry once. It makes no write and no sync.
 ///
 /// # Errors
 ///
-/// As of `check`.
+/// Those of `check`.
 pub fn read_entries<D: Disk>(
     alloc: Global,
     disk: &D,

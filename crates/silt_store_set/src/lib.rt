@@ -1,22 +1,24 @@
-//! A key-value store on a device, whose commands survive any stop.
+//! A key-value store on a device, whose acknowledged commands survive any crash.
 //!
-//! [`Core`] is one life of a store: it is taken up from a device by `open`, answers puts, deletes, flushes, gets and background
-//! steps, and gives the device back by `close`. A put or delete that is answered `Accepted` is seen by every later get of the
-//! life. It is acknowledged by a later answered flush, and from then on it survives any stop. A stop may lose accepted commands
-//! that no flush has answered for, the last ones first: never one of them alone out of the middle.
+//! [`Core`] is one life of a store, a run from opening to crash or close. `open` opens it on a device. It then does
+//! puts, deletes, flushes, gets and steps of background work, and `close` gives the device back. Every later get of the
+//! life sees a put or delete with the reply `Accepted`. A later successful flush acknowledges it, and from then on it
+//! survives any crash. A crash may lose only the last accepted commands since the last flush, never one of them alone
+//! out of the middle.
 //!
-//! Each call tells in one clause (`Does`, in specs/CoreState.antt) what it answers and why, what it changes, and what a stop may
-//! leave of the device, also where the call is refused. [`Core::run`] does events in order, and [`lives`] does lives in order, each
-//! ended by a stop before or within any device call.
+//! Each call has one clause (`Does`, in specs/CoreState.antt) for what it returns and why, what it changes, and which
+//! crash images are possible, also if it is refused. [`Core::run`] does events in order. [`lives`] does lives in order,
+//! and ends each by a stop: a crash before or within any chosen device call.
 //!
-//! This crate is the library's one door: what a caller needs is here, `format` that makes a store of a disk and `check` that tells what one
-//! consists of, disks in memory and in files, [`Geometry`], [`Key`] and the errors.
+//! This crate is the library's one door. It has what a caller needs: `format` makes a store on a disk, `check` reports
+//! what a store consists of, and there are disks in memory and in files, [`Geometry`], [`Key`] and the errors.
 //!
-//! A row goes to the active log. Where that cannot take it, being full or by the placing rule of its table, it is frozen and
-//! another one is started. [`Core::convert`] rewrites the oldest frozen log as a hash store, one slot a call, and its region then is
-//! free again. [`Core::merge`] merges all hash stores and the sorted store into a new sorted store, one slot or one key a call, and
-//! the regions of these then are free again; both may be under way at the same time, and neither touches the other's work. Work under
-//! way is not kept over a stop; it begins anew. [`Core::wants_convert`] and [`Core::wants_merge`] tell whether there is a step to be done.
+//! A row goes to the active log. If the log is full, or its table cannot place the row, the log is frozen and a new one
+//! is started. [`Core::convert`] rewrites the oldest frozen log as a hash store, one slot a call, and then the log's
+//! region is free again. [`Core::merge`] merges all hash stores and the sorted store into a new sorted store, one slot
+//! or one key a call, and then their regions are free again. A conversion and a merge may be in progress at the same
+//! time; neither touches the other's work. Background work in progress does not survive a crash: it begins anew.
+//! [`Core::wants_convert`] and [`Core::wants_merge`] return whether there is a step to do.
 #![tactic(auto)]
 
 mod answerer;

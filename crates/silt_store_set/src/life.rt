@@ -1,4 +1,4 @@
-// Lives of a store, each ended by a stop.
+// Lives of a store, each ended by a stop: a crash at a chosen device call.
 ghost use Rattle.std.specs.Prelude.{◌≡◌, All, IfOk};
 ghost use Rattle.silt_disk.specs.Disk.{LeavesOnly, Restarts};
 ghost use Rattle.silt_event.specs.Commands.{Map};
@@ -10,21 +10,22 @@ use crate::{Core, Event, LifeReply, OpenFault, Refusal};
 use silt_disk::Stoppable;
 use std::alloc::{AllocError, Global};
 
-/// Lives in order: in each the store is opened and does its events, and then its device is stopped.
+/// Does lives in order. Each life opens the store and does its events, and then its device is stopped.
 ///
-/// Where each image that a stop may leave of the given device is a store of values of `value_len` bytes and stands for one
-/// map, the replies are a history from it: **every answered get gives its key's value in the map folded over what earlier
-/// lives kept and this life has accepted, and what a life keeps is a beginning of its accepted commands that holds every
-/// acknowledged one**, wherever each life was stopped, before or within any device call, and whatever it left.
+/// If each possible crash image of the given device is a store with values of `value_len` bytes and represents one map,
+/// the replies are a history from that map: **every answered get gives its key's value in the map folded over what
+/// earlier lives kept and this life has accepted, and what a life keeps is a beginning of its accepted commands that
+/// holds every acknowledged one**. This holds wherever each life is stopped, before or within any device call, and
+/// whatever the stop leaves.
 ///
-/// Whatever the device holds, each life is one of a store that was opened on what the life before left, and whose replies are its own
-/// (`LivesRun`). A life that was not opened has the cause of its refusal: a life whose store has values of another length is `NotOpened`
-/// with `BadGeometry` and not run; a life whose replies find no memory is `NotOpened` with `NoMemory`. Between two lives the device is
-/// stopped.
+/// Whatever the device holds, each life opens a store on what the life before left, and has that store's replies
+/// (`LivesRun`). A life that is not opened has the cause of its refusal. If the store has values of another length, the
+/// life is `NotOpened` with `BadGeometry` and does no events. If it is out of memory for its replies, it is `NotOpened`
+/// with `NoMemory`. Between two lives the device is stopped.
 ///
 /// # Errors
 ///
-/// Where the list of replies finds no memory. Then no life was begun.
+/// Out of memory for the list of replies. Then no life begins.
 pub fn lives<D: Stoppable>(
     alloc: Global,
     disk: D,
@@ -45,7 +46,7 @@ pub fn lives<D: Stoppable>(
     Ok(replies)
 }
 
-// One life: the store is opened, does the events and is stopped.
+// Does one life: opens the store, does the events, and stops its device.
 fn live<D: Stoppable>(
     alloc: Global,
     disk: D,
@@ -73,7 +74,7 @@ fn live<D: Stoppable>(
     }
 }
 
-// Stops a store, and gives its device as the stop left it.
+// Stops a store, and returns its device as the stop left it.
 fn stop<D: Stoppable>(core: Core<D>) -> D
     ensures { Restarts (D.content core.disk) (D.content result) }
 {

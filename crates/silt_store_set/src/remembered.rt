@@ -1,11 +1,11 @@
-// A value as it was, which contracts alone see.
+// A value as it was. Only contracts see it.
 ghost use Rattle.std.specs.Prelude.{◌≡◌};
 ghost use base.Fml.{ftrue};
 
 use std::marker::{Model, PhantomData};
 
-// A `T` as it was when it was taken. It has no bytes and owns nothing. (std's `Snapshot` is the same, but rattle does not find that a
-// closure which holds one may go to another thread.)
+// A `T` as it was when this was taken. It has no bytes and owns nothing. (std's `Snapshot` is the same, but rattle does
+// not find that a closure with one may go to another thread.)
 #[derive(Drop)]
 pub struct Remembered<T> {
     marker: PhantomData<T>,

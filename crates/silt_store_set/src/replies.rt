@@ -1,4 +1,4 @@
-// Results as replies, and values as they are read.
+// Results of calls as replies, and values as they are read.
 ghost use Rattle.std.specs.Prelude.{◌≡◌, ◌≤◌, length, IfOk};
 ghost use Rattle.silt_frame.specs.declared.key.Kind.TheVariants.{Delete};
 ghost use Rattle.silt_log.specs.Rows.{IsValueOf};
@@ -11,7 +11,7 @@ use std::alloc::{AllocError, Global};
 
 static ZEROS: [u8; 4096] = [0; 4096];
 
-// The value that stands in a delete's row.
+// The value in a delete's row.
 pub fn zeros(len: u32) -> &'static [u8]
     requires { len ≤ 4096 }
     ensures len { length result.now ≡ len }
@@ -28,7 +28,7 @@ pub fn copied(alloc: Global, bytes: &[u8]) -> Result<Value, AllocError>
     Ok(Value::new(owned))
 }
 
-// Whether a step in the background that makes this progress is work.
+// Whether this progress of a background step is work.
 pub fn is_work(progress: Progress) -> bool
     ensures { result ≡ is_work progress }
 {
@@ -45,7 +45,7 @@ pub fn accepted<F>(answer: Result<u64, Refusal<F>>) -> Reply<F>
     }
 }
 
-/// The reply to a step in the background.
+/// The reply to a step of background work.
 pub fn progressed<F>(answer: Result<Progress, Refusal<F>>) -> Reply<F>
     ensures { result ≡ progress_reply answer }
 {

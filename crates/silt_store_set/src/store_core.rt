@@ -1,4 +1,4 @@
-// The store over one device: what it holds in memory, and its calls.
+// The store on one device: what it holds in memory, and its calls.
 ghost use Rattle.std.specs.Prelude.{◌≡◌, ◌<◌, ◌≤◌, length, false, Ok, All, IsTrue, IfOk, IfErr, OnErr, MatchResult};
 ghost use Rattle.silt_event.specs.Events.{Legal};
 ghost use Rattle.silt_disk.specs.Disk.{LeavesOnly};
@@ -13,20 +13,20 @@ use std::alloc::{AllocError, Global};
 use std::collections::BTreeMap;
 use std::marker::Model;
 
-// How many bytes a value has at most.
+// The most bytes of a value.
 const MOST_VALUE_LEN: usize = 4096;
 
-/// The greatest number of commands that one life of a store may accept.
+/// The most commands that one life of a store accepts.
 pub const MOST_COMMANDS: u64 = (1 << 63) - 1;
 
-/// A device that was not opened, and why.
+/// A device on which no store was opened, and why.
 #[derive(Drop)]
 pub struct OpenFault<D: Disk> {
     pub disk: D,
     pub refusal: Refusal<D::Fault>,
 }
 
-/// A store over a device. It answers from what is accepted, and survives a stop with what is acknowledged.
+/// A store on a device. Gets see all accepted commands, and a crash keeps all acknowledged ones.
 #[derive(Drop)]
 pub struct Core<D: Disk> {
     disk: D,
@@ -34,7 +34,7 @@ pub struct Core<D: Disk> {
     // How many commands this life has accepted.
     count: u64,
     failed: bool,
-    // What its failing call began with, where it is failed.
+    // If the store is failed, what its failing call began with.
     basis: Basis<D>,
 }
 
@@ -86,12 +86,12 @@ impl<D: Disk> Core<D> {
     ghost use Rattle.silt_store_set.specs.Replies.{change_reply, flush_reply, get_reply, read_reply, progress_reply};
     ghost use Rattle.silt_event.specs.declared.event.Event.TheVariants.{Put, Delete, Get, Flush, Convert, Merge};
 
-    /// Takes up a device that a stop may have left.
+    /// Opens a store on a device that a crash may have left.
     ///
     /// # Errors
     ///
-    /// The first thing that is found (`NotFormatted`, `Damaged`, `Crowded`), and then nothing is written; `Device` with the
-    /// fault of a device call; `NoMemory`.
+    /// The first finding (`NotFormatted`, `Damaged`, `Crowded`), and then nothing is written; `Device` with the fault
+    /// of a device call; `NoMemory`.
     pub fn open(alloc: Global, disk: D) -> Result<Core<D>, OpenFault<D>>
         ensures ok { IfOk result (Opens D.Disk (D.content disk)) }
         ensures same { IfErr result (λ fault. SameDisk (D.content disk) (D.content fault.disk)) }
@@ -138,9 +138,10 @@ impl<D: Disk> Core<D> {
         self.count
     }
 
-    /// Says what is true of the store at every moment, and does nothing: each image that a stop may leave of its device stands for the
-    /// base, or, where the store is failed, for the base after a beginning of the commands that wait. Its map is the base after all
-    /// of these, and no more wait than this life has accepted. A failed store has both as its failing call began.
+    /// States what is true of the store at every moment, and does nothing. Each possible crash image of its device
+    /// represents the base or, if the store is failed, the base after some first part of the waiting commands. Its map
+    /// is the base after all of them, and no more wait than this life has accepted. A failed store has both as its
+    /// failing call began.
     pub fn standing(&self)
         ensures safe { self.now.failed ≡ false → LeavesOnly (D.content self.now.disk) (StandsFor self.now.shape self.now.base) }
         ensures begun { LeavesOnly (D.content self.now.disk) (HasBegun self.now.shape self.now.base self.now.waiting) }
@@ -150,11 +151,11 @@ impl<D: Disk> Core<D> {
         let _ = &self.disk; // the store is as it was made
     }
 
-    /// Sets the value of a key, and answers how many commands this life has accepted, this one included.
+    /// Sets the value of a key, and returns how many commands this life has accepted, this one included.
     ///
-    /// It is decided in this order: `Failed`, `Spent` (the count), `StoreFull`, the reads of its lookup (`Device`), `NoRoom`,
-    /// `Spent` (the generation), `NoMemory`, its writes (`Device`). Memory is taken only where the active log cannot take the
-    /// row and another one is started.
+    /// The checks are in this order: `Failed`, `Spent` (the count), `StoreFull`, the reads of its lookup (`Device`),
+    /// `NoRoom`, `Spent` (the generation), `NoMemory`, its writes (`Device`). It needs memory only if the active log
+    /// cannot take the row and a new log is started.
     pub fn put(&mut self, alloc: Global, key: &Key, value: &[u8]) -> Result<u64, Refusal<D::Fault>>
         requires { length value.now ≡ self.old.shape.value_len }
         ensures { Does D.Disk self.old self.new (Put key.now value.now) (change_reply result) }
@@ -171,9 +172,9 @@ impl<D: Disk> Core<D> {
         self.write_row(alloc, Kind::Put, key, value)
     }
 
-    /// Takes a key's value away, and answers how many commands this life has accepted, this one included.
+    /// Deletes a key's value, and returns how many commands this life has accepted, this one included.
     ///
-    /// It is decided as a put is, without `StoreFull`.
+    /// The checks are those of a put, without `StoreFull`.
     pub fn delete(&mut self, alloc: Global, key: &Key) -> Result<u64, Refusal<D::Fault>>
         ensures { Does D.Disk self.old self.new (Delete key.now) (change_reply result) }
     {
@@ -187,7 +188,7 @@ impl<D: Disk> Core<D> {
         self.write_row(alloc, Kind::Delete, key, zeros)
     }
 
-    // Writes a row behind the others, in a new log where the active one cannot take it.
+    // Writes a row behind the others, or in a new log if the active one cannot take it.
     fn write_row(
         &mut self,
         alloc: Global,
@@ -218,7 +219,7 @@ impl<D: Disk> Core<D> {
         }
     }
 
-    /// Acknowledges all commands accepted so far, and answers their number. Where no row waits it makes no device call.
+    /// Acknowledges all commands accepted so far, and returns their number. If no row waits it makes no device call.
     pub fn flush(&mut self) -> Result<u64, Refusal<D::Fault>>
         ensures { Does D.Disk self.old self.new Flush (flush_reply result) }
     {
@@ -239,7 +240,7 @@ impl<D: Disk> Core<D> {
         }
     }
 
-    /// Writes a key's value over `out`, and answers whether there is one. Where there is none `out` stays as it was.
+    /// Writes a key's value over `out`, and returns whether there is one. If there is none, `out` stays as it was.
     pub fn get(&self, key: &Key, out: &mut [u8]) -> Result<bool, Refusal<D::Fault>>
         requires { length out.old ≡ self.now.shape.value_len }
         ensures reply { Does D.Disk self.now self.now (Get key.now) (get_reply out.new result) }
@@ -255,8 +256,8 @@ impl<D: Disk> Core<D> {
         }
     }
 
-    // A key's value: it is read into a buffer that has room for the longest, so that a row takes one read, and memory is asked for
-    // where there is a value alone.
+    // Returns a key's value. The buffer has room for the longest value, so that a row takes one read, and memory is
+    // allocated only if there is a value.
     fn read(&self, alloc: Global, key: &Key) -> Result<Option<Value>, Refusal<D::Fault>>
         ensures { Does D.Disk self.now self.now (Get key.now) (read_reply result) }
     {
@@ -275,12 +276,12 @@ impl<D: Disk> Core<D> {
         }
     }
 
-    /// One step of the conversion of the oldest frozen log into a hash store. Where none is under way: `Idle` where no log is frozen,
-    /// `Waiting` where no hash region is free, else the conversion begins. Each step writes one slot and answers `Moved`; the one after
-    /// the last slot syncs, writes the manifest and answers `Finished`.
+    /// Does one step of the conversion of the oldest frozen log into a hash store. If none is in progress, it returns
+    /// `Idle` if no log is frozen and `Waiting` if no hash region is free; else the conversion begins. Each step writes
+    /// one slot and returns `Moved`. The step after the last slot syncs, writes the manifest and returns `Finished`.
     ///
-    /// It is decided in this order: `Failed`, `Spent` (the generation, where the manifest is to be written), the read of a row
-    /// (`Device`) and `NoMemory` (in a first step alone), its write or syncs (`Device`).
+    /// The checks are in this order: `Failed`, `Spent` (the generation, if the step writes the manifest), the read of a
+    /// row (`Device`) and `NoMemory` (only in a first step), its write or syncs (`Device`).
     pub fn convert(&mut self, alloc: Global) -> Result<Progress, Refusal<D::Fault>>
         ensures { Does D.Disk self.old self.new Convert (progress_reply result) }
     {
@@ -301,13 +302,15 @@ impl<D: Disk> Core<D> {
         }
     }
 
-    /// One step of the merge of hash stores and the sorted store into a new sorted store. Where none is under way: `Idle` where there is
-    /// no hash store, else the merge of all of them begins. A step gathers one slot of a hash store, or decides one key, and answers
-    /// `Moved`; the one after the last key syncs, writes the manifest and answers `Finished`. A hash store that a conversion finishes
-    /// meanwhile stays in front. It never answers `Waiting`.
+    /// Does one step of the merge of hash stores and the sorted store into a new sorted store. If none is in progress,
+    /// it returns `Idle` if there is no hash store; else the merge of all of them begins. A step gathers one slot of a
+    /// hash store, or decides one key, and returns `Moved`. The step after the last key syncs, writes the manifest and
+    /// returns `Finished`. A hash store that a conversion finishes meanwhile stays in front. It never returns
+    /// `Waiting`.
     ///
-    /// It is decided in this order: `Failed`, `Spent` (the generation, where the manifest is to be written), its reads (`Device`) and
-    /// `NoMemory` (while slots are gathered, and where the manifest is to be written), its write or syncs (`Device`).
+    /// The checks are in this order: `Failed`, `Spent` (the generation, if the step writes the manifest), its reads
+    /// (`Device`) and `NoMemory` (while it gathers slots, and if it writes the manifest), its write or syncs
+    /// (`Device`).
     pub fn merge(&mut self, alloc: Global) -> Result<Progress, Refusal<D::Fault>>
         ensures { Does D.Disk self.old self.new Merge (progress_reply result) }
     {
@@ -328,23 +331,23 @@ impl<D: Disk> Core<D> {
         }
     }
 
-    /// Whether the store is not failed, and there is a step of conversion to be done: its answer is `Moved` or `Finished` where nothing
-    /// refuses it.
+    /// Whether the store is not failed and there is a step of conversion to do. If nothing refuses it, the step returns
+    /// `Moved` or `Finished`.
     pub fn wants_convert(&self) -> bool
         ensures { result ≡ wants_convert self.now }
     {
         !self.failed && is_work(self.tiers.convert_turn())
     }
 
-    /// Whether the store is not failed, and there is a step of merging to be done: its answer is `Moved` or `Finished` where nothing
-    /// refuses it.
+    /// Whether the store is not failed and there is a step of merging to do. If nothing refuses it, the step returns
+    /// `Moved` or `Finished`.
     pub fn wants_merge(&self) -> bool
         ensures { result ≡ wants_merge self.now }
     {
         !self.failed && is_work(self.tiers.merge_turn())
     }
 
-    /// Does one event. A get whose value finds no memory is refused with `NoMemory`.
+    /// Does one event. A get that is out of memory for its value is refused with `NoMemory`.
     pub fn answer(&mut self, alloc: Global, event: &Event) -> Reply<D::Fault>
         requires { HasValueOf self.old.shape.value_len event.now }
         ensures { Does D.Disk self.old self.new event.now result }
@@ -366,11 +369,11 @@ impl<D: Disk> Core<D> {
         }
     }
 
-    /// Does events in order, and answers a reply to each.
+    /// Does events in order, and returns a reply to each.
     ///
     /// # Errors
     ///
-    /// Where the list of replies finds no memory. Then no event was done.
+    /// Out of memory for the list of replies. Then no event is done.
     pub fn run(
         &mut self,
         alloc: Global,
@@ -412,8 +415,8 @@ impl<D: Disk> Core<D> {
         }
     }
 
-    /// Gives the device back. Each image that a stop may leave of it stands for the base, or, where the store is failed, for the base
-    /// after a beginning of the commands that waited, both as its failing call began.
+    /// Gives the device back. Each possible crash image of it represents the base or, if the store is failed, the base
+    /// after some first part of the commands that waited; both are as its failing call began.
     pub fn close(self) -> D
         ensures disk { result ≡ self.disk }
         ensures safe { self.failed ≡ false → LeavesOnly (D.content result) (StandsFor self.shape self.base) }

@@ -7,7 +7,7 @@ use Rattle.silt_store_set.specs.Living.{StartsFrom}
 use Rattle.silt_store_set.proofs.Livings.{LivesTo}
 use Rattle.silt_store_set.proofs.life.lives.Given as goal
 
--- the lives so far were run and are a history, and the device stands for its last map
+-- the lives so far are done and are a history, and the device represents its last map
 abbrev pub invariant-loop-events : goal.invariant-loop-events
 invariant-loop-events g l = record {
   honest : (g.D.Disk.content l.disk).honest ≡ (g.D.Disk.content l.fn.disk).honest;
