@@ -22,7 +22,7 @@ use Rattle.silt_desk.specs.Notes.{plain_answer}
 use Rattle.silt_desk.specs.Seats.{SeatState, Totals}
 use Rattle.silt_desk.specs.Seeing.{NoneWaits, SeenStep, SeenStore, seen}
 
--- ---- answers without their faults
+-- ---- replies without their faults
 
 pub change_plain : {F : Type 0} (answer : Result ℕ (Refusal F)) → change_reply (plain_answer answer) ≡ plain (change_reply answer)
 change_plain (Ok n) = refl
@@ -41,7 +41,7 @@ pub progress_plain : {F : Type 0} (answer : Result ProgressOf (Refusal F)) → p
 progress_plain (Ok progress) = refl
 progress_plain (Err refusal) = refl
 
--- what a map answers, it answers without the fault too
+-- if a map gives a reply, it gives the same reply without the fault
 step_plain : {F : Type 0} (m : Map) (event : Event) (reply : Reply F) (to : Map) → Step m event reply to → Step m event (plain reply) to
 step_plain m (Put key value) (Accepted n) to step = step
 step_plain m (Put key value) (Acknowledged n) to step = absurd step
@@ -147,7 +147,7 @@ fault_plain (Refused Spent) fault = absurd (cc)
 fault_plain (Refused HistoryFull) fault = absurd (cc)
 
 module _ {D F : Type 0} (facts : Ghosts D F) where
-  -- an acknowledging reply leaves nothing waiting
+  -- after an acknowledging reply no command waits
   none_plain : (core : CoreState D) (reply : Reply F) → Durable core reply → NoneWaits (seen facts core) (plain reply)
   none_plain core (Accepted n) none = tt
   none_plain core (Acknowledged n) none = none
@@ -158,7 +158,7 @@ module _ {D F : Type 0} (facts : Ghosts D F) where
   none_plain core (Unsettled n) none = tt
   none_plain core NotServed none = tt
 
-  -- what a trace is told of a call
+  -- what a trace sees of a call
   pub seen_step : (old new : CoreState D) (event : Event) (reply : Reply F) → Does facts old new event reply → SeenStep (seen facts old) (seen facts new) event (plain reply)
   seen_step old new event reply does = record {
     honest = does.disk.honest;
@@ -188,7 +188,7 @@ module _ {D F : Type 0} (facts : Ghosts D F) where
   never_full old new Convert cause = cause
   never_full old new Merge cause = cause
 
-  -- a call for which there was no memory changes nothing
+  -- a call that was out of memory changes nothing
   lacks : (old new : CoreState D) (event : Event) → Does facts old new event (Refused NoMemory) → new ≡ old
   lacks old new event does =
       let go : (b : Bool) → old.failed ≡ b → (d : Bool) → new.failed ≡ d → new ≡ old = elim [

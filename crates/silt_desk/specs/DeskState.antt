@@ -19,13 +19,13 @@ pub record DeskState (D T : Type 0) : Type 0 where
   pub trace : T
 
 module _ {D F T : Type 0} (facts : Ghosts D F) (trace : TraceOf T) (old new : DeskState D T) (seat after : SeatState) (event : Event) (reply : Reply F) where
-  -- the store did the event and gave the reply, and exactly this call was recorded, for this seat
+  -- the store did the event and gave the reply, and the trace recorded exactly this call, for this seat
   pub record Records : Type 0 where
     pub done : Does facts old.core new.core event reply
     pub recorded : trace.extends old.trace (call seat.number event (plain reply)) new.trace
     pub seated : after ≡ after_call seat (accepted_by reply)
 
-  -- why a call is not recorded: the history is full, or a growth of memory was refused, to the trace or to the store
+  -- why a call is not recorded: the history is full, or the trace or the store was out of memory
   abbrev pub UnrecordedCause : Reply F → Type 0
   UnrecordedCause (Refused HistoryFull) = trace.is_full old.trace
   UnrecordedCause (Refused NoMemory) = trace.takes_memory old.trace ⊎ Does facts old.core old.core event (Refused NoMemory)
@@ -37,11 +37,11 @@ module _ {D F T : Type 0} (facts : Ghosts D F) (trace : TraceOf T) (old new : De
     pub seated : after ≡ seat
     pub cause : UnrecordedCause reply
 
-  -- what one call at the desk does: it is recorded with what the store did, or nothing at all is done
+  -- what one call at the desk does: the store does it and the trace records it, or nothing happens at all
   abbrev pub Serves : Type 0
   Serves = MatchBool (is_recorded reply) Records Refuses
 
--- what is noted of one call: it is recorded and counted, or nothing is
+-- what is noted of one call: it is recorded and counted, or nothing is noted
 abbrev pub Notes : {T : Type 0} → (T → RecordedCall → T → Type 0) → T → T → Totals → Totals → SeatState → SeatState → Event → Reply (Unit {0}) → Type 0
 Notes extends old new totals after_totals seat after event reply =
     MatchBool (is_recorded reply)

@@ -1,4 +1,4 @@
--- A call with its answer, before the bytes of a value are copied.
+-- A call with its result, before the bytes of a value are copied.
 use Rattle.std.specs.Prelude.{ℕ, List, Result, Ok, Err}
 use Rattle.silt_event.specs.Events.{plain_refusal}
 use Rattle.silt_store_set.specs.Replies.{change_reply, flush_reply, get_reply, progress_reply}
@@ -9,12 +9,12 @@ use Rattle.silt_event.specs.declared.reply.Reply.{Reply}
 use Rattle.silt_desk.specs.declared.call.Note.{Note}
 use Rattle.silt_desk.specs.declared.call.Note.TheVariants.{Put, Delete, Flush, Get, Convert, Merge}
 
--- an answer without its fault
+-- a result without its fault
 abbrev pub plain_answer : {A F : Type 0} → Result A (Refusal F) → Result A (Refusal (Unit {0}))
 plain_answer (Ok a) = Ok a
 plain_answer (Err refusal) = Err (plain_refusal refusal)
 
--- what was asked, where these are the bytes of the value
+-- the event of a call with these value bytes
 abbrev pub noted_event : Note → List ℕ → Event
 noted_event (Put key answer) value = event.Put key value
 noted_event (Delete key answer) value = event.Delete key
@@ -23,7 +23,7 @@ noted_event (Get key answer) value = event.Get key
 noted_event (Convert answer) value = event.Convert
 noted_event (Merge answer) value = event.Merge
 
--- what was answered, where these are the bytes of the value
+-- the reply of a call with these value bytes
 abbrev pub reply_of : Note → List ℕ → Reply (Unit {0})
 reply_of (Put key answer) value = change_reply answer
 reply_of (Delete key answer) value = change_reply answer

@@ -74,7 +74,7 @@ count_accepted_push xs y = omega (arith, count_accepted-append xs (y ∷ []))
 
 pub ruleset accepted_laws = (count_accepted-le, accepted_by-le, count_accepted_push)
 
--- ---- what a stop may keep
+-- ---- what a crash may keep
 
 -- the commands of one call more
 pub commands_more : (calls : List RecordedCall) (c : RecordedCall) → commands_of (calls ++ c ∷ []) ≡ commands_of calls ++ accepted_command c.event c.reply
@@ -87,7 +87,7 @@ pub acknowledged_more : (n : ℕ) (calls : List RecordedCall) (c : RecordedCall)
 acknowledged_more n [] c = refl
 acknowledged_more n (x ∷ calls) c = acknowledged_more (acknowledged_by n x.reply) calls c
 
--- what was acknowledged by one reply is settled after it
+-- what one reply acknowledged is settled after it
 acknowledged_one : (reply : PlainReply) (before count next total : ℕ) (store : SeenStore) → Counts count reply next → NoneWaits store reply → total + length store.waiting ≡ next
     → before ≤ total → acknowledged_by before reply ≤ total
 acknowledged_one (Accepted n) before count next total store counts none sum less = less
@@ -124,13 +124,13 @@ settles_more a c base waiting s t h old step moves =
           (acknowledged_one c.reply (acknowledged_after settled (replies_of a.calls)) s.count t.count (settled + length (old.moved ++ moves.moved)) t step.counts (step.settles h) now before);
     }
 
--- a call that added nothing, and left the base and what waits, settles nothing more
+-- a call that adds nothing, and leaves the base and the waiting commands, settles nothing more
 settles_same : (a : Keeping) (c : RecordedCall) (base : Map) (waiting : List Command) (s t : SeenStore) → IsTrue s.content.honest → HasSettled a base waiting s → SeenStep s t c.event c.reply
     → accepted_command c.event c.reply ≡ [] → t.base ≡ s.base → t.waiting ≡ s.waiting → HasSettled (with_call a c) base waiting t
 settles_same a c base waiting s t h old step none same_base same_waiting =
     settles_more a c base waiting s t h old step (record { moved = []; rest = same_waiting ∙ sym (append_nil s.waiting) ∙ ap (λ (cs : List Command). s.waiting ++ cs) (sym none); base = same_base })
 
--- by a call that added and acknowledged nothing no more may be kept
+-- a call that adds and acknowledges nothing changes nothing about what a crash may keep
 records_on : (a : Keeping) (c : RecordedCall) (shape : Shape) (base : Map) (waiting : List Command) (image : List ℕ) → accepted_command c.event c.reply ≡ [] → ((n : ℕ) → acknowledged_by n c.reply ≡ n)
     → StandsRecorded a shape base waiting image → StandsRecorded (with_call a c) shape base waiting image
 records_on a c shape base waiting image none same kept =
@@ -144,7 +144,7 @@ records_on a c shape base waiting image none same kept =
       kept.2,
     )
 
--- of a store that is not failed a stop keeps what went into the base
+-- if the store is not failed, a crash keeps what went into the base
 keeps_settled : (a : Keeping) (base : Map) (waiting : List Command) (t : SeenStore) (image : List ℕ) → HasSettled a base waiting t → StandsFor t.shape t.base image
     → StandsRecorded a t.shape base waiting image
 keeps_settled a base waiting t image settled stands = (
@@ -153,7 +153,7 @@ keeps_settled a base waiting t image settled stands = (
   subst (λ (m : Map). StandsFor t.shape m image) settled.has_base stands,
 )
 
--- what a stop leaves is told by the recorded calls, after one more
+-- after one more call, the recorded calls still say what a crash keeps
 survives_on : (a : Keeping) (c : RecordedCall) (opening : Map) (s t : SeenStore) → Survives a opening s → SeenStep s t c.event c.reply → Survives (with_call a c) opening t
 survives_on a c opening s t survives step =
     let base : Map = survives.base in
@@ -254,7 +254,7 @@ length_after a b c n m is extends more = rw extends (omega (arith, length-append
 pub accepted_after : (a b : Keeping) (c : RecordedCall) (m n : ℕ) → count_accepted a.calls ≡ m → b ≡ with_call a c → n ≡ m + accepted_by c.reply → count_accepted b.calls ≡ n
 accepted_after a b c m n is extends more = rw extends (omega (arith, count_accepted_push a.calls c, is, more))
 
--- with no calls yet nothing is settled since
+-- with no calls yet nothing is settled since the history began
 settles_none : (kept : Keeping) (store : SeenStore) → kept.calls ≡ [] → kept.count ≡ store.count → HasSettled kept store.base store.waiting store
 settles_none kept store none count = record {
   moved = [];
@@ -264,7 +264,7 @@ settles_none kept store none count = record {
   acknowledged = λ settled sum. omega (arith, ap (λ (calls : List RecordedCall). acknowledged_after settled (replies_of calls)) none);
 }
 
--- a history with no calls yet, of this store as it stands
+-- a history of this store, as it is now, with no calls yet
 pub history_opens : (kept : Keeping) (store : SeenStore) → kept.calls ≡ [] → kept.count ≡ store.count → (IsTrue store.content.honest → ListsMap kept.opening store.map)
     → (IsTrue store.content.honest → store.map ≡ map_after store.base store.waiting) → (IsTrue store.content.honest → length store.waiting ≤ store.count)
     → LeavesOnly store.content (StandsFor store.shape store.base) → IsHistory kept store

@@ -18,7 +18,7 @@ use Rattle.silt_desk.specs.Seeing.{SeenStore}
 pub record Keeping : Type 0 where
   -- the entries of the store when the history began
   pub opening : List (Key × List ℕ)
-  -- how many commands had been accepted by then
+  -- how many commands were accepted by then
   pub count : ℕ
   pub calls : List RecordedCall
   -- how many calls there is room for
@@ -32,13 +32,13 @@ ListsMap entries map = (key : Key) → lookup (is_at (key_cmp key)) entries ≡ 
 abbrev pub with_call : Keeping → RecordedCall → Keeping
 with_call kept c = record { opening = kept.opening; count = kept.count; calls = kept.calls ++ c ∷ []; most = kept.most }
 
--- an image stands for the base after what a stop may keep of the recorded calls: a beginning of these commands that waited and of those
--- accepted since, with each one that was acknowledged
+-- The image represents the base after what a crash may keep of the recorded calls: a first part of these waiting commands and of those
+-- accepted since, with each acknowledged one.
 abbrev pub StandsRecorded : Keeping → Shape → Map → List Command → List ℕ → Type 0
 StandsRecorded kept shape base waiting image =
     (cs : List Command) × KeepsFrom waiting kept.count (called_events kept.calls) (replies_of kept.calls) cs × StandsFor shape (map_after base cs) image
 
--- what went into the base since the history began, at a base with these commands waiting, holds all that was acknowledged, and the rest waits
+-- since the history began, the commands that went into the base hold each acknowledged one, and the rest wait
 pub record HasSettled (kept : Keeping) (base : Map) (waiting : List Command) (store : SeenStore) : Type 0 where
   pub moved : List Command
   pub rest : moved ++ store.waiting ≡ waiting ++ commands_of kept.calls
@@ -46,8 +46,8 @@ pub record HasSettled (kept : Keeping) (base : Map) (waiting : List Command) (st
   pub counted : store.count ≡ kept.count + length (commands_of kept.calls)
   pub acknowledged : (settled : ℕ) → settled + length waiting ≡ kept.count → acknowledged_after settled (replies_of kept.calls) ≤ settled + length moved
 
--- Whatever a stop leaves of the store, failed or not, is told by the recorded calls: the opening map was a base with some commands waiting, no more than
--- had been accepted.
+-- The recorded calls say what a crash keeps of the store, failed or not: the opening map was a base with some commands waiting, no more
+-- than were accepted.
 pub record Survives (kept : Keeping) (opening : Map) (store : SeenStore) : Type 0 where
   pub base : Map
   pub waiting : List Command
@@ -56,8 +56,8 @@ pub record Survives (kept : Keeping) (opening : Map) (store : SeenStore) : Type 
   pub settled : IsTrue store.content.honest → HasSettled kept base waiting store
   pub left : LeavesOnly store.content (StandsRecorded kept store.shape base waiting)
 
--- The recorded calls are a history of one thread, from the opening entries and count to the store's map and count, and what a stop leaves is
--- what they may keep.
+-- The recorded calls are a history of one thread, from the opening entries and count to the store's map and count, and a crash keeps only
+-- what they allow.
 pub record IsHistory (kept : Keeping) (store : SeenStore) : Type 0 where
   pub map : Map
   pub entries : IsTrue store.content.honest → ListsMap kept.opening map

@@ -1,4 +1,4 @@
--- What a step's answer asks of a worker.
+-- What the result of a step asks of a worker.
 use Rattle.std.specs.Prelude.{Result, Ok, Err}
 use Rattle.silt_event.specs.declared.progress.Progress.{Progress}
 use Rattle.silt_event.specs.declared.progress.Progress.TheVariants.{Idle, Waiting, Moved, Finished}
@@ -6,7 +6,7 @@ use Rattle.silt_event.specs.declared.refusal.Refusal.{Refusal}
 use Rattle.silt_desk.specs.declared.worker.Turn.{Turn}
 use Rattle.silt_desk.specs.declared.worker.Turn.TheVariants.{GoOn, WakeOther, Wait}
 
--- a worker goes on where work was done, wakes the other one where it is finished, and waits where there is none or it is refused
+-- a worker goes on if work was done, wakes the other one if that work is finished, and waits if there is none or it is refused
 abbrev pub turn_of : {F : Type 0} → Result Progress (Refusal F) → Turn
 turn_of (Ok Moved) = GoOn
 turn_of (Ok Finished) = WakeOther

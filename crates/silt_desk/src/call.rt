@@ -1,4 +1,4 @@
-// A call at a desk, with its answer.
+// A call at a desk, with its result.
 ghost use Rattle.std.specs.Prelude.{◌≡◌, ℕ, List};
 ghost use Rattle.silt_store_set.specs.Replies.{get_reply};
 ghost use Rattle.silt_event.specs.declared.reply.Reply.TheVariants as reply_case;
@@ -9,7 +9,7 @@ use silt_event::{Event, Progress, Refusal, Reply};
 use silt_frame::{Key, Value};
 use silt_store_set::{accepted, progressed};
 
-/// A call that is recorded: by which seat, what was asked and what was answered.
+/// A recorded call: its seat, its event and its reply.
 #[derive(Debug, Drop)]
 pub struct RecordedCall {
     pub seat: u64,
@@ -17,7 +17,7 @@ pub struct RecordedCall {
     pub reply: Reply<()>,
 }
 
-/// A call with its answer, but for the bytes of a value.
+/// A call with its result, but without the bytes of a value.
 #[derive(Clone, Copy, Debug, Drop)]
 pub enum Note {
     Put(Key, Result<u64, Refusal<()>>),
@@ -39,7 +39,7 @@ impl Note {
         }
     }
 
-    /// Whether a call that was answered so is recorded.
+    /// Whether a call with this result is recorded.
     pub fn is_recorded(&self) -> bool
         ensures { (value : List ℕ) → result ≡ is_recorded (reply_of self.now value) }
     {
@@ -51,7 +51,7 @@ impl Note {
         }
     }
 
-    /// The call and its answer, where these are the bytes of the value.
+    /// The event and the reply, if these are the bytes of the value.
     pub fn with_value(self, bytes: Vec<u8>) -> (Event, Reply<()>)
         ensures event { result.0 ≡ noted_event self bytes.items }
         ensures reply { result.1 ≡ reply_of self bytes.items }
@@ -75,7 +75,7 @@ fn is_record(refusal: &Refusal<()>) -> bool
     !matches!(refusal, Refusal::NoMemory | Refusal::HistoryFull)
 }
 
-// The reply to a get, where these bytes were found.
+// The reply to a get that found these bytes.
 fn found(answer: Result<bool, Refusal<()>>, bytes: Vec<u8>) -> Reply<()>
     ensures { result ≡ get_reply bytes.items answer }
 {
@@ -86,7 +86,7 @@ fn found(answer: Result<bool, Refusal<()>>, bytes: Vec<u8>) -> Reply<()>
     }
 }
 
-/// An answer without its fault.
+/// A result without its fault.
 pub fn plain<A: Copy, F: Drop>(answer: &Result<A, Refusal<F>>) -> Result<A, Refusal<()>>
     ensures { result ≡ plain_answer answer.now }
 {

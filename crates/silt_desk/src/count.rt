@@ -5,7 +5,7 @@ use crate::call::Note;
 use crate::trace::{NotPrepared, Trace};
 use std::alloc::Global;
 
-/// The numbers of the recorded calls and of the accepted commands among them, both modulo 2^64. It takes no memory.
+/// The numbers of the recorded calls and of the accepted commands among them, both modulo 2^64. It needs no memory.
 #[derive(Debug, Drop)]
 pub struct Count {
     calls: u64,

@@ -25,7 +25,7 @@ pub struct Desk<D: Disk, T: Trace, N: Naming> {
     ledgers: Ledgers<N>,
 }
 
-/// The store and the trace, where a desk found no memory for its seats.
+/// The store and the trace of a desk that was out of memory for its seats.
 #[derive(Drop)]
 pub struct NotMade<D: Disk, T: Trace> {
     pub core: Core<D>,
@@ -47,7 +47,7 @@ impl<D: Disk, T: Trace, N: Naming> Model for Desk<D, T, N> {
     ghost invariant = { λ d. T.agrees d.trace (seen D.Disk d.core) × T.counts d.trace d.ledgers.calls d.ledgers.accepted };
 }
 
-// Notes one call in the trace, with the seat and in the ledgers, where it is recorded.
+// Notes a call in the trace, with the seat and in the ledgers, if it is to be recorded.
 fn note<T: Trace, N: Naming>(
     trace: &mut T,
     ledgers: &mut Ledgers<N>,
@@ -66,7 +66,7 @@ fn note<T: Trace, N: Naming>(
     }
 }
 
-// Why a call is refused for which no record can be made.
+// The refusal of a call that cannot be recorded.
 fn refusal<F>(lack: NotPrepared) -> Refusal<F>
     ensures { result ≡ unprepared_refusal lack }
 {
@@ -89,11 +89,11 @@ impl<D: Disk, T: Trace, N: Naming> Desk<D, T, N> {
     ghost use Rattle.silt_desk.specs.DeskState.{Serves, found_of};
     ghost use Rattle.silt_desk.specs.Seeing.{seen};
 
-    /// A desk with so many seats, numbered from 0. The two blanks become its ledgers.
+    /// A desk with this many seats, numbered from 0. The two blanks become its ledgers.
     ///
     /// # Errors
     ///
-    /// Where the list of seats finds no memory. Then the store and the trace are given back.
+    /// Out of memory for the list of seats. Then the store and the trace are given back.
     pub fn new(
         alloc: Global,
         core: Core<D>,
@@ -130,8 +130,9 @@ impl<D: Disk, T: Trace, N: Naming> Desk<D, T, N> {
         self.core.geometry()
     }
 
-    /// Says what is true of the store at every moment, and does nothing: what a stop may leave of its device, also of a failed store (see
-    /// [`Core::standing`]). With [`Kept`](crate::Kept) the recorded calls tell it: see [`Desk::trace`].
+    /// States what is true of the store at every moment, and does nothing: the possible crash images of its device,
+    /// also of a failed store (see [`Core::standing`]). With [`Kept`](crate::Kept) the recorded calls say what a crash
+    /// keeps: see [`Desk::trace`].
     pub fn standing(&self)
         ensures safe { self.now.core.failed ≡ false → LeavesOnly (D.content self.now.core.disk) (StandsFor self.now.core.shape self.now.core.base) }
         ensures begun { LeavesOnly (D.content self.now.core.disk) (HasBegun self.now.core.shape self.now.core.base self.now.core.waiting) }
@@ -141,7 +142,7 @@ impl<D: Disk, T: Trace, N: Naming> Desk<D, T, N> {
         self.core.standing();
     }
 
-    /// Sets the value of a key, as a recorded call, and answers how many commands are accepted, this one included.
+    /// Sets the value of a key, as a recorded call, and returns how many commands are accepted, this one included.
     pub fn put(
         &mut self,
         alloc: Global,
@@ -162,7 +163,7 @@ impl<D: Disk, T: Trace, N: Naming> Desk<D, T, N> {
         answer
     }
 
-    /// Takes a key's value away, as a recorded call, and answers how many commands are accepted, this one included.
+    /// Deletes a key's value, as a recorded call, and returns how many commands are accepted, this one included.
     pub fn delete(
         &mut self,
         alloc: Global,
@@ -181,7 +182,7 @@ impl<D: Disk, T: Trace, N: Naming> Desk<D, T, N> {
         answer
     }
 
-    /// Acknowledges all commands accepted so far, as a recorded call, and answers their number.
+    /// Acknowledges all commands accepted so far, as a recorded call, and returns their number.
     pub fn flush(&mut self, alloc: Global, seat: &mut Seat<N>) -> Result<u64, Refusal<D::Fault>>
         ensures { Serves D.Disk T.Trace self.old self.new seat.old seat.new Flush (flush_reply result) }
     {
@@ -195,7 +196,8 @@ impl<D: Disk, T: Trace, N: Naming> Desk<D, T, N> {
         answer
     }
 
-    /// Writes a key's value over `out`, as a recorded call, and answers whether there is one. Where there is none `out` stays as it was.
+    /// Writes a key's value over `out`, as a recorded call, and returns whether there is one. If there is none, `out`
+    /// stays as it was.
     pub fn get(
         &mut self,
         alloc: Global,
@@ -254,22 +256,22 @@ impl<D: Disk, T: Trace, N: Naming> Desk<D, T, N> {
         answer
     }
 
-    /// Whether there is a step of conversion to be done.
+    /// Whether there is a step of conversion to do.
     pub fn wants_convert(&self) -> bool
         ensures { result ≡ wants_convert self.now.core }
     {
         self.core.wants_convert()
     }
 
-    /// Whether there is a step of merging to be done.
+    /// Whether there is a step of merging to do.
     pub fn wants_merge(&self) -> bool
         ensures { result ≡ wants_merge self.now.core }
     {
         self.core.wants_merge()
     }
 
-    /// Writes a key's value over `out`, and answers how many commands are accepted and whether the key has a value. Nothing is recorded,
-    /// and nothing is changed: looks may be made side by side.
+    /// Writes a key's value over `out`, and returns how many commands are accepted and whether the key has a value. It
+    /// records nothing and changes nothing: many threads may look at the same time.
     pub fn look(&self, key: &Key, out: &mut [u8]) -> Result<(u64, bool), Refusal<D::Fault>>
         requires { length out.old ≡ self.now.core.shape.value_len }
         ensures reply { Does D.Disk self.now.core self.now.core (Get key.now) (get_reply out.new (found_of result)) }
@@ -283,7 +285,7 @@ impl<D: Disk, T: Trace, N: Naming> Desk<D, T, N> {
         }
     }
 
-    /// The trace, which agrees with the store as it now stands.
+    /// The trace, which agrees with the store as it is now.
     pub fn trace(&self) -> &T
         ensures trace { result.now ≡ self.now.trace }
         ensures agrees { T.agrees self.now.trace (seen D.Disk self.now.core) }
@@ -291,12 +293,12 @@ impl<D: Disk, T: Trace, N: Naming> Desk<D, T, N> {
         &self.trace
     }
 
-    /// Where all seats are here: how many calls are recorded, and how many of them are accepted commands, both modulo 2^64. These are
-    /// the sums of what was done from the seats.
+    /// If all seats are given, returns how many calls are recorded, and how many of them are accepted commands, both
+    /// modulo 2^64. These are the sums of what was done from the seats.
     ///
     /// # Errors
     ///
-    /// Where a seat is lacking. Then all are handed back.
+    /// A seat is missing. Then all are handed back.
     pub fn settle(&mut self, seats: Vec<Seat<N>>) -> Result<(u64, u64), MissingSeats<N>>
         ensures same { self.new ≡ self.old }
         ensures counts { OnOk result (T.counts self.old.trace (calls_of seats.items) (accepted_of seats.items)) }
@@ -309,7 +311,7 @@ impl<D: Disk, T: Trace, N: Naming> Desk<D, T, N> {
         }
     }
 
-    /// The store. Its trace and its seats are given up.
+    /// The store. The trace and the seats are dropped.
     pub fn into_core(self) -> Core<D>
         ensures core { result ≡ self.core }
         ensures agrees { T.agrees self.trace (seen D.Disk self.core) }
@@ -322,8 +324,8 @@ impl<D: Disk, T: Trace, N: Naming> Desk<D, T, N> {
         core
     }
 
-    /// Gives the device back, at any moment. Each image that a stop may leave of it stands for the base, or, where the store is failed, for
-    /// the base after a beginning of the commands that waited, both as its failing call began.
+    /// Gives the device back, at any moment. Each possible crash image of it represents the base or, if the store is
+    /// failed, the base after some first part of the commands that waited; both are as its failing call began.
     pub fn close(self) -> D
         ensures disk { result ≡ self.core.disk }
         ensures safe { self.core.failed ≡ false → LeavesOnly (D.content result) (StandsFor self.core.shape self.core.base) }

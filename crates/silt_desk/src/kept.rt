@@ -14,8 +14,8 @@ use std::alloc::Global;
 use std::collections::BTreeMap;
 use std::marker::Model;
 
-/// The entries of a store when its history began, how many commands had been accepted by then, and all calls that were recorded
-/// since, at most so many as there were places for at first.
+/// The entries of a store when its history began, how many commands were accepted by then, and all calls that were
+/// recorded since. It records at most as many calls as it was made for.
 #[derive(Drop)]
 pub struct Kept {
     opening: BTreeMap<Key, Value>,
@@ -39,7 +39,7 @@ impl Model for Kept {
 }
 
 impl Kept {
-    /// Room for so many calls of this store, as it stands.
+    /// Room for this many calls of this store, as it is now.
     ///
     /// # Errors
     ///
@@ -73,7 +73,7 @@ impl Kept {
         &self.opening
     }
 
-    /// How many commands had been accepted when the history began.
+    /// How many commands were accepted when the history began.
     pub fn count(&self) -> u64
         ensures { result ≡ self.now.count }
     {
@@ -135,7 +135,7 @@ impl Trace for Kept {
     }
 }
 
-// The bytes, in a room that holds them.
+// Fills a buffer that has room for them with these bytes.
 fn filled(room: Vec<u8>, bytes: &[u8]) -> Vec<u8>
     requires { length bytes.now ≤ vec_capacity room }
     ensures { result.items ≡ bytes.now }

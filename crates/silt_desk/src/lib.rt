@@ -1,15 +1,17 @@
 //! One store for many threads: a desk under one lock, at which each caller has a seat.
 //!
-//! A [`Desk`] is a store with a [`Trace`] of its calls. A caller has a [`Seat`]; each call at the desk does the store's call and records it:
-//! the seat's number, what was asked, what was answered. So the recorded calls are a history of one thread, whatever threads made them.
-//! [`Kept`] keeps all of them behind the entries at which they began, and its type says that their replay is the store's map;
-//! [`Count`] keeps their number. A look records nothing, and looks are made side by side.
+//! A [`Desk`] is a store with a [`Trace`] of its calls. Each caller has a [`Seat`]. A call at the desk does the store's
+//! call and records its seat's number, its event and its reply. So the recorded calls are a history of one thread,
+//! whatever threads made them. [`Kept`] keeps all of them, and the entries at which they began; its type says that
+//! their replay is the store's map. [`Count`] keeps only their number. A look is a get that is not recorded, and many
+//! threads may look at the same time.
 //!
-//! [`Shared`] is the desk under a lock for readers and writers, and nothing more: who has a guard makes the desk's own calls. [`settle`]
-//! tells, once all seats are given back, how many calls are recorded and how many commands accepted: as many as the callers were answered.
+//! [`Shared`] is the desk under a lock for readers and writers, and nothing more: a thread with a guard makes the
+//! desk's own calls. Once all seats are given back, [`settle`] returns how many calls are recorded and how many
+//! commands are accepted. Both agree with what the callers got.
 //!
 //! [`converter`] and [`merger`] are loops for threads of their own that do the store's steps in the background, one under each guard.
-//! Nothing is claimed of waiting: not that a call comes to its turn, nor in which order, nor that a message arrives.
+//! Nothing is promised about waiting: not that a call gets its turn, nor in which order, nor that a message arrives.
 #![tactic(auto)]
 
 mod call;

@@ -6,7 +6,7 @@ use std::alloc::{AllocError, Global};
 use std::marker::{Brand, Model, PhantomData};
 use std::sync::ledger::{Blank, Book, Ledger, Share};
 
-/// Which desk it is. Each call of a program picks it.
+/// Names a desk. Each call of a program picks the name.
 pub trait Naming {
     /// The name of the ledger of recorded calls.
     ghost calls_name: { ℕ };
@@ -77,7 +77,7 @@ impl<N: Naming> Seat<N> {
     }
 }
 
-/// The seats, where not all of a desk were given back.
+/// The given seats, if some of a desk's seats are missing.
 #[derive(Drop)]
 pub struct MissingSeats<N: Naming> {
     pub seats: Vec<Seat<N>>,
@@ -105,7 +105,7 @@ impl<N: Naming> Model for Ledgers<N> {
 }
 
 impl<N: Naming> Ledgers<N> {
-    // Empty ledgers, and so many seats, numbered from 0.
+    // Empty ledgers, and this many seats, numbered from 0.
     pub fn new(
         alloc: Global,
         seats: u64,
@@ -147,7 +147,7 @@ impl<N: Naming> Ledgers<N> {
         self.accepted.add(&mut seat.accepted, acceptance);
     }
 
-    // Where all seats are here, the totals are what was done from them.
+    // If all seats are given, the totals are what was done from them.
     pub fn settle(&mut self, seats: Vec<Seat<N>>) -> Result<(), MissingSeats<N>>
         ensures same { self.new ≡ self.old }
         ensures sums { IfOk result (λ _. (self.old.calls ≡ calls_of seats.items) × (self.old.accepted ≡ accepted_of seats.items)) }

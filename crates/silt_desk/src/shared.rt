@@ -8,16 +8,16 @@ use crate::trace::Trace;
 use silt_disk::Disk;
 use std::sync::{RwLock, Wait};
 
-/// A desk that threads share. Callers take a guard, and make the desk's own calls: looks under a read guard, side by side, and all
-/// others under a write guard.
+/// A desk that threads share. Callers take a guard and make the desk's own calls: looks under a read guard, at the same
+/// time, and all others under a write guard.
 pub type Shared<D, T, N> = RwLock<Desk<D, T, N>>;
 
-/// Where all seats are here: how many calls are recorded, and how many of them are accepted commands, both modulo 2^64. These are the
-/// sums of what was done from the seats.
+/// If all seats are given, returns how many calls are recorded, and how many of them are accepted commands, both modulo
+/// 2^64. These are the sums of what was done from the seats.
 ///
 /// # Errors
 ///
-/// Where a seat is lacking. Then all are handed back.
+/// A seat is missing. Then all are handed back.
 pub fn settle<D: Disk, T: Trace, N: Naming, R: Wait>(
     rt: &R,
     shared: &Shared<D, T, N>,

@@ -12,18 +12,18 @@ use std::alloc::Global;
 /// Why a further call cannot be recorded.
 #[derive(Clone, Copy, Debug, PartialEq, Eq)]
 pub enum NotPrepared {
-    /// As many calls are recorded as may be.
+    /// The history is full.
     Full,
-    /// No memory was found for the record.
+    /// Out of memory for the record.
     NoMemory,
 }
 
-/// What remembers the calls at a desk.
+/// A record of the calls at a desk.
 pub trait Trace: Drop {
     /// The recorded calls lead to this store.
     ghost agrees: { Self → SeenStore → Type 0 };
 
-    /// So many calls are recorded, and so many of them are accepted commands.
+    /// This many calls are recorded, and this many of them are accepted commands.
     ghost counts: { Self → ℕ → ℕ → Type 0 };
 
     /// The last trace is the first with this call more.
@@ -32,17 +32,17 @@ pub trait Trace: Drop {
     /// No further call can be recorded.
     ghost is_full: { Self → Type 0 };
 
-    /// Its records take memory.
+    /// Its records need memory.
     ghost takes_memory: { Self → Type 0 };
 
-    /// A room of this capacity will do for a value of this length.
+    /// A buffer of this capacity has room for a value of this length.
     ghost fits: { ℕ → ℕ → Type 0 };
 
-    /// Finds the memory for the record of a call whose value has so many bytes.
+    /// Allocates the memory for the record of a call whose value has `len` bytes.
     fn prepare(&self, alloc: Global, len: usize) -> Result<Vec<u8>, NotPrepared>
         ensures { MatchResult result (λ room. (is_full self.now → ⊥) × fits (vec_capacity room) len) (NotPreparedCause (is_full self.now) (takes_memory self.now)) };
 
-    /// Records a call of a seat, where these are the bytes of its value.
+    /// Records a call of a seat, with these bytes of its value.
     fn record(&mut self, seat: u64, note: Note, value: &[u8], room: Vec<u8>)
         requires room { is_full self.old → ⊥ }
         requires fits { fits (vec_capacity room) (length value.now) }

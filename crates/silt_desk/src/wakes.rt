@@ -12,21 +12,21 @@ pub struct Wakes {
 }
 
 impl Wakes {
-    /// Tells both that there may be work.
+    /// Tells both workers that there may be work.
     pub fn go<R: Wait>(&self, rt: &R) {
         wake(rt, &self.converter);
         wake(rt, &self.merger);
     }
 
-    /// Tells both that they are to end.
+    /// Tells both workers to end.
     pub fn stop<R: Wait>(&self, rt: &R) {
         let _ = self.converter.send(rt, Wake::Stop); // either may have ended
         let _ = self.merger.send(rt, Wake::Stop);
     }
 }
 
-/// Tells a worker that there may be work, where no message to it waits already. So a channel with room for a message of each thread that tells
-/// it, and for one that stops it, is never full.
+/// Tells a worker that there may be work, unless a message to it already waits. So a channel never fills up if it has
+/// room for one message of each thread that wakes the worker, and for one that stops it.
 pub(crate) fn wake<R: Wait>(rt: &R, worker: &Sender<Wake>) {
     if worker.is_empty() {
         let _ = worker.send(rt, Wake::Go); // the worker may have ended

@@ -20,7 +20,7 @@ use silt_event::{Progress, Refusal};
 use std::alloc::Global;
 use std::sync::Wait;
 
-/// What a worker is told.
+/// A message to a worker.
 #[derive(Clone, Copy, Debug, PartialEq, Eq)]
 pub enum Wake {
     /// There may be work.
@@ -29,7 +29,7 @@ pub enum Wake {
     Stop,
 }
 
-/// Where a gate is passed.
+/// Where a worker passes a gate.
 #[derive(Clone, Copy, Debug, PartialEq, Eq)]
 pub enum Spot {
     Converter,
@@ -43,7 +43,7 @@ pub trait Gate {
     fn pass(&self, spot: Spot);
 }
 
-/// A gate that is always open: who passes it waits for nothing but the store.
+/// A gate that is always open: a worker that passes it waits only for the store.
 #[derive(Drop)]
 pub struct OpenGate;
 
@@ -58,11 +58,11 @@ pub enum Turn {
     GoOn,
     /// There may be more to do, and also for the other worker.
     WakeOther,
-    /// Nothing is to do before a message.
+    /// There is nothing to do before a message.
     Wait,
 }
 
-// What a step's answer asks of a worker: after a refused one it waits too.
+// What the result of a step asks of a worker. After a refused step it waits too.
 fn turn_after<F: Drop>(answer: Result<Progress, Refusal<F>>) -> Turn
     ensures { result ≡ turn_of answer }
 {
@@ -73,7 +73,7 @@ fn turn_after<F: Drop>(answer: Result<Progress, Refusal<F>>) -> Turn
     }
 }
 
-/// Does one step of conversion where the store wants one, and else nothing.
+/// Does one step of conversion if there is one to do, and else nothing.
 pub fn convert_once<D: Disk, T: Trace, N: Naming>(
     desk: &mut Desk<D, T, N>,
     alloc: Global,
@@ -89,7 +89,7 @@ pub fn convert_once<D: Disk, T: Trace, N: Naming>(
     turn_after(desk.convert(alloc, seat))
 }
 
-/// Does one step of merging where the store wants one, and else nothing.
+/// Does one step of merging if there is one to do, and else nothing.
 pub fn merge_once<D: Disk, T: Trace, N: Naming>(
     desk: &mut Desk<D, T, N>,
     alloc: Global,
@@ -105,12 +105,12 @@ pub fn merge_once<D: Disk, T: Trace, N: Naming>(
     turn_after(desk.merge(alloc, seat))
 }
 
-/// Where a worker hears that there may be work.
+/// How a worker learns that there may be work.
 pub trait Hears: Drop {
-    /// It heard that it is to end, or that nobody is left to tell it anything.
+    /// The worker was told to end, or no thread is left that could wake it.
     ghost has_ended: { Self → Type 0 };
 
-    /// Waits for a message, and answers whether there may be work. False where the worker is to end.
+    /// Waits for a message, and returns whether there may be work. It returns false if the worker is to end.
     fn goes_on<R: Wait>(&self, rt: &R) -> bool
         ensures { result ≡ false → has_ended self.now };
 }
@@ -123,7 +123,8 @@ impl Hears for Receiver<Wake> {
     }
 }
 
-// What a worker does between two steps, with no lock held: it tells the other one, or waits for a message. False where it is to end.
+// What a worker does between two steps, with no lock held: it wakes the other one, or waits for a message. It returns
+// false if it is to end.
 fn rest<W: Hears, R: Wait>(rt: &R, turn: Turn, wakes: &W, other: &Sender<Wake>) -> bool
     ensures { result ≡ false → W.has_ended wakes.now }
 {
