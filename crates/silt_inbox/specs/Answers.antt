@@ -16,7 +16,7 @@ event_kind (event.Get key) = Get
 event_kind event.Convert = Convert
 event_kind event.Merge = Merge
 
--- a command is accepted, or accepted and not settled, a flush acknowledged, a get finds a value or none, a step makes progress; and each may be refused
+-- whether a kind of event may have a reply: a command Accepted or Unsettled, a get Found or Absent, and so on, and each kind Refused
 abbrev pub is_allowed : {F : Type 0} → EventKind → Reply F → Bool
 is_allowed Put (Accepted n) = true
 is_allowed Put (Unsettled n) = true

@@ -4,11 +4,11 @@ use Rattle.silt_inbox.specs.declared.letters.NotPutReason.{NotPutReason}
 use Rattle.silt_inbox.specs.declared.letters.NotPutReason.TheVariants.{Closed, NoMemory}
 
 pub record LettersState (J : Type 0) : Type 0 where
-  -- the jobs that wait, in the order in which they were put
+  -- the waiting jobs, in the order in which they were put
   pub jobs : List J
   pub closed : Bool
 
--- a job is not put where the inbox is closed, or else for want of memory
+-- why a job is not put: the inbox is closed, or else it is out of memory
 abbrev pub IsReason : Bool → NotPutReason → Type 0
 IsReason closed Closed = closed ≡ true
 IsReason closed NoMemory = closed ≡ false

@@ -44,7 +44,7 @@ pub struct Answered {
 }
 
 impl Answered {
-    /// The reply to an event of this kind. It takes no memory.
+    /// The reply to an event of this kind. It needs no memory.
     pub fn new(kind: EventKind, reply: Reply<()>) -> Answered
         requires { is_allowed kind reply ≡ true }
         ensures { (result.kind ≡ kind) × (result.reply ≡ reply) }
@@ -52,7 +52,7 @@ impl Answered {
         Answered { kind, reply }
     }
 
-    /// The kind of the event that is answered.
+    /// The kind of the event that this replies to.
     pub fn kind(&self) -> EventKind
         ensures { result ≡ self.now.kind }
     {
@@ -68,7 +68,7 @@ impl Answered {
     }
 }
 
-/// Whatever a map answers to an event, the event's kind allows.
+/// Every reply of a map to an event is allowed for the event's kind.
 pub fn answered_law()
     ensures { (map to : Map) (event : EventOf) (reply : ReplyOf (Unit {0})) → Step map event reply to → is_allowed (event_kind event) reply ≡ true }
 {}

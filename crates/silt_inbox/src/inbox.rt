@@ -16,11 +16,11 @@ pub struct Inbox<J: Drop, P: Post> {
 }
 
 impl<J: Drop, P: Post> Inbox<J, P> {
-    /// An inbox with so many feeders, and its taker. The two blanks become its ledgers.
+    /// An inbox with this many feeders, and its taker. The two blanks become its ledgers.
     ///
     /// # Errors
     ///
-    /// Where the list of feeders finds no memory.
+    /// Out of memory for the list of feeders.
     pub fn new(
         alloc: Global,
         feeders: u64,
@@ -46,7 +46,7 @@ impl<J: Drop, P: Post> Inbox<J, P> {
         Ok((inbox, places, Taker::of(share)))
     }
 
-    /// Puts a job. Where the inbox is closed, or no memory is found, the job is handed back.
+    /// Puts a job. If the inbox is closed or out of memory, the job is handed back.
     pub fn put<R: Wait>(&self, rt: &R, feeder: &mut Feeder<P>, job: J) -> Result<(), NotPut<J>>
         ensures { MatchResult result (λ _. feeder.new ≡ feeder.old + 1) (λ e. (e.job ≡ job) × (feeder.new ≡ feeder.old)) }
     {
@@ -55,7 +55,8 @@ impl<J: Drop, P: Post> Inbox<J, P> {
         done
     }
 
-    /// Waits for jobs and takes all of them, in the order in which they were put. `None` where the inbox is closed and empty.
+    /// Waits for jobs and takes all of them, in the order in which they were put. `None` if the inbox is closed and
+    /// empty.
     pub fn take_all<R: Wait>(&self, rt: &R, taker: &mut Taker<P>) -> Option<Vec<J>>
         ensures { MatchOption result (taker.new ≡ taker.old) (λ v. taker.new ≡ taker.old + vec_len v) }
     {
@@ -71,11 +72,11 @@ impl<J: Drop, P: Post> Inbox<J, P> {
         self.arrived.notify_all();
     }
 
-    /// Where all feeders are here: how many jobs were put, were taken and are left, the first two modulo 2^64.
+    /// If all feeders are given, returns how many jobs were put, were taken and are left, the first two modulo 2^64.
     ///
     /// # Errors
     ///
-    /// Where a feeder is lacking. Then all are handed back.
+    /// A feeder is missing. Then all are handed back.
     pub fn tally<R: Wait>(
         &self,
         rt: &R,

@@ -12,7 +12,7 @@ use std::sync::ledger::{Book, Share};
 pub enum NotPutReason {
     /// The inbox was closed.
     Closed,
-    /// No memory was found for the job.
+    /// Out of memory for the job.
     NoMemory,
 }
 
@@ -23,7 +23,7 @@ pub struct NotPut<J: Drop> {
     pub job: J,
 }
 
-/// The places, where not all feeders were given back.
+/// The given feeders, if some are missing.
 #[derive(Drop)]
 pub struct MissingFeeders<P: Post> {
     pub feeders: Vec<Feeder<P>>,
@@ -107,7 +107,7 @@ impl<J: Drop, P: Post> Letters<J, P> {
         }
     }
 
-    // Takes all jobs, and nothing where there are none.
+    // Takes all jobs. `None` if there are none.
     pub fn take_all(&mut self, taker: &mut Taker<P>) -> Option<Vec<J>>
         ensures taken { MatchOption result ((self.old.jobs ≡ []) × (taker.new ≡ taker.old)) (λ v. (v.items ≡ self.old.jobs) × (taker.new ≡ taker.old + vec_len v)) }
         ensures none { self.new.jobs ≡ [] }
@@ -138,7 +138,7 @@ impl<J: Drop, P: Post> Letters<J, P> {
         self.queue.len() == 0 && !self.closed
     }
 
-    // Where all feeders are here: how many jobs were put, were taken and are left.
+    // If all feeders are given, returns how many jobs were put, were taken and are left.
     pub fn tally(
         &mut self,
         feeders: Vec<Feeder<P>>,

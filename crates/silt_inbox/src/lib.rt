@@ -1,11 +1,13 @@
-//! A waiting list that many threads put jobs into and one takes them out of, and replies that fit the events that they answer.
+//! A job queue with many producers and one consumer, and replies that fit the events they reply to.
 //!
-//! A [`Queue`] is a list of jobs in order. An [`Inbox`] is a queue under a lock: who puts has a [`Feeder`], and who takes the one
-//! [`Taker`]. These count, without a byte, the jobs that went through them, so that in the end [`Inbox::tally`] tells three
-//! numbers that add up: each job that was put was taken or is left. A job that cannot be put is handed back.
+//! A [`Queue`] is a list of jobs in order. An [`Inbox`] is a queue under a lock. Each producer has a [`Feeder`], and
+//! the consumer has the one [`Taker`]. These count the jobs that went through them, and take no bytes. In the end
+//! [`Inbox::tally`] returns three numbers that add up: each job that was put was taken or is left. A job that cannot be
+//! put is handed back.
 //!
-//! An [`Answered`] is a reply with the kind of the event that it answers. Its type keeps that an event of this kind may have this
-//! reply, so whoever receives one from a channel knows it. That a message comes, or comes in order, is nowhere claimed.
+//! An [`Answered`] is a reply with the kind of the event that it replies to. Its type says that an event of this kind
+//! may have this reply, so a thread that receives one from a channel knows it. Nothing is promised about whether a
+//! message arrives, or in which order.
 #![tactic(auto)]
 
 mod answered;

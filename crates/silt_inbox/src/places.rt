@@ -4,7 +4,7 @@ ghost use Rattle.std.specs.Prelude.{◌≡◌, ℕ, ◌+◌, ◌≤◌};
 use std::marker::{Brand, Model, PhantomData};
 use std::sync::ledger::{Book, Ledger, Share};
 
-/// Which inbox it is. Each call of a program picks it.
+/// Names an inbox. Each call of a program picks the name.
 pub trait Post {
     /// The name of the ledger of the jobs put.
     ghost put_name: { ℕ };

@@ -12,7 +12,7 @@ pub struct Queue<J: Drop> {
     alloc: Global,
 }
 
-/// A job for which no memory was found.
+/// A job that was not pushed: the queue was out of memory for it.
 #[derive(Drop)]
 pub struct NotPushed<J: Drop> {
     pub job: J,
@@ -44,7 +44,7 @@ impl<J: Drop> Queue<J> {
         self.jobs.len()
     }
 
-    /// Adds a job at the back, or hands it back where no memory is found for it.
+    /// Adds a job at the back, or hands it back if out of memory.
     pub fn push(&mut self, job: J) -> Result<(), NotPushed<J>>
         ensures { MatchResult result (λ _. self.new ≡ self.old ++ job ∷ []) (λ e. (e.job ≡ job) × (self.new ≡ self.old)) }
     {
@@ -54,7 +54,7 @@ impl<J: Drop> Queue<J> {
         }
     }
 
-    /// All jobs, in order. None are left. It takes no memory.
+    /// Takes all jobs, in order. None are left. It needs no memory.
     pub fn drain(&mut self) -> Vec<J>
         ensures jobs { result.items ≡ self.old }
         ensures none { self.new ≡ [] }

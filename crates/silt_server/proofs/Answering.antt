@@ -1,4 +1,4 @@
--- Replies to gets, and the text of a want of memory.
+-- Replies to gets, and the text for out of memory.
 use Rattle.std.proofs.Common.{◌≡◌, ◌⊎◌, ℕ, ◌%◌, ◌^◌, Option, Some, None, List, [], ◌∷◌, ◌++◌, ap, arith, codes, inl, inr, refl, subst, sym, take, drop, take-append-drop}
 use Rattle.std.specs.Prelude.{IfOk, IfSome, OnOk, Result, Ok, Err}
 use Rattle.silt_wire.proofs.Streams.{Appends-append, Appends-keeps, Appends-none}
@@ -17,7 +17,7 @@ use Rattle.silt_wire.specs.Sessions.{IsBeginning}
 use Rattle.silt_server.specs.Texts.{calls_text, listening_text, refused_text}
 
 module _ {D F : Type 0} (facts : Ghosts D F) where
-  -- what a look finds is an answer to a get
+  -- what a look finds is a reply to a get
   pub found_answers : (core : CoreState D) (key : Key) (reply : Option PlainReply) → IfSome reply (AnswersGet facts core key) → IfSome reply (IsAnswer facts (Get key))
   found_answers core key None found = found
   found_answers core key (Some reply) found = inr (core, found)
@@ -25,7 +25,7 @@ module _ {D F : Type 0} (facts : Ghosts D F) where
 no_memory_is : (F : Type 0) → codes "refused 6 NoMemory\n" ≡ refused_text {F = F} NoMemory
 no_memory_is F = ap (λ (digits : List ℕ). (codes "refused " ++ (digits ++ codes " NoMemory")) ++ 10 ∷ []) (sym (decimal_digit 6 (search (arith))))
 
--- by this line a want of memory is told
+-- this line reports that memory ran out
 pub tells_no_memory : {F : Type 0} (refusal : Refusal F) (before after : Option (List ℕ)) → refusal ≡ NoMemory → Appends before after (codes "refused 6 NoMemory\n") → Appends before after (refused_text refusal)
 tells_no_memory {F} refusal before after is told =
     subst (λ (r : Refusal F). Appends before after (refused_text r)) (sym is) (subst (λ (text : List ℕ). Appends before after text) (no_memory_is F) told)
@@ -36,14 +36,14 @@ pub head_written : {X E : Type 0} (result : Result X E) (before mid after : Opti
 head_written (Ok x) before mid after port first second = Appends-append before mid after (codes "opened\n") (listening_text port) first second
 head_written (Err e) before mid after port first second = second
 
--- that the store is taken up is written, and that the network failed
+-- the lines say that the store is opened, and that the network failed
 pub no_network_written : {E : Type 0} (result : Result ℕ E) (before mid after : Option (List ℕ)) → Appends before mid (codes "opened\n")
     → IfOk result (λ status. (status ≡ 1) × Appends mid after network_text)
     → IfOk result (λ status. (status ≡ 1) × Appends before after (codes "opened\n" ++ network_text))
 no_network_written (Ok status) before mid after first second = (second.0, Appends-append before mid after (codes "opened\n") network_text first second.1)
 no_network_written (Err e) before mid after first second = second
 
--- the head is written, and then what is due at the end
+-- the head is written, and then the lines of the end
 pub served_written : {T X E : Type 0} (has_port : ℕ → Type 0) (counts : T → ℕ → ℕ → Type 0) (old new : T) (port : ℕ) (before mid after : Option (List ℕ)) (head : Result X E) (x : X) → has_port port → head ≡ Ok x
     → OnOk head (Appends before mid (head_text port)) → new ≡ old → TellsCalls counts old mid after → TellsServed has_port counts new before after
 served_written {T} {X} {E} has_port counts old new port before mid after head x has is written same told =
@@ -56,7 +56,7 @@ served_written {T} {X} {E} has_port counts old new port before mid after head x 
       Appends-append before mid after (head_text port) (calls_text (told.0 % 2 ^ 64)) first told.3,
     )
 
--- one write took a beginning of a text, or nothing
+-- one write took a first part of a text, or nothing
 pub wrote_some : {E : Type 0} (result : Result ℕ E) (text : List ℕ) (before after : Option (List ℕ)) → WriteAppends before after result text
     → (written : List ℕ) × IsBeginning written text × Appends before after written
 wrote_some (Ok n) text before after wrote = (take n text, (drop n text, take-append-drop n text), wrote)

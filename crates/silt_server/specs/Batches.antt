@@ -14,7 +14,7 @@ use Rattle.silt_server.specs.declared.job.Request.{Request}
 use Rattle.silt_server.specs.declared.job.Request.TheVariants.{Put, Delete, Flush}
 
 module _ {D F T : Type 0} (facts : Ghosts D F) (trace : TraceOf T) where
-  -- what is done at the desk for a request that is answered so
+  -- the desk does a request with this result
   abbrev pub Performs : DeskState D T → DeskState D T → SeatState → SeatState → Request → Option Answer → Type 0
   Performs old new seat after (Put key value) (Some answer) =
       (told : Result ℕ (Refusal F)) × (answer ≡ plain_answer told)
@@ -26,13 +26,13 @@ module _ {D F T : Type 0} (facts : Ghosts D F) (trace : TraceOf T) where
   Performs old new seat after Flush None = (new ≡ old) × (after ≡ seat)
   Performs old new seat after request answer = ⊥
 
-  -- the desk was flushed from this seat, and answered so
+  -- the desk does a flush from this seat with this result
   abbrev pub Flushes : DeskState D T → DeskState D T → SeatState → SeatState → Answer → Type 0
   Flushes old new seat after answer =
       (told : Result ℕ (Refusal F)) × (answer ≡ plain_answer told)
       × Serves facts trace old new seat after event.Flush (flush_reply told)
 
-  -- what a job asks was done at the desk, and the job has the answer
+  -- the desk does a job's request, and the job has the result
   abbrev pub PerformsJob : SeatState → Job → Job → SeatState → Type 0
   PerformsJob seat old new after =
       (before : DeskState D T) × (then : DeskState D T) × Performs before then seat after old.request new.answer
@@ -44,7 +44,7 @@ module _ {D F T : Type 0} (facts : Ghosts D F) (trace : TraceOf T) where
   PerformsAll seat (x ∷ xs) (y ∷ ys) after = (mid : SeatState) × PerformsJob seat x y mid × PerformsAll mid xs ys after
   PerformsAll seat xs ys after = ⊥
 
--- a job has the reply that is due after this flush, and is otherwise as it was
+-- a job has its reply after this flush, and is otherwise as it was
 abbrev pub RepliesTo : Answer → Job → Job → Type 0
 RepliesTo flushed old new =
     (reply_in new.reply ≡ reply_due old.request old.answer flushed) × (new.request ≡ old.request) × (new.answer ≡ old.answer) × (new.replies ≡ old.replies)
@@ -56,7 +56,7 @@ RepliesToAll flushed (x ∷ xs) (y ∷ ys) = RepliesTo flushed x y × RepliesToA
 RepliesToAll flushed xs ys = ⊥
 
 module _ {D F T : Type 0} (facts : Ghosts D F) (trace : TraceOf T) where
-  -- each job was done at the desk in order, then the desk was flushed once from the same seat, and each job has the reply due after that
+  -- the desk does each job in order, then one flush from the same seat, and then each job has its reply
   abbrev pub ServesBatch : SeatState → List Job → List Job → SeatState → Type 0
   ServesBatch seat old new after =
       (done : List Job) × (mid : SeatState) × (flushed : Answer) × (before : DeskState D T) × (then : DeskState D T)
@@ -64,7 +64,7 @@ module _ {D F T : Type 0} (facts : Ghosts D F) (trace : TraceOf T) where
       × Flushes facts trace before then mid after flushed
       × RepliesToAll flushed done new
 
-  -- batch after batch was done, from call to call of the seat; then so many jobs were taken in all
+  -- the desk does batch after batch from the seat, and this many jobs are taken in all
   abbrev pub ServesBatches : SeatState → ℕ → List (List Job) → SeatState → ℕ → Type 0
   ServesBatches seat taken [] after then = (after ≡ seat) × (then ≡ taken)
   ServesBatches seat taken (jobs ∷ batches) after then =

@@ -1,4 +1,4 @@
--- What is asked of the writer, and which reply is due.
+-- Requests to the writer, and their replies.
 use Rattle.std.specs.Prelude.{ℕ, Option, Some, None, Result, Ok, Err}
 use Rattle.silt_event.specs.Events.{PlainReply}
 use Rattle.silt_event.specs.declared.event.Event.{Event}
@@ -9,28 +9,28 @@ use Rattle.silt_inbox.specs.declared.answered.Answered.{Answered}
 use Rattle.silt_server.specs.declared.job.Request.{Request}
 use Rattle.silt_server.specs.declared.job.Request.TheVariants.{Put, Delete, Flush}
 
--- what the desk answers a command or a flush, without its fault
+-- the result of a command or a flush at the desk, without its fault
 abbrev pub Answer : Type 0
 Answer = Result ℕ (Refusal (Unit {0}))
 
--- the event that is asked for
+-- the event of a request
 abbrev pub asked_event : Request → Event
 asked_event (Put key value) = event.Put key value
 asked_event (Delete key) = event.Delete key
 asked_event Flush = event.Flush
 
--- the reply to a flush that was answered so
+-- the reply to a flush with this result
 abbrev pub acknowledged : Answer → PlainReply
 acknowledged (Ok n) = Acknowledged n
 acknowledged (Err refusal) = Refused refusal
 
--- the reply to a command that was answered so, by what the flush after it was answered: an accepted one that was not flushed is unsettled
+-- the reply to a command with this result, after a flush with that one: an accepted command that was not flushed is unsettled
 abbrev pub changed : Answer → Answer → PlainReply
 changed (Err refusal) flushed = Refused refusal
 changed (Ok n) (Ok m) = Accepted n
 changed (Ok n) (Err refusal) = Unsettled n
 
--- the reply that is due to a request, by its own answer and that of its batch's flush: none to a command that was not done
+-- the reply to a request, by its own result and that of its batch's flush: no reply to a command that was not done
 abbrev pub reply_due : Request → Option Answer → Answer → Option PlainReply
 reply_due Flush answer flushed = Some (acknowledged flushed)
 reply_due (Put key value) (Some answer) flushed = Some (changed answer flushed)

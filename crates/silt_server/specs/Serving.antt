@@ -21,7 +21,7 @@ head_text port = codes "opened\n" ++ listening_text port
 abbrev pub network_text : List ℕ
 network_text = codes "network fault\n"
 
--- that memory was wanted
+-- the line for out of memory
 abbrev pub no_memory_text : List ℕ
 no_memory_text = refused_text {F = Unit {0}} NoMemory
 
@@ -36,7 +36,8 @@ abbrev pub TellsServed : {T : Type 0} → (ℕ → Type 0) → (T → ℕ → �
 TellsServed has_port counts trace before after =
     (port : ℕ) × has_port port × (calls : ℕ) × (accepted : ℕ) × counts trace calls accepted × Appends before after (head_text port ++ calls_text (calls % 2 ^ 64))
 
--- the head with the listener's port and a number of calls were written, and each image that a stop may leave of the disk stands for one map
+-- the head with the listener's port and a number of calls are written, and each possible crash image of the disk represents one map after
+-- some first part of one list of commands
 -- after a beginning of one list of commands
 abbrev pub ServesAt : (ℕ → Type 0) → Content → Option (List ℕ) → Option (List ℕ) → Type 0
 ServesAt has_port content before after =
@@ -46,7 +47,7 @@ ServesAt has_port content before after =
 abbrev pub IsServed : Content → Option (List ℕ) → Option (List ℕ) → Type 0
 IsServed content before after = ServesAt (λ port. Unit {0}) content before after
 
--- so many calls are kept, and so many of them are accepted commands
+-- this many calls are kept, and this many of them are accepted commands
 abbrev pub counts_kept : Keeping → ℕ → ℕ → Type 0
 counts_kept kept calls accepted = (length kept.calls ≡ calls) × (count_accepted kept.calls ≡ accepted)
 
@@ -57,7 +58,7 @@ ServesKept {D} facts has_port disk before after =
 
 -- ---- a server that did not serve to its end
 
--- memory was wanted, or the network failed, before the head was written or behind it
+-- out of memory, or a failed network, before the head was written or after it
 abbrev pub BreaksServing : (ℕ → Type 0) → Option (List ℕ) → Option (List ℕ) → Type 0
 BreaksServing has_port before after =
     Appends before after no_memory_text

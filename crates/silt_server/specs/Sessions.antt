@@ -1,4 +1,4 @@
--- What the events of a session are answered.
+-- The replies to the events of a session.
 use Rattle.std.specs.Prelude.{◌≡◌, ◌⊎◌, ℕ, Bool, true}
 use Rattle.silt_disk.specs.declared.disk.Disk.{Ghosts}
 use Rattle.silt_frame.specs.declared.key.Key.{Key}
@@ -12,11 +12,11 @@ use Rattle.silt_inbox.specs.Answers.{is_allowed, event_kind}
 use Rattle.silt_store_set.specs.CoreState.{CoreState, Does}
 
 module _ {D F : Type 0} (facts : Ghosts D F) where
-  -- a look at this store, which changes nothing, finds so
+  -- a look at this store, which changes nothing, gives this reply
   abbrev pub AnswersGet : CoreState D → Key → PlainReply → Type 0
   AnswersGet core key reply = (told : Reply F) × Does facts core core (Get key) told × (reply ≡ plain told)
 
-  -- a get is answered by a look, or for want of memory; a step is not served; and all else is given a reply that it may have
+  -- a get has the reply of a look or of out of memory; a step is not served; every other event has a reply that its kind allows
   abbrev pub IsAnswer : Event → PlainReply → Type 0
   IsAnswer (Get key) reply = (reply ≡ Refused NoMemory) ⊎ ((core : CoreState D) × AnswersGet core key reply)
   IsAnswer Convert reply = reply ≡ NotServed

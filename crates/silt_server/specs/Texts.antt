@@ -5,7 +5,7 @@ use Rattle.silt_event.specs.declared.refusal.Refusal.{Refusal}
 use Rattle.silt_event.specs.declared.reply.Reply.TheVariants.{Refused}
 use Rattle.silt_wire.specs.Replies.{reply_text}
 
--- at which port connections are waited for
+-- the line with the port on which the server listens
 abbrev pub listening_text : ℕ → List ℕ
 listening_text port = codes "listening " ++ (decimal port ++ codes "\n")
 

@@ -18,7 +18,7 @@ use std::sync::{Mutex, Wait};
 use std::thread;
 use std::thread::Threads;
 
-// Whether an accept failed for this one connection alone, so that the next may be accepted.
+// Whether an accept failed only for this connection, so that the next one may succeed.
 fn is_passing(kind: ErrorKind) -> bool {
     matches!(
         kind,
@@ -26,8 +26,8 @@ fn is_passing(kind: ErrorKind) -> bool {
     )
 }
 
-// Writes to a connection that there is no place for it. The listener waits for no client: what the system does not take at once is not
-// written.
+// Writes to a connection that there is no place for it. The listener waits for no client: it drops what the system does
+// not take at once.
 fn turn_connection_away(stream: &TcpStream) {
     if stream.set_nonblocking(true).is_ok() {
         let mut out = stream;
@@ -35,7 +35,8 @@ fn turn_connection_away(stream: &TcpStream) {
     }
 }
 
-// Gives a connection to a free place, and answers its number. Where there is none the connection is told so and closed.
+// Gives a connection to a free place, and returns its number. If there is none, the client gets a line that says so,
+// and the connection is closed.
 fn admit<P: Post, R: Wait>(rt: &R, places: &[Mutex<Place<P>>], stream: TcpStream) -> Option<usize>
     ensures { IfSome result (λ number. number < length places.now) }
 {
@@ -51,9 +52,9 @@ fn admit<P: Post, R: Wait>(rt: &R, places: &[Mutex<Place<P>>], stream: TcpStream
     }
 }
 
-/// Serves the connections of a listener, as many sessions as the limits say, each in a thread and a place of its own, and returns when
-/// all have ended. A connection for which there is no place, or no thread, is closed and not counted. `reply` gives the reply to an
-/// event of the session in the place with a number.
+/// Serves the connections of a listener, as many sessions as the limits say, and returns when all have ended. Each
+/// session has a thread and a place of its own. A connection without a place or a thread is closed and not counted.
+/// `reply` gives the reply to an event of the session in the place with a number.
 ///
 /// # Errors
 ///
@@ -117,7 +118,7 @@ pub fn accept_clients<
     )
 }
 
-// One session in its place, which it gives back in the end.
+// Runs one session in its place, and then frees the place.
 fn serve_session<S, P: Post, C: Fn(&S, usize, Event) -> Option<Reply<()>>, R: Wait>(
     rt: &R,
     alloc: Global,
@@ -137,7 +138,7 @@ fn serve_session<S, P: Post, C: Fn(&S, usize, Event) -> Option<Reply<()>>, R: Wa
     place.lock(rt).leave();
 }
 
-// Answers the lines of a connection.
+// Replies to the lines of a connection.
 fn answer_lines<S, C: Fn(&S, usize, Event) -> Option<Reply<()>>>(
     alloc: Global,
     shared: &S,
@@ -159,7 +160,7 @@ fn answer_lines<S, C: Fn(&S, usize, Event) -> Option<Reply<()>>>(
     let _ = answer_by(alloc, value_len, stream, AskBy { ask });
 }
 
-// Answers the lines of a connection, where events are asked so.
+// Replies to the lines of a connection, with events sent this way.
 fn answer_by<A: Asking>(
     alloc: Global,
     value_len: usize,

@@ -16,7 +16,7 @@ use silt_inbox::{Answered, EventKind, Feeder, Inbox, NotPutReason, Post};
 use std::alloc::Global;
 use std::sync::{Mutex, Wait};
 
-// What a look at the desk finds. None where the store's values have another length.
+// What a look at the desk finds. None if the store's values have another length.
 fn look_up<D: Disk, T: Trace, N: Naming>(
     desk: &Desk<D, T, N>,
     key: &Key,
@@ -35,7 +35,7 @@ fn look_up<D: Disk, T: Trace, N: Naming>(
     }
 }
 
-// The reply in a message, where it answers an event of this kind.
+// The reply in a message, if it is one to an event of this kind.
 fn forwarded(answered: Answered, kind: EventKind) -> Option<Reply<()>>
     ensures reply { IfSome result (λ reply. (answered.kind ≡ kind) × (reply ≡ answered.reply)) }
     ensures allowed { IfSome result (λ reply. is_allowed kind reply ≡ true) }
@@ -47,7 +47,7 @@ fn forwarded(answered: Answered, kind: EventKind) -> Option<Reply<()>>
     Some(answered.into_reply())
 }
 
-// Puts a request into the inbox, with a way for its reply, and tells where that comes. Where memory is wanted nothing is put.
+// Puts a request into the inbox, and returns where its reply will come. If out of memory, nothing is put.
 fn put_request<P: Post, R: Wait>(
     rt: &R,
     alloc: Global,
@@ -66,8 +66,8 @@ fn put_request<P: Post, R: Wait>(
     }
 }
 
-// Puts a request into the inbox and waits for its reply. None where none comes back, or one to an event of another kind. Where memory is
-// wanted nothing is done.
+// Puts a request into the inbox and waits for its reply. None if no reply comes, or one to an event of another kind. If
+// out of memory, nothing is done.
 fn ask<P: Post, R: Wait>(
     rt: &R,
     alloc: Global,
@@ -86,7 +86,7 @@ fn ask<P: Post, R: Wait>(
     }
 }
 
-// Looks a key up, side by side with others. Where the buffer of its value finds no memory nothing is looked up.
+// Looks a key up, at the same time as other threads. If out of memory for the value's buffer, nothing is looked up.
 fn find<D: Disk, T: Trace, N: Naming, R: Wait>(
     rt: &R,
     alloc: Global,
@@ -103,8 +103,8 @@ fn find<D: Disk, T: Trace, N: Naming, R: Wait>(
     look_up(&*desk, key, out)
 }
 
-/// The reply to an event: gets are looked up, puts, deletes and flushes go to the writer, and steps are not served. None where no reply
-/// can be had, or none to such an event.
+/// The reply to an event. Gets are looked up; puts, deletes and flushes go to the writer; steps are not served. None if
+/// no reply comes, or one that does not fit the event.
 pub fn answer<D: Disk, T: Trace, N: Naming, P: Post, R: Wait>(
     rt: &R,
     alloc: Global,

@@ -9,8 +9,8 @@ use silt_event::Refusal;
 use std::alloc::Global;
 use std::sync::Wait;
 
-// Does what a request asks of the desk, and tells the answer: none to a flush, which the batch does once for all of them, and to a put
-// whose value has another length than the store's.
+// Does a request at the desk, and returns the result. There is none for a flush, because the batch does one for all of
+// them, and none for a put whose value has another length than the store's.
 fn perform<D: Disk, T: Trace, N: Naming>(
     desk: &mut Desk<D, T, N>,
     alloc: Global,
@@ -32,7 +32,7 @@ fn perform<D: Disk, T: Trace, N: Naming>(
     }
 }
 
-// Flushes, and tells the answer.
+// Flushes, and returns the result.
 fn flush<D: Disk, T: Trace, N: Naming>(
     desk: &mut Desk<D, T, N>,
     alloc: Global,
@@ -43,7 +43,7 @@ fn flush<D: Disk, T: Trace, N: Naming>(
     plain(&desk.flush(alloc, seat))
 }
 
-// Does what each job asks of the desk, in order and each under a guard of its own.
+// Does each job's request at the desk, in order, each under a guard of its own.
 fn perform_all<D: Disk, T: Trace, N: Naming, G: Gate, R: Wait>(
     rt: &R,
     alloc: Global,
@@ -61,7 +61,7 @@ fn perform_all<D: Disk, T: Trace, N: Naming, G: Gate, R: Wait>(
     }
 }
 
-// Writes each job its reply, by its own answer and that of the flush.
+// Gives each job its reply, by its own result and that of the flush.
 fn reply_to_all(jobs: &mut Vec<Job>, flushed: &Result<u64, Refusal<()>>)
     ensures { RepliesToAll flushed.now jobs.old.items jobs.new.items }
 {
@@ -71,8 +71,9 @@ fn reply_to_all(jobs: &mut Vec<Job>, flushed: &Result<u64, Refusal<()>>)
     }
 }
 
-/// Does what each job asks of the desk, in order and each under a guard of its own, then flushes once, and then writes each job its
-/// reply: an accepted command's only as the flush was answered. No reply is sent yet. It takes no memory of its own.
+/// Does each job's request at the desk, in order, each under a guard of its own. Then it flushes once and gives each
+/// job its reply; that of an accepted command depends on the flush. No reply is sent yet. It allocates no memory of its
+/// own.
 pub fn serve_batch<D: Disk, T: Trace, N: Naming, G: Gate, R: Wait>(
     rt: &R,
     alloc: Global,

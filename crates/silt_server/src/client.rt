@@ -1,4 +1,4 @@
-// What answers the events of one session.
+// The client side of one session: it gets the replies to the session's events.
 ghost use Rattle.std.specs.Prelude.{◌≡◌, IfSome, true, false};
 ghost use Rattle.silt_event.specs.declared.event.Event.{Event as EventOf};
 ghost use Rattle.silt_event.specs.Events.{PlainReply};
@@ -8,15 +8,15 @@ use std::alloc::Global;
 use std::marker::Model;
 use std::sync::atomic::{AtomicU64, Ordering};
 
-/// What gives replies to events, as long as one can be had.
+/// Gives replies to events, as long as replies come.
 pub trait Asking: Drop {
-    /// It may be asked.
+    /// Events may be sent through it.
     ghost can_ask: { Self → Type 0 };
 
     /// An event and a reply that is given to it.
     ghost gives: { Self → EventOf → PlainReply → Type 0 };
 
-    /// The reply to an event. None where none comes back.
+    /// The reply to an event. None if no reply comes.
     fn ask(&self, event: Event) -> Option<Reply<()>>
         requires { can_ask self.now }
         ensures { IfSome result (gives self.now event) };
@@ -40,9 +40,9 @@ impl<F: Fn(Event) -> Option<Reply<()>> + Drop> Asking for AskBy<F> {
     }
 }
 
-/// Forwards each event and its reply. Where no reply comes back the session is lost: nothing more is asked, each event is given the one reply of a step
-/// that is not served, and the session's outlet is cut, so that none of these is sent.
-/// Contracts see how events are asked, and whether the session is lost.
+/// Forwards each event and returns its reply. If no reply comes the session is lost: no more events are forwarded, each
+/// gets the reply of a step that is not served, and the session's outlet is cut, so that none of these replies is sent.
+/// Contracts see how events are sent, and whether the session is lost.
 #[derive(Drop)]
 pub struct Client<'a, A: Asking> {
     value_len: usize,
@@ -64,7 +64,7 @@ impl<'a, A: Asking> Model for Client<'a, A> {
 impl<'a, A: Asking> Client<'a, A> {
     ghost use Rattle.silt_event.specs.declared.reply.Reply.TheVariants.{NotServed};
 
-    /// A client whose events are asked so, and whose values have so many bytes.
+    /// A client that sends events this way. Its values have `value_len` bytes.
     pub fn new(value_len: usize, asking: A, cut: &'a AtomicU64) -> Client<'a, A>
         requires { A.can_ask asking }
         ensures { (result.value_len ≡ value_len) × (result.asking ≡ asking) × (result.is_lost ≡ false) }

@@ -6,8 +6,9 @@ use crossbeam_channel::{Receiver, Sender};
 use silt_desk::{Naming, Seat, Wake, Wakes};
 use std::alloc::{AllocError, Global};
 
-// How many messages a worker's channel holds. It is told by the writer, the other worker and whoever stops it, each by one at a time, so a send never waits
-// for room; and the channel's memory is taken when it is made, so a send never lacks it.
+// How many messages a worker's channel holds. The writer, the other worker and the thread that stops it each send one
+// at a time, so a send never waits for room. The channel allocates its memory when it is made, so a send is never out
+// of memory.
 const MESSAGES: usize = 4;
 
 /// The place of a worker: its seat, where it is woken, and how it wakes the other one.
@@ -29,7 +30,8 @@ pub struct Crew<N: Naming> {
 }
 
 impl<N: Naming> Crew<N> {
-    /// The places of the workers with the last three of these seats. None where there are not three, or no memory is found for the channels.
+    /// The places of the workers, with the last three of these seats. None if there are fewer than three, or if out of
+    /// memory for the channels.
     pub fn new(alloc: Global, seats: Vec<Seat<N>>) -> Option<Crew<N>>
         ensures { IfSome result (λ crew. (others : List SeatState) × (seats.items ≡ others ++ crew.writer ∷ crew.converter.seat ∷ crew.merger.seat ∷ [])) }
     {
@@ -74,7 +76,7 @@ impl<N: Naming> Crew<N> {
     }
 }
 
-// The way to a worker: where it is woken, and an end for each who wakes it.
+// The way to a worker: where it is woken, and one sender for each thread that wakes it.
 #[derive(Drop)]
 struct Way {
     wakes: Receiver<Wake>,

@@ -4,12 +4,12 @@ ghost use Rattle.std.specs.Prelude.{◌≡◌, ℕ, ◌+◌, ◌<◌, ◌≤◌,
 use std::io;
 use std::net::{TcpListener, TcpStream};
 
-/// What gives connections at a port.
+/// Accepts connections at a port.
 pub trait Listens {
     /// This is its port.
     ghost has_port: { Self → ℕ → Type 0 };
 
-    /// The port at which connections are waited for.
+    /// The port at which it listens.
     fn port(&self) -> io::Result<u16>
         ensures { IfOk result (has_port self.now) };
 
@@ -30,7 +30,7 @@ impl Listens for TcpListener {
     }
 }
 
-/// A listener, and how many connections came from it.
+/// A listener, and how many connections it accepted.
 #[derive(Drop)]
 pub struct Entrance<'a, L: Listens> {
     listener: &'a L,
@@ -38,7 +38,7 @@ pub struct Entrance<'a, L: Listens> {
 }
 
 impl<'a, L: Listens> Entrance<'a, L> {
-    /// Nobody has come yet.
+    /// No connection is counted yet.
     pub fn new(listener: &'a L) -> Entrance<'a, L>
         ensures { result.accepted ≡ 0 }
     {

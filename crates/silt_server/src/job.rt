@@ -9,7 +9,7 @@ use silt_frame::{Key, Value};
 use silt_inbox::{Answered, EventKind};
 use std::sync::Wait;
 
-/// What a session asks of the writer.
+/// A request of a session to the writer.
 #[derive(Drop)]
 pub enum Request {
     Put(Key, Value),
@@ -18,7 +18,7 @@ pub enum Request {
 }
 
 impl Request {
-    /// The kind of the event that is asked for.
+    /// The kind of the request's event.
     pub fn kind(&self) -> EventKind
         ensures { result ≡ event_kind (asked_event self.now) }
     {
@@ -30,7 +30,7 @@ impl Request {
     }
 }
 
-/// A request on its way: what the desk answered it, the reply that is then due, and where the reply goes.
+/// A request in progress: its result at the desk, its reply, and where the reply goes.
 #[derive(Drop)]
 pub struct Job {
     pub request: Request,
@@ -53,7 +53,7 @@ impl Job {
         }
     }
 
-    /// Sends the reply, if there is one. Where there is none, its receiver is told so by the end of the channel.
+    /// Sends the reply, if there is one. If there is none, the end of the channel shows this to its receiver.
     pub(crate) fn send<R: Wait>(self, rt: &R) {
         let Job {
             request: _,
@@ -67,7 +67,7 @@ impl Job {
     }
 }
 
-/// The reply to a request that the desk answered so, once the flush of its batch was answered so.
+/// The reply to a request with this result at the desk, after a flush of its batch with that result.
 pub(crate) fn reply_after(
     request: &Request,
     answer: &Option<Result<u64, Refusal<()>>>,
@@ -82,7 +82,7 @@ pub(crate) fn reply_after(
     Some(Answered::new(request.kind(), reply))
 }
 
-// The reply to a command that was answered so, by what the flush after it was answered.
+// The reply to a command, by its result and that of the flush after it.
 fn changed(answer: &Result<u64, Refusal<()>>, flushed: &Result<u64, Refusal<()>>) -> Reply<()>
     ensures { result ≡ changed answer.now flushed.now }
 {
@@ -93,7 +93,7 @@ fn changed(answer: &Result<u64, Refusal<()>>, flushed: &Result<u64, Refusal<()>>
     }
 }
 
-// The reply to a flush that was answered so.
+// The reply to a flush with this result.
 fn acknowledged(flushed: &Result<u64, Refusal<()>>) -> Reply<()>
     ensures { result ≡ acknowledged flushed.now }
 {

@@ -1,12 +1,13 @@
 //! One store for many clients, over the network.
 //!
-//! [`serve_on`] serves a store on a listener: one thread a session, in which the lines of the connection are answered in order. What
-//! a session only reads it looks up itself, side by side with the others. What changes the store it puts as a [`Job`] into the inbox
-//! of the one [`writer`], which takes all jobs that wait, does each, flushes once and only then replies: so one flush settles the
-//! commands of many sessions. Beside them the converter and the merger do their steps while the store wants them.
+//! [`serve_on`] serves a store on a listener. Each session is one thread that replies to the lines of its connection in
+//! order. A session does its gets itself, at the same time as other sessions. It puts each change as a [`Job`] into the
+//! inbox of the one [`writer`]. The writer takes all jobs that wait, does each, flushes once and only then replies, so
+//! one flush settles the commands of many sessions. Beside them the converter and the merger do their steps while there
+//! is work.
 //!
-//! A session's fault ends that session alone. What is replied to a batch of jobs is stated by the contract of [`serve_batch`]; that a
-//! socket carries it, that threads run, and that messages come is not.
+//! A session's fault ends only that session. The contract of [`serve_batch`] states the replies to a batch of jobs.
+//! Nothing is proved of sockets, of whether threads run, or of whether messages arrive.
 #![tactic(auto)]
 
 mod admission;

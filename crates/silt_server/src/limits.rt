@@ -1,4 +1,4 @@
-// What a server keeps to.
+// The limits of a server.
 ghost use Rattle.std.specs.Prelude.{◌≡◌, option_map};
 ghost use Rattle.std.specs.Duration.{as_nanos};
 ghost use Rattle.silt_server.specs.Limits.{longest_silence};
@@ -7,18 +7,18 @@ use std::io;
 use std::net::TcpStream;
 use std::time::Duration;
 
-/// What a server keeps to.
+/// The limits of a server.
 #[derive(Clone, Copy, Debug, PartialEq, Eq)]
 pub struct Limits {
-    /// How many sessions there are in all, or 0 for no end.
+    /// How many sessions to serve in all, or 0 for no limit.
     pub sessions: u32,
-    /// How many calls are recorded at most. With None they are only counted.
+    /// The most calls to record. If None, calls are only counted.
     pub audit: Option<u64>,
-    /// After how many seconds a silent connection is closed. With None or 0 it may stay.
+    /// After how many seconds a silent connection is closed. If None or 0, never.
     pub idle: Option<u32>,
 }
 
-// How long a client may be waited for. None is without end.
+// The longest wait for a client. None is no limit.
 fn longest_silence(idle: Option<u32>) -> Option<Duration>
     ensures { option_map as_nanos result ≡ longest_silence idle }
 {

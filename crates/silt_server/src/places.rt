@@ -7,7 +7,7 @@ use std::mem;
 use std::net::TcpStream;
 use std::sync::{Mutex, Wait};
 
-/// The place of one session: with what it puts its jobs, whether a session has it, and the connection that waits for its thread.
+/// The place of one session: its feeder, whether a session has it, and the connection that waits for its thread.
 #[derive(Drop)]
 pub struct Place<P: Post> {
     feeder: Feeder<P>,
@@ -16,7 +16,7 @@ pub struct Place<P: Post> {
 }
 
 impl<P: Post> Place<P> {
-    // Takes the place, and answers whether it was free.
+    // Takes the place, and returns whether it was free.
     fn take(&mut self) -> bool
         ensures taken { self.new.is_taken ≡ true }
         ensures free { result ≡ not self.old.is_taken }
@@ -54,7 +54,7 @@ impl<P: Post> Place<P> {
         self.stream = None;
     }
 
-    /// With what the session puts its jobs.
+    /// The feeder with which the session puts its jobs.
     pub fn feeder(&mut self) -> &mut Feeder<P> {
         &mut self.feeder
     }
@@ -64,7 +64,7 @@ impl<P: Post> Place<P> {
 ///
 /// # Errors
 ///
-/// Where the list finds no memory.
+/// Out of memory for the list.
 pub fn places_of<P: Post>(
     alloc: Global,
     feeders: Vec<Feeder<P>>,

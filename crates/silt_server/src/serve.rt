@@ -39,14 +39,15 @@ const WORKERS: u64 = 3;
 
 /// Serves a store to the connections of a listener within these limits.
 ///
-/// Writes `opened` and `listening` with the listener's port. When the last session has ended, the converter ends once no step of it is due, and
-/// then the merger; a log that waits for a hash region may be left frozen. Then it writes `calls` with the number of recorded calls.
+/// Writes `opened` and `listening` with the listener's port. After the last session, the converter ends when it has no
+/// step to do, and then the merger. A log that waits for a hash region may stay frozen. Then it writes `calls` with the
+/// number of recorded calls.
 ///
-/// Gives the store's disk back, and the status: 0 after that, 1 where nothing is served, and where the network fails.
+/// Gives the store's disk back, and the status: 0 after that, 1 if nothing is served or the network fails.
 ///
 /// # Errors
 ///
-/// The writer's, and want of memory for the text of a line.
+/// The writer's, and out of memory for the text of a line.
 pub fn serve_on<L: Listens, D: Disk, G: Gate + Sync, R: Threads + Wait + Sync, W: Write>(
     rt: &R,
     alloc: Global,
@@ -67,7 +68,7 @@ pub fn serve_on<L: Listens, D: Disk, G: Gate + Sync, R: Threads + Wait + Sync, W
     }
 }
 
-/// Tells that the network failed where a store was to be served. Gives the store's disk back, and the status.
+/// Writes that the network failed before the store could be served. Gives the store's disk back, and the status.
 ///
 /// # Errors
 ///
@@ -79,7 +80,7 @@ pub fn refuse_network<D: Disk, W: Write>(core: Core<D>, out: &mut W) -> (D, io::
     (core.close(), write_no_network(out))
 }
 
-// Writes that the store is taken up and that the network failed, and answers the status.
+// Writes that the store is opened and that the network failed, and returns the status.
 fn write_no_network<W: Write>(out: &mut W) -> io::Result<u8>
     ensures { IfOk result (λ status. (status ≡ 1) × Appends (W.contents out.old) (W.contents out.new) (codes "opened\n" ++ network_text)) }
 {
@@ -108,7 +109,7 @@ fn serve_counted<L: Listens, D: Disk, G: Gate + Sync, R: Threads + Wait + Sync, 
     )
 }
 
-// Serves a store of which at most so many calls are recorded.
+// Serves a store, and records at most this many calls.
 fn serve_kept<L: Listens, D: Disk, G: Gate + Sync, R: Threads + Wait + Sync, W: Write>(
     rt: &R,
     alloc: Global,
@@ -138,7 +139,7 @@ fn serve_kept<L: Listens, D: Disk, G: Gate + Sync, R: Threads + Wait + Sync, W: 
     }
 }
 
-// What becomes the ledgers of a desk and of an inbox.
+// The blanks that become the ledgers of a desk and of an inbox.
 #[derive(Drop)]
 struct Blanks {
     calls: Blank,
@@ -215,7 +216,8 @@ fn serve_traced<
     }
 }
 
-/// All that stands between the connections and the desk: the writer and the workers, the inbox of their jobs, and a place for each session.
+/// The state between the connections and the desk: the writer and the workers, the inbox of their jobs, and a place for
+/// each session.
 #[derive(Drop)]
 pub struct Hall<N: Naming, P: Post> {
     crew: Crew<N>,
@@ -225,7 +227,7 @@ pub struct Hall<N: Naming, P: Post> {
 }
 
 impl<N: Naming, P: Post> Hall<N, P> {
-    /// With the writer and the workers on these seats, and the inbox's ledgers of these blanks. None where memory is wanted.
+    /// The writer and the workers on these seats, and the inbox with ledgers of these blanks. None if out of memory.
     pub fn new(alloc: Global, seats: Vec<Seat<N>>, put: Blank, taken: Blank) -> Option<Hall<N, P>>
         requires put { (put.name ≡ P.put_name) × (put.parts ≡ P.feeders) × (P.feeders ≡ 64) }
         requires taken { (taken.name ≡ P.taken_name) × (taken.parts ≡ 1) }
@@ -281,7 +283,7 @@ pub fn serve_desk<
     (desk, status)
 }
 
-// Writes that the store is taken up, and at which port connections are waited for.
+// Writes that the store is opened, and on which port the server listens.
 fn write_head<W: Write>(alloc: Global, port: u16, out: &mut W) -> io::Result<()>
     ensures { OnOk result (Appends (W.contents out.old) (W.contents out.new) (head_text port)) }
 {
@@ -296,7 +298,7 @@ struct Served<N: Naming> {
     accepted: io::Result<()>,
 }
 
-// Writes what is due when the sessions have ended, and answers the status.
+// Writes the last lines after the sessions have ended, and returns the status.
 fn end<D: Disk, T: Trace, N: Naming, W: Write>(
     alloc: Global,
     desk: &mut Desk<D, T, N>,
@@ -338,7 +340,8 @@ fn write_settled<D: Disk, T: Trace, N: Naming, W: Write>(
     }
 }
 
-// The workers beside the sessions, until these have ended and all that they asked is done. None where the writer has no thread.
+// Runs the workers beside the sessions, until these have ended and all their requests are done. None if the writer has
+// no thread.
 fn run_threads<
     L: Listens,
     D: Disk,

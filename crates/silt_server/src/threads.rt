@@ -9,7 +9,7 @@ use std::sync::Wait;
 use std::thread;
 use std::thread::Threads;
 
-// A worker beside other work, until it is done. Then the worker is stopped, and its seat comes back too.
+// Runs a worker beside other work, until that is done. Then the worker is stopped, and its seat comes back too.
 fn beside<
     S: Sync,
     X: Send,
@@ -35,8 +35,8 @@ fn beside<
     )
 }
 
-// The writer in a thread of its own beside the sessions, until they have ended. Then the inbox is closed, and the writer ends when it
-// is empty. None where the writer's thread cannot be started, and then there are no sessions.
+// Runs the writer in a thread of its own beside the sessions, until they have ended. Then the inbox is closed, and the
+// writer ends when it is empty. None if the writer's thread cannot be started; then there are no sessions.
 fn write_beside<
     S: Sync,
     P: Post + Send + Sync,
@@ -69,7 +69,8 @@ fn write_beside<
     )
 }
 
-// The converter and the writer beside the sessions, until these have ended and all that they asked is done. Then the converter is stopped.
+// Runs the converter and the writer beside the sessions, until these have ended and all their requests are done. Then
+// the converter is stopped.
 fn convert_beside<
     S: Sync,
     P: Post + Send + Sync,
@@ -104,8 +105,9 @@ fn convert_beside<
     )
 }
 
-/// The merger, the converter and the writer beside the sessions, until these have ended and all that they asked is done. Then each worker
-/// is stopped. What the merger, the converter, and the writer and the sessions gave: None of the last two where the writer has no thread.
+/// Runs the merger, the converter and the writer beside the sessions, until these have ended and all their requests are
+/// done. Then each worker is stopped. Returns what the merger, the converter, and the writer and the sessions gave; the
+/// last two are None if the writer has no thread.
 pub fn run_beside<
     S: Sync,
     P: Post + Send + Sync,

@@ -1,4 +1,4 @@
-// The writer, a worker that does what the sessions ask.
+// The writer, a worker that does the requests of the sessions.
 ghost use Rattle.std.specs.Prelude.{◌≡◌, ◌+◌, List, MatchOption, vec_len};
 ghost use Rattle.silt_server.specs.Batches.{ServesBatches};
 ghost use Rattle.silt_server.specs.declared.job.Job.{Job as JobOf};
@@ -11,12 +11,12 @@ use silt_inbox::{Inbox, Post, Taker};
 use std::alloc::Global;
 use std::sync::Wait;
 
-/// Where the writer takes its jobs.
+/// The source of the writer's jobs.
 pub trait Jobs<P: Post> {
     /// There are no more jobs.
     ghost has_ended: { Self → Type 0 };
 
-    /// Waits for jobs and takes all of them, in order. None where there are no more.
+    /// Waits for jobs and takes all of them, in order. None if there are no more.
     fn take_all<R: Wait>(&self, rt: &R, taker: &mut Taker<P>) -> Option<Vec<Job>>
         ensures { MatchOption result (has_ended self.now × (taker.new ≡ taker.old)) (λ jobs. taker.new ≡ taker.old + vec_len jobs) };
 }
@@ -30,7 +30,7 @@ impl<P: Post> Jobs<P> for Inbox<Job, P> {
 }
 
 /// Takes all jobs that wait, does each under a guard of its own, flushes once and then replies, until there are no more.
-/// After each batch the converter and the merger are told that there may be work. Gives its places back.
+/// After each batch it wakes the converter and the merger. Gives its places back.
 pub fn writer<D: Disk, T: Trace, N: Naming, P: Post, I: Jobs<P>, G: Gate, R: Wait>(
     rt: &R,
     alloc: Global,

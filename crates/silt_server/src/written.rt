@@ -10,7 +10,7 @@ use silt_wire::write_refusal;
 use std::alloc::Global;
 use std::io::{self, Write};
 
-/// Writes that the store is taken up.
+/// Writes that the store is opened.
 pub fn write_opened<W: Write>(out: &mut W) -> io::Result<()>
     ensures { OnOk result (Appends (W.contents out.old) (W.contents out.new) (codes "opened\n")) }
 {
@@ -18,7 +18,7 @@ pub fn write_opened<W: Write>(out: &mut W) -> io::Result<()>
     out.flush()
 }
 
-/// Writes at which port connections are waited for.
+/// Writes on which port the server listens.
 pub fn write_listening<W: Write>(alloc: Global, port: u16, out: &mut W) -> io::Result<()>
     ensures { OnOk result (Appends (W.contents out.old) (W.contents out.new) (listening_text port)) }
 {
@@ -27,7 +27,7 @@ pub fn write_listening<W: Write>(alloc: Global, port: u16, out: &mut W) -> io::R
     out.flush()
 }
 
-/// Writes how many calls are recorded, and answers the status.
+/// Writes how many calls are recorded, and returns the status.
 pub fn write_calls<W: Write>(alloc: Global, calls: u64, out: &mut W) -> io::Result<u8>
     ensures { IfOk result (λ status. (status ≡ 0) × Appends (W.contents out.old) (W.contents out.new) (calls_text calls)) }
 {
@@ -37,14 +37,14 @@ pub fn write_calls<W: Write>(alloc: Global, calls: u64, out: &mut W) -> io::Resu
     Ok(0)
 }
 
-/// Writes why a connection is closed that finds all places taken, or as much of it as is taken at once.
+/// Writes that all places are taken and the connection is closed, or as much of that as the system takes at once.
 pub fn turn_away<W: Write>(out: &mut W)
     ensures { (written : List ℕ) × IsBeginning written busy_text × Appends (W.contents out.old) (W.contents out.new) written }
 {
     let _ = out.write(b"busy: 64 connections are served already\n");
 }
 
-/// Writes that the network failed, and answers the status.
+/// Writes that the network failed, and returns the status.
 pub fn write_network_fault<W: Write>(out: &mut W) -> io::Result<u8>
     ensures { IfOk result (λ status. (status ≡ 1) × Appends (W.contents out.old) (W.contents out.new) network_text) }
 {
@@ -53,7 +53,7 @@ pub fn write_network_fault<W: Write>(out: &mut W) -> io::Result<u8>
     Ok(1)
 }
 
-/// Writes that nothing is served, and answers the status. The text of `NoMemory` takes none.
+/// Writes that nothing is served, and returns the status. The text of `NoMemory` needs no memory.
 pub fn refuse<F: Drop, W: Write>(alloc: Global, refusal: &Refusal<F>, out: &mut W) -> io::Result<u8>
     ensures { IfOk result (λ status. (status ≡ 1) × Appends (W.contents out.old) (W.contents out.new) (refused_text refusal.now)) }
 {
@@ -62,7 +62,7 @@ pub fn refuse<F: Drop, W: Write>(alloc: Global, refusal: &Refusal<F>, out: &mut 
     Ok(1)
 }
 
-// Writes a refusal as a line. The text of `NoMemory` takes no memory.
+// Writes a refusal as a line. The text of `NoMemory` needs no memory.
 fn write_refused<F: Drop, W: Write>(
     alloc: Global,
     refusal: &Refusal<F>,
