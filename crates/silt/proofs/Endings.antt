@@ -11,7 +11,7 @@ use Rattle.silt_words.specs.declared.job.PlanRequest.{PlanRequest}
 use Rattle.silt_jobs.specs.Plans.{TellsPlan}
 use Rattle.silt.specs.Programs.{NamesNoJob, TellsWords}
 
--- a job that ended well or was told to be refused, and what is known of each
+-- a job that ended well or was refused, and what is known of each
 pub job_ended : {E T D : Type 0} {W : ℕ → Type 0} (result : Result ℕ E) → ((status : ℕ) → ((status ≡ 0) × D) ⊎ ((status ≡ 1) × T) → W status)
     → IfOk result (IsStatus T) → (result ≡ Ok 0 → D) → IfOk result W
 job_ended (Ok status) wrap (inl is) done = wrap status (inl (is, done (ap Ok is)))
@@ -43,7 +43,7 @@ done_at_0 Named Done Told Unread status before after is (inl (job, named, inr h)
 done_at_0 Named Done Told Unread status before after is (inr (Usage, cause, told)) = absurd (omega (arith, is, told.0))
 done_at_0 Named Done Told Unread status before after is (inr (NoMemory, cause, told)) = absurd (omega (arith, is, told.0))
 
--- with 2 the words name no job, and why was told
+-- with status 2 the words name no job, and people were told why
 pub usage_at_2 : {A : Type 0} (Named Done Told : A → Type 0) (told_words : List (List ℕ) → Type 0) (words : List (List ℕ)) (status : ℕ) (before after : Option (List ℕ)) → status ≡ 2
     → ((job : A) × Named job × (((status ≡ 0) × Done job) ⊎ ((status ≡ 1) × Told job))) ⊎ ((error : WordsError) × NamesNoJob told_words words error × TellsWords error status before after)
     → (job_named words ≡ None) × told_words words × Appends before after (codes "usage\n")
@@ -52,12 +52,12 @@ usage_at_2 Named Done Told told_words words status before after is (inl (job, na
 usage_at_2 Named Done Told told_words words status before after is (inr (Usage, cause, told)) = (cause.0, cause.1, told.1)
 usage_at_2 Named Done Told told_words words status before after is (inr (NoMemory, cause, told)) = absurd (omega (arith, is, told.0))
 
--- what holds where a value was made
+-- what is true if a value was made
 pub if_made : {A P : Type 0} (made : Option A) → IfSome made (λ _. P) → is_some made ≡ true → P
 if_made (Some value) holds is = holds
 if_made None holds is = absurd (true≢false (sym is))
 
--- nothing was told where a value was made, and else this
+-- people were told nothing if a value was made, and else this
 pub may_tell : {A N Told : Type 0} (made : Option A) (old new : N) → IfSome made (λ _. new ≡ old) → (made ≡ None → Told) → (new ≡ old) ⊎ Told
 may_tell (Some value) old new same told = inl same
 may_tell None old new same told = inr (told refl)
@@ -66,7 +66,7 @@ may_tell None old new same told = inr (told refl)
 pub ok_at : {E : Type 0} (P : ℕ → Type 0) (result : Result ℕ E) (status : ℕ) → result ≡ Ok status → IfOk result P → P status
 ok_at {E} P result status is holds = subst (λ (r : Result ℕ E). IfOk r P) is holds
 
--- a plan was written, or that there is none with status 1
+-- a plan was written, or, with status 1, that there is none
 pub plan_told : {E : Type 0} (before after : Option (List ℕ)) (request : PlanRequest) (planned : Option ℕ) (result : Result ℕ E)
     → IfOk result (λ status. TellsPlan request planned status before after) → IfOk result (IsStatus (TellsPlan request planned 1 before after))
 plan_told before after request (Some buckets) (Ok status) told = inl told.0

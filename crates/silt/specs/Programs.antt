@@ -69,7 +69,7 @@ module _ {N D F E : Type 0} (facts : Ghosts D F) (notes : NotesOf N) (told_refus
       × TellsServeFile facts (ToldUnserved notes.told_port told_refusal old new service.port service.file.now)
       (Opened service.file.now) (NotOpenedTold NotOpened (told_error old new) service.file.now) given before after
 
--- what is written where no job was read of the words, and the status
+-- the line that is written if no job was read from the words, and the status
 abbrev pub TellsWords : WordsError → ℕ → Option (List ℕ) → Option (List ℕ) → Type 0
 TellsWords Usage status before after = (status ≡ 2) × Appends before after (codes "usage\n")
 TellsWords NoMemory status before after = (status ≡ 1) × Appends before after (codes "refused 6 NoMemory\n")
@@ -78,7 +78,7 @@ TellsWords NoMemory status before after = (status ≡ 1) × Appends before after
 abbrev pub NamesJob : List (List ℕ) → Job → Type 0
 NamesJob words job = job_named words ≡ Some (named job)
 
--- no job was read of the words: they name none, and why was told, or memory was wanted
+-- no job was read: the words name none, and people were told why, or the program was out of memory
 abbrev pub NamesNoJob : (List (List ℕ) → Type 0) → List (List ℕ) → WordsError → Type 0
 NamesNoJob told words Usage = (job_named words ≡ None) × told words
 NamesNoJob told words NoMemory = Unit {0}

@@ -1,4 +1,4 @@
-// The listener of a server, which outlasts a passing want of descriptors.
+// The listener of a server, which goes on after a short lack of descriptors.
 
 use silt_server::Listens;
 use std::net::{TcpListener, TcpStream};
@@ -6,14 +6,14 @@ use std::sync::{OnceLock, Wait};
 use std::time::{Clock, Duration};
 use std::{io, thread};
 
-/// How many milliseconds a server waits before it asks again for a connection that the system has no descriptor or memory for.
+/// How many milliseconds a server waits before it accepts again, if the system was out of descriptors or memory.
 const PAUSE: u64 = 10;
 
-/// The errors of the system that pass once a connection is closed or memory is given back: ENOMEM, ENFILE, EMFILE and ENOBUFS.
+/// The errors that pass once a connection is closed or memory is freed: ENOMEM, ENFILE, EMFILE and ENOBUFS.
 const PASSING: [i32; 4] = [12, 23, 24, 105];
 
-/// A listener that asks again, after a pause, where the system has no descriptor or memory for the next connection. It keeps the first error of
-/// another kind.
+/// A listener that accepts again, after a pause, if the system was out of descriptors or memory for the next
+/// connection. It keeps the first error of another kind.
 #[derive(Drop)]
 pub struct PatientListener<'a, H: Clock + Wait> {
     listener: TcpListener,
@@ -37,7 +37,7 @@ impl<'a, H: Clock + Wait> PatientListener<'a, H> {
     }
 }
 
-// Whether the system had no descriptor or memory for the connection.
+// Whether the system was out of descriptors or memory for the connection.
 fn is_lacking(error: &io::Error) -> bool {
     match error.raw_os_error() {
         Some(number) => PASSING.contains(&number),

@@ -1,19 +1,20 @@
 //! The program silt.
 //!
-//! - `silt plan KEYS V [--memory BYTES]` prints the six numbers of a store for so many keys, and what they take.
+//! - `silt plan KEYS V [--memory BYTES]` prints the six numbers of a store for this many keys, and what they cost.
 //! - `silt format FILE V B CAP NL NH S [--force]` makes an empty store of this geometry in a file, and prints the file's length. Data of
 //!   others stay in the file unless it is forced.
 //! - `silt run FILE [--tend]` is one life of the store in a file: it reads lines to the end, and replies to them, one line for each.
-//!   Nothing is flushed by itself at the end. With `--tend` the background work that is due is done between the lines.
+//!   The end of the input flushes nothing. With `--tend` it does the background work that is due between the lines.
 //! - `silt tend FILE` does all background work of the store in a file.
 //! - `silt check FILE` prints what the store in a file consists of, in numbers.
-//! - `silt script V B CAP NL NH S` makes an empty store of this geometry on a disk in memory, reads lines to the end, and answers
-//!   them, one reply line for each. Lines `stop K FILL` divide them into lives: at each such line the store is stopped, at the
-//!   K-th write or sync of the life that ends there, and what the stop leaves is opened again.
-//! - `silt serve FILE PORT [--audit N] [--sessions M] [--idle SECONDS]` serves the store in a file to the connections of a port of this machine.
+//! - `silt script V B CAP NL NH S` makes an empty store of this geometry on a disk in memory, reads lines to the end, and replies
+//!   to them, one line for each. Lines `stop K FILL` divide them into lives. Such a line stops the store (a chosen crash) at the
+//!   K-th write or sync of the life that ends there, and then opens what the stop leaves.
+//! - `silt serve FILE PORT [--audit N] [--sessions M] [--idle SECONDS]` serves the store in a file to the
+//!   connections of a port of this machine.
 //!
-//! What is done on a file or in memory is done by silt_jobs, and what is served by silt_server: by functions over any source of disks,
-//! whose contracts say what is written for what the disk of the path shows. Of a disk in a file nothing is known but its length.
+//! silt_jobs does the work on a file or in memory, and silt_server serves. Their functions work over any source of disks, and
+//! their contracts say what is written for each content of the path's disk. Of a disk in a file only its length is known.
 #![tactic(auto)]
 
 mod listener;
@@ -40,8 +41,8 @@ fn main(rt: HostRuntime) -> ExitCode {
     done(&rt, rt.stderr(), rt.stderr())
 }
 
-// Does the job that the process's own words name, and gives the status that the process is to end with. Notes go to `errors`, and to `at_once`
-// what cannot wait for the end of the job, and how far an opening is, where that is a terminal.
+// Does the job that the process's own words name, and returns the exit status. Notes go to `errors`. Notes that cannot wait
+// for the end of the job go to `at_once`, and, if it is a terminal, so does the progress of an opening.
 fn done<
     S: Runtime
         + AllocGlobal
@@ -70,7 +71,7 @@ fn done<
     ExitCode::from(status)
 }
 
-// The standard error, where that is a terminal.
+// The standard error, if it is a terminal.
 fn terminal(stderr: Stderr) -> Option<Stderr> {
     if stderr.is_terminal() {
         return Some(stderr);

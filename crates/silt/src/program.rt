@@ -24,8 +24,8 @@ use std::sync::Wait;
 use std::thread::Threads;
 use std::time::Clock;
 
-/// Does the job that the words name, of which the first is the program's own, and answers the status: 0 where it is done, 1
-/// where it is refused or a reader or writer fails, 2 where the words name no job.
+/// Does the job that the words name, and returns the status: 0 if it is done, 1 if it is refused or a reader or writer
+/// fails, 2 if the words name no job. The first word is the program's own.
 pub fn program<
     S: DiskSource,
     H: Net<Listener = TcpListener, Stream = TcpStream> + Clock + Threads + Wait + Sync,
@@ -58,18 +58,18 @@ where
     status_of(ended)
 }
 
-/// The status that the program ends with: 1 where its reader or writer failed.
+/// The status that the program ends with: 1 if its reader or writer failed.
 pub fn status_of(ended: io::Result<u8>) -> u8
     ensures { result ≡ result_unwrap_or ended 1 }
 {
     ended.unwrap_or(1)
 }
 
-/// Does the job that the words name, and answers the status.
+/// Does the job that the words name, and returns the status.
 ///
 /// # Errors
 ///
-/// The reader's or the writer's, and want of memory for the text of a reply.
+/// The reader's or the writer's, and out of memory for the text of a reply.
 pub fn answer<
     S: DiskSource,
     H: Net<Listener = TcpListener, Stream = TcpStream> + Clock + Threads + Wait + Sync,
@@ -104,7 +104,7 @@ where
     }
 }
 
-// Tells why the words name no job, where that is why none was read of them.
+// Tells people why the words name no job, if that is why no job was read.
 fn tell_unread<N: Notes>(error: WordsError, words: &[String], notes: &mut N)
     ensures { error ≡ WordsError.Usage → N.told_words notes.old notes.new (map string_bytes words.now) }
 {
@@ -114,7 +114,7 @@ fn tell_unread<N: Notes>(error: WordsError, words: &[String], notes: &mut N)
     }
 }
 
-// Does a job, and answers the status.
+// Does a job, and returns the status.
 fn do_job<
     S: DiskSource,
     H: Net<Listener = TcpListener, Stream = TcpStream> + Clock + Threads + Wait + Sync,
@@ -162,7 +162,7 @@ where
     }
 }
 
-/// Says that the words name no job, or that memory was wanted to read them, and answers the status.
+/// Writes that the words name no job, or that memory ran out while they were read, and returns the status.
 ///
 /// # Errors
 ///

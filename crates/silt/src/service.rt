@@ -22,12 +22,12 @@ use std::sync::Wait;
 use std::thread::Threads;
 use std::time::Clock;
 
-/// Serves the store on the disk of a path to the connections of a port of this machine. Answers the disk and the status: 0 after the
-/// last session, 1 where the disk is not opened, the store is not taken up, or the network fails.
+/// Serves the store on the disk of a path to the connections of a port of this machine. Returns the disk and the
+/// status: 0 after the last session, 1 if the disk or the store is not opened, or the network fails.
 ///
 /// # Errors
 ///
-/// The writer's, and want of memory for the text of a line.
+/// The writer's, and out of memory for the text of a line.
 pub fn serve_file<
     S: DiskSource,
     H: Net<Listener = TcpListener, Stream = TcpStream> + Clock + Threads + Wait + Sync,
@@ -63,8 +63,8 @@ where
     }
 }
 
-// Serves the store on a disk to the connections of a port of this machine. The port is bound first, so that people need not wait for a
-// long opening to learn that it is in use. Gives the disk back, and the status.
+// Serves the store on a disk to the connections of a port of this machine. It binds the port first, so that people
+// learn at once, and not after a long opening, that the port is in use. Gives the disk back, and the status.
 fn serve_disk<
     D: Watched,
     H: Net<Listener = TcpListener, Stream = TcpStream> + Clock + Threads + Wait + Sync,
@@ -97,7 +97,7 @@ fn serve_disk<
     }
 }
 
-// A listener of a port of this machine. People are told why there is none.
+// A listener on a port of this machine. If there is none, people are told why.
 fn bind<H: Net<Listener = TcpListener, Stream = TcpStream>, N: Notes>(
     rt: &H,
     port: u16,
@@ -146,7 +146,7 @@ fn serve_store<
     (disk, status)
 }
 
-// What a server of this service keeps to.
+// The limits of a server of this service.
 fn limits_of(service: &Service<'_>) -> Limits
     ensures sessions { result.sessions ≡ unwrap_or service.now.sessions 0 }
     ensures audit { result.audit ≡ service.now.audit }
@@ -159,7 +159,7 @@ fn limits_of(service: &Service<'_>) -> Limits
     }
 }
 
-// Tells why the listener of this port failed, where the server did not end well.
+// Tells people why the listener of this port failed, if the server did not end well.
 fn tell_listener<N: Notes>(
     port: u16,
     failure: Option<io::Error>,
@@ -178,7 +178,7 @@ fn tell_listener<N: Notes>(
     }
 }
 
-// How many calls a record keeps, where there is to be one.
+// The most calls of a record, if one is kept.
 fn calls_kept(audit: Option<u32>) -> Option<u64>
     ensures { result ≡ audit }
 {

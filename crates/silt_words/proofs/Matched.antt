@@ -1,4 +1,4 @@
--- What is told to clap and read of it.
+-- What clap is given, and what is read from its matches.
 use Rattle.std.proofs.Common.{◌≡◌, ◌∙◌, ◌||◌, Bool, true, false, cond, List, [], ◌∷◌, map, Option, Some, None, option_map, option_and_then, refl, ap, ap₂, subst, sym, find, inl, inr}
 use Rattle.std.specs.Prelude.{slice_get, MatchResult, Result, Ok, Err, IfOk, IsOkAnd}
 use Rattle.std.specs.declared.alloc.AllocError.{AllocError}
@@ -45,7 +45,7 @@ pub joins_as : {is_global : Command → Bool} (app : App)
 joins_as app joined (Ok sub) (shape, none) = λ old new joins. joined old sub new joins none ∙ ap (λ (a : App). with_subcommand (app_of old) a.top) shape
 joins_as app joined (Err error) stands = tt
 
--- one more below it, which joins as this app
+-- the app with one more command
 pub joined : (app : App) (old new : Command) (added : Result Command AllocError) → IfOk added (JoinsAs app) → IsOkAnd added (λ sub. AddsSubcommand old sub new)
     → app_of new ≡ with_subcommand (app_of old) app.top
 joined app old new (Ok sub) joins adds = joins old new adds
@@ -74,11 +74,11 @@ first_is found id = go found.entries.items
     go [] = refl
     go (e ∷ entries) = pick (bytes_eq e.0.now id) e _ _ (go entries)
 
--- where nothing is refused, the job is that of the command that was met
+-- if nothing is refused, the job is that of the matched command
 pub taken : (words : List Text) → fault_of silt words ≡ [] → job_named words ≡ job_met (subcommand_of silt words)
 taken words is = ap (λ (kinds : Kinds). unless_refused kinds (job_met (subcommand_of silt words))) is
 
--- where something is, the words name no job
+-- if something is refused, the words name no job
 pub refused : (words : List Text) (kind : ErrorKind) → IsAmong kind (fault_of silt words) → job_named words ≡ None
 refused words kind among = go (fault_of silt words) among
   where
@@ -86,12 +86,12 @@ refused words kind among = go (fault_of silt words) among
     go [] among = absurd among
     go (first ∷ kinds) among = refl
 
--- so do they where the parse failed, and not for want of memory
+-- the same if the parse failed for another cause than out of memory
 pub refused_by : (words : List Text) (app : App) (error : Error) → app ≡ silt → HasKind (fault_of app words) error → (kind_of error ≡ OutOfMemory → ⊥) → job_named words ≡ None
 refused_by words app error is (inl memory) other = absurd (other memory)
 refused_by words app error is (inr among) other = refused words (kind_of error) (subst (λ (a : App). IsAmong (kind_of error) (fault_of a words)) is among)
 
--- the answer, by the job that was read
+-- the result, by the job that was read
 pub answered : (words : List Text) (job : Option Job) → option_map named job ≡ job_named words
     → MatchResult (ok_or job Usage) (λ found. job_named words ≡ Some (named found)) (λ error. error ≡ Usage → job_named words ≡ None)
 answered words (Some job) is = sym is

@@ -76,7 +76,7 @@ JoinsAs app command = (old new : Command) → AddsSubcommand old command new →
 
 -- ---- what is read of a command's matches
 
--- the number that stands for this value
+-- the number given for this value
 abbrev pub number_in : List Row → Text → Option ℕ
 number_in rows name = option_and_then number_of (first_of name rows)
 
@@ -91,12 +91,12 @@ numbers_in rows =
 abbrev pub file_in : List Row → Option Text
 file_in rows = first_of (codes "FILE") rows
 
--- the number that a text spells, which may not be given
+-- the number that a text spells, if a text is given
 abbrev pub number_given : Option Text → Option (Option ℕ)
 number_given None = Some None
 number_given (Some text) = option_map (λ number. Some number) (number_of text)
 
--- the number of an option: none where the option is not given
+-- the number of an option: none if the option is not given
 abbrev pub option_in : List Row → Text → Option (Option ℕ)
 option_in rows name = number_given (first_of name rows)
 
@@ -104,7 +104,7 @@ option_in rows name = number_given (first_of name rows)
 abbrev pub port_in : List Row → Option ℕ
 port_in rows = option_and_then (λ port. if nat_le port 65535 then Some port else None) (number_in rows (codes "PORT"))
 
--- the number of an option that sets a limit: 0 says that there is none
+-- the number of an option that sets a limit: 0 means no limit
 abbrev pub limit_in : List Row → Text → Option (Option ℕ)
 limit_in rows name = option_map (option_and_then (λ limit. if limit == 0 then None else Some limit)) (option_in rows name)
 
@@ -143,7 +143,7 @@ job_in name rows =
 abbrev pub job_met : Option (Text × List Row) → Option Named
 job_met = option_and_then (λ met. job_in met.0 met.1)
 
--- where nothing is refused
+-- the job, unless something is refused
 abbrev pub unless_refused : Kinds → Option Named → Option Named
 unless_refused [] job = job
 unless_refused (kind ∷ kinds) job = None

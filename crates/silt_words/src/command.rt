@@ -1,4 +1,4 @@
-// The commands, as they are told to clap.
+// The commands, as clap is given them.
 ghost use Rattle.std.specs.Prelude.{◌≡◌, IfOk, IsOkAnd, false};
 ghost use Rattle.clap.specs.Words.{AddsArg, AddsSubcommand, app_of, new_app, rule_of};
 ghost use Rattle.silt_words.specs.Commands.{JoinsAs, check_app, dump_app, flag_rule, format_app, option_rule, plan_app, run_app, script_app, serve_app, silt, tend_app, value_rule, with_file};
@@ -6,7 +6,7 @@ ghost use Rattle.silt_words.specs.Commands.{JoinsAs, check_app, dump_app, flag_r
 use clap::{Arg, ArgAction, Command};
 use std::alloc::{AllocError, Global};
 
-// A command that was made so far, or the first refusal of memory.
+// A command as made so far, or the first allocation failure.
 type Made<'a> = Result<Command<'a>, AllocError>;
 
 fn value<'a>(alloc: Global, name: &'a str) -> Arg<'a>
@@ -109,7 +109,7 @@ fn serve<'a>(alloc: Global) -> Result<Command<'a>, AllocError>
     add_option(with_sessions, alloc, "idle")
 }
 
-// The command with one more below it, where that one was made.
+// The command with one more below it, if that one was made.
 fn add_command<'a>(
     command: Command<'a>,
     added: Result<Command<'a>, AllocError>,

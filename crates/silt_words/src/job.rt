@@ -18,9 +18,9 @@ pub struct Service<'a> {
     pub file: &'a str,
     /// The port to listen on. For 0 the system chooses one.
     pub port: u16,
-    /// How many calls the record keeps at most, where one is kept.
+    /// If a record is kept, the most calls that it keeps.
     pub audit: Option<u32>,
-    /// How many sessions the server ends after, at least one, where it ends.
+    /// If the server ends, after how many sessions (at least one).
     pub sessions: Option<u32>,
     /// After how many seconds a silent connection is closed, at least one, if it ever is.
     pub idle: Option<u32>,
@@ -33,7 +33,7 @@ pub struct PlanRequest {
     pub keys: u32,
     /// The bytes of a value.
     pub value_len: u32,
-    /// The bytes of memory that the store may take, if they are limited.
+    /// The bytes of memory that the store may use, if they are limited.
     pub memory: Option<u32>,
 }
 
@@ -46,28 +46,28 @@ pub enum Job<'a> {
         numbers: Numbers,
         force: bool,
     },
-    /// Answers lines over a new store in memory.
+    /// Replies to lines over a new store in memory.
     Script(Numbers),
-    /// Answers lines over the store in a file. With `tend` it does the background work between them.
+    /// Replies to lines over the store in a file. With `tend` it does background work between them.
     Run {
         file: &'a str,
         tend: bool,
     },
-    /// Does all background work that is due in the store in a file.
+    /// Does all background work of the store in a file.
     Tend {
         file: &'a str,
     },
-    /// Tells what the store in a file consists of.
+    /// Prints what the store in a file consists of.
     Check {
         file: &'a str,
     },
-    /// Prints a line for each key that has a value, which puts it.
+    /// Prints a line for each key with a value. The line is the put of that value.
     Dump {
         file: &'a str,
     },
-    /// Prints the numbers of a store for so many keys.
+    /// Prints the numbers of a store for this many keys.
     Plan(PlanRequest),
-    /// Answers the sessions of a port over the store in a file.
+    /// Serves the sessions of a port over the store in a file.
     Serve(Service<'a>),
 }
 
@@ -76,7 +76,7 @@ pub enum Job<'a> {
 pub enum WordsError {
     /// The words are not those of a job, or they ask for help.
     Usage,
-    /// A growth of memory was refused.
+    /// Out of memory.
     NoMemory,
 }
 

@@ -1,13 +1,14 @@
 //! The words of the command line: which job they name.
 //!
 //! A call is the program's own word, the command's, and the command's values: `format FILE V B CAP NL NH S`, `script V B CAP NL NH S`,
-//! `run FILE`, `tend FILE`, `check FILE`, `dump FILE`, `plan KEYS V` or `serve FILE PORT`. A number is one to ten decimal digits, and at most
-//! 4,294,967,295; a port is at most 65,535.
+//! `run FILE`, `tend FILE`, `check FILE`, `dump FILE`, `plan KEYS V` or `serve FILE PORT`. A number is one to ten decimal
+//! digits, and at most 4,294,967,295; a port is at most 65,535.
 //!
-//! Options are `--force` of `format`, `--tend` of `run`, `--memory BYTES` of `plan`, and `--audit N`, `--sessions M` and `--idle SECONDS`
-//! of `serve`. Each is given at most once, before, between or behind the values, and `--audit=N` says the same as two words. Any other word
-//! that begins with a hyphen and goes on names no job, but behind the first word `--` every word is a value. Without `--sessions`, or with
-//! 0, no number of sessions ends the server; without `--idle`, or with 0, no silent connection is closed.
+//! Options are `--force` of `format`, `--tend` of `run`, `--memory BYTES` of `plan`, and `--audit N`, `--sessions M`
+//! and `--idle SECONDS` of `serve`. Each is given at most once, before, between or behind the values, and `--audit=N`
+//! is the same as two words. Any other word of more than one character that begins with a hyphen is an error, but
+//! behind the first word `--` every word is a value. Without `--sessions`, or with 0, the server serves any number of
+//! sessions. Without `--idle`, or with 0, it closes no silent connection.
 #![tactic(auto)]
 
 mod command;

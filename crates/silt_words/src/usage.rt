@@ -44,7 +44,7 @@ pub enum Complaint<'a> {
     Missing(&'a str),
     /// This word is behind the last value.
     TooMany(&'a str),
-    /// There is no such option, or it stands where none may stand.
+    /// There is no such option, or no option is allowed here.
     UnknownOption(&'a str),
     /// No number comes behind this option.
     LacksNumber(&'a str),
@@ -94,14 +94,14 @@ fn is_digit_or_separator(byte: u8) -> bool {
     byte.is_ascii_digit() || matches!(byte, b'_' | b',' | b'.' | b'\'')
 }
 
-/// Whether the words, of which the first is the program's own, ask for the version.
+/// Whether the words ask for the version. The first word is the program's own.
 pub fn asks_version(words: &[String]) -> bool {
     let word = words.get(1).map(String::as_str);
     matches!(word, Some("--version" | "-V"))
 }
 
-/// What is wrong with the words, of which the first is the program's own, as far as it is found. Nothing is wrong where they ask for
-/// help or for the version.
+/// What is wrong with the words, as far as it is found. The first word is the program's own. Nothing is wrong if they
+/// ask for help or for the version.
 pub fn complaint_of(words: &[String]) -> Option<Complaint<'_>> {
     let Some(job) = words.get(1) else {
         return Some(Complaint::NoJob);
@@ -134,7 +134,7 @@ struct Choice {
     has_number: bool,
 }
 
-/// What may stand behind the word for a job: its values in order, and its options, at most three.
+/// What may follow the word for a job: its values in order, and its options, at most three.
 #[derive(Clone, Copy, Debug)]
 struct Form {
     values: &'static [&'static str],
@@ -171,7 +171,7 @@ const IDLE: Choice = Choice {
     has_number: true,
 };
 
-// What may stand behind this word for a job.
+// What may follow this word for a job.
 fn form_of(job: &str) -> Option<Form> {
     let (values, options): (&'static [&'static str], &'static [Choice]) = match job {
         "format" => (&["FILE", "V", "B", "CAP", "NL", "NH", "S"], &[FORCE]),
@@ -185,7 +185,7 @@ fn form_of(job: &str) -> Option<Form> {
     Some(Form { values, options })
 }
 
-// What is wrong with the words behind the job's, which are to have this form.
+// What is wrong with the words behind the job's, which must have this form.
 fn form_complaint(form: Form, words: &[String]) -> Option<Complaint<'_>> {
     let mut walk = Walk::new(form);
     for word in words.iter().skip(2) {

@@ -43,7 +43,7 @@ fn port_of(matches: &ArgMatches<'_>) -> Option<u16>
     u16::try_from(number_at(matches, "PORT")?).ok()
 }
 
-// The number of an option, which may not be given.
+// The number of an option, if it is given.
 fn option_at(matches: &ArgMatches<'_>, name: &str) -> Option<Option<u32>>
     ensures { result ≡ option_in (rows_of (found_of matches.now)) name.now }
 {
@@ -53,7 +53,7 @@ fn option_at(matches: &ArgMatches<'_>, name: &str) -> Option<Option<u32>>
     }
 }
 
-// The number of an option that sets a limit, which 0 says there is none of.
+// The number of an option that sets a limit. 0 means no limit.
 fn limit_at(matches: &ArgMatches<'_>, name: &str) -> Option<Option<u32>>
     ensures { result ≡ limit_in (rows_of (found_of matches.now)) name.now }
 {
@@ -132,11 +132,11 @@ fn job_met<'a>(matches: &ArgMatches<'a>) -> Option<Job<'a>>
     job_of(name, inner)
 }
 
-/// The job that the words name, of which the first is the program's own.
+/// The job that the words name. The first word is the program's own.
 ///
 /// # Errors
 ///
-/// `Usage` where they name none, and want of memory.
+/// `Usage` if they name none, and out of memory.
 pub fn read_words<'a>(alloc: Global, words: &'a [String]) -> Result<Job<'a>, WordsError>
     ensures { MatchResult result (λ job. job_named (map string_bytes words.entry.now) ≡ Some (named job))
         (λ error. error ≡ Usage → job_named (map string_bytes words.entry.now) ≡ None) }
