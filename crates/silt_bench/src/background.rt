@@ -9,13 +9,13 @@ use std::sync::Wait;
 use std::thread;
 use std::time::{Clock, Duration};
 
-// Whether the store wants work in the background.
+// Whether the store has background work to do.
 fn wants_work<D: Disk, T: Trace, N: Naming, R: Wait>(rt: &R, shared: &Shared<D, T, N>) -> bool {
     let desk = shared.read(rt);
     desk.wants_convert() || desk.wants_merge()
 }
 
-// Waits until the workers have left no work that the store wants.
+// Waits until the workers have left no background work to do.
 fn finish_beside<D: Disk, T: Trace, N: Naming, R: Wait + Clock>(
     rt: &R,
     shared: &Shared<D, T, N>,
@@ -57,7 +57,7 @@ impl Background {
         }
     }
 
-    /// Waits until all that is due is done.
+    /// Waits until all background work is done.
     pub fn finish<D: Disk, T: Trace, N: Naming, R: Wait + Clock>(
         &mut self,
         rt: &R,

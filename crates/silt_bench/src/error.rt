@@ -40,7 +40,7 @@ pub enum BenchError {
     Wrong,
     /// The clock, a file or the output failed.
     System(io::Error),
-    /// No memory was found.
+    /// Out of memory.
     NoMemory,
 }
 

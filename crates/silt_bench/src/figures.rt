@@ -5,7 +5,7 @@ use std::alloc::Global;
 use std::fmt;
 use std::fs::{self, Files};
 
-// How often so many times a number has another one in it, as far as 64 bits reach. 0 if the other one is 0.
+// How often `of` goes into the product of `count` and `times`, as far as 64 bits reach. 0 if `of` is 0.
 fn quotient(count: u64, times: u32, of: u64) -> u64
     ensures { 0 < of → result ≡ min (count * times / of) (2 ^ 64 - 1) }
 {
@@ -20,7 +20,7 @@ fn quotient(count: u64, times: u32, of: u64) -> u64
     }
 }
 
-/// How many of these there were a second, if so many took so many nanoseconds. 0 if no time passed.
+/// How many there were a second, if this many took this many nanoseconds. 0 if no time passed.
 pub fn a_second(count: u64, nanos: u64) -> u64
     ensures { 0 < nanos → result ≡ min (count * 1000000000 / nanos) (2 ^ 64 - 1) }
 {

@@ -30,8 +30,8 @@ pub enum Detail {
     Rates,
 }
 
-/// Fills a store on a disk and merges all of it, and then prints what gets cost for each number of hash stores that stand before the
-/// sorted store.
+/// Fills a store on a disk and merges all of it, and then prints what gets cost for each number of hash stores before
+/// the sorted store.
 pub fn grow<D: Disk, R: Threads + Wait + Clock + Print + Sync>(
     rt: &R,
     alloc: Global,
@@ -53,7 +53,7 @@ pub fn grow<D: Disk, R: Threads + Wait + Clock + Print + Sync>(
     )
 }
 
-/// The same of a small store in memory, with no rates.
+/// The same for a small store in memory, without rates.
 pub fn grow_small<R: Threads + Wait + Clock + Print + Sync>(
     rt: &R,
     alloc: Global,
@@ -72,7 +72,7 @@ pub fn grow_small<R: Threads + Wait + Clock + Print + Sync>(
     grow(rt, alloc, disk, &plan, Detail::Reads)
 }
 
-// Grows a new store whose reads are counted.
+// Grows a new store and counts its reads.
 fn grow_seated<D: Disk, N: Naming + Send + Sync, R: Threads + Wait + Clock + Print + Sync>(
     rt: &R,
     alloc: Global,
@@ -134,7 +134,7 @@ fn tell_names<R: Print>(rt: &R, detail: Detail) -> Result<(), BenchError> {
     Ok(())
 }
 
-// Prints what gets of so many keys cost for each number of hash stores.
+// Prints what gets of this many keys cost for each number of hash stores.
 fn tell_state<
     D: Disk,
     T: Trace + Send + Sync,

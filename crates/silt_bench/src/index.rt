@@ -1,4 +1,4 @@
-// The index of a sorted store, alone.
+// The index of a sorted store, by itself.
 
 use crate::error::BenchError;
 use crate::figures::Thousandths;
@@ -31,7 +31,7 @@ fn index_of(alloc: Global, keys: &[Key]) -> Result<MarkedTrie, BenchError> {
     Ok(builder.finish()?)
 }
 
-// The place of a key by the index and one look at the key that stands there.
+// The place of a key, by the index and one look at the key at that place.
 fn place_of(index: &MarkedTrie, keys: &[Key], key: &Key) -> Option<usize> {
     let place = index.locate_marked(key)?;
     if keys.get(place)? == key {
@@ -41,7 +41,8 @@ fn place_of(index: &MarkedTrie, keys: &[Key], key: &Key) -> Option<usize> {
     }
 }
 
-/// Looks for so many present and absent keys by an index and by a search among the keys, and prints how many there are of each.
+/// Looks for this many present and absent keys by an index and by a search among the keys, and prints how many there
+/// are of each.
 ///
 /// # Errors
 ///
@@ -62,7 +63,7 @@ pub fn index_agrees<R: Print>(
     Ok(())
 }
 
-// How many of the keys of so many numbers are found by the index, where a search among the keys finds the same.
+// How many of the keys of these numbers the index finds, if a search among the keys finds the same.
 fn count_found(
     index: &MarkedTrie,
     keys: &[Key],
@@ -83,7 +84,8 @@ fn count_found(
     Ok(found)
 }
 
-/// Prints how many bytes of memory an index of so many keys takes a key, and how many nanoseconds a look at it takes.
+/// Prints how many bytes of memory an index of this many keys takes for each key, and how many nanoseconds a look at it
+/// takes.
 pub fn measure_index<R: Clock + Print>(
     rt: &R,
     alloc: Global,
@@ -106,7 +108,7 @@ pub fn measure_index<R: Clock + Print>(
     Ok(())
 }
 
-// The sum of the places of so many keys.
+// The sum of the places of this many keys.
 fn locate_all(index: &MarkedTrie, keys: u64, gets: u64) -> u64 {
     let mut sum = 0u64;
     for turn in 0..gets {

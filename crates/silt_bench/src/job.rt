@@ -1,4 +1,4 @@
-// What the bench is asked to do.
+// The jobs of the bench.
 ghost use Rattle.std.specs.Prelude.{◌<◌};
 
 use silt_device::Geometry;
@@ -18,7 +18,7 @@ pub struct Plan {
     pub geometry: Geometry,
     /// How many keys are put.
     pub keys: u64,
-    /// How many puts one flush stands behind.
+    /// How many puts there are for each flush.
     pub group: u64,
     /// How many looks are made.
     pub gets: u64,
@@ -35,7 +35,7 @@ pub enum Job {
     Counts,
 }
 
-/// The job that the words name, the first of which is the program's own. None: they name no job.
+/// The job that the words name. The first word is the program's own. None if they name no job.
 pub fn job_of(words: &[String]) -> Option<Job> {
     let name = words.get(1)?.as_str();
     match (name, words.len()) {

@@ -1,16 +1,17 @@
-//! The bench: a store is filled and read, and how long that took is printed.
+//! The bench: it fills and reads a store, and prints how long that took.
 //!
-//! - `silt_bench store PATH WORK V B CAP NL NH S KEYS GROUP GETS STORES` puts so many keys into a store in the file PATH, which it makes,
-//!   with a flush behind each group, does the background work that is due, looks for present and absent keys on one thread and on four, and
-//!   takes the store up again. WORK is `turns`, on one thread between the groups, or `workers`, on two threads beside the writer; by turns
-//!   a merge begins when there are so many hash stores. It prints one line of numbers behind one of their names.
-//! - `silt_bench growth PATH V B CAP NL NH S KEYS GROUP GETS` prints a line for each number of hash stores that stand before a
+//! - `silt_bench store PATH WORK V B CAP NL NH S KEYS GROUP GETS STORES` makes a store in the file PATH and puts
+//!   this many keys, with a flush after each group. It does all background work, looks for present and absent keys on one
+//!   thread and on four, and opens the store again. WORK is `turns`, on one thread between the groups, or `workers`, on two
+//!   threads beside the writer. By turns, a merge begins when there are STORES hash stores. It prints one line of names and
+//!   one line of numbers.
+//! - `silt_bench growth PATH V B CAP NL NH S KEYS GROUP GETS` prints a line for each number of hash stores before a
 //!   sorted store.
-//! - `silt_bench index KEYS GETS` measures the index of a sorted store alone.
+//! - `silt_bench index KEYS GETS` measures only the index of a sorted store.
 //! - `silt_bench counts` prints counts and no times: each look at an index beside a search among the keys, and the growth of a small store.
 //!
-//! Nothing is proved of times. What is proved is that a disk that counts is the disk that it counts for, and what the sums of a
-//! figure are.
+//! Nothing is proved of times. It is proved that a counting disk behaves as the disk that it counts for, and what the sums of
+//! a figure are.
 #![tactic(auto)]
 
 mod background;

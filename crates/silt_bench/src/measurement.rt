@@ -1,4 +1,4 @@
-// A store is filled, read and taken up again, and how long that took is printed.
+// Fills, reads and opens a store again, and prints how long that took.
 ghost use Rattle.std.specs.Prelude.{◌≡◌};
 
 use crate::background::Background;
@@ -28,7 +28,7 @@ use std::time::Clock;
 pub const NAMES: &str =
     "keys\tvalue bytes\tputs/s\tgets/s 1 thread\tgets/s 4 threads\tabsent/s 1 thread\tabsent/s 4 threads\topen ms\trss KiB\tpeak KiB\treads a get\treads an absent get\treads of opening\tput p99.9 us\tput longest us\tflush p50 us\tflush longest us";
 
-/// How many looks are counted, if so many are asked for.
+/// The most looks that are counted.
 const COUNTED: u64 = 100_000;
 
 /// What was seen of a store while it was shared.
@@ -166,7 +166,7 @@ fn look<
     })
 }
 
-// How many nanoseconds it takes to take up the store on a disk, which is given back.
+// How many nanoseconds it takes to open the store on a disk, which is given back.
 fn open_by_clock<D: Disk, R: Clock>(
     rt: &R,
     alloc: Global,
@@ -180,7 +180,7 @@ fn open_by_clock<D: Disk, R: Clock>(
     }
 }
 
-// Takes up the store on a disk with its reads counted, those of the opening and those of some looks.
+// Opens the store on a disk and counts its reads: those of the opening and those of some looks.
 fn count_opened<D: Disk, R: Wait>(
     rt: &R,
     alloc: Global,
@@ -192,7 +192,7 @@ fn count_opened<D: Disk, R: Wait>(
     count_seated::<_, Brand, _>(rt, alloc, core, &reads, plan, Blank::new(3), Blank::new(3))
 }
 
-// The same of a store that was just taken up.
+// The same for a store that was just opened.
 fn count_seated<D: Disk, N: Naming, R: Wait>(
     rt: &R,
     alloc: Global,

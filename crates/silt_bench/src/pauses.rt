@@ -14,8 +14,8 @@ pub struct Pauses {
     longest: u64,
 }
 
-// The bin of a call of so many microseconds: one each up to 1,024, one for 32 of them up to 32,768, then one for 1,024 of them, and the last one
-// for all longer calls.
+// The bin of a call of this many microseconds. A bin has one microsecond up to 1,024, 32 of them up to 32,768, and then
+// 1,024. The last bin has all longer calls.
 fn bin_of(micros: u64) -> usize
     ensures { result < BINS }
 {
@@ -51,7 +51,7 @@ impl Pauses {
         }
     }
 
-    /// Takes down one call more.
+    /// Records one more call.
     pub fn note(&mut self, nanos: u64)
         ensures { self.new.longest ≡ max self.old.longest nanos }
     {
@@ -67,7 +67,7 @@ impl Pauses {
         self.longest
     }
 
-    /// The microseconds that at most so many of each thousand calls took longer than.
+    /// The microseconds that at most `rest` of each thousand calls exceeded.
     pub fn all_but(&self, rest: u64) -> u64 {
         let mut calls = 0u64;
         for count in self.counts.iter() {
@@ -76,7 +76,7 @@ impl Pauses {
         self.passed_by(calls.saturating_mul(rest) / 1000)
     }
 
-    // The microseconds that at most so many calls took longer than.
+    // The microseconds that at most `most` calls exceeded.
     fn passed_by(&self, most: u64) -> u64 {
         let mut longer = 0u64;
         for bin in (0..BINS).rev() {
@@ -89,7 +89,7 @@ impl Pauses {
     }
 }
 
-/// A clock that returns how long it is since it was last asked.
+/// A clock that returns the time since it was last read.
 #[derive(Drop)]
 pub struct Lap {
     last: Instant,
@@ -103,7 +103,7 @@ impl Lap {
         })
     }
 
-    /// The nanoseconds since it was last asked.
+    /// The nanoseconds since it was last read.
     pub fn turn<R: Clock>(&mut self, rt: &R) -> io::Result<u64> {
         let now = Instant::now(rt)?;
         let passed = now.saturating_duration_since(self.last).as_nanos();

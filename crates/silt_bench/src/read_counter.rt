@@ -4,8 +4,8 @@ ghost use Rattle.std.specs.Prelude.{◌≡◌};
 use silt_device::Disk;
 use std::sync::atomic::{AtomicU64, Ordering};
 
-/// A disk, and where its reads are counted. Contracts see the disk alone: a read takes it by `&`, so the count is an atomic, whose
-/// value no clause can name.
+/// A disk, and the counter of its reads. Contracts see only the disk: a read takes it by `&`, so the counter is an
+/// atomic, and no clause can name its value.
 #[derive(Drop)]
 pub struct CountingDisk<'a, D: Disk> {
     disk: D,

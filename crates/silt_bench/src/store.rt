@@ -21,7 +21,7 @@ pub fn new_store<D: Disk>(
     }
 }
 
-/// The store that stands on a disk.
+/// Opens the store on a disk.
 pub fn open_store<D: Disk>(alloc: Global, disk: D) -> Result<Core<D>, BenchError> {
     match Core::open(alloc, disk) {
         Ok(core) => Ok(core),

@@ -8,7 +8,7 @@ use silt_device::Disk;
 use silt_event::Progress;
 use std::alloc::Global;
 
-/// How many hash stores there are, and how many are to stand when a merge begins.
+/// How many hash stores there are, and at how many a merge begins.
 #[derive(Clone, Copy)]
 pub struct Turns {
     standing: u64,
@@ -16,7 +16,7 @@ pub struct Turns {
 }
 
 impl Turns {
-    /// No hash store stands yet.
+    /// There is no hash store yet.
     pub fn new(merge_at: u64) -> Turns {
         Turns {
             standing: 0,
@@ -38,7 +38,7 @@ impl Turns {
         self.merge_all(alloc, desk, seat)
     }
 
-    /// Does all that is due, to its end.
+    /// Does all background work that is due, to its end.
     pub fn finish<D: Disk, T: Trace, N: Naming>(
         &mut self,
         alloc: Global,

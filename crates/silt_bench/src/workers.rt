@@ -22,7 +22,7 @@ struct Worker<N: Naming> {
     other: Sender<Wake>,
 }
 
-/// Who fills a store: a writer and two workers.
+/// The threads that fill a store: a writer and two workers.
 #[derive(Drop)]
 struct Crew<N: Naming> {
     writer: Writer<N>,
@@ -30,7 +30,7 @@ struct Crew<N: Naming> {
     merger: Worker<N>,
 }
 
-/// Puts the plan's keys beside a converter and a merger, and ends when nothing is left to be done.
+/// Puts the plan's keys beside a converter and a merger, and ends when no work is left.
 pub fn fill_beside<
     D: Disk,
     T: Trace + Send + Sync,
@@ -104,7 +104,7 @@ fn run_crew<
     filled
 }
 
-// The two workers, each until it is stopped.
+// Runs the two workers, each until it is stopped.
 fn both_workers<D: Disk, T: Trace + Send + Sync, N: Naming + Send + Sync, R: Threads + Wait + Sync>(
     rt: &R,
     alloc: Global,
@@ -132,7 +132,7 @@ fn both_workers<D: Disk, T: Trace + Send + Sync, N: Naming + Send + Sync, R: Thr
     )
 }
 
-// Puts all keys, waits until nothing is left to be done, and stops the workers.
+// Puts all keys, waits until no work is left, and stops the workers.
 fn write<D: Disk, T: Trace, N: Naming, R: Wait + Clock>(
     rt: &R,
     alloc: Global,

@@ -37,7 +37,7 @@ Consumes-none : (r : Option (List ℕ)) → Consumes r r []
 Consumes-none None = tt
 Consumes-none (Some xs) = refl
 
--- ---- what is asked
+-- ---- the requests of lines
 
 asks-append : (v : ℕ) (xs ys : List (List ℕ)) → asks v (xs ++ ys) ≡ asks v xs ++ asks v ys
 asks-append v [] ys = refl
@@ -52,11 +52,11 @@ events_of-append [] ys = refl
 events_of-append (Ok event ∷ xs) ys = ap (λ l. event ∷ l) (events_of-append xs ys)
 events_of-append (Err fault ∷ xs) ys = events_of-append xs ys
 
--- what is asked by two parts of the bytes
+-- the requests of two parts of the bytes
 pub asks_after-append : (v : ℕ) (p xs ys : List ℕ) → asks v (lines_after p (xs ++ ys)) ≡ asks v (lines_after p xs) ++ asks v (lines_after (rest_after p xs) ys)
 asks_after-append v p xs ys = ap (asks v) (lines_after-append p xs ys) ∙ asks-append v (lines_after p xs) (lines_after (rest_after p xs) ys)
 
--- what is due so far begins what is due for more
+-- what is written for some lines is the first part of what is written for more
 texts_of-more : (xs ys : List (Result Event LineFault)) (rs : List PlainReply) → IsBeginning (texts_of xs rs) (texts_of (xs ++ ys) rs)
 texts_of-more [] ys rs = IsBeginning-none (texts_of ys rs)
 texts_of-more (Err fault ∷ xs) ys rs = IsBeginning-behind (fault_line fault) _ _ (texts_of-more xs ys rs)
@@ -71,7 +71,7 @@ module _ {A : Type 0} (answers : A → A → Event → PlainReply → Type 0) wh
   AnswersEach-append a b c (e ∷ es) fs [] ss h k = absurd h
   AnswersEach-append a b c (e ∷ es) fs (r ∷ rs) ss h k = (h.0, h.1, AnswersEach-append h.0 b c es fs rs ss h.2 k)
 
-  -- where each event of the first part has its reply, the texts of two parts stand one after the other
+  -- if each event of the first part has its reply, the texts of two parts come one after the other
   texts_of-append : (a b : A) (xs ys : List (Result Event LineFault)) (rs ss : List PlainReply) → AnswersEach answers a (events_of xs) rs b
       → texts_of (xs ++ ys) (rs ++ ss) ≡ texts_of xs rs ++ texts_of ys ss
   texts_of-append a b [] ys [] ss h = refl
@@ -88,7 +88,7 @@ module _ {A : Type 0} (answers : A → A → Event → PlainReply → Type 0) wh
   pub all-none : (a : A) (w : Option (List ℕ)) → AnswersAll answers [] a a w w
   all-none a w = ([], refl, Appends-none w)
 
-  -- a beginning is nothing at all
+  -- no text at all is a first part of any text
   some-none : (asked : List (Result Event LineFault)) (a : A) (w : Option (List ℕ)) → AnswersSome answers asked a a w w
   some-none asked a w = ([], [], [], IsBeginning-none (events_of asked), refl, IsBeginning-none (texts_of asked []), Appends-none w)
 
@@ -152,7 +152,7 @@ module _ {A : Type 0} (answers : A → A → Event → PlainReply → Type 0) wh
   all-part n p bytes done count a b c w v u h k =
       subst (λ xs. AnswersAll answers (asks n (lines_after p xs)) a c w u) (sym (take-add done count bytes)) (all-bytes n p (take done bytes) (take count (drop done bytes)) a b c w v u h k)
 
-  -- a part of a slice in which it ends
+  -- a part of a slice, when the session ends in that part
   pub some-part : (n : ℕ) (p bytes : List ℕ) (done : ℕ) (a b c : A) (w v u : Option (List ℕ)) → AnswersAll answers (asks n (lines_after p (take done bytes))) a b w v
       → AnswersSome answers (asks n (lines_after (rest_after p (take done bytes)) (drop done bytes))) b c v u → AnswersSome answers (asks n (lines_after p bytes)) a c w u
   some-part n p bytes done a b c w v u h k =
@@ -198,7 +198,7 @@ module _ {A : Type 0} (answers : A → A → Event → PlainReply → Type 0) wh
       → AnswersAll answers (Err fault ∷ []) a a (Some text) (Some more)
   all-fault fault a text more e = ([], refl, e ∙ ap (λ l. text ++ l) (sym (append-nil (fault_line fault))))
 
-  -- nothing was done, and nothing written
+  -- nothing was done and nothing was written
   pub some-same : (asked : List (Result Event LineFault)) (a : A) (text more : List ℕ) → more ≡ text → AnswersSome answers asked a a (Some text) (Some more)
   some-same asked a text more e = subst (λ t. AnswersSome answers asked a a (Some text) (Some t)) (sym e) (some-none asked a (Some text))
 
@@ -222,7 +222,7 @@ module _ {A : Type 0} (answers : A → A → Event → PlainReply → Type 0) wh
   pub Ends-unbegun : (n : ℕ) (state : SessionState A) → Ends answers NoMemory n state state
   Ends-unbegun n state = ([], Consumes-none state.remaining, some-none [] state.answerer state.contents)
 
--- what was read of a line is what it asks for, where memory was not wanted
+-- if memory did not run out, a line was parsed as what it asks for
 pub asked-event : (asked : Result Event LineFault) (event : Event) → Parses asked (Ok event) → Ok event ≡ asked
 asked-event asked event (inl h) = h
 asked-event asked event (inr h) = absurd (cc)

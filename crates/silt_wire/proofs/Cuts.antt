@@ -10,7 +10,7 @@ use Rattle.silt_wire.specs.declared.line.LineFault.{LineFault}
 use Rattle.silt_wire.specs.declared.line.LineFault.TheVariants.{BadLine}
 use Rattle.silt_wire.specs.Lines.{Parses, words_of, bare_event, key_event, value_event, event_of}
 
--- the first word ends at the first space, and the other words stand after it
+-- the first word ends at the first space, and the other words come after it
 pub words_of-cut : (text : List ℕ) (at : ℕ) → position (λ b. b == 32) text ≡ Some at → words_of text ≡ take at text ∷ words_of (drop (at + 1) text)
 words_of-cut text at e =
     let p = λ (b : ℕ). b == 32 in
@@ -43,7 +43,7 @@ unfolding event_of
 asked-three len text word key rest value result words more last e =
     subst (λ asked. Parses asked result) (sym (ap (event_of len) (words ∙ ap (λ parts. word ∷ parts) (more ∙ ap (λ parts. key ∷ parts) last)))) e
 
--- four words and more ask for nothing
+-- a line of four words or more is refused
 event_of-many : (len : ℕ) (word key value : List ℕ) (more : List (List ℕ)) → more ≢ [] → event_of len (word ∷ key ∷ value ∷ more) ≡ Err BadLine
 unfolding event_of
 event_of-many len word key value [] some = absurd (some refl)

@@ -20,7 +20,7 @@ pub passed_all : (bytes : List ℕ) → handed_on Passed bytes ≡ bytes
 passed_all [] = refl
 passed_all (b ∷ bytes) = ap (λ l. b ∷ l) (passed_all bytes)
 
--- behind the mark nothing is
+-- nothing is handed on after the mark
 pub refused_none : (bytes : List ℕ) → handed_on Refused bytes ≡ []
 refused_none [] = refl
 refused_none (b ∷ bytes) = refl
@@ -35,7 +35,7 @@ refused_is (Open n) e = absurd (cc)
 refused_is Passed e = absurd (cc)
 refused_is Refused e = refl
 
--- what is handed on of these bytes and any that follow: so many of them, and then what comes of the rest
+-- of these bytes and any that follow, this many are handed on, and then what is handed on of the rest
 abbrev pub HandsOn : FirstLine → List ℕ → FirstLine → ℕ → Type 0
 HandsOn line bytes after at = (rest : List ℕ) → handed_on line (bytes ++ rest) ≡ take at bytes ++ handed_on after (drop at bytes ++ rest)
 
@@ -78,13 +78,13 @@ pub ended_end : (line : FirstLine) (known : Option (List ℕ)) → IsAtEnd known
 ended_end line None is = tt
 ended_end line (Some xs) is = ap (handed_on line) is
 
--- once it is refused, nothing more is given
+-- once it is refused, the reader gives nothing more
 pub refused_reads : (line : FirstLine) (known : Option (List ℕ)) → is_turned_away line ≡ true
     → Consumes (option_map (handed_on line) known) (option_map (handed_on line) known) []
 refused_reads line None is = tt
 refused_reads line (Some xs) is = refl
 
--- nothing is given only at the end
+-- the reader gives nothing only at the end
 pub given_end : (line : FirstLine) (new : Option (List ℕ)) (buf : List ℕ) (count given : ℕ) → count ≤ length buf
     → (count ≡ 0 → 0 < length buf → IsAtEnd new) → (given ≡ 0 → 0 < length (take count buf) → is_turned_away line ≡ true)
     → given ≡ 0 → 0 < length buf → IsAtEnd (option_map (handed_on line) new)
@@ -119,8 +119,8 @@ ends_line-front (x ∷ xs) ys h =
 ends_line-take : (n : ℕ) (xs : List ℕ) → ends_line xs ≡ false → ends_line (take n xs) ≡ false
 ends_line-take n xs h = ends_line-front (take n xs) (drop n xs) (ap ends_line (take-append-drop n xs) ∙ h)
 
--- one byte more of a first line: a line feed passes it; or it completes the mark; or so many bytes of the mark are at its end, behind others
--- that end no line
+-- one byte more of a first line: a line feed passes it; or it completes the mark; or its last bytes are this many of the mark that
+-- end no line
 data Step (n b : ℕ) (line : FirstLine) : Type 0 where
   passes : b ≡ 10 → line ≡ Passed → Step n b line
   refuses : take n http_mark ++ b ∷ [] ≡ http_mark → line ≡ Refused → Step n b line
@@ -175,7 +175,7 @@ http_given n (x ∷ front) back none =
           subst Given (sym line) (ap (λ b. cond b true (ends_line (handed_on (Open m) rest))) is_not.0 ∙ http_given m front back is_not.1)
     ]
 
--- so many bytes of the mark and these have the mark in their first line
+-- this many bytes of the mark, followed by these bytes, have the mark in their first line
 abbrev HasMark : ℕ → List ℕ → Type 0
 HasMark n bytes = (front : List ℕ) × (back : List ℕ) × (ends_line front ≡ false) × (take n http_mark ++ bytes ≡ front ++ (http_mark ++ back))
 
@@ -253,7 +253,7 @@ module _ {A : Type 0} (answers : A → A → Event → PlainReply → Type 0) wh
   serves_no_part v read a b before after none serves =
       some_none a b before after (subst (λ lines. AnswersSome answers (asks v lines) a b before after) (lines_none [] read none) serves)
 
-  -- what was read of such bytes ends no line
+  -- the bytes that were read of such a request end no line
   read_none : (given read : List ℕ) (left : Option (List ℕ)) → ends_line given ≡ false → Consumes (Some given) left read → ends_line read ≡ false
   read_none given read None none took = absurd took
   read_none given read (Some ys) none took = ends_line-front read ys (ap ends_line (sym took) ∙ none)
@@ -266,7 +266,7 @@ module _ {A : Type 0} (answers : A → A → Event → PlainReply → Type 0) wh
   ends_none WriteFault v given left before after a b none ends = serves_no_part v ends.0 a b before after (read_none given ends.0 left none ends.1) ends.2
   ends_none NoMemory v given left before after a b none ends = serves_no_part v ends.0 a b before after (read_none given ends.0 left none ends.1) ends.2
 
-  -- nothing is answered to an HTTP request, and nothing is written
+  -- an HTTP request gets no reply, and nothing is written
   pub http_nothing : (end : SessionEnd) (v : ℕ) (known given left before after : Option (List ℕ)) (a b : A) → Guards known given
       → Ends answers end v (record { answerer = a; remaining = given; contents = before }) (record { answerer = b; remaining = left; contents = after })
       → IfSome known (λ bytes. IsHttp bytes → (b ≡ a) × Appends before after [])

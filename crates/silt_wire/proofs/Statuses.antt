@@ -3,13 +3,13 @@ use Rattle.std.proofs.Common.{◌≡◌, ℕ, Result, Ok, Err, arith, inl, inr, 
 use Rattle.std.specs.Prelude.{IfOk}
 use Rattle.silt_wire.specs.Statuses.{IsStatus}
 
--- what is told with status 1 may be told in other words
+-- a weaker statement than the one reported with status 1
 pub told_weaker : {E P Q : Type 0} (result : Result ℕ E) → (P → Q) → IfOk result (IsStatus P) → IfOk result (IsStatus Q)
 told_weaker (Ok status) step (inl done) = inl done
 told_weaker (Ok status) step (inr h) = inr (h.0, step h.1)
 told_weaker (Err error) step h = h
 
--- status 1 alone, and what was told
+-- only status 1, with what was reported
 pub status_told : {E P Q : Type 0} (result : Result ℕ E) → (P → Q) → IfOk result (λ status. (status ≡ 1) × P) → IfOk result (IsStatus Q)
 status_told (Ok status) step h = inr (h.0, step h.1)
 status_told (Err error) step h = h

@@ -82,14 +82,14 @@ rest_after-none p [] h = sym (append-nil p)
 rest_after-none p (x ∷ xs) h =
     subst (λ b. cond b (rest_after [] xs) (rest_after (p ++ x ∷ []) xs) ≡ p ++ x ∷ xs) (sym (h 0 (omega arith))) (rest_after-none (p ++ x ∷ []) xs (EndNone-rest x xs h) ∙ append_assoc p (x ∷ []) xs)
 
--- where no line feed is found there is none
+-- if the search finds no line feed there is none
 EndNone-position : (bytes : List ℕ) → position (λ b. b == 10) bytes ≡ None → EndNone bytes
 EndNone-position bytes e = λ k lt.
     let p = λ (b : ℕ). b == 10 in
     let ends : length bytes ≤ position_or_len p bytes = grind (arith, common_steps) in
     fails_before_first p bytes k 0 (omega arith)
 
--- and before the first one there is none
+-- before the first line feed there is none
 EndNone-before : (bytes : List ℕ) (at : ℕ) → position (λ b. b == 10) bytes ≡ Some at → EndNone (take at bytes)
 EndNone-before bytes at e = λ k lt.
     let found = position-Some (λ (b : ℕ). b == 10) bytes at 0 e in
@@ -106,7 +106,7 @@ upto-first bytes at e =
     let found = position-Some (λ (b : ℕ). b == 10) bytes at 0 e in
     take_more bytes at 0 found.0 ∙ ap (λ x. take at bytes ++ x ∷ []) (is-feed (get_or bytes at 0) found.1)
 
--- the first line feed ends the line that had begun, and no other
+-- the first line feed ends the line in progress, and no other
 pub lines_after-first : (p bytes : List ℕ) (at : ℕ) → position (λ b. b == 10) bytes ≡ Some at → lines_after p (take (at + 1) bytes) ≡ (p ++ take at bytes) ∷ []
 lines_after-first p bytes at e =
     let front = take at bytes in
@@ -119,7 +119,7 @@ lines_after-first p bytes at e =
 pub rest_after-first : (p bytes : List ℕ) (at : ℕ) → position (λ b. b == 10) bytes ≡ Some at → rest_after p (take (at + 1) bytes) ≡ []
 rest_after-first p bytes at e = ap (rest_after p) (upto-first bytes at e) ∙ rest_after-append p (take at bytes) (10 ∷ [])
 
--- where there is no line feed no line ends
+-- if there is no line feed no line ends
 pub lines_after-unended : (p bytes : List ℕ) → position (λ b. b == 10) bytes ≡ None → lines_after p bytes ≡ []
 lines_after-unended p bytes e = lines_after-none p bytes (EndNone-position bytes e)
 
@@ -128,7 +128,7 @@ rest_after-unended p bytes e = rest_after-none p bytes (EndNone-position bytes e
 
 -- ---- what a line buffer took
 
--- the first line feed ended the line, which is held
+-- the first line feed ended the line, and the buffer holds it
 pub taken-line : (begun bytes : List ℕ) (at : ℕ) (front : List ℕ) (pending : LineBuffer) → position (λ b. b == 10) bytes ≡ Some at → front ≡ take at bytes → HoldsBytes pending (begun ++ front)
     → TakesPiece begun bytes (record { count = at + 1; ends_line = true }) pending
 taken-line begun bytes at front pending e is h = record {
@@ -156,13 +156,13 @@ piece-line begun bytes taken pending e h =
     subst (λ b. MatchBool b ((line : List ℕ) × HoldsBytes pending line × (lines_after begun (take taken.count bytes) ≡ line ∷ []))
     (HoldsBytes pending (rest_after begun (take taken.count bytes)) × (lines_after begun (take taken.count bytes) ≡ []))) e h.lines
 
--- nothing is begun behind it
+-- no line is in progress after it
 pub piece-over : (begun bytes : List ℕ) (taken : Taken) (pending : LineBuffer) → taken.ends_line ≡ true → TakesPiece begun bytes taken pending
     → rest_after begun (take taken.count bytes) ≡ []
 piece-over begun bytes taken pending e h =
     subst (λ b. MatchBool b (rest_after begun (take taken.count bytes) ≡ []) (taken.count ≡ length bytes)) e h.rest
 
--- where no line was ended none was, and all is held
+-- if no line was ended there was no line feed, and the buffer holds all bytes
 pub piece-open : (begun bytes : List ℕ) (taken : Taken) (pending : LineBuffer) → taken.ends_line ≡ false → TakesPiece begun bytes taken pending
     → HoldsBytes pending (rest_after begun (take taken.count bytes)) × (lines_after begun (take taken.count bytes) ≡ [])
 piece-open begun bytes taken pending e h =

@@ -1,4 +1,4 @@
--- HTTP requests, which a client's session doesn't answer.
+-- HTTP requests. A client's session does not reply to them.
 use Rattle.std.specs.Prelude.{◌≡◌, ◌==◌, ◌&&◌, ℕ, ◌+◌, nat_lt, Bool, true, false, List, [], ◌∷◌, ◌++◌, get_or, codes, Option, Some, None, option_map, if◌then◌else◌}
 use Rattle.silt_wire.specs.declared.http_guard.FirstLine.{FirstLine}
 use Rattle.silt_wire.specs.declared.http_guard.FirstLine.TheVariants.{Open, Passed, Refused}
@@ -17,7 +17,7 @@ ends_line (b ∷ bytes) = if b == 10 then true else ends_line bytes
 abbrev pub IsHttp : List ℕ → Type 0
 IsHttp bytes = (front : List ℕ) × (back : List ℕ) × (ends_line front ≡ false) × (bytes ≡ front ++ (http_mark ++ back))
 
--- what a session is given of bytes: of an HTTP request no whole line, and else all
+-- what the guard hands on to a session: of an HTTP request no whole line, and else all bytes
 abbrev pub Guards : Option (List ℕ) → Option (List ℕ) → Type 0
 Guards None given = Unit {0}
 Guards (Some bytes) None = ⊥
@@ -25,7 +25,7 @@ Guards (Some bytes) (Some given) = (IsHttp bytes → ends_line given ≡ false) 
 
 -- ---- byte by byte
 
--- a first line that ended in so many bytes of the mark, after one more byte
+-- a first line whose last bytes are this many of the mark, after one more byte
 abbrev pub open_after : ℕ → ℕ → FirstLine
 open_after matched b =
     if b == 10 then Passed

@@ -9,8 +9,8 @@ use Rattle.silt_wire.specs.Sessions.{lines_after, rest_after}
 abbrev pub HoldsBytes : LineBuffer → List ℕ → Type 0
 HoldsBytes pending bytes = MatchBool pending.is_long (longest_line < length bytes) ((pending.line.items ≡ bytes) × (length bytes ≤ longest_line))
 
--- Of these bytes so many were taken, behind those of a line that had begun: they end that line and no other, which is then held; or they are all, and
--- end no line.
+-- This many of the bytes were taken, behind those of a line in progress. Either they end that line and no other, and the buffer holds it;
+-- or they are all of the bytes, and end no line.
 pub record TakesPiece (begun bytes : List ℕ) (taken : Taken) (pending : LineBuffer) : Type 0 where
   pub lines : MatchBool taken.ends_line ((line : List ℕ) × HoldsBytes pending line × (lines_after begun (take taken.count bytes) ≡ line ∷ []))
       (HoldsBytes pending (rest_after begun (take taken.count bytes)) × (lines_after begun (take taken.count bytes) ≡ []))

@@ -14,11 +14,11 @@ use Rattle.silt_wire.specs.declared.line.LineFault.{LineFault}
 use Rattle.silt_wire.specs.declared.line.LineFault.TheVariants.{BadLine, BadKey, BadValue, LineTooLong, NoMemory}
 use Rattle.silt_frame.specs.Frame.{key_len}
 
--- the words: what stands between single spaces
+-- the words of a line: the parts between single spaces
 abbrev pub words_of : List ℕ → List (List ℕ)
 words_of text = slice_split (λ b. b == 32) text
 
--- a byte that may stand in a name
+-- whether a byte is allowed in a name
 abbrev pub is_name_byte : ℕ → Bool
 is_name_byte b = nat_le 0x21 b && nat_le b 0x7E
 
@@ -26,7 +26,7 @@ is_name_byte b = nat_le 0x21 b && nat_le b 0x7E
 abbrev pub is_name : List ℕ → Bool
 is_name text = nat_le 1 (length text) && (nat_le (length text) 8000 && list_all is_name_byte text)
 
--- the bytes of a key: forty hexadecimal digits, or the digest of a name that stands after `=`
+-- the bytes of a key: forty hexadecimal digits, or, after `=`, the digest of a name
 abbrev pub key_bytes : List ℕ → Option (List ℕ)
 key_bytes [] = None
 key_bytes (first ∷ rest) =
@@ -52,7 +52,7 @@ with_key_and_value None value = Err BadKey
 with_key_and_value (Some key) None = Err BadValue
 with_key_and_value (Some key) (Some value) = Ok (Put key value)
 
--- what a word alone asks for
+-- the request of a line with one word
 abbrev pub bare_event : List ℕ → Result Event LineFault
 bare_event word =
     if bytes_eq word (codes "flush") then Ok Flush
@@ -83,21 +83,21 @@ event_of value_len words = Err BadLine
 abbrev pub longest_line : ℕ
 longest_line = 8300
 
--- what a line asks for, or why it asks for nothing: its length is looked at before all else
+-- the request of a line, or why it has none; the length is checked first
 abbrev pub asked_by : ℕ → List ℕ → Result Event LineFault
 asked_by value_len line =
     if nat_lt longest_line (length line) then Err LineTooLong else event_of value_len (words_of (strip_carriage_return line))
 
--- a line that is empty without its carriage return is not answered
+-- whether a line is empty without its carriage return; such a line gets no reply
 abbrev pub is_blank : List ℕ → Bool
 is_blank line = length (strip_carriage_return line) == 0
 
--- only a put wants memory, for its value
+-- only a put needs memory, for its value
 abbrev pub WantsMemory : Result Event LineFault → Type 0
 WantsMemory (Ok (Put key value)) = Unit {0}
 WantsMemory (Err BadValue) = Unit {0}
 WantsMemory asked = ⊥
 
--- what was read of a line is what it asks for, or memory was wanted in its place
+-- a line was parsed as what it asks for, or memory ran out
 abbrev pub Parses : Result Event LineFault → Result Event LineFault → Type 0
 Parses asked result = (result ≡ asked) ⊎ ((result ≡ Err NoMemory) × WantsMemory asked)

@@ -50,11 +50,11 @@ fault_label BadValue = (22, codes "BadValue")
 fault_label LineTooLong = (23, codes "LineTooLong")
 fault_label NoMemory = (6, codes "NoMemory")
 
--- the reply to a line that asks for nothing, without its line feed
+-- the reply to a line without a valid request, without its line feed
 abbrev pub fault_text : LineFault → List ℕ
 fault_text fault = codes "refused " ++ label_text (fault_label fault)
 
--- a reply as one line, without its line feed; what is not served is told as a line that asks for nothing
+-- a reply as one line, without its line feed; an event that is not served has the text of a line without a valid request
 abbrev pub reply_text : {F : Type 0} → Reply F → List ℕ
 reply_text (Accepted n) = codes "accepted " ++ decimal n
 reply_text (Acknowledged n) = codes "acknowledged " ++ decimal n
@@ -65,6 +65,6 @@ reply_text (Refused refusal) = codes "refused " ++ refusal_text refusal
 reply_text (Unsettled n) = codes "unsettled " ++ decimal n
 reply_text NotServed = fault_text BadLine
 
--- the reply to a line that asks for nothing, as a line
+-- the reply to a line without a valid request, as a line
 abbrev pub fault_line : LineFault → List ℕ
 fault_line fault = fault_text fault ++ 10 ∷ []

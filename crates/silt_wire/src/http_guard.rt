@@ -1,5 +1,5 @@
-// A session for a client, which answers no HTTP request. A web page can make a browser send one to a port of its own machine, and each
-// line of its body would be a line of ours.
+// A session for a client, which does not reply to HTTP requests. A web page can make a browser send one to a port of
+// its own machine, and each line of its body would be a line of ours.
 ghost use Rattle.std.specs.Prelude.{◌≡◌, true, ◌≤◌, ◌<◌, ◌++◌, ℕ, List, Option, [], IfSome, length, take};
 ghost use Rattle.std.specs.Io.KnownBytes.{Appends};
 ghost use Rattle.silt_wire.specs.Http.{Guards, IsHttp, guard_remaining, handed_on, is_passed, is_turned_away, line_after, open_after};
@@ -16,7 +16,7 @@ const MARK: [u8; 6] = *b" HTTP/";
 /// What is known of the first line of a client.
 #[derive(Clone, Copy)]
 pub enum FirstLine {
-    /// It goes on, and ends in so many bytes of the mark so far.
+    /// It goes on, and its last bytes are this many of the mark.
     Open(usize),
     /// It has ended without the mark.
     Passed,
@@ -49,7 +49,7 @@ impl FirstLine {
     }
 }
 
-// What is known of a first line that ended in so many bytes of the mark, after one more byte.
+// The state of a first line whose last bytes are this many of the mark, after one more byte.
 fn open_after(matched: usize, byte: u8) -> FirstLine
     ensures { result ≡ open_after matched byte }
 {
@@ -98,7 +98,7 @@ pub(crate) struct HttpGuard<R> {
 impl<R: Read> HttpGuard<R> {
     ghost use Rattle.silt_wire.specs.Http.{Guards, guard_remaining};
 
-    // In front of a reader that has given nothing yet.
+    // A guard of a reader that has given nothing yet.
     fn new(inner: R) -> HttpGuard<R>
         ensures { Guards (R.remaining inner) (guard_remaining R.remaining result) }
     {
@@ -125,7 +125,8 @@ impl<R: Read> Read for HttpGuard<R> {
     }
 }
 
-/// Answers the lines of a client as `session` does. Of an HTTP request it answers no line, writes nothing, and ends at the first line.
+/// Replies to the lines of a client as `session` does. To an HTTP request it replies with nothing, and ends at the
+/// first line.
 pub fn client_session<A: Answerer, R: Read + Drop, W: Write>(
     alloc: Global,
     value_len: usize,

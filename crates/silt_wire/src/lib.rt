@@ -1,10 +1,10 @@
-//! The texts of a store: lines that ask, reply lines, and reports.
+//! The texts of a store: request lines, reply lines, and reports.
 //!
-//! A line ends with a line feed; one carriage return before it is taken off, and a line that is then empty is not answered. Words
-//! stand between single spaces and are in lower case. `parse_line` says what a line asks of a store, `print_reply` what the reply
-//! to it reads as, `print_report` what a report does. `LineBuffer` keeps what was read of a line
-//! that has not ended, and `session` answers the lines of any reader by a store, or another `Answerer`, to any writer.
-//! `client_session` does so too, but answers no HTTP request.
+//! A line ends with a line feed. One carriage return before it is removed, and a line that is then empty gets no reply.
+//! Words are in lower case, with single spaces between them. `parse_line` returns the event that a line asks for,
+//! `print_reply` the text of a reply, and `print_report` the text of a report. `LineBuffer` keeps the bytes of a line
+//! that has not ended. `session` reads lines from any reader, passes their events to a store, or another `Answerer`,
+//! and writes the replies to any writer. `client_session` does so too, but does not reply to HTTP requests.
 #![tactic(auto)]
 
 mod http_guard;

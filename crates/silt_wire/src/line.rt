@@ -13,7 +13,7 @@ use thiserror::Error;
 /// The most bytes that a line may have, its carriage return counted.
 pub const LONGEST_LINE: usize = 8300;
 
-/// Why a line asks for nothing.
+/// Why a line has no valid request.
 #[derive(Clone, Copy, Debug, PartialEq, Eq, Error)]
 pub enum LineFault {
     /// The first word is unknown, or there is a wrong number of words.
@@ -28,7 +28,7 @@ pub enum LineFault {
     /// The line has too many bytes.
     #[error("the line has more than {LONGEST_LINE} bytes")]
     LineTooLong,
-    /// A growth of memory was refused.
+    /// Out of memory.
     #[error("memory was wanted")]
     NoMemory,
 }
@@ -36,7 +36,7 @@ pub enum LineFault {
 impl LineFault {
     ghost use Rattle.silt_wire.specs.Replies.{fault_label};
 
-    /// The number and the name by which a fault is known in texts.
+    /// The number and the name of a fault in texts.
     pub fn label(self) -> (u32, &'static str)
         ensures number { result.0 ≡ (fault_label self).0 }
         ensures name { result.1.now ≡ (fault_label self).1 }
@@ -78,7 +78,7 @@ fn space_at(text: &[u8]) -> Option<usize>
     text.iter().position(|byte| *byte == b' ')
 }
 
-/// The first word and what comes after its space, or nothing where there is one word alone.
+/// The first word and what comes after its space. None if there is only one word.
 #[tactic(auto, using(crate::proofs::Cuts::words_of_steps))]
 pub fn cut_word(text: &[u8]) -> Option<(&[u8], &[u8])>
     ensures more { IfSome result (λ parts. words_of text.now ≡ parts.0.now ∷ words_of parts.1.now) }
@@ -101,7 +101,7 @@ fn value_of(alloc: Global, value_len: usize, word: &[u8]) -> Result<Value, LineF
     }
 }
 
-// What a word alone asks for.
+// The request of a line with one word.
 fn bare_event(word: &[u8]) -> Result<Event, LineFault>
     ensures { result ≡ bare_event word.now }
 {
@@ -166,15 +166,15 @@ fn parse_words(alloc: Global, text: &[u8], value_len: usize) -> Result<Event, Li
     value_event(alloc, value_len, word, key, rest)
 }
 
-/// What a line asks for of a store whose values have `value_len` bytes.
+/// The request of a line to a store whose values have `value_len` bytes.
 ///
-/// The line comes without its line feed, and one carriage return at its end does not count as a part of a word. Words stand
-/// between single spaces and are in lower case: `put KEY VALUE`, `delete KEY`, `get KEY`, `flush`, `convert` and `merge`.
+/// The line comes without its line feed, and one carriage return at its end is not part of a word. Words are in lower
+/// case, with single spaces between them: `put KEY VALUE`, `delete KEY`, `get KEY`, `flush`, `convert` and `merge`.
 ///
 /// # Errors
 ///
-/// The first of these that is found: `LineTooLong`, for more than 8,300 bytes; `BadLine`, for the first word and the number of
-/// words; `BadKey`; then, for a put alone, `NoMemory` and `BadValue`.
+/// The first of these that is found: `LineTooLong`, for more than 8,300 bytes; `BadLine`, for the first word and the
+/// number of words; `BadKey`; then, only for a put, `NoMemory` and `BadValue`.
 pub fn parse_line(alloc: Global, line: &[u8], value_len: usize) -> Result<Event, LineFault>
     ensures asked { Parses (asked_by value_len line.now) result }
     ensures fits { IfOk result (HasValueOf value_len) }

@@ -68,7 +68,7 @@ pub fn print_refusal<F: Drop>(alloc: Global, refusal: &Refusal<F>) -> Result<Str
     format!(in alloc; "refused {text}")
 }
 
-/// The text of the reply to a line that asks for nothing, one line without its line feed.
+/// The text of the reply to a line without a valid request: one line without its line feed.
 pub fn print_fault(alloc: Global, fault: LineFault) -> Result<String, AllocError>
     ensures { IfOk result (λ text. string_bytes text ≡ fault_text fault) }
 {
@@ -122,7 +122,7 @@ pub fn write_refusal<F: Drop, W: Write>(
     writer.write_all(line.as_bytes())
 }
 
-/// Writes the reply to a line that asks for nothing, and a line feed.
+/// Writes the reply to a line without a valid request, and a line feed.
 pub fn refuse_line<W: Write>(alloc: Global, fault: LineFault, writer: &mut W) -> io::Result<()>
     ensures { OnOk result (Appends (W.contents writer.old) (W.contents writer.new) (fault_line fault)) }
 {

@@ -1,4 +1,4 @@
-// Sessions: lines from a reader, answered by any answerer to a writer.
+// Sessions: lines from a reader, and an answerer's replies to a writer.
 ghost use Rattle.std.specs.Prelude.{◌≡◌, ◌≢◌, ◌≤◌, ◌<◌, ◌++◌, ◌∷◌, [], ℕ, List, Some, Ok, true, IfOk, OnOk, OnErr, IfErr, length, string_bytes, take};
 ghost use Rattle.std.specs.Io.KnownBytes.{Appends};
 ghost use Rattle.silt_event.specs.Events.{HasValueOf};
@@ -18,31 +18,31 @@ use thiserror::Error;
 /// The most reads of a session.
 const MOST_READS: u64 = (1 << 63) - 1;
 
-/// How many bytes of answers are written before more lines of a read are answered.
+/// How many bytes of replies are written before a session goes on with more lines of a read.
 const ENOUGH_TEXT: usize = 65_536;
 
 /// How a session ended.
 #[derive(Clone, Copy, Debug, PartialEq, Eq, Error)]
 pub enum SessionEnd {
-    /// The reader has no more bytes, and all lines are answered.
+    /// The reader has no more bytes, and all lines have their replies.
     #[error("all lines are answered")]
     End,
-    /// A read failed, or there were too many. All lines that were read are answered.
+    /// A read failed, or there were too many. All lines that were read have their replies.
     #[error("a read failed")]
     ReadFault,
-    /// A write failed. What went out is a beginning of the answers.
+    /// A write failed. The bytes written are a first part of the replies.
     #[error("a write failed")]
     WriteFault,
-    /// A growth of memory was refused. What went out is a beginning of the answers.
+    /// Out of memory. The bytes written are a first part of the replies.
     #[error("memory was wanted")]
     NoMemory,
 }
 
-/// Answers the lines of a reader, whose values have `value_len` bytes, until the reader has no more bytes. All lines of one read are
-/// answered and their answers written before the reader is asked again: together, or in parts where they are long. Bytes after the
+/// Replies to the lines of a reader, whose values have `value_len` bytes, until the reader has no more bytes. It writes
+/// the replies to all lines of one read before it reads again: together, or in parts if they are long. Bytes after the
 /// last line feed are no line. An interrupted read or write is tried again.
 ///
-/// Want of memory for a line or for the text of a reply ends the session: the answers before it are still written.
+/// If out of memory for a line or for the text of a reply, the session ends. It still writes the replies before that.
 pub fn session<A: Answerer, R: Read, W: Write>(
     alloc: Global,
     value_len: usize,
@@ -83,7 +83,7 @@ pub fn session<A: Answerer, R: Read, W: Write>(
     SessionEnd::ReadFault
 }
 
-// Answers the lines that the bytes of one read end, and writes the answers.
+// Replies to the lines that the bytes of one read end, and writes the replies.
 fn answer_read<A: Answerer, W: Write>(
     alloc: Global,
     value_len: usize,
@@ -110,7 +110,8 @@ fn answer_read<A: Answerer, W: Write>(
     Ok(())
 }
 
-// Answers lines that the bytes end, until there are enough answers to write, and writes them. Answers how many bytes were taken.
+// Replies to lines that the bytes end, until there are enough replies to write, and writes them. Returns how many bytes
+// were taken.
 fn answer_part<A: Answerer, W: Write>(
     alloc: Global,
     value_len: usize,
@@ -142,7 +143,7 @@ fn answer_part<A: Answerer, W: Write>(
     }
 }
 
-// Writes texts and flushes them, and answers whether that was done.
+// Writes texts and flushes them, and returns whether that succeeded.
 fn write_texts<W: Write>(writer: &mut W, texts: &[u8]) -> bool
     ensures some { (out : List ℕ) × IsBeginning out texts.now × Appends (W.contents writer.old) (W.contents writer.new) out }
     ensures all { result ≡ true → Appends (W.contents writer.old) (W.contents writer.new) texts.now }
@@ -156,7 +157,7 @@ fn write_texts<W: Write>(writer: &mut W, texts: &[u8]) -> bool
     }
 }
 
-// Writes bytes, and answers whether all are written. An interrupted write is tried again.
+// Writes bytes, and returns whether all are written. An interrupted write is tried again.
 fn write_bytes<W: Write>(writer: &mut W, bytes: &[u8]) -> bool
     ensures some { (out : List ℕ) × IsBeginning out bytes.now × Appends (W.contents writer.old) (W.contents writer.new) out }
     ensures all { result ≡ true → Appends (W.contents writer.old) (W.contents writer.new) bytes.now }
@@ -176,8 +177,8 @@ fn write_bytes<W: Write>(writer: &mut W, bytes: &[u8]) -> bool
     false
 }
 
-// Takes bytes, and puts the answers to the lines that they end behind the texts, until these are enough. Answers how many bytes
-// were taken.
+// Takes bytes, and appends the replies to the lines that they end to the texts, until these are enough. Returns how
+// many bytes were taken.
 fn take_part<A: Answerer>(
     alloc: Global,
     value_len: usize,
@@ -207,8 +208,8 @@ fn take_part<A: Answerer>(
     Ok(done)
 }
 
-// Takes bytes to the end of a line, and puts the answer to the line behind the texts; or takes all, where they end none. Answers how
-// many bytes were taken.
+// Takes bytes to the end of a line, and appends the reply to the line to the texts; or takes all, if they end no line.
+// Returns how many bytes were taken.
 fn take_line<A: Answerer>(
     alloc: Global,
     value_len: usize,
@@ -236,7 +237,7 @@ fn take_line<A: Answerer>(
     Ok(taken.count)
 }
 
-// Puts the answer to the line that has ended behind the texts, if the line is not blank.
+// Appends the reply to the line that has ended to the texts, if the line is not blank.
 fn answer_line<A: Answerer>(
     alloc: Global,
     value_len: usize,
@@ -260,7 +261,7 @@ fn answer_line<A: Answerer>(
     }
 }
 
-// Puts the refusal of a line that asks for nothing behind the texts. Where memory was wanted for the line, it has none.
+// Appends the refusal of a line without a valid request to the texts. If out of memory for the line, there is no text.
 fn answer_fault(alloc: Global, fault: LineFault, texts: &mut String) -> Result<(), AllocError>
     ensures told { OnOk result (fault ≢ LineFault.NoMemory) }
     ensures ok { OnOk result (string_bytes texts.new ≡ string_bytes texts.old ++ fault_line fault) }
@@ -272,7 +273,7 @@ fn answer_fault(alloc: Global, fault: LineFault, texts: &mut String) -> Result<(
     }
 }
 
-// Puts the answer to an event behind the texts.
+// Appends the reply to an event to the texts.
 fn answer_event<A: Answerer>(
     alloc: Global,
     event: Event,
@@ -289,7 +290,7 @@ fn answer_event<A: Answerer>(
     push_reply(alloc, &reply, texts)
 }
 
-// Puts a reply and a line feed behind the texts. On an error nothing is changed.
+// Appends a reply and a line feed to the texts. On an error nothing changes.
 fn push_reply(alloc: Global, reply: &Reply<()>, texts: &mut String) -> Result<(), AllocError>
     ensures ok { OnOk result (string_bytes texts.new ≡ string_bytes texts.old ++ line_of reply.now) }
     ensures err { OnErr result (string_bytes texts.new ≡ string_bytes texts.old) }
@@ -299,7 +300,7 @@ fn push_reply(alloc: Global, reply: &Reply<()>, texts: &mut String) -> Result<()
     texts.push_str(&line)
 }
 
-// Puts the reply to a line that asks for nothing and a line feed behind the texts. On an error nothing is changed.
+// Appends the reply to a line without a valid request, and a line feed, to the texts. On an error nothing changes.
 fn push_fault(alloc: Global, fault: LineFault, texts: &mut String) -> Result<(), AllocError>
     ensures ok { OnOk result (string_bytes texts.new ≡ string_bytes texts.old ++ fault_line fault) }
     ensures err { OnErr result (string_bytes texts.new ≡ string_bytes texts.old) }
