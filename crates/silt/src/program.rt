@@ -104,7 +104,7 @@ where
     }
 }
 
-// Tells people why the words name no job, if that is why no job was read.
+// Reports why the words name no job, if that is why no job was read.
 fn tell_unread<N: Notes>(error: WordsError, words: &[String], notes: &mut N)
     ensures { error ≡ WordsError.Usage → N.told_words notes.old notes.new (map string_bytes words.now) }
 {

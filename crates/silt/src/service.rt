@@ -159,7 +159,7 @@ fn limits_of(service: &Service<'_>) -> Limits
     }
 }
 
-// Tells people why the listener of this port failed, if the server did not end well.
+// Reports why the listener of this port failed, if the server did not end well.
 fn tell_listener<N: Notes>(
     port: u16,
     failure: Option<io::Error>,

@@ -45,13 +45,13 @@ module _ {D F : Type 0} (facts : Ghosts D F) where
     run = runs_more facts old mid new taken.events taken.replies event reply taken.run does;
   }
 
-  -- one step more, where the last one was refused
+  -- one step more, if that step is refused
   pub taken_more : {T E : Type 0} (result : Result T E) (old mid new : CoreState D) (event : Event) (reply : Reply F) → IsTrue (is_step event) → TakesSteps facts old mid
       → Does facts mid new event reply → OnErr result (TakesSteps facts old new)
   taken_more (Ok value) old mid new event reply step taken does = tt
   taken_more (Err error) old mid new event reply step taken does = one_more old mid new event reply step taken does
 
-  -- steps between lines, at least so many, of which none but the last was refused
+  -- this many steps or more between lines; none but the last was refused
   pub record Going (old new : CoreState D) (turn : ℕ) : Type 0 where
     pub steps : TakesSteps facts old new
     pub many : turn ≤ length steps.replies
@@ -99,7 +99,7 @@ module _ {D F : Type 0} (facts : Ghosts D F) where
   refused_last old mid new event reply turn step going does none =
       any_last going.steps.replies does.0 (step_refused mid new event does.0 reply step does.1 does.2 none)
 
-  -- where a conversion finds nothing to be done, nothing is due
+  -- if a conversion finds nothing to do, no step is due
   progress_idle : (mid new : CoreState D) (progress : ProgressOf) → progress ≡ convert_due mid → ConvertsTo facts mid new progress → is_idle (Progress progress) ≡ true → convert_due new ≡ Idle
   progress_idle mid new Idle is same idle = ap (λ (c : CoreState D). convert_due c) same ∙ sym is
   progress_idle mid new Waiting is same idle = absurd (cc)
@@ -121,7 +121,7 @@ module _ {D F : Type 0} (facts : Ghosts D F) where
   fits_after was now event same fits shape is =
       subst (λ (e : Event). HasValueOf now.shape.value_len e) (sym is) (subst (λ (s : Shape). HasValueOf s.value_len event) (sym shape) fits)
 
-  -- nothing, where it does not tend
+  -- a store that does not tend does nothing
   pub tends_off : (old : TendedState D) → old.tends ≡ false → Tends facts old old
   tends_off old is = record {
     steps = none_taken old.core;
@@ -159,7 +159,7 @@ module _ {D F : Type 0} (facts : Ghosts D F) where
     off = λ e. absurd (cc);
   }
 
-  -- and then an event is answered
+  -- and then the event is done
   pub tends_then : (old mid new : TendedState D) (event : Event) (reply : PlainReply) → Tends facts old mid → DoesPlain facts mid.core new.core event reply → new.tends ≡ mid.tends
       → TendsThenDoes facts old new event reply
   tends_then old mid new event reply tends does same = record { mid = mid; tended = tends; does = does; tends = same }

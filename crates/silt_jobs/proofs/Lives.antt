@@ -7,7 +7,7 @@ use Rattle.silt_disk.proofs.Laws.{leaves_weaker}
 use Rattle.silt_image.specs.Meaning.{StandsFor}
 use Rattle.silt_store_set.specs.CoreInvariant.{IsSafe}
 
--- what nothing was changed of leaves the images that it left
+-- an unchanged disk has the same possible crash images
 pub stays_leaves : (old new : Content) (P : List ℕ → Type 0) → Stays old new → LeavesOnly old P → LeavesOnly new P
 stays_leaves old new P stays leaves = record {
   each = λ honest image left.
@@ -18,7 +18,7 @@ stays_leaves old new P stays leaves = record {
       });
 }
 
--- what stands for the empty map is safe for it
+-- an image that represents the empty map is safe for it
 pub new_is_safe : (content : Content) (shape : Shape) → LeavesOnly content (StandsFor shape empty) → LeavesOnly content (IsSafe shape.value_len empty)
 new_is_safe content shape leaves =
     leaves_weaker content (StandsFor shape empty) (IsSafe shape.value_len empty) leaves (λ image stands. record {

@@ -58,7 +58,7 @@ module _ {D F : Type 0} (facts : Ghosts D F) (tend : Bool) (told_refusal : Refus
   broken_by_status end status old new remaining left before after is h (inl e) = inl (is ∙ e)
   broken_by_status end status old new remaining left before after is h (inr e) = inr (is ∙ e, inr (end, status_broken end e, h))
 
-  -- the store was taken up, and its session ended in some way, which was told
+  -- the store was opened, and its session ended in some way, which people were told
   pub ran_told : {E : Type 0} (Heard : SessionEnd → Type 0) (result : Result ℕ E) (old new : D) (first last : CoreState D) (remaining left before after : Option (List ℕ))
       → Opens facts (facts.content old) first → new ≡ last.disk → ((end : SessionEnd) → Heard end → told_session end new)
       → IfOk result (λ status. (end : SessionEnd) × (status ≡ status_of end) × AnswersReader facts tend end first last remaining left before after × Heard end)
@@ -78,7 +78,7 @@ module _ {D F : Type 0} (facts : Ghosts D F) (tend : Bool) (told_refusal : Refus
       subst (λ e. EndsRun facts tend told_session e old new remaining left before after) (status_done told.0 (sym told.1))
       (first, last, opens, told.2, closed, tells told.0 told.3)
 
-  -- the store was not taken up
+  -- the store was not opened
   pub unopened_told : {E : Type 0} (result : Result ℕ E) (old new : D) (refusal : Refusal F) (remaining left before after : Option (List ℕ)) → OpeningCause facts (facts.content old) new refusal
       → IfOk result (λ status. (status ≡ 1) × (Tells refusal before after × told_refusal refusal))
       → IfOk result (IsStatus (TellsRun facts tend told_refusal told_session old new remaining left before after))
@@ -88,7 +88,7 @@ module _ {D F : Type 0} (facts : Ghosts D F) (tend : Bool) (told_refusal : Refus
 -- ---- background work
 
 module _ {D F : Type 0} (facts : Ghosts D F) (told_refusal : Refusal F → Type 0) (told_failures : D → Type 0) where
-  -- the store was taken up, and its background work was done or a step was refused
+  -- the store was opened, and its background work was done or a step was refused
   pub tended_told : {E : Type 0} (result : Result ℕ E) (old new : D) (first last : CoreState D) (before after : Option (List ℕ))
       → Opens facts (facts.content old) first → new ≡ last.disk → told_failures new
       → IfOk result (λ status. (opened : Option (List ℕ)) × Appends before opened (codes "opened\n") × EndsTending facts first last status opened after)
@@ -107,7 +107,7 @@ module _ {D F : Type 0} (facts : Ghosts D F) (told_refusal : Refusal F → Type 
   tended_done result old new first last before after opens closed told h is =
       (first, last, opens, subst (λ r. IfOk r (λ status. (opened : Option (List ℕ)) × Appends before opened (codes "opened\n") × EndsTending facts first last status opened after)) is h, closed, told)
 
-  -- the store was not taken up
+  -- the store was not opened
   pub untended_told : {E : Type 0} (result : Result ℕ E) (old new : D) (refusal : Refusal F) (before after : Option (List ℕ)) → OpeningCause facts (facts.content old) new refusal
       → IfOk result (λ status. (status ≡ 1) × (Tells refusal before after × told_refusal refusal))
       → IfOk result (IsStatus (TellsTend facts told_refusal told_failures old new before after))

@@ -8,7 +8,7 @@ use Rattle.silt_disk.specs.Layout.{Shape}
 use Rattle.silt_words.specs.declared.job.PlanRequest.{PlanRequest}
 use Rattle.silt_jobs.specs.Plans.{TellsPlan, first_planned, is_needed, is_planned, is_possible, plan_text, shape_planned}
 
--- what was chosen where it is possible
+-- what was chosen, if it is possible
 chosen : (possible : Bool) (shape geometry : Shape) → Some geometry ≡ (if possible then Some shape else None) → (possible ≡ true) × (geometry ≡ shape)
 chosen true shape geometry is = (refl, cc)
 chosen false shape geometry is = absurd (cc)

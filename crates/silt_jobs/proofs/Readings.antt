@@ -14,12 +14,12 @@ use Rattle.silt_wire.proofs.Streams.{lines_after-append, piece-line, piece-open}
 use Rattle.silt_jobs.specs.declared.script_lines.Reading.{Reading}
 use Rattle.silt_jobs.specs.Scripts.{TakesAsked, TakesLine, TakesLines, TakesBytes, TakesTold}
 
--- what was read of a line is what it asks for, where memory was not wanted
+-- if memory did not run out, a line was parsed as what it asks for
 parsed-is : (asked parsed : Result Event LineFault) → Parses asked parsed → parsed ≢ Err NoMemory → parsed ≡ asked
 parsed-is asked parsed (inl is) told = is
 parsed-is asked parsed (inr wanted) told = absurd (told wanted.0)
 
--- a line that is not blank and tells no stop is taken as what it asks for
+-- a line that is not blank and no stop line is taken as what it asks for
 pub TakesLine-asked : (value_len : ℕ) (line : List ℕ) (parsed : Result Event LineFault) (old new : Reading) → is_blank line ≡ false → stop_of line ≡ None → Parses (asked_by value_len line) parsed
     → parsed ≢ Err NoMemory → TakesAsked parsed old new → TakesLine value_len line old new
 TakesLine-asked value_len line parsed old new live other parses told takes =

@@ -1,10 +1,10 @@
--- The stops that words tell.
+-- The stops in words.
 use Rattle.std.proofs.Common.{◌≡◌, ◌≢◌, List, [], ◌∷◌, ℕ, None, refl, ap, ◌∙◌}
 use Rattle.silt_wire.specs.Lines.{words_of}
 use Rattle.silt_wire.proofs.Cuts.{words_of-some}
 use Rattle.silt_jobs.specs.Stops.{stop_of_words, told_stop}
 
--- one word tells no stop
+-- one word is no stop
 pub stop-one : (text : List ℕ) → words_of text ≡ text ∷ [] → stop_of_words (words_of text) ≡ None
 unfolding stop_of_words
 stop-one text words = ap stop_of_words words
@@ -19,7 +19,7 @@ pub stop-three : (text word rest k fill : List ℕ) → words_of text ≡ word �
 unfolding stop_of_words
 stop-three text word rest k fill words more last = ap stop_of_words (words ∙ ap (λ parts. word ∷ parts) (more ∙ ap (λ parts. k ∷ parts) last))
 
--- four words and more tell none
+-- four words or more are no stop
 stop_of_words-many : (word k fill : List ℕ) (more : List (List ℕ)) → more ≢ [] → stop_of_words (word ∷ k ∷ fill ∷ more) ≡ None
 unfolding stop_of_words
 stop_of_words-many word k fill [] some = absurd (some refl)
@@ -29,5 +29,5 @@ pub stop-many : (text word rest k fill last next : List ℕ) → words_of text �
 stop-many text word rest k fill last next words more most =
     ap stop_of_words (words ∙ ap (λ parts. word ∷ parts) (more ∙ ap (λ parts. k ∷ parts) most)) ∙ stop_of_words-many word k last (words_of next) (words_of-some next)
 
--- what a line's words tell, by their number
+-- the stop in a line's words, by their number
 pub ruleset stop_steps = (stop-one, stop-two, stop-many)

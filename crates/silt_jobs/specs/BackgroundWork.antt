@@ -17,7 +17,7 @@ is_step Convert = true
 is_step Merge = true
 is_step event = false
 
--- what a step answers: that there is nothing to be done, that it waits, or anything but a refusal
+-- what a step found: nothing to do, or a wait for other work, or anything but a refusal
 abbrev pub is_idle : PlainReply → Bool
 is_idle (Progress Idle) = true
 is_idle reply = false
@@ -48,14 +48,14 @@ pub record TendedState (D : Type 0) : Type 0 where
   pub core : CoreState D
   pub tends : Bool
 
--- What is done before a line: steps until no frozen log is left; or until one of them is refused, after which none is taken any more.
+-- What is done before a line: steps until no frozen log is left, or until one is refused; after that none is done any more.
 pub record Tends {D F : Type 0} (facts : Ghosts D F) (old new : TendedState D) : Type 0 where
   pub steps : TakesSteps facts old.core new.core
   pub done : new.tends ≡ true → convert_due new.core ≡ Idle
   pub stops : old.tends ≡ true → new.tends ≡ false → (list_any is_refused steps.replies ≡ true) ⊎ (most_steps ≤ length steps.replies)
   pub off : old.tends ≡ false → new ≡ old
 
--- an event is answered behind the background work that was due
+-- the background work that is due is done, and then the event
 pub record TendsThenDoes {D F : Type 0} (facts : Ghosts D F) (old new : TendedState D) (event : Event) (reply : PlainReply) : Type 0 where
   pub mid : TendedState D
   pub tended : Tends facts old mid

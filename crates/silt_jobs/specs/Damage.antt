@@ -1,4 +1,4 @@
--- Where the parts of a disk lie.
+-- The positions of the parts of a disk.
 use Rattle.std.specs.Prelude.{◌≡◌, ◌⊎◌, ◌+◌, ◌*◌, ℕ, nat_lt, if◌then◌else◌, IsTrue, Option, Some, None, Ok, Err}
 use Rattle.silt_disk.specs.Disk.{Content, GaveAny, size}
 use Rattle.silt_disk.specs.Header.{header_of}
@@ -13,8 +13,8 @@ use Rattle.silt_image.specs.Stores.{shape_found}
 abbrev pub part_at : ℕ → ℕ → ℕ → ℕ → Option ℕ
 part_at region_at len count part = if nat_lt part count then Some (region_at + part * len) else None
 
--- Where a part begins on a disk of this shape whose sorted store lies in this region: a row by its body. The numbers of the header follow its gate, its
--- eight letters and its version. The length and the charge are of the whole disk.
+-- Where a part begins on a disk of this shape with the sorted store in this region; a row begins at its body. The header's numbers come
+-- after its commit byte, eight letters and version. The length and the charge are of the whole disk.
 abbrev pub offset_of : Shape → ℕ → Place → Option ℕ
 offset_of s sorted Header = Some 13
 offset_of s sorted Length = None

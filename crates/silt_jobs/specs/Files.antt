@@ -20,30 +20,31 @@ abbrev pub TellsNoDisk : {E : Type 0} → (E → Type 0) → Option (List ℕ) �
 TellsNoDisk {E} IsCause before after = (error : E) × IsCause error × Tells (Device (tt {0})) before after
 
 module _ {D F : Type 0} (facts : Ghosts D F) where
-  -- one life on a disk that the source opened, which is given back as the store left it; people were told which calls of it failed
+  -- one life on a disk that the source opened, which is given back as the store left it; people were told which of its calls failed
   abbrev pub RunsFile : Bool → (SessionEnd → D → Type 0) → (D → Type 0) → Option D → Option (List ℕ) → Option (List ℕ) → Option (List ℕ) → Option (List ℕ) → Type 0
   RunsFile tend told_session Opened given remaining left before after =
       (old : D) × Opened old × IsSomeAnd given (λ new. EndsRun facts tend told_session End old new remaining left before after)
 
-  -- it was written that the source opened no disk, or why the store was not taken up from the one that it opened, or the session on it broke off
+  -- the line says that the source opened no disk, or why its store was not opened, or the session on it broke off
   abbrev pub TellsRunFile : {E : Type 0} → Bool → (Refusal F → Type 0) → (SessionEnd → D → Type 0) → (D → Type 0) → (E → Type 0)
       → Option D → Option (List ℕ) → Option (List ℕ) → Option (List ℕ) → Option (List ℕ) → Type 0
   TellsRunFile tend told_refusal told_session Opened NotOpened given remaining left before after =
       TellsNoDisk NotOpened before after ⊎ ((old : D) × Opened old
       × IsSomeAnd given (λ new. TellsRun facts tend told_refusal told_session old new remaining left before after))
 
-  -- all background work was done on a disk that the source opened, which is given back as the store left it; people were told which calls of it failed
+  -- all background work was done on a disk that the source opened, which is given back as the store left it; people were told of failed
+  -- calls
   abbrev pub TendsFile : (D → Type 0) → (D → Type 0) → Option D → Option (List ℕ) → Option (List ℕ) → Type 0
   TendsFile told_failures Opened given before after = (old : D) × Opened old × IsSomeAnd given (λ new. EndsTend facts told_failures old new before after)
 
-  -- it was written that the source opened no disk, why the store was not taken up from the one that it opened, or why a step was refused
+  -- the line says that the source opened no disk, why its store was not opened, or why a step was refused
   abbrev pub TellsTendFile : {E : Type 0} → (Refusal F → Type 0) → (D → Type 0) → (D → Type 0) → (E → Type 0) → Option D → Option (List ℕ) → Option (List ℕ) → Type 0
   TellsTendFile told_refusal told_failures Opened NotOpened given before after =
       TellsNoDisk NotOpened before after ⊎ ((old : D) × Opened old
       × IsSomeAnd given (λ new. TellsTend facts told_refusal told_failures old new before after))
 
 module _ {D F E : Type 0} (facts : Ghosts D F) (told : Refusal F → Type 0) (Opened : D → Type 0) (NotOpened : E → Type 0) where
-  -- it was written that the source opened no disk, or what is wrong with the one that it opened, which is given back
+  -- the line says that the source opened no disk, or what is wrong with the one that it opened, which is given back
   abbrev pub TellsCheckFile : Option D → Option (List ℕ) → Option (List ℕ) → Type 0
   TellsCheckFile given before after =
       TellsNoDisk NotOpened before after ⊎ ((disk : D) × Opened disk × (given ≡ Some disk) × TellsCheck facts told disk before after)
@@ -54,8 +55,8 @@ ChecksFile {D} facts told_charge Opened given before after = (disk : D) × Opene
 
 module _ {N D F : Type 0} (facts : Ghosts D F) (notes : NotesOf N) (told_refusal : N → N → List ℕ → Refusal F → Type 0) (Resized : D → ℕ → D → Type 0)
     (file : List ℕ) (shape : Shape) (force : Bool) (old new : N) (found : D) (look : Result Holding F) where
-  -- A disk that was found and looked at was given the length of this shape, as what it held may be overwritten, and now it is an empty store, and is given
-  -- back. People were told of a store that it held.
+  -- What the found disk held may be overwritten. The disk was given the length of this shape, is now an empty store, and is given back.
+  -- People were told of a store that it held.
   abbrev pub FormatsFound : Option D → Option (List ℕ) → Option (List ℕ) → Type 0
   FormatsFound given before after =
       MayOverwrite notes told_refusal file force look old new × ((sized : D) × Resized found (device_size shape) sized)

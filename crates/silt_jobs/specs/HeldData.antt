@@ -14,7 +14,7 @@ use Rattle.silt_jobs.specs.declared.held_data.HeldStore.{HeldStore}
 use Rattle.silt_jobs.specs.declared.held_data.Holding.{Holding}
 use Rattle.silt_jobs.specs.declared.held_data.Holding.TheVariants.{Nothing, Store, Other}
 
--- these bytes of a header, behind its gate, are those of a store of this program: whole, damaged, or formatted in part
+-- whether these bytes behind a header's commit byte are those of a store of this program: whole, damaged, or formatted in part
 abbrev pub has_magic : List ℕ → Bool
 has_magic header = bytes_eq (slice_range header 1 9) magic
 
@@ -40,14 +40,14 @@ module _ {D F : Type 0} (facts : Ghosts D F) where
   Looks disk (Err fault) = GaveAny facts.gave disk fault
 
 module _ {N F : Type 0} (notes : NotesOf N) (told_refusal : N → N → List ℕ → Refusal F → Type 0) (file : List ℕ) (force : Bool) where
-  -- What was found on the disk of this file may be overwritten: nothing, a store of which people were told, or by force anything.
+  -- The data on the disk of this file may be overwritten: there is none, or a store of which people were told, or force allows anything.
   abbrev pub MayOverwrite : Result Holding F → N → N → Type 0
   MayOverwrite (Ok Nothing) old new = new ≡ old
   MayOverwrite (Ok (Store store)) old new = notes.told_store old new file store
   MayOverwrite (Ok Other) old new = (force ≡ true) × (new ≡ old)
   MayOverwrite (Err fault) old new = (force ≡ true) × (new ≡ old)
 
-  -- What was found stays without force, and people were told why: it is other data, or it could not be read.
+  -- The data stays without force, and people were told why: it is other data, or it could not be read.
   abbrev pub MustStay : Result Holding F → N → N → Type 0
   MustStay (Ok Other) old new = (force ≡ false) × notes.told_other old new file
   MustStay (Err fault) old new = (force ≡ false) × told_refusal old new file (Device fault)

@@ -31,7 +31,7 @@ use Rattle.silt_jobs.specs.declared.background_work.Steps.{Steps}
 abbrev pub formatted_line : ℕ → List ℕ
 formatted_line bytes = codes "formatted " ++ (decimal bytes ++ codes "\n")
 
--- it was written that the job is refused, and nothing else
+-- the line says that the job is refused, and nothing else is written
 abbrev pub Tells : {F : Type 0} → Refusal F → Option (List ℕ) → Option (List ℕ) → Type 0
 Tells refusal before after = Appends before after (reply_line (Refused refusal))
 
@@ -45,7 +45,8 @@ abbrev pub tended_line : Steps → List ℕ
 tended_line steps = codes "converted " ++ (decimal steps.converted ++ (codes " steps, merged " ++ (decimal steps.merged ++ codes " steps\n")))
 
 module _ {D F : Type 0} (facts : Ghosts D F) where
-  -- The store's session with the reader and the writer ended so. Where it tends, the background work that is due comes before each line.
+  -- The store's session with the reader and the writer had this end. If it tends, it does the background work that is due before each
+  -- line.
   abbrev pub AnswersLines : Bool → SessionEnd → CoreState D → CoreState D → Option (List ℕ) → Option (List ℕ) → Option (List ℕ) → Option (List ℕ) → Type 0
   AnswersLines false end old new remaining left before after =
       Ends (DoesPlain facts) end old.shape.value_len
@@ -62,7 +63,7 @@ module _ {D F : Type 0} (facts : Ghosts D F) where
       (opened : Option (List ℕ)) × Appends before opened (codes "opened\n") × AnswersLines tend end old new remaining left opened after
 
 module _ {D F : Type 0} (facts : Ghosts D F) (tend : Bool) (told_session : SessionEnd → D → Type 0) where
-  -- one life on a disk: the store was taken up from it, its session ended so, the disk is as the store then left it, and people were told
+  -- one life on a disk: the store was opened, its session had this end, the disk is as the store left it, and people were told
   abbrev pub EndsRun : SessionEnd → D → D → Option (List ℕ) → Option (List ℕ) → Option (List ℕ) → Option (List ℕ) → Type 0
   EndsRun end old new remaining left before after =
       (first : CoreState D) × (last : CoreState D) × Opens facts (facts.content old) first
@@ -80,7 +81,8 @@ module _ {D F : Type 0} (facts : Ghosts D F) where
       ⊎ ((status ≡ 1) × ((refusal : Refusal F) × TakesSteps facts old new × Tells refusal before after))
 
 module _ {D F : Type 0} (facts : Ghosts D F) (told_failures : D → Type 0) where
-  -- The store was taken up from a disk, `opened` was written, its background work ended with this status, and the disk is as the store then left it.
+  -- The store was opened on a disk, `opened` was written, its background work ended with this status, and the disk is as the store left
+  -- it.
   abbrev pub TendsTo : ℕ → D → D → Option (List ℕ) → Option (List ℕ) → Type 0
   TendsTo status old new before after =
       (first : CoreState D) × (last : CoreState D) × Opens facts (facts.content old) first
@@ -95,7 +97,7 @@ module _ {D F : Type 0} (facts : Ghosts D F) (told_failures : D → Type 0) wher
   abbrev pub BreaksTend : D → D → Option (List ℕ) → Option (List ℕ) → Type 0
   BreaksTend = TendsTo 1
 
--- the report of what the disk shows was written, and people were told its six numbers, if they could be read again, and its charge
+-- the report of the disk was written, and people were told its six numbers, if they could be read again, and its charge
 abbrev pub EndsCheck : {D F : Type 0} → Ghosts D F → (Shape → ℕ → Type 0) → D → Option (List ℕ) → Option (List ℕ) → Type 0
 EndsCheck facts told_charge disk before after =
     (report : Report) × (IsTrue (facts.content disk).honest → IsReported (facts.content disk).shown report) × Appends before after (report_text report)
@@ -107,29 +109,29 @@ EndsFormat facts shape new before after =
     (size (facts.content new) ≡ device_size shape) × LeavesOnly (facts.content new) (StandsFor shape empty) × Appends before after (formatted_line (device_size shape))
 
 module _ {D F : Type 0} (facts : Ghosts D F) (told : Refusal F → Type 0) where
-  -- it was written that the store was not taken up from the disk, for its cause, and people were told
+  -- the line says why the store was not opened on the disk, and people were told
   abbrev pub TellsOpening : D → D → Option (List ℕ) → Option (List ℕ) → Type 0
   TellsOpening old new before after = (refusal : Refusal F) × OpeningCause facts (facts.content old) new refusal × Tells refusal before after × told refusal
 
-  -- it was written what is wrong with the disk, or that it could not be looked at, for its cause, and people were told
+  -- the line says what is wrong with the disk, or why it could not be read, and people were told
   abbrev pub TellsCheck : D → Option (List ℕ) → Option (List ℕ) → Type 0
   TellsCheck disk before after =
       (error : OpenError F) × IsRefusedLook (λ finding. IsTrue (facts.content disk).honest → IsFound (facts.content disk).shown finding) (GaveAny facts.gave disk) error
       × Tells (refusal_of_opening error) before after × told (refusal_of_opening error)
 
-  -- it was written that the disk was not formatted, for its cause, and people were told
+  -- the line says why the disk was not formatted, and people were told
   abbrev pub TellsFormat : Shape → D → D → Option (List ℕ) → Option (List ℕ) → Type 0
   TellsFormat shape old new before after =
       (error : FormatError F) × FormatCause facts.content (GaveAny facts.gave) shape old new error × Tells (refusal_of_formatting error) before after
       × told (refusal_of_formatting error)
 
--- it was written that the store was not taken up from the disk, or the session on it broke off, and people were told
+-- the line says that the store was not opened on the disk, or the session on it broke off, and people were told
 abbrev pub TellsRun : {D F : Type 0} → Ghosts D F → Bool → (Refusal F → Type 0) → (SessionEnd → D → Type 0)
     → D → D → Option (List ℕ) → Option (List ℕ) → Option (List ℕ) → Option (List ℕ) → Type 0
 TellsRun facts tend told_refusal told_session old new remaining left before after =
     TellsOpening facts told_refusal old new before after ⊎ BreaksRun facts tend told_session old new remaining left before after
 
--- it was written that the store was not taken up from the disk, or that a step of its background work was refused, and people were told
+-- the line says that the store was not opened on the disk, or that a step of its background work was refused, and people were told
 abbrev pub TellsTend : {D F : Type 0} → Ghosts D F → (Refusal F → Type 0) → (D → Type 0) → D → D → Option (List ℕ) → Option (List ℕ) → Type 0
 TellsTend facts told_refusal told_failures old new before after =
     TellsOpening facts told_refusal old new before after ⊎ BreaksTend facts told_failures old new before after

@@ -12,13 +12,13 @@ use Rattle.silt_image.specs.Meaning.{StandsFor}
 use Rattle.silt_event.specs.declared.refusal.Refusal.{Refusal}
 use Rattle.silt_event.specs.declared.refusal.Refusal.TheVariants.{Device, NoMemory}
 
--- the disk has exactly the length of this shape, each image that a stop may leave is an empty store of it, and the disk's lives end by these stops
+-- the disk has the length of this shape, each possible crash image is an empty store of it, and these stops end the disk's lives
 pub record IsNewStore (shape : Shape) (stops : List Stop) (disk : MemDisk) : Type 0 where
   pub fits : size (memory_content disk) ≡ device_size shape
   pub images : LeavesOnly (memory_content disk) (StandsFor shape empty)
   pub armed : disk.lives ≡ next_life stops
 
--- A new store is refused for want of memory, or with a fault that a disk of exactly its length gave.
+-- A new store is refused if out of memory, or with a fault that a disk of exactly its length gave.
 abbrev pub NewStoreCause : Shape → Refusal MemFault → Type 0
 NewStoreCause shape NoMemory = Unit {0}
 NewStoreCause shape (Device fault) = (disk : MemDisk) × (size (memory_content disk) ≡ device_size shape) × GaveAny memory_gave disk fault

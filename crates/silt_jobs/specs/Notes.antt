@@ -1,4 +1,4 @@
--- What people are told.
+-- The messages to people.
 use Rattle.std.specs.Prelude.{◌≡◌, ℕ, List, Option, Some, None}
 use Rattle.silt_event.specs.declared.place.Place.{Place}
 use Rattle.silt_event.specs.declared.refusal.Refusal.{Refusal}
@@ -10,15 +10,15 @@ use Rattle.silt_jobs.specs.declared.input_lines.InputLines.{InputLines}
 use Rattle.silt_jobs.specs.declared.streams.StreamError.{StreamError}
 use Rattle.silt_jobs.specs.declared.tally.Tally.{Tally}
 
--- where a refusal has the fault of a disk, or says that a part of it is damaged or that it holds no store, people were told, of the part with where it
--- begins if that is known
+-- people were told if a refusal has a disk's fault, a damaged part (with where it begins, if that is known), or says that there is no
+-- store
 abbrev pub IsTold : {F : Type 0} → (F → Type 0) → (Place → Option ℕ → Type 0) → Type 0 → Refusal F → Type 0
 IsTold fault damage no_store (Device f) = fault f
 IsTold fault damage no_store (Damaged place) = (at : Option ℕ) × damage place at
 IsTold fault damage no_store NotFormatted = no_store
 IsTold fault damage no_store refusal = Unit {0}
 
--- what a refusal says of the disk of a file was told between these notes
+-- between these notes, people were told what a refusal says of the disk of a file
 abbrev pub ToldRefusal : {N F : Type 0} → (N → N → List ℕ → F → Type 0) → (N → N → List ℕ → Place → Option ℕ → Type 0) → (N → N → List ℕ → Type 0)
     → N → N → List ℕ → Refusal F → Type 0
 ToldRefusal told_fault told_damage told_no_store old new file = IsTold (told_fault old new file) (told_damage old new file) (told_no_store old new file)
@@ -27,19 +27,20 @@ ToldRefusal told_fault told_damage told_no_store old new file = IsTold (told_fau
 abbrev pub NotOpenedTold : {E : Type 0} → (List ℕ → E → Type 0) → (List ℕ → E → Type 0) → List ℕ → E → Type 0
 NotOpenedTold NotOpened told path error = NotOpened path error × told path error
 
--- a call that failed was told; nothing was where none failed
+-- people were told of a failed call, if one failed
 abbrev pub ToldCall : {N : Type 0} → (N → N → Failure → Type 0) → Option Failure → N → N → Type 0
 ToldCall told None old new = new ≡ old
 ToldCall told (Some failure) old new = told old new failure
 
--- it was told why a session broke off, with the error of the reader or of the writer where that is why; nothing was where it came to the end of its lines
+-- people were told why a session broke off, with the error of its reader or writer if that is why; if it reached the end of its lines,
+-- nothing
 abbrev pub ToldEnd : {N : Type 0} → (N → N → SessionEnd → Option StreamError → Type 0) → Option StreamError → Option StreamError → SessionEnd → N → N → Type 0
 ToldEnd told reading writing End old new = new ≡ old
 ToldEnd told reading writing ReadFault old new = told old new ReadFault reading
 ToldEnd told reading writing WriteFault old new = told old new WriteFault writing
 ToldEnd told reading writing NoMemory old new = told old new NoMemory None
 
--- it was told why a session broke off, if it did, and then which lines were refused
+-- people were told why a session broke off, if it did, and then which lines were refused
 abbrev pub ToldLines : {N : Type 0} → (N → N → SessionEnd → Option StreamError → Type 0) → (N → N → InputLines → Tally → Type 0)
     → Option StreamError → Option StreamError → InputLines → Tally → SessionEnd → N → N → Type 0
 ToldLines {N} told_end told_tally reading writing lines tally end old new = (mid : N) × ToldEnd told_end reading writing end old mid × told_tally mid new lines tally
@@ -51,7 +52,7 @@ module _ {N D : Type 0} (told_failure : N → N → List ℕ → Failure → Typ
       (read : Option Failure) × kept_read disk read × (mid : N) × ToldCall (λ from to. told_failure from to file) read old mid
       × ToldCall (λ from to. told_failure from to file) (last_failure disk) mid new
 
-  -- people were told how a session on the disk of this file ended, then which of its lines were refused, and then which calls of the disk had failed
+  -- people were told how a session on the disk of this file ended, then which lines were refused, and then which calls of the disk failed
   abbrev pub ToldSession : (N → N → SessionEnd → Option StreamError → Type 0) → (N → N → InputLines → Tally → Type 0) → N → N
       → Option StreamError → Option StreamError → InputLines → Tally → List ℕ → SessionEnd → D → Type 0
   ToldSession told_end told_tally old new reading writing lines tally file end disk =

@@ -1,4 +1,4 @@
--- The six numbers of a store that is planned for so many keys.
+-- The six numbers of a planned store for a number of keys.
 use Rattle.std.specs.Prelude.{◌≡◌, ℕ, ◌+◌, ◌*◌, ◌/◌, ◌==◌, nat_le, nat_lt, ◌&&◌, ◌||◌, Bool, true, List, [], ◌∷◌, ◌++◌, Option, Some, None, if◌then◌else◌, codes}
 use Rattle.std.specs.Fmt.{decimal}
 use Rattle.std.specs.Io.KnownBytes.{Appends}
@@ -16,7 +16,7 @@ shape_planned r buckets =
     let rows = 7 * (buckets / 2) in
     record { value_len = r.value_len; buckets = buckets; log_capacity = rows; logs = 3; hashes = 8; sorted_capacity = r.keys + 11 * rows }
 
--- The bytes of memory that it takes at most, while four hash stores are merged: 1,043 a bucket, and 21 a key.
+-- The most bytes of memory that it needs, while four hash stores are merged: 1,043 a bucket, and 21 a key.
 abbrev pub memory_planned : PlanRequest → ℕ → ℕ
 memory_planned r buckets = 1043 * buckets + 21 * r.keys
 
@@ -46,7 +46,7 @@ first_planned r (buckets ∷ more) = if is_planned r buckets then Some buckets e
 unfoldable pub number_after : List ℕ → ℕ → List ℕ
 number_after word number = word ++ decimal number
 
--- the six numbers in the order of the command line, and what they take on disk and in memory
+-- the six numbers in the order of the command line, and what they cost on disk and in memory
 abbrev pub plan_text : Shape → ℕ → List ℕ
 plan_text s memory =
     number_after (codes "") s.value_len

@@ -55,7 +55,7 @@ pub record TakesEvent (event : EventOf) (old new : Reading) : Type 0 where
   pub stops : new.stops ≡ old.stops
   pub life : new.life.items ≡ old.life.items ++ event ∷ []
 
--- a line that asks for nothing is marked with its fault
+-- a line without a valid request is marked with its fault
 pub record TakesFault (fault : LineFault) (old new : Reading) : Type 0 where
   pub marks : new.marks.items ≡ old.marks.items ++ Refused fault ∷ []
   pub lives : new.lives ≡ old.lives
@@ -66,12 +66,12 @@ abbrev pub TakesAsked : Result EventOf LineFault → Reading → Reading → Typ
 TakesAsked (Ok event) old new = TakesEvent event old new
 TakesAsked (Err fault) old new = TakesFault fault old new
 
--- a line that tells a stop, if it does, and else what it asks for
+-- the stop of a stop line, and else the request of the line
 abbrev pub TakesTold : ℕ → List ℕ → Option StopOf → Reading → Reading → Type 0
 TakesTold value_len line (Some stop) old new = TakesStop stop old new
 TakesTold value_len line None old new = TakesAsked (asked_by value_len line) old new
 
--- a blank line is nothing
+-- a blank line is skipped
 abbrev pub TakesLine : ℕ → List ℕ → Reading → Reading → Type 0
 TakesLine value_len line old new = MatchBool (is_blank line) (new ≡ old) (TakesTold value_len line (stop_of line) old new)
 
@@ -116,13 +116,13 @@ abbrev pub next_text : {F : Type 0} → Option (Reply F) → List ℕ
 next_text None = []
 next_text (Some reply) = reply_line reply
 
--- an event's line has the event's reply, and none where its life was not opened
+-- the text of an event's line: the event's reply, or none if its life was not opened
 abbrev pub event_text : {F : Type 0} → Option (LifeReply F) → ℕ → List ℕ
 event_text None at = []
 event_text (Some (NotOpened refusal)) at = []
 event_text (Some (Opened replies)) at = next_text (slice_get replies.items at)
 
--- a line that asks for nothing is refused in its place, and is not answered where its life was not opened
+-- the text of a line without a valid request: its refusal, or none if its life was not opened
 abbrev pub fault_told : {F : Type 0} → Option (LifeReply F) → LineFault → List ℕ
 fault_told None fault = []
 fault_told (Some (NotOpened refusal)) fault = []
@@ -179,11 +179,11 @@ EndsScript shape remaining left before after =
     × (replies : List (LifeReply MemFault)) × RunsLives shape script.stops.items script.lives.items replies
     × Appends before after (script_text replies script.marks.items)
 
--- why the whole is refused: a number is out of its limits, or no new store was made, or memory was wanted
+-- why the whole script is refused: a number is out of its limits, or no new store was made, or out of memory
 abbrev pub ScriptCause : Shape → Refusal MemFault → Type 0
 ScriptCause shape BadGeometry = ¬ InLimits shape
 ScriptCause shape refusal = NewStoreCause shape refusal
 
--- it was written that the whole is refused, for its cause, and nothing else
+-- the line says why the whole script is refused, and nothing else is written
 abbrev pub TellsRefusal : Shape → Option (List ℕ) → Option (List ℕ) → Type 0
 TellsRefusal shape before after = (refusal : Refusal MemFault) × ScriptCause shape refusal × Appends before after (reply_line (RefusedReply refusal))

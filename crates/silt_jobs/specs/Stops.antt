@@ -1,4 +1,4 @@
--- The stops that lines tell.
+-- Stop lines. A stop is a crash at a chosen device call.
 use Rattle.std.specs.Prelude.{ℕ, nat_lt, if◌then◌else◌, List, [], ◌∷◌, length, codes, Option, Some, None}
 use Rattle.std.specs.Str.{bytes_eq}
 use Rattle.std.specs.Str.Lines.{strip_carriage_return}
@@ -28,11 +28,11 @@ stop_with (Some k) (Some fill) = Some (record { k = k; fill = fill })
 abbrev pub told_stop : List ℕ → List ℕ → List ℕ → Option Stop
 told_stop word k fill = if bytes_eq word (codes "stop") then stop_with (number_of k) (fill_of fill) else None
 
--- the stop that the words of a line tell: there are three of them
+-- the stop in the words of a line: there are three words
 unfoldable pub stop_of_words : List (List ℕ) → Option Stop
 stop_of_words (word ∷ k ∷ fill ∷ []) = told_stop word k fill
 stop_of_words words = None
 
--- the stop that a line tells
+-- the stop in a line
 abbrev pub stop_of : List ℕ → Option Stop
 stop_of line = if nat_lt longest_line (length line) then None else stop_of_words (words_of (strip_carriage_return line))

@@ -8,14 +8,14 @@ use silt_store_set::{Core, Progress, Refusal, Served};
 use std::alloc::Global;
 use std::marker::Model;
 
-/// How many steps of each kind were taken.
+/// How many steps of each kind were done.
 #[derive(Clone, Copy, Debug, PartialEq, Eq)]
 pub struct Steps {
     pub converted: u64,
     pub merged: u64,
 }
 
-/// Does all background work of a store: conversions first, since they make room for puts.
+/// Does all background work of a store: conversions first, because they make room for puts.
 ///
 /// # Errors
 ///
@@ -42,8 +42,9 @@ pub fn tend_all<D: Disk>(alloc: Global, core: &mut Core<D>) -> Result<Steps, Ref
     Ok(steps)
 }
 
-/// A store that does background work before it answers an event: it converts all frozen logs, and where a conversion waits for a hash
-/// region it merges. So each put finds a free log, and a merge takes as many hash stores as there may be. A step that is refused ends this.
+/// A store that does background work before each event. It converts all frozen logs, and it merges if a conversion
+/// waits for a hash region. So each put finds a free log, and a merge takes as many hash stores as there may be. After
+/// a step that is refused it does no more background work.
 #[derive(Drop)]
 pub struct Tending<D: Disk> {
     core: Core<D>,
@@ -70,7 +71,7 @@ impl<D: Disk> Tending<D> {
         Tending { core, tends: true }
     }
 
-    /// The store, as it stands.
+    /// The store, as it is now.
     pub fn into_core(self) -> Core<D>
         ensures { result ≡ self.core }
     {
@@ -108,7 +109,7 @@ impl<D: Served> Answerer for Tending<D> {
     }
 }
 
-// Whether a step found nothing to be done.
+// Whether a step found nothing to do.
 fn is_idle(reply: &Reply<()>) -> bool
     ensures { result ≡ is_idle reply.now }
 {

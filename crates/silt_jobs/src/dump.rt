@@ -32,7 +32,7 @@ fn push_put(alloc: Global, key: &Key, value: &Value, lines: &mut String) -> Resu
     lines.push_str(&line)
 }
 
-// Writes the lines where enough of them are gathered.
+// Writes the lines if enough of them are gathered.
 fn write_full<W: Write>(lines: &mut String, writer: &mut W) -> io::Result<()>
     ensures { OnOk result ((passed : _) × (string_bytes lines.old ≡ passed ++ string_bytes lines.new) × Appends (W.contents writer.old) (W.contents writer.new) passed) }
 {
@@ -62,12 +62,12 @@ fn write_entries<W: Write>(
     writer.flush()
 }
 
-/// Writes the lines that put all entries of the store on the disk of a file, in the order of their keys. Nothing is written to the
-/// disk. Answers the status: 0 after the lines, 1 where the device is refused.
+/// Writes the lines that put all entries of the store on the disk of a file, in the order of their keys. It writes
+/// nothing to the disk. Returns the status: 0 after the lines, 1 if the device is refused.
 ///
 /// # Errors
 ///
-/// The writer's, and want of memory for the text.
+/// The writer's, and out of memory for the text.
 pub fn dump_on<D: Disk, W: Write, N: FaultNotes<D::Fault>>(
     alloc: Global,
     disk: &D,
@@ -92,12 +92,13 @@ pub fn dump_on<D: Disk, W: Write, N: FaultNotes<D::Fault>>(
     }
 }
 
-/// Writes the lines that put all entries of the store on the disk of a path, in the order of their keys: the disk is opened to be
-/// read beside others. Answers the disk and the status: 0 after the lines, 1 where the disk is not opened or is refused.
+/// Writes the lines that put all entries of the store on the disk of a path, in the order of their keys. The disk is
+/// opened to be read beside other readers. Returns the disk and the status: 0 after the lines, 1 if the disk is not
+/// opened or is refused.
 ///
 /// # Errors
 ///
-/// The writer's, and want of memory for the text.
+/// The writer's, and out of memory for the text.
 pub fn dump_file<
     S: DiskSource,
     W: Write,

@@ -36,7 +36,7 @@ pub trait Watched: Disk {
     fn failed_read(&self) -> Option<Failure>
         ensures { kept_read self.now result };
 
-    /// From now on people are told of the first write or sync that fails as soon as it fails.
+    /// From now on people are told of the first failed write or sync at once.
     fn tell_at_once(&mut self)
         ensures disk { Self.content self.new ≡ Self.content self.old }
         ensures last { last_failure self.new ≡ last_failure self.old };

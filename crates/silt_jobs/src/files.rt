@@ -23,15 +23,15 @@ use silt_words::Numbers;
 use std::alloc::Global;
 use std::io::{self, Read, Write};
 
-/// Takes the disk of a path, or makes it, gives it the length that the geometry of these numbers asks for, and formats it. Answers the disk
-/// and the status: 0 after the length was written, 1 where it is refused. Numbers out of their limits are refused before the source is
-/// asked. What the disk holds is looked at before it is given its length: without `force` only a store of this program or nothing is
-/// overwritten, and a disk that holds other data is refused and given back as it was found. People are told of a store before it is
-/// overwritten.
+/// Opens or makes the disk of a path, gives it the length of the geometry of these numbers, and formats it. Returns the
+/// disk and the status: 0 after the length was written, 1 if it is refused. Numbers out of their limits are refused
+/// before the source opens a disk. What the disk holds is read before its length changes. Without `force` only a store
+/// of this program or an empty disk is overwritten; a disk with other data is refused and given back as it was found.
+/// People are told of a store before it is overwritten.
 ///
 /// # Errors
 ///
-/// The writer's, and want of memory for the text.
+/// The writer's, and out of memory for the text.
 pub fn format_file<
     S: DiskSource,
     W: Write,
@@ -102,13 +102,13 @@ fn format_found<
     }
 }
 
-/// One life of the store on the disk of a path, from the reader's lines. Answers the disk and the status: 0 at the end of the lines,
-/// 1 where the disk is not opened, the store is not taken up, or its session ends before. With `tend` the background work that is due is
-/// done before each line.
+/// One life of the store on the disk of a path, from the reader's lines. Returns the disk and the status: 0 at the end
+/// of the lines, 1 if the disk or the store is not opened, or the session ends before. With `tend` it does the
+/// background work that is due before each line.
 ///
 /// # Errors
 ///
-/// The writer's, before the first line is read, and want of memory for the text of a refusal.
+/// The writer's, before the first line is read, and out of memory for the text of a refusal.
 pub fn run_file<
     S: DiskSource,
     R: Read + KeepsError + KeepsLines,
@@ -148,12 +148,12 @@ where
     }
 }
 
-/// Does all background work of the store on the disk of a path. Answers the disk and the status: 0 after the line that says how many steps
-/// it took, 1 where the disk is not opened, the store is not taken up, or a step is refused.
+/// Does all background work of the store on the disk of a path. Returns the disk and the status: 0 after the line with
+/// the number of steps, 1 if the disk or the store is not opened, or a step is refused.
 ///
 /// # Errors
 ///
-/// The writer's, and want of memory for the text of a line.
+/// The writer's, and out of memory for the text of a line.
 pub fn tend_file<
     S: DiskSource,
     W: Write,
@@ -188,12 +188,12 @@ where
     }
 }
 
-/// Writes what the store on the disk of a path consists of, in numbers: the disk is opened to be read beside others. Answers the disk and the status: 0 after the report, 1
-/// where the disk is not opened or is refused.
+/// Writes what the store on the disk of a path consists of, in numbers. The disk is opened to be read beside other
+/// readers. Returns the disk and the status: 0 after the report, 1 if the disk is not opened or is refused.
 ///
 /// # Errors
 ///
-/// The writer's, and want of memory for the text.
+/// The writer's, and out of memory for the text.
 pub fn check_file<
     S: DiskSource,
     W: Write,

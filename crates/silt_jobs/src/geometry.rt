@@ -7,7 +7,7 @@ use silt_disk::{BadGeometry, Geometry};
 use silt_words::Numbers;
 use std::fmt;
 
-/// The geometry of the numbers, which are refused exactly where one of them is out of its limits.
+/// The geometry of the numbers. It is refused exactly if one of them is out of its limits.
 pub fn geometry_of(numbers: &Numbers) -> Result<Geometry, BadGeometry>
     ensures { MatchResult result (λ geometry. (geometry ≡ shape_asked numbers.now) × InLimits (shape_asked numbers.now)) (λ _. ¬ InLimits (shape_asked numbers.now)) }
 {

@@ -1,4 +1,4 @@
-// What a disk holds that is to be formatted, and whether that may be overwritten.
+// What a disk holds before it is formatted, and whether that may be overwritten.
 ghost use Rattle.std.specs.Prelude.{◌≡◌, IsTrue, IfSome, MatchBool, Result as ResultOf};
 ghost use Rattle.silt_event.specs.declared.report.Report.{Report as ReportOf};
 ghost use Rattle.silt_recovery.specs.Opening.{IsReported};
@@ -48,8 +48,8 @@ pub enum Holding {
     Other,
 }
 
-/// Looks at what a disk holds that is to be formatted, before anything of it is changed. Whether it may be overwritten: without force only
-/// a store of this program, of which people are told, or nothing. Else they are told why it stays.
+/// Reads what a disk holds before it is formatted. Returns whether it may be overwritten: without force only a store of
+/// this program, which people are told of, or an empty disk. Else people are told why the data stays.
 pub fn may_overwrite<D: Disk, N: Notes + FaultNotes<D::Fault>>(
     alloc: Global,
     disk: &D,
@@ -97,7 +97,7 @@ fn look<D: Disk>(alloc: Global, disk: &D) -> Result<Holding, D::Fault>
     Ok(Holding::Store(held_store(alloc, disk)))
 }
 
-// Whether the bytes behind the gate of a header are those of a store of this program.
+// Whether the bytes behind the commit byte of a header are those of a store of this program.
 fn has_magic(header: &[u8; HEADER_LEN]) -> bool
     ensures { result ≡ has_magic header.now }
 {

@@ -13,7 +13,7 @@ pub enum Begun {
     Something,
 }
 
-/// How many lines an input has, and the numbers of its blank lines, which are not answered. The first line is number 1.
+/// How many lines an input has, and the numbers of its blank lines, which get no reply. The first line is number 1.
 #[derive(Drop)]
 pub struct InputLines {
     ended: u64,
@@ -24,7 +24,7 @@ pub struct InputLines {
 }
 
 impl InputLines {
-    /// Of an input of which nothing was read.
+    /// The lines of an input before anything is read.
     pub fn new(alloc: Global) -> Self {
         InputLines {
             ended: 0,
@@ -74,7 +74,7 @@ impl InputLines {
         self.begun != Begun::Nothing
     }
 
-    /// The number of the line that is answered by this reply. None if that is not known.
+    /// The number of the line to which this is the reply. None if that is not known.
     pub fn number_of(&self, reply: u64) -> Option<u64> {
         let mut number = reply;
         for blank in &self.blank {

@@ -24,15 +24,15 @@ use silt_wire::{SessionEnd, session, write_report};
 use std::alloc::Global;
 use std::io::{self, Read, Write};
 
-/// One life of the store on the disk of a file: it is taken up, and answers the reader's lines to their end. Nothing is flushed at the end.
-/// Gives the disk back, and the status: 0 at the end of the lines, 1 where the store is not taken up, and where its session ends
-/// before: where a read or write fails, or memory is wanted for a line or for the text of a reply. With `tend` the background work that is
-/// due is done before each line. People are told why the session ended before, which lines were refused, and which calls of the disk
-/// failed in it.
+/// One life of the store on the disk of a file: it opens the store and replies to the reader's lines to their end. The
+/// end flushes nothing. Gives the disk back, and the status: 0 at the end of the lines, 1 if the store is not opened or
+/// its session ends before: a read or write fails, or it is out of memory for a line or for the text of a reply. With
+/// `tend` it does the background work that is due before each line. People are told why the session ended before, which
+/// lines were refused, and which calls of the disk failed in it.
 ///
 /// # Errors
 ///
-/// The writer's, before the first line is read, and want of memory for the text of a refusal.
+/// The writer's, before the first line is read, and out of memory for the text of a refusal.
 pub fn run_on<
     D: Served + Watched,
     R: Read + KeepsError + KeepsLines,
@@ -68,11 +68,11 @@ pub fn run_on<
     }
 }
 
-/// Tells why the store on the disk of a file was not taken up. Gives the disk back, and the status.
+/// Writes why the store on the disk of a file was not opened. Gives the disk back, and the status.
 ///
 /// # Errors
 ///
-/// The writer's, and want of memory for the text.
+/// The writer's, and out of memory for the text.
 pub fn refuse_opening<D: Disk, W: Write, N: FaultNotes<D::Fault>>(
     alloc: Global,
     fault: OpenFault<D>,
@@ -90,8 +90,8 @@ pub fn refuse_opening<D: Disk, W: Write, N: FaultNotes<D::Fault>>(
     (fault.disk, status)
 }
 
-// Writes that the store is taken up, answers the reader's lines to their end, tells why they ended before and which were refused, and gives
-// the store back with the status.
+// Writes that the store is opened, replies to the reader's lines to their end, tells people why they ended before and
+// which were refused, and gives the store back with the status.
 fn answer_reader<
     D: Served,
     R: Read + KeepsError + KeepsLines,
@@ -121,7 +121,7 @@ fn answer_reader<
     }
 }
 
-// Answers the reader's lines to their end, or until a call or a growth of memory fails.
+// Replies to the reader's lines to their end, or until a call fails or memory runs out.
 fn answer_lines<D: Served, R: Read, W: Write>(
     alloc: Global,
     mut core: Core<D>,
@@ -152,11 +152,12 @@ fn status_of(end: SessionEnd) -> u8
     }
 }
 
-/// Writes what the store on the disk of a file consists of, in numbers. Answers the status: 0 after the report, 1 where the device is refused.
+/// Writes what the store on the disk of a file consists of, in numbers. Returns the status: 0 after the report, 1 if
+/// the device is refused.
 ///
 /// # Errors
 ///
-/// The writer's, and want of memory for the text.
+/// The writer's, and out of memory for the text.
 pub fn check_on<D: Disk, W: Write, N: Notes + FaultNotes<D::Fault>>(
     alloc: Global,
     disk: &D,
@@ -183,7 +184,7 @@ pub fn check_on<D: Disk, W: Write, N: Notes + FaultNotes<D::Fault>>(
     }
 }
 
-// Tells the six numbers of the store on the disk of a file, if they can be read again, and its charge.
+// Reports to people the six numbers of the store on the disk of a file, if they can be read again, and its charge.
 fn tell_charge<D: Disk, N: Notes>(file: &str, disk: &D, charge: u32, notes: &mut N)
     ensures { ((shape : Shape) × HasShape (D.content disk.now) shape × N.told_charge notes.old notes.new file.now shape charge) ⊎ LacksShape D.Disk disk.now }
 {
@@ -192,12 +193,13 @@ fn tell_charge<D: Disk, N: Notes>(file: &str, disk: &D, charge: u32, notes: &mut
     }
 }
 
-/// Does all background work of the store on the disk of a file. Gives the disk back, and the status: 0 after the line that says how many
-/// steps it took, 1 where the store is not taken up or a step is refused. People are told which calls of the disk failed.
+/// Does all background work of the store on the disk of a file. Gives the disk back, and the status: 0 after the line
+/// with the number of steps, 1 if the store is not opened or a step is refused. People are told which calls of the disk
+/// failed.
 ///
 /// # Errors
 ///
-/// The writer's, and want of memory for the text of a line.
+/// The writer's, and out of memory for the text of a line.
 pub fn tend_on<D: Watched, W: Write, N: Notes + FaultNotes<D::Fault>>(
     alloc: Global,
     disk: D,
@@ -224,7 +226,8 @@ pub fn tend_on<D: Watched, W: Write, N: Notes + FaultNotes<D::Fault>>(
     }
 }
 
-// Writes that the store is taken up, does all its background work, and writes how many steps it took, or why one was refused.
+// Writes that the store is opened, does all its background work, and writes how many steps it took, or why one was
+// refused.
 fn tend_core<D: Disk, W: Write>(alloc: Global, core: &mut Core<D>, writer: &mut W) -> io::Result<u8>
     ensures { IfOk result (λ status. (opened : OptionOf (List ℕ)) × Appends (W.contents writer.old) opened (codes "opened\n")
         × EndsTending D.Disk core.old core.new status opened (W.contents writer.new)) }
@@ -236,7 +239,7 @@ fn tend_core<D: Disk, W: Write>(alloc: Global, core: &mut Core<D>, writer: &mut 
     }
 }
 
-// Writes how many steps were taken, and answers the status.
+// Writes how many steps were done, and returns the status.
 fn write_steps<W: Write>(alloc: Global, steps: Steps, writer: &mut W) -> io::Result<u8>
     ensures { IfOk result (λ status. (status ≡ 0) × Appends (W.contents writer.old) (W.contents writer.new) (tended_line steps)) }
 {
@@ -246,12 +249,12 @@ fn write_steps<W: Write>(alloc: Global, steps: Steps, writer: &mut W) -> io::Res
     Ok(0)
 }
 
-/// Makes an empty store of this geometry of the disk of a file, and writes the disk's length. Gives the disk back, and the status: 0 after
-/// the length, 1 where the disk is not formatted.
+/// Makes an empty store of this geometry on the disk of a file, and writes the disk's length. Gives the disk back, and
+/// the status: 0 after the length, 1 if the disk is not formatted.
 ///
 /// # Errors
 ///
-/// The writer's, and want of memory for the text. The disk may be formatted then.
+/// The writer's, and out of memory for the text. The disk may be formatted then.
 pub fn format_on<D: Disk, W: Write, N: FaultNotes<D::Fault>>(
     alloc: Global,
     disk: D,
@@ -276,7 +279,7 @@ pub fn format_on<D: Disk, W: Write, N: FaultNotes<D::Fault>>(
     }
 }
 
-// Writes the length of a device that was formatted, and answers the status.
+// Writes the length of a device that was formatted, and returns the status.
 fn write_formatted<W: Write>(alloc: Global, bytes: u64, writer: &mut W) -> io::Result<u8>
     ensures { IfOk result (λ status. (status ≡ 0) × Appends (W.contents writer.old) (W.contents writer.new) (formatted_line bytes)) }
 {

@@ -1,10 +1,10 @@
 //! The jobs of the program that need no server.
 //!
-//! `format_file`, `run_file`, `tend_file` and `check_file` work on the disk of a path, `run_script` on a new store in memory, and `write_plan`
-//! on numbers alone. They are functions over any
-//! source of disks, reader and writer, whose contracts say what is written for what the disk shows. `Notes`, `SourceNotes` and `FaultNotes`
-//! take what people are told beside that; `NoteLines` makes lines of it. `WatchedFiles` are the files of a source as disks that keep which
-//! of their calls failed, and that show how far an opening is (`Progress`).
+//! `format_file`, `run_file`, `tend_file` and `check_file` work on the disk of a path, `run_script` on a new store in
+//! memory, and `write_plan` only on numbers. They are functions over any source of disks, reader and writer. Their
+//! contracts say what is written for each content of the disk. `Notes`, `SourceNotes` and `FaultNotes` take the
+//! messages to people, and `NoteLines` makes lines of them. `WatchedFiles` are the files of a source as disks that keep
+//! which of their calls failed, and that show how far an opening is (`Progress`).
 #![tactic(auto)]
 
 mod damage;

@@ -1,4 +1,4 @@
-// What the program tells people, as lines of a writer.
+// The program's messages to people, as lines of a writer.
 ghost use Rattle.std.specs.Prelude.{◌≡◌, ⊤};
 
 use crate::failure::Failure;
@@ -15,8 +15,8 @@ use silt_words::{FORMS, Numbers, VERSION, asks_version, complaint_of};
 use std::fmt::Display;
 use std::io::{self, ErrorKind, Write};
 
-/// Notes as lines of a writer, as the standard error: `silt: `, what it is of, and the words of the system. A line that cannot be
-/// written is left out.
+/// Notes as lines of a writer, like standard error: `silt: `, the subject, and the words of the system. A line that
+/// cannot be written is left out.
 #[derive(Drop)]
 pub struct NoteLines<W> {
     writer: W,
@@ -122,7 +122,7 @@ impl<W: Write> Notes for NoteLines<W> {
         }
     }
 
-    // A pipe that the reader of the answers has closed needs no words.
+    // A pipe that the reader of the replies has closed needs no words.
     fn tell_broken(&mut self, error: &io::Error) {
         if error.kind() != ErrorKind::BrokenPipe {
             let _ = writeln!(self.writer, "silt: {error}");

@@ -1,4 +1,4 @@
-// What the program tells people, beside what it writes for programs.
+// The program's messages to people, beside what it writes for programs.
 ghost use Rattle.std.specs.Prelude.{◌≡◌, ℕ, IsErr, IsOk, List, Option, map, string_bytes};
 ghost use Rattle.silt_event.specs.declared.place.Place.{Place as PlaceOf};
 ghost use Rattle.silt_wire.specs.declared.sessions.SessionEnd.{SessionEnd as SessionEndOf};
@@ -22,83 +22,84 @@ use silt_wire::SessionEnd;
 use silt_words::Numbers;
 use std::io;
 
-/// Where people are told what does not concern one disk or its source. Nothing that is written for programs depends on a note.
+/// Takes messages to people that are not about one disk or its source. Nothing that is written for programs depends on
+/// a note.
 pub trait Notes {
-    /// It was told why this port of this machine cannot be listened on.
+    /// People were told why the server cannot listen on this port of this machine.
     ghost told_port: { Self → Self → ℕ → Type 0 };
 
-    /// It was told that the file of this name holds this store, which is to be overwritten.
+    /// People were told that the file of this name holds this store, which will be overwritten.
     ghost told_store: { Self → Self → List ℕ → HeldStoreOf → Type 0 };
 
-    /// It was told that the file of this name holds other data, which stays.
+    /// People were told that the file of this name holds other data, which stays.
     ghost told_other: { Self → Self → List ℕ → Type 0 };
 
-    /// It was told which of these numbers is out of its limits.
+    /// People were told which of these numbers is out of its limits.
     ghost told_numbers: { Self → Self → NumbersOf → Type 0 };
 
-    /// It was told which six numbers the store in the file of this name has, and its charge.
+    /// People were told the six numbers of the store in the file of this name, and its charge.
     ghost told_charge: { Self → Self → List ℕ → Shape → ℕ → Type 0 };
 
-    /// It was told which lines of this input were refused, by these replies.
+    /// People were told which lines of this input were refused, by these replies.
     ghost told_tally: { Self → Self → InputLinesOf → TallyOf → Type 0 };
 
-    /// It was told that this call failed on the disk of a file of this name.
+    /// People were told that this call failed on the disk of the file of this name.
     ghost told_failure: { Self → Self → List ℕ → FailureOf → Type 0 };
 
-    /// It was told that this call failed, and with it the store.
+    /// People were told that this call failed, and with it the store.
     ghost told_failed_store: { Self → Self → FailureOf → Type 0 };
 
-    /// It was told why a session broke off, with the error of its reader or its writer, if that is why.
+    /// People were told why a session broke off, with the error of its reader or its writer, if that is why.
     ghost told_end: { Self → Self → SessionEndOf → Option StreamErrorOf → Type 0 };
 
-    /// It was told why the reader or the writer failed.
+    /// People were told why the reader or the writer failed.
     ghost told_broken: { Self → Self → Type 0 };
 
-    /// It was told why these words name no job.
+    /// People were told why these words name no job.
     ghost told_words: { Self → Self → List (List ℕ) → Type 0 };
 
-    /// Tells why this port cannot be listened on.
+    /// Reports why the server cannot listen on this port.
     fn tell_port(&mut self, port: u16, error: &io::Error)
         ensures { told_port self.old self.new port };
 
-    /// Tells that the file of this name holds this store, which is to be overwritten.
+    /// Reports that the file of this name holds this store, which will be overwritten.
     fn tell_store(&mut self, file: &str, store: &HeldStore)
         ensures { told_store self.old self.new file.now store.now };
-    /// Tells that the file of this name holds other data, which stays.
+    /// Reports that the file of this name holds other data, which stays.
     fn tell_other(&mut self, file: &str)
         ensures { told_other self.old self.new file.now };
 
-    /// Tells which of these numbers is out of its limits.
+    /// Reports which of these numbers is out of its limits.
     fn tell_numbers(&mut self, numbers: &Numbers)
         ensures { told_numbers self.old self.new numbers.now };
-    /// Tells which six numbers the store in the file of this name has, and its charge.
+    /// Reports which six numbers the store in the file of this name has, and its charge.
     fn tell_charge(&mut self, file: &str, geometry: &Geometry, charge: u32)
         ensures { told_charge self.old self.new file.now geometry.now charge };
 
-    /// Tells which lines of this input were refused, by these replies, of which the first is of no line.
+    /// Reports which lines of this input were refused, by these replies. The first reply belongs to no line.
     fn tell_tally(&mut self, lines: &InputLines, tally: &Tally)
         ensures { told_tally self.old self.new lines.now tally.now };
 
-    /// Tells that this call failed on the disk of the file of this name.
+    /// Reports that this call failed on the disk of the file of this name.
     fn tell_failure(&mut self, file: &str, failure: &Failure)
         ensures { told_failure self.old self.new file.now failure.now };
-    /// Tells that this call failed, and with it the store.
+    /// Reports that this call failed, and with it the store.
     fn tell_failed_store(&mut self, failure: &Failure)
         ensures { told_failed_store self.old self.new failure.now };
 
-    /// Tells why a session broke off, with the error of its reader or its writer, if that is why.
+    /// Reports why a session broke off, with the error of its reader or its writer, if that is why.
     fn tell_end(&mut self, end: SessionEnd, error: Option<StreamError>)
         ensures { told_end self.old self.new end error };
-    /// Tells why the reader or the writer failed.
+    /// Reports why the reader or the writer failed.
     fn tell_broken(&mut self, error: &io::Error)
         ensures { told_broken self.old self.new };
 
-    /// Tells which words would name a job, and what is wrong with these.
+    /// Reports which words would name a job, and what is wrong with these.
     fn tell_words(&mut self, words: &[String])
         ensures { told_words self.old self.new (map string_bytes words.now) };
 }
 
-/// Tells which read of a disk failed first, and which write or sync failed last, where one did.
+/// Reports which read of a disk failed first, and which write or sync failed last, if any did.
 pub fn tell_failures<D: Watched, N: Notes>(file: &str, disk: &D, notes: &mut N)
     ensures { ToldFailures N.told_failure D.kept_read D.last_failure notes.old notes.new file.now disk.now }
 {
@@ -106,7 +107,7 @@ pub fn tell_failures<D: Watched, N: Notes>(file: &str, disk: &D, notes: &mut N)
     tell_call(file, disk.last_failure(), notes);
 }
 
-// Tells that a call of a disk failed, where one did.
+// Reports that a call of a disk failed, if one did.
 fn tell_call<N: Notes>(file: &str, failure: Option<Failure>, notes: &mut N)
     ensures { ToldCall (λ from to. N.told_failure from to file.now) failure notes.old notes.new }
 {
@@ -116,7 +117,7 @@ fn tell_call<N: Notes>(file: &str, failure: Option<Failure>, notes: &mut N)
     }
 }
 
-/// Tells why a session with this reader and this writer broke off, where it did not come to the end of its lines.
+/// Reports why a session with this reader and this writer broke off, if it did not come to the end of its lines.
 pub fn tell_end<R: KeepsError, W: KeepsError, N: Notes>(
     end: SessionEnd,
     reader: &R,
@@ -133,7 +134,7 @@ pub fn tell_end<R: KeepsError, W: KeepsError, N: Notes>(
     }
 }
 
-/// Tells why a job ended with an error of its reader or its writer, where it did.
+/// Reports why a job ended with an error of its reader or its writer, if it did.
 pub fn tell_error_of<N: Notes>(ended: &io::Result<u8>, notes: &mut N)
     ensures told { IsErr ended.now → N.told_broken notes.old notes.new }
     ensures quiet { IsOk ended.now → notes.new ≡ notes.old }
@@ -143,41 +144,42 @@ pub fn tell_error_of<N: Notes>(ended: &io::Result<u8>, notes: &mut N)
     }
 }
 
-/// Where people are told why there is no disk. `E` is the error of the disks' source.
+/// Takes messages on why there is no disk. `E` is the error of the disks' source.
 pub trait SourceNotes<E> {
-    /// It was told that this error kept the disk of a file of this name away.
+    /// People were told that the disk of the file of this name could not be opened, with this error.
     ghost told_error: { Self → Self → List ℕ → E → Type 0 };
 
-    /// Tells why there is no disk of the file of this name.
+    /// Reports why there is no disk of the file of this name.
     fn tell_error(&mut self, file: &str, error: &E)
         ensures { told_error self.old self.new file.now error.now };
 }
 
-/// Where people are told why a call of a disk failed, and which part of a disk is damaged. `F` is the disk's fault.
+/// Takes messages on why a call of a disk failed, and which part of a disk is damaged. `F` is the disk's fault.
 pub trait FaultNotes<F> {
-    /// It was told that this fault came up on the disk of a file of this name.
+    /// People were told of this fault on the disk of the file of this name.
     ghost told_fault: { Self → Self → List ℕ → F → Type 0 };
 
-    /// It was told that this part of the disk of a file of this name is damaged, and where it begins, if that is known.
+    /// People were told that this part of the disk of the file of this name is damaged, and where it begins, if that is
+    /// known.
     ghost told_damage: { Self → Self → List ℕ → PlaceOf → Option ℕ → Type 0 };
 
-    /// It was told that the disk of a file of this name holds no store.
+    /// People were told that the disk of the file of this name holds no store.
     ghost told_no_store: { Self → Self → List ℕ → Type 0 };
 
-    /// Tells why a call of the disk of the file of this name failed.
+    /// Reports why a call of the disk of the file of this name failed.
     fn tell_fault(&mut self, file: &str, fault: &F)
         ensures { told_fault self.old self.new file.now fault.now };
 
-    /// Tells which part of the disk of the file of this name is damaged, and where it begins, if that is known.
+    /// Reports which part of the disk of the file of this name is damaged, and where it begins, if that is known.
     fn tell_damage(&mut self, file: &str, place: Place, at: Option<u64>)
         ensures { told_damage self.old self.new file.now place at };
 
-    /// Tells that the disk of the file of this name holds no store.
+    /// Reports that the disk of the file of this name holds no store.
     fn tell_no_store(&mut self, file: &str)
         ensures { told_no_store self.old self.new file.now };
 }
 
-/// Tells the fault of a disk, the damage that begins there, or that there is no store, where a refusal says one of them.
+/// Reports the fault of a disk, the damage that begins there, or that there is no store, if the refusal is one of these.
 pub fn tell_refusal<F, N: FaultNotes<F>>(
     file: &str,
     refusal: &Refusal<F>,

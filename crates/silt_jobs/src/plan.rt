@@ -1,4 +1,4 @@
-// The six numbers of a store that is planned for so many keys.
+// The six numbers of a planned store for a number of keys.
 ghost use Rattle.std.specs.Prelude.{◌≡◌, ◌≤◌, ◌+◌, ◌*◌, if◌then◌else◌, Some, None, IfOk, string_bytes};
 ghost use Rattle.std.specs.Option.{option_map};
 ghost use Rattle.silt_jobs.specs.Plans.{TellsPlan, bucket_counts, first_planned, fits_memory, is_needed, is_possible, number_after, plan_text, shape_planned};
@@ -14,12 +14,13 @@ const BUCKET_COUNTS: [u32; 15] = [
     32_768, 16_384, 8192, 4096, 2048, 1024, 512, 256, 128, 64, 32, 16, 8, 4, 2,
 ];
 
-/// Writes the six numbers of a store for so many keys, and what it takes on disk and in memory: of as many buckets as four logs need for a
-/// ninth of the keys, or fewer, where the numbers or the memory are limited. Answers the status: 1 where there is no such store.
+/// Writes the six numbers of a store for this many keys, and what it costs on disk and in memory. It has as many
+/// buckets as four logs need for a ninth of the keys, or fewer if the numbers or the memory are limited. Returns the
+/// status: 1 if there is no such store.
 ///
 /// # Errors
 ///
-/// The writer's, and want of memory for the text.
+/// The writer's, and out of memory for the text.
 pub fn write_plan<W: Write>(alloc: Global, request: &PlanRequest, writer: &mut W) -> io::Result<u8>
     ensures { IfOk result (λ status. TellsPlan request.now (first_planned request.now bucket_counts) status (W.contents writer.old) (W.contents writer.new)) }
 {
@@ -80,7 +81,7 @@ fn memory_planned(keys: u32, buckets: u32) -> u64
     1043 * u64::from(buckets) + 21 * u64::from(keys)
 }
 
-// Whether so many bytes fit under the limit, if there is one.
+// Whether this many bytes fit under the limit, if there is one.
 fn fits_memory(memory: Option<u32>, bytes: u64) -> bool
     ensures { result ≡ fits_memory memory bytes }
 {

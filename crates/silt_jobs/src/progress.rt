@@ -12,8 +12,9 @@ const STEP: u64 = 16_777_216;
 /// What a read costs at least.
 const LEAST: usize = 256;
 
-/// How far an opening is, as one line of a terminal, which is written anew where much more was read, and ended before anything else is told or
-/// answered. A short opening shows none. The disk that is opened tells of its reads; contracts see nothing of it.
+/// The progress of an opening, as one line of a terminal. It is written anew after much more was read, and ended before
+/// any other note or reply. A short opening shows none. The disk that is opened reports its reads; contracts see
+/// nothing of it.
 #[derive(Drop)]
 pub struct Progress {
     terminal: Option<Stderr>,
@@ -26,7 +27,7 @@ pub struct Progress {
 }
 
 impl Progress {
-    /// Of an opening that has read nothing. Where there is no terminal nothing is shown.
+    /// The progress of an opening that has read nothing. Without a terminal nothing is shown.
     pub fn new(terminal: Option<Stderr>) -> Self {
         Progress {
             terminal,
@@ -38,14 +39,14 @@ impl Progress {
         }
     }
 
-    /// So many bytes were read from a file of this length.
+    /// This many bytes were read from a file of this length.
     pub fn add(&self, count: usize, len: u64) {
         if let Some(bytes) = self.take(count) {
             self.show(bytes, len);
         }
     }
 
-    // Takes so many bytes that were read into account. How many there are now, where the line is due.
+    // Counts this many more bytes. Returns how many there are now, if the line is due.
     pub(crate) fn take(&self, count: usize) -> Option<u64> {
         if self.is_over.load(Ordering::SeqCst) {
             return None;
@@ -68,7 +69,7 @@ impl Progress {
         }
     }
 
-    /// The opening is over. The line is written anew and ended, where there is one, and none is shown from now on.
+    /// The opening is over. A line on the terminal is written anew and ended, and none is shown from now on.
     pub fn end(&self) {
         if self.is_over.load(Ordering::SeqCst) {
             return;
@@ -88,7 +89,7 @@ pub(crate) fn is_due(before: u64, cost: u64) -> bool
     STEP - before % STEP <= cost
 }
 
-// Writes how many bytes were read from a file of this length, over what stands in the line.
+// Writes how many bytes were read from a file of this length, over the old line.
 pub(crate) fn write_line<W: Write>(to: &mut W, bytes: u64, len: u64) -> io::Result<()> {
     let (read, whole) = (bytes >> 20, len >> 20);
     write!(

@@ -9,11 +9,11 @@ use silt_wire::write_refusal;
 use std::alloc::Global;
 use std::io::{self, Write};
 
-/// Writes that the whole is refused, and answers the status.
+/// Writes that the whole job is refused, and returns the status.
 ///
 /// # Errors
 ///
-/// The writer's, and want of memory for the text of the refusal, but not for that of `NoMemory`.
+/// The writer's, and out of memory for the text of the refusal, but not for that of `NoMemory`.
 pub fn refuse<F: Drop, W: Write>(
     alloc: Global,
     refusal: &Refusal<F>,

@@ -26,12 +26,12 @@ use std::alloc::Global;
 use std::io::{self, ErrorKind, Read, Write};
 
 /// Reads a script to its end, runs its lives over a new store of these numbers on a disk in memory, and then writes the
-/// replies. Answers the status: 0 at the end of the replies, 1 where the script or the store is refused. People are told of numbers out of
-/// their limits.
+/// replies. Returns the status: 0 at the end of the replies, 1 if the script or the store is refused. People are told
+/// of numbers out of their limits.
 ///
 /// # Errors
 ///
-/// The reader's or the writer's, and want of memory for the text of a reply.
+/// The reader's or the writer's, and out of memory for the text of a reply.
 pub fn run_script<R: Read, W: Write, N: Notes>(
     alloc: Global,
     numbers: &Numbers,
@@ -64,8 +64,8 @@ pub fn run_script<R: Read, W: Write, N: Notes>(
     }
 }
 
-// Runs lives over a new store, each stopped by its stop and the last one at its end. They are refused as a new store is, or
-// for want of memory.
+// Runs lives over a new store, each stopped by its stop and the last one at its end. They are refused as a new store
+// is, or if out of memory.
 fn run_lives(
     alloc: Global,
     geometry: Geometry,
@@ -83,7 +83,7 @@ fn run_lives(
     }
 }
 
-// A new disk in memory with an empty store. It is refused for want of memory, or with the fault of a disk of its length.
+// A new disk in memory with an empty store. It is refused if out of memory, or with the fault of a disk of its length.
 fn new_store(alloc: Global, geometry: Geometry) -> Result<MemDisk, Refusal<MemFault>>
     ensures size { IfOk result (λ disk. size (memory_content disk) ≡ device_size geometry) }
     ensures images { IfOk result (λ disk. LeavesOnly (memory_content disk) (StandsFor geometry empty)) }

@@ -20,7 +20,7 @@ use std::mem;
 pub enum Mark {
     /// It asks for an event, the next of its life.
     Event,
-    /// It asks for nothing.
+    /// It has no valid request.
     Refused(LineFault),
     /// It ends a life.
     Stop,
@@ -63,7 +63,7 @@ impl Reading {
         }
     }
 
-    // Takes a line that tells a stop: the life ends, and the next one begins.
+    // Takes a line with a stop: the life ends, and the next one begins.
     fn take_stop(&mut self, alloc: Global, stop: Stop) -> Result<(), AllocError>
         ensures { OnOk result (TakesStop stop self.old self.new) }
     {
@@ -74,7 +74,7 @@ impl Reading {
         Ok(())
     }
 
-    // Takes a line that asks for an event or for nothing, unless memory was wanted for it.
+    // Takes a line with an event, or without a valid request, unless memory ran out for it.
     fn take_asked(&mut self, asked: Result<Event, LineFault>) -> Result<(), AllocError>
         ensures takes { OnOk result (TakesAsked asked self.old self.new) }
         ensures told { OnOk result (asked ≢ Err LineFault.NoMemory) }
@@ -109,7 +109,8 @@ impl Reading {
         }
     }
 
-    // Takes bytes to the end of a line, and the line; or takes all, where they end none. Answers how many bytes were taken.
+    // Takes bytes to the end of a line, and the line; or takes all, if they end no line. Returns how many bytes were
+    // taken.
     fn take_piece(
         &mut self,
         alloc: Global,
@@ -175,7 +176,7 @@ impl Reading {
         Err(io::Error::from(ErrorKind::Other))
     }
 
-    // The script is at its end, and its last life too.
+    // Ends the script, and its last life too.
     fn end(self) -> Result<Script, AllocError>
         ensures { IfOk result (EndsReading self) }
     {
@@ -199,7 +200,7 @@ impl Reading {
 ///
 /// # Errors
 ///
-/// The reader's, and want of memory for the script or one of its lines.
+/// The reader's, and out of memory for the script or one of its lines.
 pub fn read_script<R: Read>(alloc: Global, value_len: usize, reader: &mut R) -> io::Result<Script>
     ensures reads { IfOk result (λ script. (read : List ℕ) × Consumes (R.remaining reader.old) (R.remaining reader.new) read × IsAtEnd (R.remaining reader.new)
         × Reads value_len (lines_after [] read) script) }

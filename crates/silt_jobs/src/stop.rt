@@ -1,4 +1,4 @@
-// Lines to stops.
+// Lines to stops. A stop is a crash at a chosen device call.
 ghost use Rattle.std.specs.Prelude.{◌≡◌, ℕ, List};
 ghost use Rattle.silt_wire.specs.LineBuffer.{HoldsBytes};
 ghost use Rattle.silt_wire.specs.Lines.{words_of};
@@ -7,7 +7,7 @@ ghost use Rattle.silt_jobs.specs.Stops.{fill_of, told_stop, stop_of_words, stop_
 use silt_device::{Fill, Stop};
 use silt_wire::{LONGEST_LINE, LineBuffer, cut_word, number_of, without_carriage_return};
 
-// What a stop leaves, by its word.
+// The fill of a stop, by its word.
 fn fill_of(word: &[u8]) -> Option<Fill>
     ensures { result ≡ fill_of word.now }
 {
@@ -38,7 +38,7 @@ fn told_stop(word: &[u8], k: &[u8], fill: &[u8]) -> Option<Stop>
     Some(Stop { k, fill })
 }
 
-// The stop that the words of a text tell.
+// The stop in the words of a text.
 #[tactic(auto, using(crate::proofs::Stops::stop_steps))]
 fn stop_of_words(text: &[u8]) -> Option<Stop>
     ensures { result ≡ stop_of_words (words_of text.now) }
@@ -51,11 +51,11 @@ fn stop_of_words(text: &[u8]) -> Option<Stop>
     told_stop(word, k, fill)
 }
 
-// The stop that a line tells, or nothing where it is no stop line.
+// The stop in a line, or none if it is no stop line.
 //
-// The line comes without its line feed, and one carriage return at its end is taken off: `stop K FILL`, where K is one to ten
-// decimal digits and at most 4,294,967,295, and FILL is `old`, `new`, `zero`, `ones` or `mix`. A line of more than 8,300 bytes
-// tells none.
+// The line comes without its line feed, and one carriage return at its end is removed: `stop K FILL`. K is one to ten
+// decimal digits and at most 4,294,967,295. FILL is `old`, `new`, `zero`, `ones` or `mix`. A line of more than 8,300
+// bytes is no stop line.
 fn stop_of(line: &[u8]) -> Option<Stop>
     ensures { result ≡ stop_of line.now }
 {
@@ -65,7 +65,7 @@ fn stop_of(line: &[u8]) -> Option<Stop>
     stop_of_words(without_carriage_return(line))
 }
 
-/// The stop that the line tells which is kept here, if it tells one.
+/// The stop in the line that is kept here, if it is a stop line.
 pub fn stop_told(pending: &LineBuffer) -> Option<Stop>
     ensures { (line : List ℕ) → HoldsBytes pending.now line → result ≡ stop_of line }
 {

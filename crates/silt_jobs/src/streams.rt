@@ -57,7 +57,7 @@ pub struct WatchedReader<R> {
 }
 
 impl<R> WatchedReader<R> {
-    /// This reader, of which no read has failed.
+    /// A watched reader with no failed read.
     pub fn new(alloc: Global, reader: R) -> Self
         ensures { (result.reader ≡ reader) × (result.error ≡ None) }
     {
@@ -116,7 +116,7 @@ pub struct WatchedWriter<W> {
 }
 
 impl<W> WatchedWriter<W> {
-    /// This writer, of which no write has failed.
+    /// A watched writer with no failed write.
     pub fn new(writer: W) -> Self
         ensures { (result.writer ≡ writer) × (result.error ≡ None) × (result.tally ≡ untold) }
     {

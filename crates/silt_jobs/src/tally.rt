@@ -158,7 +158,7 @@ fn refusal_number(first: u8, second: u8) -> usize
     }
 }
 
-// What a digit stands for.
+// The value of a digit.
 fn digit(byte: u8) -> usize
     ensures value { result ≡ byte - 48 }
     ensures most { result < 256 }

@@ -79,7 +79,7 @@ fn write_event<F: Drop, W: Write>(
     }
 }
 
-// Writes the refusal of a line that asks for nothing.
+// Writes the refusal of a line without a valid request.
 fn write_fault<F: Drop, W: Write>(
     alloc: Global,
     lives: &[LifeReply<F>],
@@ -120,7 +120,7 @@ fn write_mark<F: Drop, W: Write>(
 ///
 /// # Errors
 ///
-/// The writer's, and want of memory for the text of a reply.
+/// The writer's, and out of memory for the text of a reply.
 pub fn write_script<F: Drop, W: Write>(
     alloc: Global,
     marks: &[Mark],

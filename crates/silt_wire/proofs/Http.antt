@@ -119,8 +119,8 @@ ends_line-front (x ∷ xs) ys h =
 ends_line-take : (n : ℕ) (xs : List ℕ) → ends_line xs ≡ false → ends_line (take n xs) ≡ false
 ends_line-take n xs h = ends_line-front (take n xs) (drop n xs) (ap ends_line (take-append-drop n xs) ∙ h)
 
--- one byte more of a first line: a line feed passes it; or it completes the mark; or its last bytes are this many of the mark that
--- end no line
+-- one byte more of a first line: a line feed passes it; or it completes the mark; or its last bytes are this many of the mark,
+-- behind others that end no line
 data Step (n b : ℕ) (line : FirstLine) : Type 0 where
   passes : b ≡ 10 → line ≡ Passed → Step n b line
   refuses : take n http_mark ++ b ∷ [] ≡ http_mark → line ≡ Refused → Step n b line
