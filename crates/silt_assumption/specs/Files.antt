@@ -1,9 +1,9 @@
--- What a file of the system has.
+-- The content of a file of the system.
 use Rattle.std.specs.Prelude.{◌≡◌, ℕ, false, replicate, refl}
 use Rattle.std.specs.declared.fs.File.{File}
 use Rattle.silt_disk.specs.Disk.{Content}
 
--- a content of this length that promises nothing: the zeros stand for the length alone
+-- a content of this length that promises nothing: its zeros carry the length alone
 abbrev pub unpromised : ℕ → Content
 unpromised len = record {
   honest = false;
@@ -14,7 +14,7 @@ unpromised len = record {
   agrees = λ _ _. refl;
 }
 
--- The content of a file of the system. The definition is shut: by its name alone nothing shows whether the file behaves.
+-- The content of a file of the system. The definition is hidden: the name alone does not show whether the file behaves.
 pub system_content : File → Content
 system_content _ = unpromised 0
 

@@ -1,7 +1,8 @@
-//! What is assumed of a file of the system.
+//! What is assumed about a file of the operating system.
 //!
-//! That such a file behaves as the crash premise says is an assumption. std says nothing of a file's bytes, so nobody can prove it, and nobody
-//! is to prove the opposite. So its content (`system_content`) has a definition that is shut, and one law, by which `silt_device` proves what its
-//! calls do. A crate that does not list this one cannot name the law. To it the content is any content, and each theorem for a file that
-//! behaves holds of a file of the system, if that behaves. No other crate lists this one.
+//! The assumption is that such a file obeys the crash model. std promises nothing about a file's bytes, so nobody can prove this.
+//! Nobody must be able to prove the opposite either. So the definition of a file's content (`system_content`) is hidden.
+//! `silt_device` uses one law about it to prove what its calls do. A crate that does not list this one cannot name the law.
+//! To such a crate the content is any content. So each theorem about a file that behaves holds for a file of the system, if that
+//! file behaves. No other crate lists this one.
 #![tactic(auto)]

@@ -1,4 +1,4 @@
--- What a stop may leave after each call, said of each image.
+-- The possible crash images after each call, one image at a time.
 use Rattle.std.proofs.Common.{◌≡◌, ℕ, ◌+◌, ◌-◌, ◌≤◌, ◌<◌, true, false, cond, List, ◌++◌, length, take, drop, get_or, map, slice_range, IsTrue, refl, sym, ap, ◌∙◌, subst, inl, inr, arith}
 use Rattle.std.specs.List.{range_with_len}
 use Rattle.std.proofs.lemmas.List.{ext_get_or, get_or_past, append_assoc, length-append, length-take-le, length-drop, get_or_append_left, get_or-append_right, get_or-take, get_or-drop, take_at, drop_at}
@@ -10,11 +10,11 @@ use Rattle.silt_disk.specs.Disk.{Content, Torn, Left, LeavesOnly, Shows, Tears, 
 
 -- ---- one image
 
--- nothing is changed
+-- an image is a torn image of itself
 pub torn_refl : (at count : ℕ) (image : List ℕ) → Torn at count image image
 torn_refl at count image = record { size = refl; before = λ place below. refl; after = λ place above. refl }
 
--- a part that ends before the range
+-- a slice that ends before the range stays
 pub torn_slice_before : (at count : ℕ) (old new : List ℕ) → Torn at count old new → (from to : ℕ) → to ≤ at → to ≤ length old → slice_range new from to ≡ slice_range old from to
 torn_slice_before at count old new torn from to below fits =
     let in_new : to ≤ length new = omega (arith, torn.size) in
@@ -23,7 +23,7 @@ torn_slice_before at count old new torn from to below fits =
     let near : from + place < to = omega (arith, inside, length-between new from to in_new) in
     get_or-between new from to place 0 near ∙ torn.before (from + place) (omega arith) ∙ sym (get_or-between old from to place 0 near))
 
--- a part that begins after the range
+-- a slice that begins after the range stays
 pub torn_slice_after : (at count : ℕ) (old new : List ℕ) → Torn at count old new → (from to : ℕ) → at + count ≤ from → to ≤ length old → slice_range new from to ≡ slice_range old from to
 torn_slice_after at count old new torn from to above fits =
     let in_new : to ≤ length new = omega (arith, torn.size) in
@@ -32,11 +32,11 @@ torn_slice_after at count old new torn from to above fits =
     let near : from + place < to = omega (arith, inside, length-between new from to in_new) in
     get_or-between new from to place 0 near ∙ torn.after (from + place) (omega arith) ∙ sym (get_or-between old from to place 0 near))
 
--- a write that is done
+-- a completed write keeps the length
 pub length-splice : (at : ℕ) (bytes image : List ℕ) → at + length bytes ≤ length image → length (splice at bytes image) ≡ length image
 length-splice at bytes image fits = omega (arith, length-append (take at image) bytes, length-append (take at image ++ bytes) (drop (at + length bytes) image), length-take-le at image (omega arith), length-drop (at + length bytes) image)
 
--- is torn in its range and nowhere else
+-- a completed write changes its range alone
 pub torn_splice : (at : ℕ) (bytes image : List ℕ) → at + length bytes ≤ length image → Torn at (length bytes) image (splice at bytes image)
 torn_splice at bytes image fits =
     let front : length (take at image) ≡ at = length-take-le at image (omega arith) in
@@ -50,14 +50,14 @@ torn_splice at bytes image fits =
           ∙ ap (λ (n : ℕ). get_or image n 0) (omega arith);
     }
 
--- what a write put there
+-- the range of a write has its bytes
 pub splice_slice : (at : ℕ) (bytes image : List ℕ) → at + length bytes ≤ length image → slice_range (splice at bytes image) at (at + length bytes) ≡ bytes
 splice_slice at bytes image fits =
     let front : length (take at image) ≡ at = length-take-le at image (omega arith) in
     let rest : drop at (splice at bytes image) ≡ bytes ++ drop (at + length bytes) image = ap (drop at) (append_assoc (take at image) bytes _) ∙ drop_at (take at image) _ at front in
     ap (take (at + length bytes - at)) rest ∙ take_at bytes _ (at + length bytes - at) (omega arith)
 
--- a byte that a write put there
+-- each place of a write has its byte
 pub splice_byte : (at : ℕ) (bytes image : List ℕ) (place : ℕ) → at + length bytes ≤ length image → place < length bytes → get_or (splice at bytes image) (at + place) 0 ≡ get_or bytes place 0
 splice_byte at bytes image place fits inside =
     let front : length (take at image) ≡ at = length-take-le at image (omega arith) in
@@ -74,11 +74,11 @@ undone at count settled image =
     map (λ place. cond (within at count place) (get_or settled place 0) (get_or image place 0)) (range_with_len 0 (length settled))
 
 module _ (at count : ℕ) (settled image : List ℕ) (size : length image ≡ length settled) where
-  -- it is as long
+  -- it has the same length
   length-undone : length (undone at count settled image) ≡ length settled
   length-undone = length-map-range_with_len _ 0 (length settled)
 
-  -- the settled byte in the range
+  -- in the range it has the settled byte
   undone_there : (place : ℕ) → within at count place ≡ true → get_or (undone at count settled image) place 0 ≡ get_or settled place 0
   undone_there place there =
       elim (cases_lt place (length settled)) [
@@ -86,7 +86,7 @@ module _ (at count : ℕ) (settled image : List ℕ) (size : length image ≡ le
         | inr past ↦ get_or_past _ place 0 (omega (arith, length-undone)) ∙ sym (get_or_past settled place 0 past)
       ]
 
-  -- the image's own byte elsewhere
+  -- outside the range it has the image's byte
   undone_elsewhere : (place : ℕ) → within at count place ≡ false → get_or (undone at count settled image) place 0 ≡ get_or image place 0
   undone_elsewhere place elsewhere =
       elim (cases_lt place (length settled)) [
@@ -102,17 +102,17 @@ within_below at count place below = grind (arith, nat_tests)
 within_above : (at count place : ℕ) → at + count ≤ place → within at count place ≡ false
 within_above at count place above = grind (arith, nat_tests)
 
--- where nothing is pending a stop leaves what is shown
+-- if nothing is pending, a crash leaves what is shown
 pub left_at_rest : {content : Content} → Rests content → IsTrue content.honest → (image : List ℕ) → Left content image → image ≡ content.shown
 left_at_rest rests honest image left =
     ext_get_or 0 _ _ (left.size ∙ ap length (rests.settled honest))
     (λ place inside. left.same place (rests.pending honest place) ∙ ap (λ (l : List ℕ). get_or l place 0) (rests.settled honest))
 
--- after a sync, which was answered Ok, a stop leaves what was shown
+-- after a sync that returned Ok, a crash leaves what was shown
 pub left_after_sync : {old new : Content} → Settles old new → IsTrue old.honest → (image : List ℕ) → Left new image → image ≡ old.shown
 left_after_sync settles honest image left = left_at_rest settles.rests (settles.honest ∙ honest) image left ∙ settles.shown honest
 
--- after a write, Ok or Err, each image is an image from before it, torn in the range
+-- after a write, Ok or Err, each image is one that was possible before, torn in the range
 pub left_after_write : {at count : ℕ} {old new : Content} → Tears at count old new → IsTrue old.honest → (image : List ℕ) → Left new image → (before : List ℕ) × Left old before × Torn at count before image
 left_after_write {at} {count} {old} {new} tears honest image left =
     let size : length image ≡ length old.settled = left.size ∙ ap length (tears.settled honest) in
@@ -136,7 +136,7 @@ left_after_write {at} {count} {old} {new} tears honest image left =
 
 -- ---- from call to call
 
--- a write, Ok or Err: what no bytes in its range can break stands in each image
+-- a write, Ok or Err: each image keeps what no bytes in its range can break
 pub write_leaves : {at count : ℕ} {old new : Content} {P Q : List ℕ → Type 0} → Tears at count old new → LeavesOnly old P → ((before after : List ℕ) → P before → Torn at count before after → Q after) → LeavesOnly new Q
 write_leaves tears leaves step = record {
   each = λ honest image left.
@@ -145,7 +145,7 @@ write_leaves tears leaves step = record {
       step from.0 image (leaves.each was from.0 from.1) from.2;
 }
 
--- a write, Ok: what is shown has what the bytes make of it
+-- a write, Ok: what is shown has the property that the bytes bring about
 pub write_shows : {at : ℕ} {bytes : List ℕ} {old new : Content} {P Q : List ℕ → Type 0} → Writes at bytes old new → Shows old P → ((before : List ℕ) → P before → Q (splice at bytes before)) → Shows new Q
 write_shows {Q = Q} writes shows step = record {
   holds = λ honest.
@@ -153,13 +153,13 @@ write_shows {Q = Q} writes shows step = record {
       subst Q (sym (writes.shown was)) (step _ (shows.holds was));
 }
 
--- where nothing is pending, what is shown speaks for each image
+-- if nothing is pending, what holds for the shown bytes holds for each image
 pub rests_leaves : {content : Content} {P : List ℕ → Type 0} → Rests content → Shows content P → LeavesOnly content P
 rests_leaves {P = P} rests shows = record {
   each = λ honest image left. subst P (sym (left_at_rest rests honest image left)) (shows.holds honest);
 }
 
--- a sync, Ok: what was shown speaks for each image
+-- a sync, Ok: what held for the shown bytes holds for each image
 pub sync_leaves : {old new : Content} {P : List ℕ → Type 0} → Settles old new → Shows old P → LeavesOnly new P
 sync_leaves {P = P} settles shows = record {
   each = λ honest image left.
@@ -167,7 +167,7 @@ sync_leaves {P = P} settles shows = record {
       subst P (sym (left_after_sync settles was image left)) (shows.holds was);
 }
 
--- a sync, Ok: what is shown stays
+-- a sync, Ok: the shown bytes stay
 pub sync_shows : {old new : Content} {P : List ℕ → Type 0} → Settles old new → Shows old P → Shows new P
 sync_shows {P = P} settles shows = record {
   holds = λ honest.
@@ -175,14 +175,14 @@ sync_shows {P = P} settles shows = record {
       subst P (sym (settles.shown was)) (shows.holds was);
 }
 
--- after a failed sync a stop leaves what it might have left before
+-- after a failed sync, a crash leaves what it could leave before
 pub left_after_failed_sync : {old new : Content} → Stays old new → IsTrue old.honest → (image : List ℕ) → Left new image → Left old image
 left_after_failed_sync stays honest image left = record {
   size = left.size ∙ ap length (stays.settled honest);
   same = λ place settled. left.same place (stays.pending honest place ∙ settled) ∙ ap (λ (l : List ℕ). get_or l place 0) (stays.settled honest);
 }
 
--- a failed sync: each image stays
+-- a failed sync: each image stays possible
 pub failed_sync_leaves : {old new : Content} {P : List ℕ → Type 0} → Stays old new → LeavesOnly old P → LeavesOnly new P
 failed_sync_leaves stays leaves = record {
   each = λ honest image left.
@@ -190,7 +190,7 @@ failed_sync_leaves stays leaves = record {
       leaves.each was image (left_after_failed_sync stays was image left);
 }
 
--- a failed sync: what is shown stays
+-- a failed sync: the shown bytes stay
 pub failed_sync_shows : {old new : Content} {P : List ℕ → Type 0} → Stays old new → Shows old P → Shows new P
 failed_sync_shows {P = P} stays shows = record {
   holds = λ honest.
@@ -198,7 +198,7 @@ failed_sync_shows {P = P} stays shows = record {
       subst P (sym (stays.shown was)) (shows.holds was);
 }
 
--- a write that gave a fault may have changed what is shown, in its range
+-- a failed write may change what is shown, in its range
 pub failed_write_shows : {at count : ℕ} {old new : Content} {P Q : List ℕ → Type 0} → Tears at count old new → Shows old P → ((before after : List ℕ) → P before → Torn at count before after → Q after) → Shows new Q
 failed_write_shows tears shows step = record {
   holds = λ honest.
@@ -206,7 +206,7 @@ failed_write_shows tears shows step = record {
       step _ _ (shows.holds was) (tears.shown was);
 }
 
--- after a stop, what is shown and what a further stop leaves is one image that the first might leave
+-- after a crash, one of its possible images is what is shown, and what a further crash leaves
 pub restart_shows : {old new : Content} {P : List ℕ → Type 0} → Restarts old new → LeavesOnly old P → Shows new P
 restart_shows restarts leaves = record {
   holds = λ honest.
@@ -214,7 +214,7 @@ restart_shows restarts leaves = record {
       leaves.each was _ (restarts.left was);
 }
 
--- and so is each image that a further stop may leave
+-- a further crash leaves only images that the first crash could leave
 pub restart_leaves : {old new : Content} {P : List ℕ → Type 0} → Restarts old new → LeavesOnly old P → LeavesOnly new P
 restart_leaves restarts leaves = rests_leaves restarts.rests (restart_shows restarts leaves)
 
@@ -228,25 +228,25 @@ weaker_leaves leaves step = record { each = λ honest image left. step image (le
 pub weaker_shows : {content : Content} {P Q : List ℕ → Type 0} → Shows content P → ((image : List ℕ) → P image → Q image) → Shows content Q
 weaker_shows shows step = record { holds = λ honest. step _ (shows.holds honest) }
 
--- what is shown is one of the images that a stop may leave
+-- what is shown is one of the possible crash images
 pub shown_left : (content : Content) → Left content content.shown
 shown_left content = record { size = content.sizes; same = content.agrees }
 
--- so it has what each of them has
+-- so it has every property that all of them have
 pub leaves_shows : {content : Content} {P : List ℕ → Type 0} → LeavesOnly content P → Shows content P
 leaves_shows {content} leaves = record { holds = λ honest. leaves.each honest _ (shown_left content) }
 
--- with the size
+-- the property with the size
 pub sized_leaves : {content : Content} {P : List ℕ → Type 0} → LeavesOnly content P → LeavesOnly content (λ image. (length image ≡ size content) × P image)
 sized_leaves {content} leaves = record { each = λ honest image left. (left.size ∙ sym content.sizes, leaves.each honest image left) }
 
--- the same of what is shown
+-- the same for what is shown
 pub sized_shows : {content : Content} {P : List ℕ → Type 0} → Shows content P → Shows content (λ image. (length image ≡ size content) × P image)
 sized_shows shows = record { holds = λ honest. (refl, shows.holds honest) }
 
 -- ---- over several calls
 
--- one change after another in a range
+-- two changes in the same range are one
 pub torn_trans : {at count : ℕ} {a b c : List ℕ} → Torn at count a b → Torn at count b c → Torn at count a c
 torn_trans first second = record {
   size = second.size ∙ first.size;
@@ -254,7 +254,7 @@ torn_trans first second = record {
   after = λ place above. second.after place above ∙ first.after place above;
 }
 
--- a change in a range is one in a wider range
+-- a change in a range is a change in a wider range
 pub torn_wider : {at count : ℕ} {a b : List ℕ} (from long : ℕ) → from ≤ at → at + count ≤ from + long → Torn at count a b → Torn from long a b
 torn_wider from long low high torn = record {
   size = torn.size;
@@ -282,7 +282,7 @@ failed_sync_within at count {old} stays = record {
   left = λ honest image left. (image, left_after_failed_sync stays honest image left, torn_refl at count image);
 }
 
--- no call changes nothing
+-- no call: nothing changes
 pub within_refl : (at count : ℕ) (content : Content) → ChangesWithin at count content content
 within_refl at count content = record {
   honest = refl;
@@ -290,7 +290,7 @@ within_refl at count content = record {
   left = λ honest image left. (image, left, torn_refl at count image);
 }
 
--- calls that change only a range, and further ones
+-- calls that change only a range, followed by more such calls
 pub within_trans : {at count : ℕ} {a b c : Content} → ChangesWithin at count a b → ChangesWithin at count b c → ChangesWithin at count a c
 within_trans first second = record {
   honest = second.honest ∙ first.honest;
@@ -301,7 +301,7 @@ within_trans first second = record {
       (before.0, before.1, torn_trans before.2 between.2);
 }
 
--- and only a wider range
+-- calls that change only a range change only a wider range
 pub within_wider : {at count : ℕ} {old new : Content} (from long : ℕ) → from ≤ at → at + count ≤ from + long → ChangesWithin at count old new → ChangesWithin from long old new
 within_wider from long low high changes = record {
   honest = changes.honest;
@@ -311,15 +311,15 @@ within_wider from long low high changes = record {
       (before.0, before.1, torn_wider from long low high before.2);
 }
 
--- a write with its sync
+-- a write, followed by its sync
 pub write_then_sync_within : {at count : ℕ} {old between new : Content} → Tears at count old between → Settles between new → ChangesWithin at count old new
 write_then_sync_within {at} {count} tears settles = within_trans (write_within tears) (sync_within at count settles)
 
--- a write, and then a sync that fails
+-- a write, followed by a sync that fails
 pub write_then_failed_sync_within : {at count : ℕ} {old between new : Content} → Tears at count old between → Stays between new → ChangesWithin at count old new
 write_then_failed_sync_within {at} {count} tears stays = within_trans (write_within tears) (failed_sync_within at count stays)
 
--- what no bytes in the range can break stands in each image
+-- each image keeps what no bytes in the range can break
 pub within_leaves : {at count : ℕ} {old new : Content} {P Q : List ℕ → Type 0} → ChangesWithin at count old new → LeavesOnly old P → ((before after : List ℕ) → P before → Torn at count before after → Q after) → LeavesOnly new Q
 within_leaves changes leaves step = record {
   each = λ honest image left.
@@ -328,7 +328,7 @@ within_leaves changes leaves step = record {
       step from.0 image (leaves.each was from.0 from.1) from.2;
 }
 
--- and in what is shown
+-- what is shown keeps it too
 pub within_shows : {at count : ℕ} {old new : Content} {P Q : List ℕ → Type 0} → ChangesWithin at count old new → Shows old P → ((before after : List ℕ) → P before → Torn at count before after → Q after) → Shows new Q
 within_shows changes shows step = record {
   holds = λ honest.

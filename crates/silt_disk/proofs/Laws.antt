@@ -1,15 +1,15 @@
--- The laws of disks that a crate above cites, with their variables written out, so that a search finds them by name.
+-- The laws of disks that a crate above cites. Their variables are written out, so that a search finds them by name.
 use Rattle.std.proofs.Common.{◌≡◌, ℕ, ◌+◌, ◌≤◌, List, length, slice_range, IsTrue, sym, ◌∙◌, arith}
 use Rattle.silt_disk.specs.Disk.{Content, Torn, Left, LeavesOnly, Shows, Tears, Writes, Settles, Stays, Rests, Restarts, ChangesWithin, size, splice}
 use Rattle.silt_disk.proofs.Images.{torn_slice_before, torn_slice_after, left_at_rest, rests_leaves, write_shows, restart_shows, restart_leaves, weaker_leaves, weaker_shows, shown_left, within_refl, within_trans, within_wider, within_leaves, within_shows, write_within, sync_within, failed_sync_within, both_leaves, sized_leaves}
 
--- ---- the images that a stop may leave
+-- ---- the possible crash images
 
 -- what is shown is one of them
 pub shown_is_left : (content : Content) → Left content content.shown
 shown_is_left content = shown_left content
 
--- where nothing is pending it is the only one
+-- if nothing is pending, what is shown is the only one
 pub image_at_rest : (content : Content) (image : List ℕ) → Rests content → IsTrue content.honest → Left content image → image ≡ content.shown
 image_at_rest content image rests honest left = left_at_rest rests honest image left
 
@@ -35,7 +35,7 @@ leaves_sized content P leaves = sized_leaves leaves
 pub shows_what_it_leaves : (content : Content) (P : List ℕ → Type 0) → LeavesOnly content P → Shows content P
 shows_what_it_leaves content P leaves = record { holds = λ honest. leaves.each honest content.shown (shown_left content) }
 
--- where nothing is pending, what is shown speaks for each image
+-- if nothing is pending, what holds for the shown bytes holds for each image
 pub leaves_what_it_shows : (content : Content) (P : List ℕ → Type 0) → Rests content → Shows content P → LeavesOnly content P
 leaves_what_it_shows content P rests shows = rests_leaves rests shows
 
@@ -45,7 +45,7 @@ shows_weaker content P Q shows step = weaker_shows shows step
 
 -- ---- changes within a range
 
--- nothing is changed
+-- no call: nothing changes
 pub changes_nothing : (at count : ℕ) (content : Content) → ChangesWithin at count content content
 changes_nothing at count content = within_refl at count content
 
@@ -53,7 +53,7 @@ changes_nothing at count content = within_refl at count content
 pub write_changes : (at count : ℕ) (old new : Content) → Tears at count old new → ChangesWithin at count old new
 write_changes at count old new tears = write_within tears
 
--- neither does a sync, in any range
+-- a sync, Ok, changes no image outside any range
 pub sync_changes : (at count : ℕ) (old new : Content) → Settles old new → ChangesWithin at count old new
 sync_changes at count old new settles = sync_within at count settles
 
@@ -74,27 +74,27 @@ pub changes_joined : (at count at' count' from long : ℕ) (a b c : Content) →
 changes_joined at count at' count' from long a b c first second low high low' high' =
     within_trans (within_wider from long low high first) (within_wider from long low' high' second)
 
--- what no bytes in the range can break stays in each image, and in what is shown
+-- each image keeps what no bytes in the range can break, and so does what is shown
 pub changes_leave : (at count : ℕ) (old new : Content) (P Q : List ℕ → Type 0) → ChangesWithin at count old new → LeavesOnly old P → ((before after : List ℕ) → P before → Torn at count before after → Q after) → LeavesOnly new Q
 changes_leave at count old new P Q changes leaves step = within_leaves changes leaves step
 
--- and what is shown keeps it
+-- what is shown keeps it too
 pub changes_show : (at count : ℕ) (old new : Content) (P Q : List ℕ → Type 0) → ChangesWithin at count old new → Shows old P → ((before after : List ℕ) → P before → Torn at count before after → Q after) → Shows new Q
 changes_show at count old new P Q changes shows step = within_shows changes shows step
 
--- a part that ends before the range stays as it is in each image
+-- a part that ends before the range stays the same in each image
 pub part_before_stays : (at count from to : ℕ) (bytes : List ℕ) (old new : Content) → ChangesWithin at count old new → LeavesOnly old (λ image. slice_range image from to ≡ bytes) → to ≤ at → to ≤ size old → LeavesOnly new (λ image. slice_range image from to ≡ bytes)
 part_before_stays at count from to bytes old new changes leaves below fits =
     within_leaves changes (sized_leaves leaves) (λ before after had torn. torn_slice_before at count before after torn from to below (omega (arith, had.0)) ∙ had.1)
 
--- and one that begins after it
+-- so does a part that begins after it
 pub part_after_stays : (at count from to : ℕ) (bytes : List ℕ) (old new : Content) → ChangesWithin at count old new → LeavesOnly old (λ image. slice_range image from to ≡ bytes) → at + count ≤ from → to ≤ size old → LeavesOnly new (λ image. slice_range image from to ≡ bytes)
 part_after_stays at count from to bytes old new changes leaves above fits =
     within_leaves changes (sized_leaves leaves) (λ before after had torn. torn_slice_after at count before after torn from to above (omega (arith, had.0)) ∙ had.1)
 
--- ---- after a write that was answered Ok and settled
+-- ---- after a write that returned Ok, and its sync
 
--- each image has what the write gives to what was shown
+-- each image has what the write makes of the shown bytes
 pub written_leaves : (at : ℕ) (bytes : List ℕ) (old new : Content) (P Q : List ℕ → Type 0) → Writes at bytes old new → Rests new → Shows old P → ((before : List ℕ) → P before → Q (splice at bytes before)) → LeavesOnly new Q
 written_leaves at bytes old new P Q writes rests shows step = rests_leaves rests (write_shows writes shows step)
 
@@ -102,12 +102,12 @@ written_leaves at bytes old new P Q writes rests shows step = rests_leaves rests
 pub written_shows : (at : ℕ) (bytes : List ℕ) (old new : Content) (P Q : List ℕ → Type 0) → Writes at bytes old new → Shows old P → ((before : List ℕ) → P before → Q (splice at bytes before)) → Shows new Q
 written_shows at bytes old new P Q writes shows step = write_shows writes shows step
 
--- ---- after a stop
+-- ---- after a crash
 
--- what each image had stays in each image of a further stop
+-- what held for each image holds for each image of a further crash
 pub restart_leaves_each : (old new : Content) (P : List ℕ → Type 0) → Restarts old new → LeavesOnly old P → LeavesOnly new P
 restart_leaves_each old new P restarts leaves = restart_leaves restarts leaves
 
--- what each image had is shown
+-- what held for each image holds for what is shown
 pub restart_shows_each : (old new : Content) (P : List ℕ → Type 0) → Restarts old new → LeavesOnly old P → Shows new P
 restart_shows_each old new P restarts leaves = restart_shows restarts leaves

@@ -1,25 +1,25 @@
--- Where the regions of a device lie: apart from each other, and within its length.
+-- The regions of a device do not overlap, and lie within its length.
 use Rattle.std.proofs.Common.{ℕ, ◌+◌, ◌*◌, ◌^◌, ◌<◌, ◌≤◌, IsTrue, refl, arith}
 use Rattle.std.proofs.Math.Nat.{mul_comm}
 use Rattle.silt_disk.specs.Layout.{Shape, InLimits, RegionsApart, up, is_bucket_count, row_len, entry_len, log_size, hash_size, sorted_size, device_size}
 use Rattle.std.proofs.lemmas.Bool.Decides.{nat_tests}
 use Rattle.silt_disk.proofs.Products.{product_below}
 
--- rounding up gives no less
+-- rounding up never decreases
 pub up_least : (n : ℕ) → n ≤ up n
 up_least n = omega arith
 
--- and less than a sector more
+-- and adds less than a sector
 pub up_most : (n : ℕ) → up n ≤ n + 4095
 up_most n = omega arith
 
--- one more region of a size ends before or where a later one begins
+-- a region ends at or before the beginning of a later one of the same size
 pub next_region : (region later size : ℕ) → region < later → region * size + size ≤ later * size
 next_region region later size before =
     let rising : (region + 1) * size ≤ later * size = product_below (region + 1) size later size (omega arith) (omega arith) in
     omega (arith, rising, mul_comm (region + 1) size, mul_comm region size)
 
--- the regions lie apart and within the device
+-- the regions do not overlap, and lie within the device
 pub regions_apart : (s : Shape) → RegionsApart s
 regions_apart s = record {
   header = omega arith;

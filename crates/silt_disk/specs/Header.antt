@@ -1,4 +1,4 @@
--- The header of a device: its bytes, and the six numbers that it says.
+-- The header of a device: its bytes, and the six numbers that it holds.
 use Rattle.std.specs.Prelude.{◌≡◌, ◌⊎◌, ◌<◌, ◌*◌, ◌^◌, ℕ, ◌==◌, nat_le, Bool, ◌&&◌, ◌||◌, if◌then◌else◌, List, ◌++◌, length, slice_index, slice_range, codes}
 use Rattle.std.specs.Str.{bytes_eq}
 use Rattle.byteorder.specs.Endian.{big_bytes}
@@ -8,7 +8,7 @@ use Rattle.silt_disk.specs.Numbers.{number_at}
 use Rattle.silt_disk.specs.declared.header.Version.{Version}
 use Rattle.silt_disk.specs.declared.header.Version.TheVariants.{One, Two}
 
--- how many bytes of a device count as its header: the gate, the magic bytes, the version and the six numbers
+-- how many bytes of a device are its header: the gate, the magic bytes, the version and the six numbers
 abbrev pub header_len : ℕ
 header_len = 37
 
@@ -16,21 +16,21 @@ header_len = 37
 abbrev pub magic : List ℕ
 magic = codes "SILTFLSH"
 
--- what a new header has behind its gate: the magic bytes, the version 2 and the six numbers
+-- the bytes of a new header after its gate: the magic bytes, version 2 and the six numbers
 abbrev pub header_bytes : Shape → List ℕ
 header_bytes s =
     magic ++ big_bytes 4 2 ++ big_bytes 4 s.value_len ++ big_bytes 4 s.buckets ++ big_bytes 4 s.log_capacity
     ++ big_bytes 4 s.logs ++ big_bytes 4 s.hashes ++ big_bytes 4 s.sorted_capacity
 
--- the header's gate, and what follows it
+-- the header of an image: its gate, and what follows it
 abbrev pub header_of : List ℕ → List ℕ
 header_of image = slice_range image 0 header_len
 
--- the number of the version that a header has
+-- the version number in a header
 abbrev pub version_number : List ℕ → ℕ
 version_number header = number_at 4 9 header
 
--- the gate is open, and the magic bytes and the version 1 or 2 follow
+-- the gate is open, and the magic bytes and version 1 or 2 follow
 abbrev pub is_formatted : List ℕ → Bool
 is_formatted header =
     is_open (slice_index header 0) && bytes_eq (slice_range header 1 9) magic && ((version_number header == 1) || (version_number header == 2))
@@ -39,7 +39,7 @@ is_formatted header =
 abbrev pub version_of : List ℕ → Version
 version_of header = if version_number header == 2 then Two else One
 
--- a header is whole, its gate is open, and the magic bytes and the version 1 or 2 follow
+-- a header has its full length, its gate is open, and the magic bytes and version 1 or 2 follow
 pub record IsHeader (header : List ℕ) : Type 0 where
   pub whole : length header ≡ header_len
   pub gate : slice_index header 0 ≡ gate_open
@@ -68,7 +68,7 @@ is_in_limits s =
     && nat_le s.log_capacity (4 * s.buckets) && nat_le 2 s.logs && nat_le s.logs 8 && nat_le 1 s.hashes && nat_le s.hashes 16
     && nat_le 1 s.sorted_capacity && nat_le s.sorted_capacity most_sorted_capacity
 
--- numbers that the fields of a header hold
+-- the six numbers fit into the fields of a header
 pub record FitsHeader (s : Shape) : Type 0 where
   pub value_len : s.value_len < 256 ^ 4
   pub buckets : s.buckets < 256 ^ 4

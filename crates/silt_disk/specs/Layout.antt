@@ -2,7 +2,7 @@
 use Rattle.std.specs.Prelude.{◌≡◌, ℕ, ◌+◌, ◌-◌, ◌*◌, ◌/◌, ◌<◌, ◌≤◌, Bool, ◌||◌, ◌==◌, IsTrue}
 use Rattle.silt_frame.specs.Frame.{head_len, key_len}
 
--- the six numbers
+-- the six numbers of a store
 pub record Shape : Type 0 where
   pub value_len : ℕ
   pub buckets : ℕ
@@ -11,7 +11,7 @@ pub record Shape : Type 0 where
   pub hashes : ℕ
   pub sorted_capacity : ℕ
 
--- the length of a sector: each part of a device begins with one, and the header and each manifest slot are one
+-- the length of a sector: each part of a device begins at one, and the header and each manifest slot are one
 abbrev pub sector : ℕ
 sector = 4096
 
@@ -19,11 +19,11 @@ sector = 4096
 abbrev pub regions_at : ℕ
 regions_at = 12288
 
--- the most bytes of a value
+-- the greatest length of a value, in bytes
 abbrev pub most_value_len : ℕ
 most_value_len = 4096
 
--- the most entries of a sorted region
+-- the greatest number of entries of a sorted region
 abbrev pub most_sorted_capacity : ℕ
 most_sorted_capacity = 16777216
 
@@ -31,7 +31,7 @@ most_sorted_capacity = 16777216
 abbrev pub up : ℕ → ℕ
 up n = (n + (sector - 1)) / sector * sector
 
--- a power of two from 2 to 32,768
+-- whether n is a power of two from 2 to 32,768
 abbrev pub is_bucket_count : ℕ → Bool
 is_bucket_count n =
     n == 2 || n == 4 || n == 8 || n == 16 || n == 32 || n == 64 || n == 128 || n == 256 || n == 512
@@ -63,7 +63,7 @@ entry_len s = key_len + s.value_len
 abbrev pub slot_at : ℕ → ℕ
 slot_at slot = sector + sector * slot
 
--- the length of a log region: a gate for each row, then from the next sector on the rows' bodies
+-- the length of a log region: a gate for each row, then, from the next sector on, the rows' bodies
 abbrev pub log_size : Shape → ℕ
 log_size s = up s.log_capacity + up (s.log_capacity * row_len s)
 
@@ -83,7 +83,7 @@ gates_at s region = regions_at + region * log_size s
 abbrev pub bodies_at : Shape → ℕ → ℕ
 bodies_at s region = gates_at s region + up s.log_capacity
 
--- how many bytes of a log region count: its gates to the end of their sector, and its bodies
+-- how many bytes of a log region are in use: its gates to the end of their sector, and its bodies
 abbrev pub log_len : Shape → ℕ
 log_len s = up s.log_capacity + s.log_capacity * row_len s
 
@@ -107,8 +107,8 @@ sorted_at s region = regions_at + s.logs * log_size s + s.hashes * hash_size s +
 abbrev pub device_size : Shape → ℕ
 device_size s = sorted_at s 2
 
--- The regions lie apart and within the device: each part ends before or where the next one begins, and the last one where the
--- device ends. `later` is the number of a later region of the same kind, or the count of the regions.
+-- The regions do not overlap, and lie within the device: each part ends at or before the beginning of the next one, and the last
+-- one ends where the device ends. `later` is the number of a later region of the same kind, or the number of such regions.
 pub record RegionsApart (s : Shape) : Type 0 where
   pub header : sector ≤ slot_at 0
   pub slots : slot_at 0 + sector ≤ slot_at 1

@@ -12,15 +12,15 @@ pub const SECTOR: u64 = 4096;
 /// Where the log regions begin, behind the header and the two manifest slots.
 pub const REGIONS_AT: u64 = 12_288;
 
-/// One of a geometry's numbers is outside its limits.
+/// A number of a geometry is out of its limits.
 #[derive(Clone, Copy, Debug, PartialEq, Eq, Error)]
 #[error("a number is out of its limits")]
 pub struct BadGeometry;
 
-/// The six numbers of a store, each within its limits, and where its parts lie on a device.
+/// The six numbers of a store, each within its limits, and the offsets of its parts on a device.
 ///
-/// A device has a header of one sector (4,096 bytes), two manifest slots of one sector each, then the log regions, the hash
-/// regions and two sorted regions, each from the beginning of a sector on. All offsets and lengths are in bytes.
+/// A device has a header of one sector (4,096 bytes) and two manifest slots of one sector each. Then come the log regions, the
+/// hash regions and two sorted regions. Each region begins at a sector. All offsets and lengths are in bytes.
 #[derive(Clone, Copy, Debug, PartialEq, Eq)]
 pub struct Geometry {
     value_len: u32,
@@ -83,7 +83,7 @@ fn has_bucket_count(n: u32) -> bool
     )
 }
 
-/// Where a manifest slot begins, slot 0 or 1, in every geometry: behind the header, a sector each.
+/// Where a manifest slot begins, slot 0 or 1. It is the same in every geometry: the slots follow the header, one sector each.
 pub fn slot_start(slot: u32) -> u64
     requires { slot < 2 }
     ensures { result ≡ slot_at slot }
@@ -91,8 +91,8 @@ pub fn slot_start(slot: u32) -> u64
     SECTOR + SECTOR * u64::from(slot)
 }
 
-/// The law of the layout, for whoever reads or writes a device by its offsets: in every geometry the regions lie apart, and within
-/// the device.
+/// The law of the layout, for code that reads or writes a device by offsets: in every geometry the regions do not overlap, and
+/// they lie within the device.
 #[tactic(auto, using(crate::proofs::Regions::regions_apart))]
 pub fn regions_lie_apart()
     ensures { (shape : Shape) → RegionsApart shape }
@@ -101,8 +101,8 @@ pub fn regions_lie_apart()
 impl Geometry {
     ghost use Rattle.silt_disk.specs.Layout.{row_len, entry_len, slot_at, log_size, hash_size, sorted_size, gates_at, bodies_at, hash_at, sorted_at, device_size};
 
-    /// The geometry of these numbers, each within its limits: values of 1 to 4,096 bytes; a power of two of buckets, from 2 to
-    /// 32,768; logs of 1 row up to four a bucket; 2 to 8 log regions; 1 to 16 hash regions; 1 to 16,777,216 sorted entries.
+    /// Makes the geometry of these numbers. Each must be within its limits: values of 1 to 4,096 bytes; a power of two of buckets,
+    /// from 2 to 32,768; logs of 1 row up to four a bucket; 2 to 8 log regions; 1 to 16 hash regions; 1 to 16,777,216 sorted entries.
     pub fn new(
         value_len: u32,
         buckets: u32,
@@ -140,7 +140,7 @@ impl Geometry {
         })
     }
 
-    /// The length of a value.
+    /// The length of a value, in bytes.
     pub fn value_len(&self) -> u32
         ensures value { result ≡ self.now.value_len }
         ensures limits { InLimits self.now }
@@ -188,7 +188,7 @@ impl Geometry {
         self.sorted_capacity
     }
 
-    /// The length of a row: kind, key and value.
+    /// The length of a row, in bytes: kind, key and value.
     pub fn row_len(&self) -> usize
         ensures value { result ≡ row_len self.now }
         ensures limits { InLimits self.now }
@@ -196,7 +196,7 @@ impl Geometry {
         HEAD_LEN + self.value_len as usize
     }
 
-    /// The length of a sorted entry: key and value.
+    /// The length of a sorted entry, in bytes: key and value.
     pub fn entry_len(&self) -> usize
         ensures value { result ≡ entry_len self.now }
         ensures limits { InLimits self.now }
@@ -259,7 +259,7 @@ impl Geometry {
         slot_start(slot)
     }
 
-    /// Where the gates of a log region begin, a byte for each row.
+    /// Where the gates of a log region begin, one byte for each row.
     #[tactic(auto, using(crate::proofs::Products::product_below, crate::proofs::Regions::device_size_most))]
     pub fn gates_at(&self, region: u32) -> u64
         requires { region < self.now.logs }
@@ -302,7 +302,7 @@ impl Geometry {
         self.hashes_end() + u64::from(region) * self.sorted_size()
     }
 
-    /// The length of the device: it ends with the last sorted region.
+    /// The length of the device, in bytes: it ends with the last sorted region.
     pub fn size(&self) -> u64
         ensures value { result ≡ device_size self.now }
         ensures most { device_size self.now ≤ 2 ^ 39 }

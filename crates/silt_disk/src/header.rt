@@ -1,4 +1,4 @@
-// The header of a device, both ways.
+// The header of a device, encoded and decoded.
 ghost use Rattle.std.specs.Prelude.{◌≡◌, MatchResult};
 ghost use Rattle.silt_disk.specs.Header.{header_bytes, header_shape, is_formatted, version_number, version_of};
 ghost use Rattle.silt_disk.specs.Layout.{InLimits};
@@ -7,33 +7,33 @@ use crate::{BadGeometry, Geometry};
 use byteorder::{BigEndian, ByteOrder};
 use silt_frame::is_open;
 
-/// The bytes of a header that count: its gate, the magic bytes, the version and the six numbers.
+/// The length of a header's meaningful bytes: its gate, the magic bytes, the version and the six numbers.
 pub const HEADER_LEN: usize = 37;
 
-// What follows the header's gate first.
+// The magic bytes follow the header's gate.
 const MAGIC: [u8; 8] = *b"SILTFLSH";
 
-// The numbers of the versions: of the first layout, and of the one that is formatted today.
+// The version numbers: the first layout, and the one that `format` writes.
 const FIRST_VERSION: u32 = 1;
 const NEW_VERSION: u32 = 2;
 
-/// The version of a device's layout, by its header.
+/// The version of a device's layout, from its header.
 #[derive(Clone, Copy, Debug, PartialEq, Eq)]
 pub enum Version {
-    /// A manifest slot has digests or none: the device was formatted before there were digests.
+    /// A manifest slot may have no digests: the device was formatted by the first version.
     One,
     /// Every manifest slot has digests.
     Two,
 }
 
-// The number of the version that a header has.
+// The version number in a header.
 fn version_number(header: &[u8; HEADER_LEN]) -> u32
     ensures { result ≡ version_number header.now }
 {
     BigEndian::read_u32(&header[9..13])
 }
 
-/// Whether the gate is open, and the magic bytes and the version 1 or 2 follow.
+/// Whether the gate is open, and the magic bytes and version 1 or 2 follow.
 pub fn is_formatted(header: &[u8; HEADER_LEN]) -> bool
     ensures { result ≡ is_formatted header.now }
 {
@@ -42,7 +42,7 @@ pub fn is_formatted(header: &[u8; HEADER_LEN]) -> bool
         && matches!(version_number(header), FIRST_VERSION | NEW_VERSION)
 }
 
-/// The version of a header that is formatted.
+/// The version of a formatted header.
 pub fn version_of(header: &[u8; HEADER_LEN]) -> Version
     ensures { result ≡ version_of header.now }
 {
@@ -53,7 +53,7 @@ pub fn version_of(header: &[u8; HEADER_LEN]) -> Version
     }
 }
 
-/// The geometry of the six numbers of a header, or that one of them is out of its limits.
+/// The geometry from the six numbers of a header, or an error if one of them is out of its limits.
 pub fn geometry_of(header: &[u8; HEADER_LEN]) -> Result<Geometry, BadGeometry>
     ensures { MatchResult result (λ geometry. (geometry ≡ header_shape header.now) × InLimits (header_shape header.now)) (λ _. ¬ InLimits (header_shape header.now)) }
 {
@@ -67,7 +67,7 @@ pub fn geometry_of(header: &[u8; HEADER_LEN]) -> Result<Geometry, BadGeometry>
     )
 }
 
-/// What is written behind the gate of a new header: the magic bytes, the version 2 and the six numbers.
+/// The bytes after the gate of a new header: the magic bytes, version 2 and the six numbers.
 pub fn header_bytes(geometry: &Geometry) -> [u8; HEADER_LEN - 1]
     ensures { result ≡ header_bytes geometry.now }
 {

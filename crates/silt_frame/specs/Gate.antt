@@ -1,4 +1,4 @@
--- The bytes of gates.
+-- Gates, which are commit bytes.
 use Rattle.std.specs.Prelude.{ℕ, ◌==◌, Bool}
 
 -- the byte of an open gate
@@ -9,6 +9,6 @@ gate_open = 0xA7
 abbrev pub gate_closed : ℕ
 gate_closed = 0x00
 
--- a gate is open exactly where it has this byte
+-- a gate is open if and only if it has this byte
 abbrev pub is_open : ℕ → Bool
 is_open gate = gate == gate_open

@@ -15,15 +15,15 @@ pub record StoredRow : Type 0 where
   pub key : List ℕ
   pub value : List ℕ
 
--- the row that these bytes hold: the kind in one byte, the key, and the value
+-- the row that these bytes encode: the kind byte, the key, and the value
 abbrev pub row_of : List ℕ → StoredRow
 row_of body = record { kind = slice_index body 0; key = slice_range body 1 head_len; value = drop head_len body }
 
--- the row that is written for this kind, key and value
+-- the row that a write of this kind, key and value makes
 abbrev pub stored_row : Kind → Key → List ℕ → StoredRow
 stored_row kind key value = record { kind = kind_byte kind; key = key.0; value = value }
 
--- the kind byte stands for a put or a delete
+-- the kind byte is that of a put or a delete
 abbrev pub has_known_kind : StoredRow → Bool
 has_known_kind row = is_some (kind_of row.kind)
 
@@ -31,41 +31,41 @@ has_known_kind row = is_some (kind_of row.kind)
 abbrev pub is_put_row : StoredRow → Bool
 is_put_row row = row.kind == kind_byte Put
 
--- the put that the bytes of a sorted entry stand for
+-- the put that the bytes of a sorted entry represent
 abbrev pub entry_row : List ℕ → StoredRow
 entry_row bytes = record { kind = kind_byte Put; key = take key_len bytes; value = drop key_len bytes }
 
--- the bytes of a row as they lie on the device: the other way of `row_of`
+-- the bytes of a row on the device: the inverse of `row_of`
 abbrev pub row_bytes : StoredRow → List ℕ
 row_bytes row = row.kind ∷ (row.key ++ row.value)
 
--- the bytes of some rows, one after the other
+-- the bytes of some rows, concatenated
 abbrev pub rows_bytes : List StoredRow → List ℕ
 rows_bytes rows = flat_map row_bytes rows
 
--- the bytes of a put as a sorted entry: the other way of `entry_row`
+-- the bytes of a put as a sorted entry: the inverse of `entry_row`
 abbrev pub put_bytes : StoredRow → List ℕ
 put_bytes row = row.key ++ row.value
 
--- the bytes of some puts as sorted entries, one after the other
+-- the bytes of some puts as sorted entries, concatenated
 abbrev pub entries_bytes : List StoredRow → List ℕ
 entries_bytes rows = flat_map put_bytes rows
 
--- the bytes of the row and of the put that some bytes hold are those bytes
+-- decoding bytes to a row or a put and encoding it again gives the same bytes
 abbrev pub RowBytesLaw : Type 0
 RowBytesLaw =
     ((bytes : List ℕ) → head_len ≤ length bytes → row_bytes (row_of bytes) ≡ bytes)
     × ((bytes : List ℕ) → put_bytes (entry_row bytes) ≡ bytes)
 
--- the keys of some rows, in their order
+-- the keys of some rows, in order
 abbrev pub keys_of : List StoredRow → List (List ℕ)
 keys_of rows = map (λ row. row.key) rows
 
--- how many of the rows are puts
+-- the number of puts among the rows
 abbrev pub put_count : List StoredRow → ℕ
 put_count rows = count_by is_put_row rows
 
--- how many puts a row of this kind is: one or none
+-- the number of puts in one row of this kind: 1 for a put, 0 for a delete
 abbrev pub puts_of : Kind → ℕ
 puts_of Put = 1
 puts_of Delete = 0

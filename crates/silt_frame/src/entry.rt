@@ -4,7 +4,8 @@ ghost use Rattle.silt_frame.specs.Frame.{entry_bytes, entry_of, key_len, EntryLa
 
 use crate::{KEY_LEN, Key};
 
-/// Writes the bytes of an entry, the key and then the value, over a buffer of just that length: the other way of `entry_of`, for whoever
+/// Writes the bytes of an entry, the key and then the value, over a buffer of exactly that length. The inverse of `entry_of`, for
+/// code that makes a region's bytes outside of a store.
 /// makes a region's bytes outside of a store.
 pub fn write_entry(key: &Key, value: &[u8], out: &mut [u8])
     requires { length out.old ≡ key_len + length value.now }
@@ -26,7 +27,7 @@ pub fn entry_of(bytes: &[u8]) -> (Key, &[u8])
     (Key(key), value)
 }
 
-/// The law of entries: one reads back as what was written, and no other bytes read as the same. It is what the stores above may rely on.
+/// The law of entries: an entry reads back as it was written, and no other bytes read as the same entry. The crates above rely on it.
 pub fn entry_reads_back()
     ensures { EntryLaw }
 {}

@@ -1,8 +1,8 @@
-// The gate of a row, of a manifest slot or of the header: one byte.
+// A gate is a commit byte: a row, a manifest slot and the header each have one.
 ghost use Rattle.std.specs.Prelude.{◌≡◌, false, true};
 ghost use Rattle.silt_frame.specs.Gate.{gate_closed, gate_open, is_open};
 
-/// The byte of an open gate. Every other byte is that of a closed one.
+/// The byte of an open gate. With every other byte the gate is closed.
 pub const GATE_OPEN: u8 = 0xA7;
 
 /// The byte that closes a gate.
@@ -15,7 +15,7 @@ pub fn is_open(gate: u8) -> bool
     gate == GATE_OPEN
 }
 
-/// The bytes of the two gates: the one is open, and the other is not.
+/// `GATE_OPEN` is open, and `GATE_CLOSED` is not.
 pub fn gates_differ()
     ensures open { is_open gate_open ≡ true }
     ensures closed { is_open gate_closed ≡ false }

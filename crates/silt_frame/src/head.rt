@@ -4,7 +4,7 @@ ghost use Rattle.silt_frame.specs.Frame.{head_bytes, head_of, HeadLaw};
 
 use crate::{KEY_LEN, Key, Kind};
 
-/// How many bytes the head of a row has.
+/// The length of a row's head, in bytes.
 pub const HEAD_LEN: usize = 1 + KEY_LEN;
 
 /// The head of a row: the kind in one byte, then the key.
@@ -17,7 +17,7 @@ pub fn head_bytes(kind: Kind, key: &Key) -> [u8; HEAD_LEN]
     bytes
 }
 
-/// What the head of a row says: `None` exactly for a kind byte other than 1 and 2.
+/// Decodes the head of a row. Returns `None` exactly if the kind byte is neither 1 nor 2.
 pub fn head_of(bytes: &[u8; HEAD_LEN]) -> Option<(Kind, Key)>
     ensures { result ≡ head_of bytes.now }
 {
@@ -27,7 +27,7 @@ pub fn head_of(bytes: &[u8; HEAD_LEN]) -> Option<(Kind, Key)>
     Some((kind, Key(key)))
 }
 
-/// The law of heads: one reads back as what was written, and no other bytes read as the same. It is what the stores above may rely on.
+/// The law of heads: a head reads back as it was written, and no other bytes read as the same head. The crates above rely on it.
 pub fn head_reads_back()
     ensures { HeadLaw }
 {}

@@ -1,11 +1,11 @@
-// Keys, and what a row says of one.
+// Keys, and what a row does to its key.
 ghost use Rattle.std.specs.Prelude.{◌≡◌};
 ghost use Rattle.silt_frame.specs.Frame.{is_put, kind_byte, kind_of};
 
-/// How many bytes a key has.
+/// The length of a key, in bytes.
 pub const KEY_LEN: usize = 20;
 
-/// A key: 20 bytes, in the order of bytes.
+/// A key: 20 bytes, ordered bytewise.
 #[derive(Clone, Copy, Debug, PartialEq, Eq, PartialOrd, Ord)]
 pub struct Key(pub [u8; 20]);
 
@@ -27,7 +27,7 @@ impl Kind {
         self == Kind::Put
     }
 
-    /// The byte that stands for it: 1 for a put, 2 for a delete.
+    /// The kind as a byte: 1 for a put, 2 for a delete.
     pub fn byte(self) -> u8
         ensures { result ≡ kind_byte self }
     {
@@ -37,7 +37,7 @@ impl Kind {
         }
     }
 
-    /// The kind that a byte stands for: `None` exactly for a byte other than 1 and 2.
+    /// The kind of a byte: `None` exactly for a byte other than 1 and 2.
     pub fn from_byte(byte: u8) -> Option<Kind>
         ensures { result ≡ kind_of byte }
     {
@@ -48,7 +48,7 @@ impl Kind {
         }
     }
 
-    /// How many puts a row of this kind is: one or none.
+    /// The number of puts in one row of this kind: 1 for a put, 0 for a delete.
     pub fn puts(self) -> u32
         ensures value { result ≡ puts_of self }
         ensures most { result ≤ 1 }

@@ -2,7 +2,7 @@
 //!
 //! A row of a log or of a hash region is a head and a value. The head is 21 bytes: the kind (1 for a put,
 //! 2 for a delete) and the 20 bytes of the key. An entry of a sorted region is a key and a value.
-//! A gate is one byte, and open exactly where it is 0xA7.
+//! A gate is a commit byte. It is open if and only if it is 0xA7.
 #![tactic(auto)]
 
 mod digest;

@@ -3,7 +3,7 @@ ghost use Rattle.std.specs.Prelude.{◌≡◌, ℕ, List};
 
 use std::marker::Model;
 
-/// A value: as many bytes as all values of a store have.
+/// A value. All values of a store have the same length.
 #[derive(Debug, Drop)]
 pub struct Value {
     bytes: Vec<u8>,
@@ -16,7 +16,7 @@ impl Model for Value {
 }
 
 impl Value {
-    /// The value of these bytes.
+    /// Makes a value of these bytes.
     pub fn new(bytes: Vec<u8>) -> Self
         ensures { result ≡ bytes.items }
     {
