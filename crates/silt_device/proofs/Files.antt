@@ -8,11 +8,11 @@ use Rattle.silt_assumption.specs.Files.{system_content, system_unpromised, unpro
 use Rattle.silt_device.specs.System.{Resizes}
 use Rattle.silt_device.specs.File.{HasLength, kept_content}
 
--- a file that behaves is what its disk stands for
+-- if the file behaves, the disk's content is the file's
 pub kept_same : (file : Content) (len : ℕ) → IsTrue file.honest → kept_content file len ≡ file
 kept_same file len honest = cond-true file.honest file (unpromised len) honest
 
--- a file that does not gives the length alone
+-- if it does not, the content promises the length alone
 pub kept_none : (file : Content) (len : ℕ) → file.honest ≡ false → kept_content file len ≡ unpromised len
 kept_none file len none = cond-false file.honest file (unpromised len) none
 
@@ -23,13 +23,13 @@ kept_size file len has = elim (cases_Bool file.honest) [
   | inr not ↦ let zero : ℕ = 0 in ap size (kept_none file len not) ∙ length-replicate len zero
 ]
 
--- nothing holds of what promises nothing
+-- from a content that promises nothing, anything follows
 none : {A : Type 0} → IsTrue false → A
 none h = absurd (cc)
 
 -- ---- a file of the system
 
--- what holds of what promises nothing holds of two of them
+-- what holds for two contents that promise nothing holds for two files of the system
 known : (P : Content → Content → Type 0) (old new : File) → P (unpromised 0) (unpromised 0) → P (system_content old) (system_content new)
 known P old new holds = subst (λ (c : Content). P c (system_content new)) (sym (system_unpromised old)) (subst (P (unpromised 0)) (sym (system_unpromised new)) holds)
 
@@ -48,6 +48,6 @@ system_writes at bytes old new = known (Writes at bytes) old new (record { hones
 pub system_resizes : (len : ℕ) (old new : File) → Resizes len (system_content old) (system_content new)
 system_resizes len old new = known (Resizes len) old new (record { honest = refl; shown = λ h. none h })
 
--- for the crate that makes the calls it does not behave
+-- for the crate that makes the calls a file of the system promises nothing
 pub system_none : {A : Type 0} (file : File) → IsTrue (system_content file).honest → A
 system_none {A} file honest = none (ap (λ (c : Content). c.honest) (sym (system_unpromised file)) ∙ honest)

@@ -8,7 +8,7 @@ use Rattle.std.proofs.lemmas.List.{ext_get_or}
 use Rattle.silt_device.specs.Marks.{LieWithin}
 use Rattle.silt_disk.proofs.Images.{torn_splice, splice_byte}
 
--- what is shown is settled at each place that is not marked
+-- at each unmarked place the shown byte is settled
 abbrev pub Agrees : List ℕ → List ℕ → List Bool → Type 0
 Agrees shown settled pending = (place : ℕ) → get_or pending place false ≡ false → get_or shown place 0 ≡ get_or settled place 0
 
@@ -16,7 +16,7 @@ Agrees shown settled pending = (place : ℕ) → get_or pending place false ≡ 
 outside_range : (at count place : ℕ) → within at count place ≡ false → (place < at → ⊥) → at + count ≤ place
 outside_range at count place outside high = grind (arith, nat_tests)
 
--- neither of two facts of which none holds
+-- if `a or b` is false, both are false
 or_false : (a b : Bool) → (a || b) ≡ false → (a ≡ false) × (b ≡ false)
 or_false true b is = absurd (cc)
 or_false false b is = (refl, is)
@@ -31,12 +31,12 @@ agrees_written at bytes shown written settled pending marked fits is marks agree
       | inr high ↦ torn.after place (outside_range at (length bytes) place both.1 (λ low. absurd (omega arith))) ∙ agrees place both.0
     ]
 
--- the same of lists that are known to be these
+-- the same for lists that equal these
 pub agrees_at : {shown written : List ℕ} (settled : List ℕ) {pending marked : List Bool} → shown ≡ written → pending ≡ marked → Agrees written settled marked → Agrees shown settled pending
 agrees_at settled same_shown same_pending agrees place unmarked =
     ap (λ (l : List ℕ). get_or l place 0) same_shown ∙ agrees place (sym (ap (λ (l : List Bool). get_or l place false) same_pending) ∙ unmarked)
 
--- ---- the range that has what is marked
+-- ---- the range that contains the marked places
 
 -- a place before a range is not in it
 before_range : (at count place : ℕ) → place < at → within at count place ≡ false
@@ -50,11 +50,11 @@ after_range at count place high = grind (arith, nat_tests)
 in_range : (from to place : ℕ) → from ≤ place → place < to → within from (to - from) place ≡ true
 in_range from to place low high = grind (arith, nat_tests)
 
--- where a place lies that is in a range
+-- the bounds of a place in a range
 range_bounds : (at count place : ℕ) → within at count place ≡ true → (at ≤ place) × (place < at + count)
 range_bounds at count place inside = (grind (arith, nat_tests), grind (arith, nat_tests))
 
--- one of two facts of which one holds
+-- if `a or b` is true, one of them is true
 or_true : (a b : Bool) → (a || b) ≡ true → (a ≡ true) ⊎ (b ≡ true)
 or_true true b is = inl refl
 or_true false b is = inr is
@@ -81,14 +81,14 @@ marked_more at count from to low high old new lie low_from low_at high_to high_e
     ] in
     record { order = omega arith; fits = fits; low = λ place is. (bounds place is).0; high = λ place is. (bounds place is).1 }
 
--- outside of it what is shown is settled
+-- outside of the range the shown bytes are settled
 agrees_outside : (from to : ℕ) (shown settled : List ℕ) (pending : List Bool) → LieWithin from to pending → Agrees shown settled pending → (place : ℕ) → within from (to - from) place ≡ false → get_or shown place 0 ≡ get_or settled place 0
 agrees_outside from to shown settled pending lie agrees place outside = elim (cases_Bool (get_or pending place false)) [
   | inl there ↦ absurd (let inside = in_range from to place (lie.low place there) (lie.high place there) in cc)
   | inr none ↦ agrees place none
 ]
 
--- so all is settled where that range is
+-- so settling that range settles everything
 pub settled_all : (from to : ℕ) (settled shown : List ℕ) (pending : List Bool) → length shown ≡ length settled → length pending ≡ length shown → LieWithin from to pending → Agrees shown settled pending → splice from (slice_range shown from to) settled ≡ shown
 settled_all from to settled shown pending sizes pending_size lie agrees =
     let bytes = slice_range shown from to in

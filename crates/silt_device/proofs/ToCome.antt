@@ -1,4 +1,4 @@
--- The stops of the lives to come.
+-- The stops of later lives.
 use Rattle.std.proofs.Common.{◌≡◌, ℕ, ◌+◌, List, [], ◌∷◌, Some, None, drop, sym, ◌∙◌, ap, inl, inr}
 use Rattle.std.specs.List.{slice_get}
 use Rattle.std.proofs.lemmas.List.{drop_more, drop_all}
@@ -6,12 +6,12 @@ use Rattle.std.proofs.lemmas.Option.{slice_get_within, slice_get_cases, get_or_f
 use Rattle.silt_device.specs.Lives.{Plan, next_life, life_of, endless}
 use Rattle.silt_device.specs.declared.life.Stop.{Stop}
 
--- where a stop is to come, the next life is its own
+-- if there is a next stop, the next life has it
 pub next_stop : (stops : List Stop) (next : ℕ) (stop : Stop) → slice_get stops next ≡ Some stop → next_life (drop next stops) ≡ record { life = life_of stop; to_come = drop (next + 1) stops }
 next_stop stops next stop there =
     ap next_life (drop_more stops next stop (slice_get_within stops next stop there) ∙ ap (λ (s : Stop). s ∷ drop (next + 1) stops) (get_or_from_slice_get stops next stop stop there))
 
--- where none is, it is an endless one
+-- if there is none, the next life has no crash
 pub no_stop : (stops : List Stop) (next : ℕ) → slice_get stops next ≡ None → next_life (drop next stops) ≡ record { life = endless; to_come = drop next stops }
 no_stop stops next none =
     elim (slice_get_cases stops next).1 [

@@ -1,4 +1,4 @@
--- What calls do to a disk with bytes that wait to be written, by what they do to its inner disk.
+-- What calls do to a disk with waiting bytes, from what they do to its inner disk.
 use Rattle.std.proofs.Common.{◌≡◌, ℕ, ◌+◌, ◌-◌, ◌≤◌, ◌<◌, ◌||◌, Bool, true, false, List, length, get_or, slice_range, IsTrue, refl, sym, ap, ◌∙◌, subst, inl, inr, arith}
 use Rattle.std.proofs.lemmas.List.{ext_get_or, get_or_past, get_or_append_left, get_or-append_right, length-append}
 use Rattle.std.proofs.lemmas.List.Edits.{length-between, get_or-between}
@@ -14,7 +14,7 @@ use Rattle.silt_disk.proofs.Images.{torn_splice, splice_byte}
 
 -- ---- one call after another
 
--- nothing is changed, and then nothing is
+-- two calls that change nothing
 pub stays_twice : (a b c : Content) → Stays a b → Stays b c → Stays a c
 stays_twice a b c first second = record {
   honest = second.honest ∙ first.honest;
@@ -23,7 +23,7 @@ stays_twice a b c first second = record {
   pending = λ honest place. second.pending (first.honest ∙ honest) place ∙ first.pending honest place;
 }
 
--- and then a write
+-- a call that changes nothing, and then a write
 pub stays_tears : (at count : ℕ) (a b c : Content) → Stays a b → Tears at count b c → Tears at count a c
 stays_tears at count a b c stays tears = record {
   honest = tears.honest ∙ stays.honest;
@@ -32,14 +32,14 @@ stays_tears at count a b c stays tears = record {
   pending = λ honest place. tears.pending (stays.honest ∙ honest) place ∙ ap (λ (p : Bool). p || within at count place) (stays.pending honest place);
 }
 
--- a write that is answered Ok
+-- a call that changes nothing, and then a write that returns Ok
 pub stays_writes : (at : ℕ) (bytes : List ℕ) (a b c : Content) → Stays a b → Writes at bytes b c → Writes at bytes a c
 stays_writes at bytes a b c stays writes = record {
   honest = writes.honest ∙ stays.honest;
   shown = λ honest. writes.shown (stays.honest ∙ honest) ∙ ap (splice at bytes) (stays.shown honest);
 }
 
--- and then a sync
+-- a call that changes nothing, and then a sync
 pub stays_settles : (a b c : Content) → Stays a b → Settles b c → Settles a c
 stays_settles a b c stays settles = record {
   honest = settles.honest ∙ stays.honest;
@@ -47,17 +47,17 @@ stays_settles a b c stays settles = record {
   rests = settles.rests;
 }
 
--- ---- images with bytes that wait
+-- ---- images with waiting bytes
 
--- where none waits, none waits anywhere
+-- if the buffer is empty, no byte waits at any place
 none_waits : (g : BufferedBytes) (place : ℕ) → length g.bytes ≡ 0 → waits g place ≡ false
 none_waits g place none = grind (arith, nat_tests)
 
--- and the image is as it is
+-- and the image is unchanged
 pub none_over : (g : BufferedBytes) (image : List ℕ) → length g.bytes ≡ 0 → image_over g image ≡ image
 none_over g image none = ext_get_or 0 _ _ (length-image_over g image) (λ place inside. byte_elsewhere g image place (none_waits g place none))
 
--- the byte of a place stays where the image's does
+-- the byte of a place stays if the image's does
 byte_stays : (g : BufferedBytes) (old new : List ℕ) (place : ℕ) → length new ≡ length old → get_or new place 0 ≡ get_or old place 0 → get_or (image_over g new) place 0 ≡ get_or (image_over g old) place 0
 byte_stays g old new place size same = elim (cases_Bool (waits g place)) [
   | inl there ↦ elim (cases_lt place (length old)) [
@@ -67,15 +67,15 @@ byte_stays g old new place size same = elim (cases_Bool (waits g place)) [
   | inr elsewhere ↦ byte_elsewhere g new place elsewhere ∙ same ∙ sym (byte_elsewhere g old place elsewhere)
 ]
 
--- a place where none waits lies before or behind those that do
+-- a place where no byte waits lies before or after the waiting bytes
 apart : (g : BufferedBytes) (place : ℕ) → waits g place ≡ false → (place < g.at → ⊥) → g.at + length g.bytes ≤ place
 apart g place elsewhere high = grind (arith, nat_tests)
 
--- a place where one waits lies in their range
+-- a place where a byte waits lies in their range
 within_range : (g : BufferedBytes) (place : ℕ) → waits g place ≡ true → (g.at ≤ place) × (place < g.at + length g.bytes)
 within_range g place there = grind (arith, nat_tests)
 
--- an image torn in their range alone shows no difference
+-- an image torn only in their range shows no difference
 pub torn_under : (g : BufferedBytes) (old new : List ℕ) → Torn g.at (length g.bytes) old new → image_over g new ≡ image_over g old
 torn_under g old new torn = ext_get_or 0 _ _ (length-image_over g new ∙ torn.size ∙ sym (length-image_over g old)) (λ place inside. elim (cases_Bool (waits g place)) [
   | inl there ↦
@@ -86,7 +86,7 @@ torn_under g old new torn = ext_get_or 0 _ _ (length-image_over g new ∙ torn.s
   ])
 ])
 
--- once they are written the image has them
+-- once they are written, the image has them
 pub written_over : (g : BufferedBytes) (image : List ℕ) → g.at + length g.bytes ≤ length image → image_over g image ≡ splice g.at g.bytes image
 written_over g image fits =
     let torn = torn_splice g.at g.bytes image fits in
@@ -126,13 +126,13 @@ or_assoc : (a b c : Bool) → (a || (b || c)) ≡ ((a || b) || c)
 or_assoc true b c = refl
 or_assoc false b c = refl
 
--- one more of what there is
+-- a fact added twice
 or_again : (a b : Bool) → ((a || b) || b) ≡ (a || b)
 or_again true b = refl
 or_again false true = refl
 or_again false false = refl
 
--- or none
+-- a false fact added
 or_none : (a b : Bool) → b ≡ false → (a || b) ≡ a
 or_none true b none = refl
 or_none false b none = none
@@ -152,14 +152,14 @@ tears_over g at count old new tears = record {
   pending = λ honest place. ap (λ (p : Bool). p || waits g place) (tears.pending honest place) ∙ or_swap (old.pending place) (within at count place) (waits g place);
 }
 
--- a write that is answered Ok, where none waits
+-- a write that returns Ok, if no byte waits
 pub writes_over : (g : BufferedBytes) (at : ℕ) (bytes : List ℕ) (old new : Content) → length g.bytes ≡ 0 → Writes at bytes old new → Writes at bytes (content_over g old) (content_over g new)
 writes_over g at bytes old new none writes = record {
   honest = writes.honest;
   shown = λ honest. none_over g new.shown none ∙ writes.shown honest ∙ ap (splice at bytes) (sym (none_over g old.shown none));
 }
 
--- a sync that is answered Ok, where none waits
+-- a sync that returns Ok, if no byte waits
 pub settles_over : (g : BufferedBytes) (old new : Content) → length g.bytes ≡ 0 → Settles old new → Settles (content_over g old) (content_over g new)
 settles_over g old new none settles = record {
   honest = settles.honest;
@@ -170,7 +170,7 @@ settles_over g old new none settles = record {
   };
 }
 
--- a write of those that wait, answered Ok: none waits any longer, and nothing is changed
+-- a write of the waiting bytes returns Ok: no byte waits any longer, and nothing changes
 pub written_out : (g : BufferedBytes) (old new : Content) → g.at + length g.bytes ≤ size old → Tears g.at (length g.bytes) old new → Writes g.at g.bytes old new → Stays (content_over g old) (content_over (emptied g) new)
 written_out g old new fits tears writes = record {
   honest = tears.honest;
@@ -179,7 +179,7 @@ written_out g old new fits tears writes = record {
   pending = λ honest place. or_none (new.pending place) (waits (emptied g) place) (none_waits (emptied g) place refl) ∙ tears.pending honest place;
 }
 
--- answered Err: they wait still, and nothing is changed
+-- it returns Err: the bytes still wait, and nothing changes
 pub not_written_out : (g : BufferedBytes) (old new : Content) → Tears g.at (length g.bytes) old new → Stays (content_over g old) (content_over g new)
 not_written_out g old new tears = record {
   honest = tears.honest;
@@ -188,7 +188,7 @@ not_written_out g old new tears = record {
   pending = λ honest place. ap (λ (p : Bool). p || waits g place) (tears.pending honest place) ∙ or_again (old.pending place) (waits g place);
 }
 
--- a stop: those that wait are gone
+-- a crash: the waiting bytes are lost
 pub restarts_over : (g : BufferedBytes) (old new : Content) → Restarts old new → Restarts (content_over g old) (content_over (emptied g) new)
 restarts_over g old new restarts =
     let now = none_over (emptied g) new.shown refl in
@@ -206,9 +206,9 @@ restarts_over g old new restarts =
       };
     }
 
--- ---- more bytes that wait
+-- ---- more waiting bytes
 
--- they continue those that wait, where any does
+-- they continue the waiting bytes, if there are any
 continues : (g : BufferedBytes) (from count : ℕ) → IsTrue (takes g from count) → 0 < length g.bytes → from ≡ g.at + length g.bytes
 continues g from count room some = grind (arith, nat_tests)
 
@@ -220,13 +220,13 @@ within_both at n from m place next = elim (cases_lt 0 n) [
 ]
 
 module _ (g : BufferedBytes) (from : ℕ) (bytes image : List ℕ) (room : IsTrue (takes g from (length bytes))) (fits : from + length bytes ≤ length image) where
-  -- a place waits that waited before, or is one of theirs
+  -- a byte waits at a place if it did before, or if the place is one of the new bytes'
   waits_grown : (place : ℕ) → waits (grown g from bytes) place ≡ (waits g place || within from (length bytes) place)
   waits_grown place =
       ap (λ (n : ℕ). within (from - length g.bytes) n place) (length-append g.bytes bytes)
       ∙ within_both g.at (length g.bytes) from (length bytes) place (continues g from (length bytes) room)
 
-  -- outside of theirs nothing is changed
+  -- outside of the new bytes nothing changes
   byte_grown : (place : ℕ) → within from (length bytes) place ≡ false → get_or (image_over (grown g from bytes) image) place 0 ≡ get_or (image_over g image) place 0
   byte_grown place outside = elim (cases_Bool (waits g place)) [
     | inl there ↦
@@ -246,7 +246,7 @@ module _ (g : BufferedBytes) (from : ℕ) (bytes image : List ℕ) (room : IsTru
         ∙ sym (byte_elsewhere g image place elsewhere)
   ]
 
-  -- theirs are there
+  -- the new bytes are there
   byte_new : (place : ℕ) → place < length bytes → get_or (image_over (grown g from bytes) image) (from + place) 0 ≡ get_or bytes place 0
   byte_new place inside =
       let begin : (0 < length g.bytes → from ≡ g.at + length g.bytes) = continues g from (length bytes) room in
@@ -256,7 +256,7 @@ module _ (g : BufferedBytes) (from : ℕ) (bytes image : List ℕ) (room : IsTru
       ∙ get_or-append_right g.bytes bytes (length g.bytes) (from + place - (from - length g.bytes)) 0 refl (omega (arith, before))
       ∙ ap (λ (n : ℕ). get_or bytes n 0) (omega (arith, before))
 
-  -- the image is torn in their range
+  -- the image is torn in the range of the new bytes
   torn_grown : Torn from (length bytes) (image_over g image) (image_over (grown g from bytes) image)
   torn_grown = record {
     size = length-image_over (grown g from bytes) image ∙ sym (length-image_over g image);
@@ -264,7 +264,7 @@ module _ (g : BufferedBytes) (from : ℕ) (bytes image : List ℕ) (room : IsTru
     after = λ place high. byte_grown place (grind (arith, nat_tests));
   }
 
-  -- it has them in their places
+  -- it has the new bytes in their places
   written_grown : image_over (grown g from bytes) image ≡ splice from bytes (image_over g image)
   written_grown =
       let in_over : from + length bytes ≤ length (image_over g image) = omega (arith, length-image_over g image) in
@@ -281,7 +281,7 @@ module _ (g : BufferedBytes) (from : ℕ) (bytes image : List ℕ) (room : IsTru
         ]
       ])
 
--- more bytes wait: the disk as after a write
+-- more bytes wait: the disk is as after a write
 pub grown_tears : (g : BufferedBytes) (from : ℕ) (bytes : List ℕ) (inner : Content) → IsTrue (takes g from (length bytes)) → from + length bytes ≤ size inner → Tears from (length bytes) (content_over g inner) (content_over (grown g from bytes) inner)
 grown_tears g from bytes inner room fits = record {
   honest = refl;
@@ -290,7 +290,7 @@ grown_tears g from bytes inner room fits = record {
   pending = λ honest place. ap (λ (p : Bool). inner.pending place || p) (waits_grown g from bytes inner.shown room fits place) ∙ or_assoc (inner.pending place) (waits g place) (within from (length bytes) place);
 }
 
--- that is answered Ok
+-- and as after one that returns Ok
 pub grown_writes : (g : BufferedBytes) (from : ℕ) (bytes : List ℕ) (inner : Content) → IsTrue (takes g from (length bytes)) → from + length bytes ≤ size inner → Writes from bytes (content_over g inner) (content_over (grown g from bytes) inner)
 grown_writes g from bytes inner room fits = record {
   honest = refl;
@@ -299,7 +299,7 @@ grown_writes g from bytes inner room fits = record {
 
 -- ---- reads
 
--- the bytes of an image, with those that wait in their places, are the bytes of the image with those that wait
+-- the waiting bytes laid over a part of the image give the same part of the image with the waiting bytes
 pub laid_shows : (g : BufferedBytes) (at : ℕ) (image old new : List ℕ) → LaidOver g at old new → at + length old ≤ length image → old ≡ slice_range image at (at + length old) → new ≡ slice_range (image_over g image) at (at + length old)
 laid_shows g at image old new laid fits is =
     let in_over : at + length old ≤ length (image_over g image) = omega (arith, length-image_over g image) in
@@ -314,7 +314,7 @@ laid_shows g at image old new laid fits is =
           ∙ sym (cond-false _ _ _ elsewhere ∙ ap (λ (l : List ℕ). get_or l place 0) is ∙ get_or-between image at (at + length old) place 0 ahead)
     ]))
 
--- whatever the image, where all of them wait
+-- if all bytes of the range wait, the image does not matter
 pub laid_whole : (g : BufferedBytes) (at : ℕ) (image old new : List ℕ) → LaidOver g at old new → at + length old ≤ length image → IsTrue (holds g at (length old)) → new ≡ slice_range (image_over g image) at (at + length old)
 laid_whole g at image old new laid fits all =
     let in_over : at + length old ≤ length (image_over g image) = omega (arith, length-image_over g image) in
@@ -324,14 +324,14 @@ laid_whole g at image old new laid fits all =
     laid.byte place near ∙ cond-true _ _ _ there
     ∙ sym (get_or-between (image_over g image) at (at + length old) place 0 (omega arith) ∙ byte_there g image (at + place) there (omega arith)))
 
--- those that wait lie apart from the bytes
+-- the waiting bytes do not overlap the range
 pub laid_nowhere : (g : BufferedBytes) (at : ℕ) (old : List ℕ) → ((place : ℕ) → place < length old → waits g (at + place) ≡ false) → LaidOver g at old old
 laid_nowhere g at old none = record {
   size = refl;
   byte = λ place inside. sym (cond-false _ _ _ (none place inside));
 }
 
--- or some of them stand there
+-- or some of them do
 module _ (g : BufferedBytes) (at start end : ℕ) (old part : List ℕ) (a : g.at ≤ start) (b : at ≤ start) (c : start ≤ end) (d : end ≤ g.at + length g.bytes) (e : end ≤ at + length old)
     (first : g.at < start → start ≡ at) (last : end < g.at + length g.bytes → end ≡ at + length old) (is : part ≡ slice_range g.bytes (start - g.at) (end - g.at)) where
   part_size : length part ≡ end - start
@@ -373,40 +373,40 @@ module _ (g : BufferedBytes) (at start end : ℕ) (old part : List ℕ) (a : g.a
 
 -- ---- sizes and places
 
--- bytes that wait change no size
+-- waiting bytes change no size
 pub size_over : (g : BufferedBytes) (inner : Content) → size (content_over g inner) ≡ size inner
 size_over g inner = length-image_over g inner.shown
 
--- more bytes that wait have their places where the last of them has
+-- more waiting bytes lie within the disk if the last of them does
 pub grown_places : (g : BufferedBytes) (from : ℕ) (bytes : List ℕ) (size : ℕ) → IsTrue (takes g from (length bytes)) → from + length bytes ≤ size → (grown g from bytes).at + length (grown g from bytes).bytes ≤ size
 grown_places g from bytes size room fits =
     let before : length g.bytes ≤ from = elim (cases_lt 0 (length g.bytes)) [ inl some ↦ omega (arith, continues g from (length bytes) room some) | inr none ↦ omega arith ] in
     omega (arith, before, length-append g.bytes bytes)
 
--- a range of the disk is one of its inner disk
+-- a range of the disk is a range of its inner disk
 pub fits_inner : (g : BufferedBytes) (inner : Content) (end : ℕ) → end ≤ size (content_over g inner) → end ≤ size inner
 fits_inner g inner end fits = omega (arith, fits, size_over g inner)
 
--- ---- exits of a call, where the bytes that wait and their place were asked for
+-- ---- exits of a call, by the waiting bytes and their place
 
--- those that wait were written
+-- the waiting bytes were written
 pub out_at : (g : BufferedBytes) (at : ℕ) (bytes : List ℕ) (old new : Content) → at ≡ g.at → bytes ≡ g.bytes → g.at + length g.bytes ≤ size old → Tears at (length bytes) old new → Writes at bytes old new → Stays (content_over g old) (content_over (emptied g) new)
 out_at g at bytes old new same_at same_bytes fits tears writes =
     written_out g old new fits (subst (λ (n : ℕ). Tears n (length g.bytes) old new) same_at (subst (λ (l : List ℕ). Tears at (length l) old new) same_bytes tears))
     (subst (λ (n : ℕ). Writes n g.bytes old new) same_at (subst (λ (l : List ℕ). Writes at l old new) same_bytes writes))
 
--- or they were not
+-- they were not written
 pub not_out_at : (g : BufferedBytes) (at : ℕ) (bytes : List ℕ) (old new : Content) → at ≡ g.at → bytes ≡ g.bytes → Tears at (length bytes) old new → Stays (content_over g old) (content_over g new)
 not_out_at g at bytes old new same_at same_bytes tears =
     not_written_out g old new (subst (λ (n : ℕ). Tears n (length g.bytes) old new) same_at (subst (λ (l : List ℕ). Tears at (length l) old new) same_bytes tears))
 
 -- ---- a disk in a file
 
--- the length of a disk that was opened or made is that of the disk that buffers for it
+-- a disk that was opened or made, and the disk that buffers for it, have the same length
 opened_size : {F : Type 0} (content : F → Content) (len : ℕ) (disk : BufferedState (FileState F)) → IsOpened content len disk.inner → size (buffered_content (random_access_content content) disk) ≡ len
 opened_size content len disk opened = size_over disk.buffer (random_access_content content disk.inner) ∙ opened.bytes
 
--- where there is one
+-- if there is one
 pub opened_sizes : {E : Type 0} (len : ℕ) (answer : Result FileDisk E) → IfOk answer (λ disk. IsOpened system_content len disk.inner.inner) → IfOk answer (λ disk. size (buffered_content file_content disk.inner) ≡ len)
 opened_sizes len (Ok disk) opened = opened_size system_content len disk.inner opened
 opened_sizes len (Err error) opened = opened

@@ -1,4 +1,4 @@
--- What a disk that buffers adjacent writes stands for.
+-- The content of a disk that buffers adjacent writes.
 use Rattle.std.specs.Prelude.{◌≡◌, ℕ, ◌+◌, ◌-◌, ◌≤◌, ◌<◌, ◌==◌, ◌&&◌, ◌||◌, leb, Bool, true, false, cond, List, [], ◌++◌, length, get_or, map, refl}
 use Rattle.std.specs.List.{range_with_len}
 use Rattle.std.proofs.Common.{sym, ◌∙◌, inl, inr, arith}
@@ -9,52 +9,52 @@ use Rattle.silt_disk.specs.Disk.{Content, GaveAny, size, within}
 use Rattle.silt_disk.specs.declared.disk.Call.{Call}
 use Rattle.silt_device.specs.declared.buffered_disk.BufferFault.{BufferFault}
 
--- Adjacent bytes that wait to be written from a place on, and how many there is room for. Where there are none the place says nothing.
+-- Adjacent bytes that wait to be written, where they begin, and the room of the buffer. If there are none, the place means nothing.
 pub record BufferedBytes : Type 0 where
   pub at : ℕ
   pub bytes : List ℕ
   pub room : ℕ
 
--- a disk with the bytes that wait, and how many of its writes and syncs have failed
+-- a disk with the waiting bytes, and how many of its writes and syncs have failed
 pub record BufferedState (D : Type 0) : Type 0 where
   pub inner : D
   pub buffer : BufferedBytes
   pub failures : ℕ
 
--- the bytes that wait have their places on the inner disk
+-- the waiting bytes lie within the inner disk
 abbrev pub HasPlaces : {D : Type 0} → (D → Content) → D → BufferedBytes → Type 0
 HasPlaces content inner g = g.at + length g.bytes ≤ size (content inner)
 
--- whether this many bytes from this place on continue those that wait, and find room
+-- whether this many bytes from this place on continue the waiting ones, and there is room
 abbrev pub takes : BufferedBytes → ℕ → ℕ → Bool
 takes g at count = (length g.bytes == 0 || at == g.at + length g.bytes) && leb (length g.bytes + count) g.room
 
--- with these bytes behind those that wait
+-- the buffer with these bytes appended
 abbrev pub grown : BufferedBytes → ℕ → List ℕ → BufferedBytes
 grown g at bytes = record { at = at - length g.bytes; bytes = g.bytes ++ bytes; room = g.room }
 
--- with none that wait
+-- the buffer without bytes
 abbrev pub emptied : BufferedBytes → BufferedBytes
 emptied g = record g { bytes = [] }
 
--- whether a place is one of the bytes that wait
+-- whether the byte of a place is waiting
 abbrev pub waits : BufferedBytes → ℕ → Bool
 waits g place = within g.at (length g.bytes) place
 
--- the byte at a place: one that waits, or the image's own
+-- the byte at a place: the waiting one, if there is one, and else the image's
 abbrev pub byte_over : BufferedBytes → List ℕ → ℕ → ℕ
 byte_over g image place = cond (waits g place) (get_or g.bytes (place - g.at) 0) (get_or image place 0)
 
--- an image with the bytes that wait in their places
+-- an image with the waiting bytes laid over it
 pub image_over : BufferedBytes → List ℕ → List ℕ
 image_over g image = map (byte_over g image) (range_with_len 0 (length image))
 
--- it is as long
+-- it has the same length
 pub length-image_over : (g : BufferedBytes) (image : List ℕ) → length (image_over g image) ≡ length image
 unfolding image_over
 length-image_over g image = length-map-range_with_len (byte_over g image) 0 (length image)
 
--- the image's own byte stands where none waits
+-- at a place where no byte waits it has the image's byte
 pub byte_elsewhere : (g : BufferedBytes) (image : List ℕ) (place : ℕ) → waits g place ≡ false → get_or (image_over g image) place 0 ≡ get_or image place 0
 unfolding image_over
 byte_elsewhere g image place none = elim (cases_lt place (length image)) [
@@ -62,17 +62,17 @@ byte_elsewhere g image place none = elim (cases_lt place (length image)) [
   | inr past ↦ get_or_past _ place 0 (omega (arith, length-image_over g image)) ∙ sym (get_or_past image place 0 past)
 ]
 
--- a byte that waits stands in its place
+-- at a place where a byte waits it has that byte
 pub byte_there : (g : BufferedBytes) (image : List ℕ) (place : ℕ) → waits g place ≡ true → place < length image → get_or (image_over g image) place 0 ≡ get_or g.bytes (place - g.at) 0
 unfolding image_over
 byte_there g image place there inside = get_or-map-range_with_len (byte_over g image) 0 (length image) place place 0 inside (omega arith) ∙ cond-true _ _ _ there
 
--- neither of two facts of which none holds
+-- if `a or b` is false, both are false
 pub neither : (a b : Bool) → (a || b) ≡ false → (a ≡ false) × (b ≡ false)
 neither true b is = absurd (cc)
 neither false b is = (refl, is)
 
--- What is shown is what the inner disk shows, with the bytes that wait in their places, and these places are pending as well.
+-- What is shown is what the inner disk shows, with the waiting bytes laid over it. Their places are pending too.
 abbrev pub content_over : BufferedBytes → Content → Content
 content_over g inner = record {
   honest = inner.honest;
@@ -85,20 +85,20 @@ content_over g inner = record {
       byte_elsewhere g inner.shown place both.1 ∙ inner.agrees place both.0;
 }
 
--- the content of a disk that buffers, by that of its inner disk
+-- the content of a disk that buffers, from that of its inner disk
 abbrev pub buffered_content : {D : Type 0} → (D → Content) → BufferedState D → Content
 buffered_content content disk = content_over disk.buffer (content disk.inner)
 
--- the fault carries its call, its range, the number of failures that the disk then had, and a fault that the inner disk gave
+-- the fault has its call, its range, the disk's number of failures at that time, and a fault that the inner disk gave
 abbrev pub buffered_gave : {D F : Type 0} → (D → F → Call → ℕ → ℕ → Type 0) → BufferedState D → BufferFault F → Call → ℕ → ℕ → Type 0
 buffered_gave {D} gave disk fault call at count =
     (fault.call ≡ call) × (fault.at ≡ at) × (fault.count ≡ count) × (fault.failures ≡ disk.failures) × ((inner : D) × GaveAny gave inner fault.inner)
 
--- whether all of this many bytes from this place on wait
+-- whether the buffer has all of this many bytes from this place on
 abbrev pub holds : BufferedBytes → ℕ → ℕ → Bool
 holds g at count = leb g.at at && leb (at + count) (g.at + length g.bytes)
 
--- bytes of an image from this place on, with those that wait in their places
+-- bytes of an image from this place on, with the waiting bytes laid over them
 pub record LaidOver (g : BufferedBytes) (at : ℕ) (old new : List ℕ) : Type 0 where
   pub size : length new ≡ length old
   pub byte : (place : ℕ) → place < length old → get_or new place 0 ≡ cond (waits g (at + place)) (get_or g.bytes (at + place - g.at) 0) (get_or old place 0)

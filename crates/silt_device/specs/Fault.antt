@@ -1,4 +1,4 @@
--- What a disk with a fault stands for.
+-- The content of a disk with a fault.
 use Rattle.std.specs.Prelude.{◌≡◌, ℕ, ◌-◌, Bool, true, false, if◌then◌else◌}
 use Rattle.silt_disk.specs.Disk.{Content}
 use Rattle.silt_device.specs.Memory.{memory_content, memory_gave}
@@ -7,11 +7,11 @@ use Rattle.silt_disk.specs.declared.disk.Call.TheVariants.{Read, Write, Sync}
 use Rattle.silt_device.specs.declared.fault.FaultDisk.{FaultDisk}
 use Rattle.silt_device.specs.declared.memory.MemFault.{MemFault}
 
--- what the disk in memory shows, has settled and has pending
+-- what the disk in memory has as shown, settled and pending
 abbrev pub fault_content : FaultDisk → Content
 fault_content disk = memory_content disk.disk
 
--- its count of failures, the named call's own among them
+-- its count of failures, with the chosen call's own
 abbrev pub fault_failures : FaultDisk → ℕ
 fault_failures disk = disk.disk.failures
 
@@ -19,7 +19,7 @@ fault_failures disk = disk.disk.failures
 abbrev pub fault_gave : FaultDisk → MemFault → Call → ℕ → ℕ → Type 0
 fault_gave disk = memory_gave disk.disk
 
--- the next call, of this kind, is the one that is to fail
+-- the next call, of this kind, is the one that fails
 pub record IsNamed (call : Call) (disk : FaultDisk) : Type 0 where
   pub kind : disk.call ≡ call
   pub number : disk.left ≡ 1
@@ -31,6 +31,6 @@ is_kind Write Write = true
 is_kind Sync Sync = true
 is_kind _ _ = false
 
--- the calls up to the one that is to fail, after one more of this kind
+-- the number of calls up to the one that fails, after one more of this kind
 abbrev pub left_after : Call → FaultDisk → ℕ
 left_after call disk = if is_kind disk.call call then disk.left - 1 else disk.left

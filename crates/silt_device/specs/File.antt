@@ -1,4 +1,4 @@
--- What a disk in a file stands for.
+-- The content of a disk in a file.
 use Rattle.std.specs.Prelude.{◌≡◌, ℕ, IsTrue, cond}
 use Rattle.std.specs.Fs.{metadata_len}
 use Rattle.std.specs.declared.fs.attrs.Metadata.{Metadata}
@@ -15,15 +15,15 @@ pub record FileState (F : Type 0) : Type 0 where
   pub len : ℕ
   pub failures : ℕ
 
--- the content of a file, where the file behaves; else one of this length that promises nothing
+-- the content of a file, if the file behaves; else a content of this length that promises nothing
 abbrev pub kept_content : Content → ℕ → Content
 kept_content file len = cond file.honest file (unpromised len)
 
--- the content of a disk in a file, by that of the file
+-- the content of a disk in a file, from that of the file
 abbrev pub random_access_content : {F : Type 0} → (F → Content) → FileState F → Content
 random_access_content content disk = kept_content (content disk.file) disk.len
 
--- the content of a disk in a file of the system: nothing shows whether that behaves
+-- the content of a disk in a file of the system: nothing shows whether the file behaves
 abbrev pub file_content : FileState File → Content
 file_content = random_access_content system_content
 
@@ -31,17 +31,17 @@ file_content = random_access_content system_content
 abbrev pub HasLength : Content → ℕ → Type 0
 HasLength file len = IsTrue file.honest → size file ≡ len
 
--- the fault carries its call, its range and the number of failures that the disk then had
+-- the fault has its call, its range and the disk's number of failures at that time
 abbrev pub file_gave : {F : Type 0} → FileState F → FileFault → Call → ℕ → ℕ → Type 0
 file_gave disk fault call at count = (fault.call ≡ call) × (fault.at ≡ at) × (fault.count ≡ count) × (fault.failures ≡ disk.failures)
 
--- a disk of this length, which stands for what its file does if that behaves, and on which no call has failed
+-- a disk of this length, whose content is its file's if the file behaves, and on which no call has failed
 pub record IsOpened {F : Type 0} (content : F → Content) (count : ℕ) (disk : FileState F) : Type 0 where
   pub bytes : size (random_access_content content disk) ≡ count
   pub same : IsTrue (content disk.file).honest → random_access_content content disk ≡ content disk.file
   pub failures : disk.failures ≡ 0
 
--- a disk in a file that was found, then locked, then synced, of the length that the system told of it: what the file held is settled
+-- a disk in a file that was found, locked and synced, of the length that the system reported: the file's bytes are settled
 pub record IsOpenedFile {F : Type 0} (content : F → Content) (found : F → Type 0) (locked : F → F → Type 0) (measured : F → Metadata → Type 0) (synced : F → F → Type 0)
     (disk : FileState F) : Type 0 where
   pub first : F
@@ -54,7 +54,7 @@ pub record IsOpenedFile {F : Type 0} (content : F → Content) (found : F → Ty
   pub told : measured disk.file metadata
   pub opened : IsOpened content (metadata_len metadata) disk
 
--- a disk in a file that was opened and then locked, of the length that the system told of it: it has what the file held
+-- a disk in a file that was opened and then locked, of the length that the system reported: it has the file's bytes
 pub record IsFoundFile {F : Type 0} (content : F → Content) (found : F → Type 0) (locked : F → F → Type 0) (measured : F → Metadata → Type 0)
     (disk : FileState F) : Type 0 where
   pub first : F
@@ -65,7 +65,7 @@ pub record IsFoundFile {F : Type 0} (content : F → Content) (found : F → Typ
   pub told : measured disk.file metadata
   pub opened : IsOpened content (metadata_len metadata) disk
 
--- a file that was given this length and then synced: what it held up to this length is settled, with zeros behind it
+-- a file that was given this length and then synced: its old bytes up to this length are settled, followed by zeros
 pub record IsResizedFile {F : Type 0} (content : F → Content) (resized : F → ℕ → F → Type 0) (synced : F → F → Type 0) (old : F) (len : ℕ) (new : F) : Type 0 where
   pub mid : F
   pub sized : resized old len mid
@@ -73,7 +73,7 @@ pub record IsResizedFile {F : Type 0} (content : F → Content) (resized : F →
   pub cut : Resizes len (content old) (content mid)
   pub holds : Settles (content mid) (content new)
 
--- a file that was made, then locked, then given this length, and then synced: what it held up to this length is settled, with zeros behind it
+-- a file that was made, locked, given this length and synced: its old bytes up to this length are settled, followed by zeros
 pub record IsMadeFile {F : Type 0} (content : F → Content) (made : F → Type 0) (locked : F → F → Type 0) (resized : F → ℕ → F → Type 0) (synced : F → F → Type 0)
     (len : ℕ) (file : F) : Type 0 where
   pub first : F

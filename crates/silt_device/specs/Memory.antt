@@ -1,4 +1,4 @@
--- What a disk in memory stands for.
+-- The content of a disk in memory.
 use Rattle.std.specs.Prelude.{◌≡◌, ℕ, List, [], true, false, get_or}
 use Rattle.silt_disk.specs.Disk.{Content, Rests}
 use Rattle.silt_device.specs.Lives.{filled, next_life}
@@ -6,7 +6,7 @@ use Rattle.silt_disk.specs.declared.disk.Call.{Call}
 use Rattle.silt_device.specs.declared.memory.MemDisk.{MemDisk}
 use Rattle.silt_device.specs.declared.memory.MemFault.{MemFault}
 
--- what is shown, settled and pending: a disk in memory is honest
+-- what is shown, settled and pending: a disk in memory is honest, it obeys the crash model
 abbrev pub memory_content : MemDisk → Content
 memory_content disk = record {
   honest = true;
@@ -17,17 +17,17 @@ memory_content disk = record {
   agrees = disk.agrees;
 }
 
--- the fault carries its call, its range and the number of failures that the disk then had
+-- the fault has its call, its range and the disk's number of failures at that time
 abbrev pub memory_gave : MemDisk → MemFault → Call → ℕ → ℕ → Type 0
 memory_gave disk fault call at count = (fault.call ≡ call) × (fault.at ≡ at) × (fault.count ≡ count) × (fault.failures ≡ disk.failures)
 
--- it shows these bytes, nothing is pending, no call has failed, and none will
+-- the disk shows these bytes, nothing is pending, no call has failed, and none will
 pub record IsFresh (bytes : List ℕ) (disk : MemDisk) : Type 0 where
   pub shown : disk.shown.items ≡ bytes
   pub rests : Rests (memory_content disk)
   pub failures : disk.failures ≡ 0
   pub lives : disk.lives ≡ next_life []
 
--- this image has, at each place that is pending on the disk, what the fill of its life leaves there
+-- this image has, at each pending place of the disk, the byte that the fill of its life leaves there
 pub record IsFilled (disk : MemDisk) (image : List ℕ) : Type 0 where
   pub place : (place : ℕ) → get_or disk.pending place false ≡ true → get_or image place 0 ≡ filled disk.lives.life.fill place (get_or disk.shown.items place 0) (get_or disk.settled.items place 0)

@@ -1,8 +1,8 @@
--- What calls of the system do to the bytes of a file that behaves.
+-- What system calls do to the bytes of a file that behaves.
 use Rattle.std.specs.Prelude.{◌≡◌, ℕ, ◌-◌, IsTrue, List, ◌++◌, length, take, replicate}
 use Rattle.silt_disk.specs.Disk.{Content}
 
--- an image that was cut off at this length, or that grew up to it by zeros
+-- an image, truncated to this length or extended to it with zeros
 abbrev pub with_length : ℕ → List ℕ → List ℕ
 with_length len image = take len image ++ replicate (len - length image) 0
 

@@ -9,11 +9,11 @@ use std::error::Error;
 use std::fmt;
 use std::marker::Model;
 
-// How many bytes a disk buffers where nothing else is asked for.
+// The default size of a disk's buffer, in bytes.
 const ROOM: usize = 65_536;
 
-/// The fault of one call of a disk that buffers: the call, its range, how many calls had failed then, and the fault of the inner
-/// disk, whose call may have been a write of bytes that were buffered before. Only a disk makes one, and nothing copies it.
+/// The fault of a disk that buffers: the call, its range, how many calls had failed then, and the fault of the inner disk. The
+/// inner call may have been a write of bytes that were buffered before. Only a disk makes a fault, and nothing copies one.
 #[derive(Debug, Drop)]
 pub struct BufferFault<F> {
     call: Call,
@@ -32,7 +32,7 @@ impl<F> BufferFault<F> {
     }
 }
 
-// Counts a failed write or sync, modulo 2^64, and makes its fault of the inner disk's.
+// Counts a failed write or sync, modulo 2^64, and wraps the fault of the inner disk.
 fn count_fault<F>(failures: &mut u64, call: Call, at: u64, count: u64, inner: F) -> BufferFault<F>
     ensures counted { failures.new ≡ (failures.old + 1) % 2 ^ 64 }
     ensures fault { result ≡ record { call = call; at = at; count = count; failures = failures.new; inner = inner } }
@@ -56,16 +56,16 @@ impl<F: fmt::Display> fmt::Display for BufferFault<F> {
 
 impl<F: Error> Error for BufferFault<F> {}
 
-/// A disk that buffers adjacent writes, and gives them to another disk by one write.
+/// A disk that buffers adjacent writes, and passes them to another disk as one write.
 ///
-/// A write that continues the bytes that were buffered, and finds room, is buffered too. Before any other write, and before a sync,
-/// they are written to the inner disk. A write that finds no room at all goes there by itself. A read shows the buffered bytes over
-/// the inner disk's, and asks that one for nothing where they are all that is wanted. Where they cannot be written they stay
-/// buffered, so that what is shown stays, and the call is told the fault. The bytes of a write that is told so are given to the
-/// inner disk all the same, so that their range is pending there.
+/// A write is buffered if it continues the buffered bytes and there is room. Before any other write, and before a sync, the
+/// buffered bytes go to the inner disk. A write that is longer than the buffer goes there by itself. A read lays the buffered bytes
+/// over those of the inner disk. It does not read the inner disk if the buffer has the whole range. If the buffered bytes cannot
+/// be written, they stay buffered, so what is shown stays, and the call returns the fault. The bytes of a write that fails so go
+/// to the inner disk all the same, so that their range is pending there.
 ///
-/// It is proved that this is a disk as good as the inner one: what is shown, what a stop may leave, and what is counted follow from
-/// the inner disk's contract alone, honest or not.
+/// It is proved that this is a disk as good as the inner one. What is shown, the possible crash images and the counts follow from
+/// the inner disk's contract alone, whether that disk obeys the crash model or not.
 #[derive(Drop)]
 pub struct BufferedDisk<D: Disk> {
     inner: D,
@@ -88,18 +88,18 @@ impl<D: Disk> BufferedDisk<D> {
     ///
     /// # Errors
     ///
-    /// Where the bytes find no memory.
+    /// Out of memory: the buffer could not be allocated.
     pub fn new(alloc: Global, inner: D) -> Result<Self, AllocError>
         ensures { IfOk result (λ disk. disk ≡ record { inner = inner; buffer = record { at = 0; bytes = []; room = 65536 }; failures = 0 }) }
     {
         BufferedDisk::with_room(alloc, inner, ROOM)
     }
 
-    /// Buffers writes for this disk, up to this many bytes at a time. With room for none each write goes to the disk by itself.
+    /// Buffers writes for this disk, up to this many bytes at a time. With a room of 0 each write goes to the disk by itself.
     ///
     /// # Errors
     ///
-    /// Where the bytes find no memory.
+    /// Out of memory: the buffer could not be allocated.
     pub fn with_room(alloc: Global, inner: D, room: usize) -> Result<Self, AllocError>
         ensures { IfOk result (λ disk. disk ≡ record { inner = inner; buffer = record { at = 0; bytes = []; room = room }; failures = 0 }) }
     {
@@ -110,7 +110,7 @@ impl<D: Disk> BufferedDisk<D> {
         })
     }
 
-    /// The inner disk, as it stands. What was buffered and not written is gone.
+    /// The inner disk, as it is now. Bytes that are still buffered are lost.
     pub fn into_inner(self) -> D
         ensures { result ≡ self.inner }
     {
@@ -172,7 +172,7 @@ impl<D: Disk> Disk for BufferedDisk<D> {
             };
         }
         if let Err(inner) = self.inner.write(self.buffer.at(), self.buffer.bytes()) {
-            // The bytes are given to the inner disk all the same, so that their range is pending there.
+            // The bytes go to the inner disk all the same, so that their range is pending there.
             let _ = self.inner.write(at, buf);
             return Err(count_fault(&mut self.failures, Call::Write, at, count, inner));
         }

@@ -1,4 +1,4 @@
-// A disk in memory on which one named call fails, and which then goes on.
+// A disk in memory on which one chosen call fails. It then goes on working.
 ghost use Rattle.std.specs.Prelude.{◌≡◌, ◌+◌, ◌≤◌, ◌%◌, ◌^◌, ◌↔◌, IsTrue, length};
 
 use crate::memory::{MemDisk, MemFault};
@@ -6,16 +6,16 @@ use silt_disk::{Call, Disk};
 use std::sync::atomic::{AtomicU64, Ordering};
 
 /// A disk in memory on which one call fails, given by its kind and its number among the calls of that kind, counted from 1.
-/// A write that fails so shows nothing new. All other calls are those of the disk in memory. Each write and sync, the one that fails
-/// among them, is one call of the life of the disk in memory.
+/// A write that fails so shows nothing new. All other calls are those of the disk in memory. Each write and sync counts as one
+/// call of the disk's life, also the one that fails.
 ///
-/// Which read fails no contract says: a read takes the disk by `&`, so the count of reads is an atomic, whose value no clause
-/// can name.
+/// No contract says which read fails. A read takes the disk by `&`, so the count of reads is an atomic, and no clause can name
+/// its value.
 #[derive(Drop)]
 pub struct FaultDisk {
     disk: MemDisk,
     call: Call,
-    // The writes or syncs up to the one that fails, that one included: 0 once it has failed.
+    // The number of writes or syncs up to and including the one that fails: 0 once it has failed.
     left: u64,
     number: u64,
     reads: AtomicU64,
@@ -25,7 +25,7 @@ impl FaultDisk {
     ghost use Rattle.silt_device.specs.Memory.{memory_content};
     ghost use Rattle.silt_device.specs.Fault.{fault_content, IsNamed, left_after};
 
-    /// On this disk the `number`-th call of this kind fails, counted from 1. 0 is no call's number.
+    /// Wraps a disk so that the `number`-th call of this kind fails, counted from 1. With 0 no call fails.
     pub fn new(disk: MemDisk, call: Call, number: u64) -> Self
         ensures content { fault_content result ≡ memory_content disk }
         ensures failures { result.disk.failures ≡ disk.failures }
@@ -41,14 +41,14 @@ impl FaultDisk {
         }
     }
 
-    /// The disk in memory, as it stands: for tests that restart it after the fault.
+    /// The disk in memory, as it is now: for tests that restart it after the fault.
     pub fn into_disk(self) -> MemDisk
         ensures { result ≡ self.disk }
     {
         self.disk
     }
 
-    // Counts a write or sync, and says whether it is the one that is to fail.
+    // Counts a write or sync, and returns whether it is the one that fails.
     fn is_named(&mut self, call: Call) -> bool
         ensures disk { self.new.disk ≡ self.old.disk }
         ensures call { self.new.call ≡ self.old.call }

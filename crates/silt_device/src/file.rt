@@ -8,8 +8,8 @@ use std::fs::{File, Metadata};
 use std::marker::Model;
 use std::{fmt, io};
 
-/// The fault of one device call: the call, its range, how many calls had failed then, and the error that the system gave. Only a
-/// disk makes one, and nothing copies it.
+/// The fault of one device call: the call, its range, how many calls had failed then, and the error of the system. Only a disk
+/// makes a fault, and nothing copies one.
 #[derive(Debug, Drop)]
 pub struct FileFault {
     call: Call,
@@ -20,7 +20,7 @@ pub struct FileFault {
 }
 
 impl FileFault {
-    /// The call that failed.
+    /// The call that failed, and where its range begins.
     pub fn call(&self) -> CallAt
         ensures { result ≡ record { call = self.now.call; at = self.now.at } }
     {
@@ -30,7 +30,7 @@ impl FileFault {
         }
     }
 
-    /// The error that the system gave.
+    /// The error of the system.
     pub fn error(&self) -> io::Error
         ensures { result ≡ self.now.error }
     {
@@ -38,7 +38,7 @@ impl FileFault {
     }
 }
 
-// What failed, and the system's words for it.
+// The call that failed, and the system's text for the error.
 impl fmt::Display for FileFault {
     fn fmt<W: fmt::Write>(&self, f: &mut fmt::Formatter<W>) -> fmt::Result {
         let (call, error) = (self.call(), self.error);
@@ -48,13 +48,13 @@ impl fmt::Display for FileFault {
 
 impl Error for FileFault {}
 
-/// A disk in a file, whose length never changes.
+/// A disk in a file. Its length never changes.
 ///
-/// It is as honest as its file behaves: where the file behaves, its content is the file's, and each clause of `Disk` follows. Whatever the
-/// file does, the length stays, the clauses name the calls of the system that were made, with their places and bytes, failed writes and
-/// syncs are counted, and each fault is this disk's own, for the call that failed. That a file of the system behaves is an assumption. It is
-/// not so where the system, after a failed sync, goes on to show bytes that it will never write. The lock is an advisory one: it keeps
-/// out whoever asks for it, as each disk here does, and nobody else.
+/// It obeys the crash model if its file does: then its content is the file's, and each clause of `Disk` follows. Whatever the
+/// file does, the length stays, and the clauses name the system calls that were made, with their offsets and bytes. Failed writes
+/// and syncs are counted, and each fault is this disk's own, for the call that failed. That a file of the system behaves is an
+/// assumption. It is false if the system, after a failed sync, still shows bytes that it will never write. The lock is advisory:
+/// it keeps out only those who ask for it, as each disk here does.
 #[derive(Drop)]
 pub struct RandomAccessDisk<F: RandomAccessFile = File> {
     file: F,
@@ -76,13 +76,13 @@ impl<F: RandomAccessFile> RandomAccessDisk<F> {
     ghost use Rattle.std.specs.Fs.{metadata_len};
     ghost use Rattle.silt_device.specs.File.{file_gave, HasLength, IsOpened, IsOpenedFile, IsFoundFile, IsMadeFile, IsResizedFile};
 
-    /// Opens the file that is there, or makes an empty one, and locks it. Nothing in it is changed: the disk has what the file holds,
-    /// at its length. The folder that it is in is synced; where the path is a link, that of the link. The lock goes with the disk:
-    /// until the disk is dropped no other open of the file gets one.
+    /// Opens the file, or makes an empty one, and locks it. Nothing in the file changes: the disk has its bytes and its length. The
+    /// folder of the file is synced; if the path is a link, the folder of the link. The disk holds the lock: until the disk is
+    /// dropped no other open of the file gets one.
     ///
     /// # Errors
     ///
-    /// The error of the system, where the file cannot be opened, locked or measured, or its folder cannot be synced.
+    /// The error of the system, if the file cannot be opened, locked or measured, or its folder cannot be synced.
     pub fn find<R: FileSystem<File = F>>(system: &R, path: &str) -> io::Result<RandomAccessDisk<F>>
         ensures found { IfOk result (IsFoundFile F.content (R.made system.now path.now) (R.locked system.now) F.measured) }
         ensures folder { OnOk result (R.folder_synced system.now path.now) }
@@ -93,11 +93,11 @@ impl<F: RandomAccessFile> RandomAccessDisk<F> {
         Ok(RandomAccessDisk::measured(found, &metadata))
     }
 
-    /// Gives the file exactly this length in bytes, and syncs it. What it held up to this length stays, and what is new are zeros.
+    /// Gives the file exactly this length in bytes, and syncs it. Its bytes up to this length stay, and new bytes are zeros.
     ///
     /// # Errors
     ///
-    /// The error of the system, where the file cannot be sized or synced. It may then have its old length or the new one. A length of
+    /// The error of the system, if the file cannot be resized or synced. It may then have its old length or the new one. A length of
     /// 2^63 or more is always an error.
     pub fn resize(self, len: u64) -> io::Result<RandomAccessDisk<F>>
         ensures opened { IfOk result (IsOpened F.content len) }
@@ -109,12 +109,12 @@ impl<F: RandomAccessFile> RandomAccessDisk<F> {
         Ok(RandomAccessDisk::of_len(file, len))
     }
 
-    /// Makes the file, or takes the one that is there, locks it, gives it exactly this length in bytes, and syncs it and the folder
-    /// that it is in. What a file that is there held up to this length stays, and what is new are zeros.
+    /// Opens the file, or makes it, and locks it. Then gives it exactly this length in bytes, and syncs it and its folder. Bytes of an
+    /// existing file up to this length stay, and new bytes are zeros.
     ///
     /// # Errors
     ///
-    /// Those of `find`, and then nothing in the file is changed, and those of `resize`.
+    /// Those of `find`, and then nothing in the file has changed, and those of `resize`.
     pub fn create<R: FileSystem<File = F>>(
         system: &R,
         path: &str,
@@ -128,12 +128,12 @@ impl<F: RandomAccessFile> RandomAccessDisk<F> {
         RandomAccessDisk::find(system, path)?.resize(len)
     }
 
-    /// Opens a file that is there, locks it, and syncs it, at the length that it then has: what an earlier process wrote and did
-    /// not sync is then settled. The lock goes with the disk.
+    /// Opens an existing file, locks it, and syncs it, at its present length. The sync settles what an earlier process wrote and did
+    /// not sync. The disk holds the lock until it is dropped.
     ///
     /// # Errors
     ///
-    /// The error of the system, where the file is not there, another open of it has a lock, or it cannot be read, written, measured
+    /// The error of the system, if the file does not exist, another open of it has a lock, or it cannot be read, written, measured
     /// or synced.
     pub fn open<R: FileSystem<File = F>>(system: &R, path: &str) -> io::Result<RandomAccessDisk<F>>
         ensures opened { IfOk result (IsOpenedFile F.content (R.opened system.now path.now) (R.locked system.now) F.measured F.synced) }
@@ -144,12 +144,12 @@ impl<F: RandomAccessFile> RandomAccessDisk<F> {
         Ok(RandomAccessDisk::measured(found, &metadata))
     }
 
-    /// Opens a file that is there, to read alone, at the length that it has. It shares the file's lock with others that do so, and
-    /// syncs nothing. Each write on the disk is an error.
+    /// Opens an existing file to read only, at its present length. It shares the file's lock with others that do so, and syncs
+    /// nothing. Each write on the disk is an error.
     ///
     /// # Errors
     ///
-    /// The error of the system, where the file is not there, another open of it has the exclusive lock, or it cannot be read or
+    /// The error of the system, if the file does not exist, another open of it has the exclusive lock, or it cannot be read or
     /// measured.
     pub fn open_shared<R: FileSystem<File = F>>(
         system: &R,
@@ -162,7 +162,7 @@ impl<F: RandomAccessFile> RandomAccessDisk<F> {
         Ok(RandomAccessDisk::measured(found, &metadata))
     }
 
-    // The disk in an open file, of the length that the system tells.
+    // The disk in an open file, of the length in its metadata.
     fn measured(file: F, metadata: &Metadata) -> RandomAccessDisk<F>
         requires { HasLength (F.content file) (metadata_len metadata.now) }
         ensures len { IsOpened F.content (metadata_len metadata.now) result }
@@ -185,14 +185,14 @@ impl<F: RandomAccessFile> RandomAccessDisk<F> {
         }
     }
 
-    /// The file, as it stands.
+    /// The file, as it is now.
     pub fn into_file(self) -> F
         ensures { result ≡ self.file }
     {
         self.file
     }
 
-    // The fault of a call of the disk as it stands.
+    // The fault of a call of the disk in its present state.
     fn fault(&self, call: Call, at: u64, count: u64, error: io::Error) -> FileFault
         ensures gave { file_gave self.now result call at count }
         ensures error { result.error ≡ error }
@@ -206,7 +206,7 @@ impl<F: RandomAccessFile> RandomAccessDisk<F> {
         }
     }
 
-    // Counts a failed write or sync, modulo 2^64, and gives its fault.
+    // Counts a failed write or sync, modulo 2^64, and makes its fault.
     fn fail(&mut self, call: Call, at: u64, count: u64, error: io::Error) -> FileFault
         ensures counted { self.new.failures ≡ (self.old.failures + 1) % 2 ^ 64 }
         ensures len { self.new.len ≡ self.old.len }
@@ -237,7 +237,7 @@ impl<F: RandomAccessFile + Send + Sync> Disk for RandomAccessDisk<F> {
         self.len
     }
 
-    // It takes no lock, so that several threads may read at once.
+    // A read takes no lock, so several threads may read at once.
     fn read(&self, at: u64, buf: &mut [u8]) -> Result<(), FileFault>
         ensures bytes { IsTrue (random_access_content F.content self.now).honest →
             OnOk result (buf.new ≡ slice_range (random_access_content F.content self.now).shown at (at + length buf.old)) }

@@ -1,15 +1,16 @@
 //! The disks of a store: in memory, with a fault, in a file.
 //!
-//! `MemDisk` is a disk in memory that stops at a chosen write or sync, and is then restarted with what such a stop could leave.
+//! `MemDisk` is a disk in memory that stops (crashes) at a chosen write or sync. A restart then shows a possible crash image.
 //! On a `FaultDisk` one chosen call fails. A `BufferedDisk` buffers adjacent writes for another disk. `FileDisk` is a disk in a
-//! file of the system, and `RandomAccessDisk` one in any file. A `DiskSource` opens or makes the disk of a path: a file's with
-//! `FileDisks`, or the one of a `NamedDisk`.
+//! file of the system, and `RandomAccessDisk` one in any file. A `DiskSource` opens or makes the disk of a path: `FileDisks` does
+//! so for a file, and a `NamedDisk` has one disk.
 //!
-//! What a disk promises, and the layout of a device, stand in `silt_disk`, on which the stores stand; its names are here too.
+//! `silt_disk` has the contract of a disk and the layout of a device. The stores depend on it alone. Its names are here too.
 //!
-//! **Honesty.** The disks in memory are honest. A disk in a file is as honest as its file behaves: `RandomAccessFile` says what each call
-//! does to the bytes of a file that does, and for every such file `RandomAccessDisk` keeps each clause of `Disk`. That a file of the system
-//! behaves is an assumption: no clause states it or denies it.
+//! **Honesty.** An *honest* disk is one that obeys the crash model. The disks in memory are honest. A disk in a file is honest if
+//! its file behaves: `RandomAccessFile` says what each call does to the bytes of such a file. For every such file
+//! `RandomAccessDisk` keeps each clause of `Disk`. That a file of the system behaves is an assumption: no clause states it or
+//! denies it.
 #![tactic(auto)]
 
 mod buffered_disk;

@@ -1,16 +1,16 @@
-// The lives of a disk in memory: which call of a life is stopped, and what the stop leaves.
+// The lives of a disk in memory. A life runs from opening to crash or close: which call crashes, and what the crash leaves.
 ghost use Rattle.std.specs.Prelude.{◌≡◌, drop, []};
 ghost use Rattle.silt_device.specs.Lives.{filled, life_after_call, life_of, endless, is_stopped, Plan, next_life, plan_after_call};
 
 use std::alloc::Global;
 use std::marker::Model;
 
-/// What the pending places hold after a stop.
+/// The bytes of the pending places after a stop (a crash at a chosen call).
 #[derive(Clone, Copy, Debug, PartialEq, Eq)]
 pub enum Fill {
-    /// The settled bytes, as if no write since the last sync had been done.
+    /// The settled bytes, as if no write since the last sync had happened.
     Old,
-    /// The shown bytes, as if each of them had been done.
+    /// The shown bytes, as if each of these writes had happened.
     New,
     /// 0x00.
     Zero,
@@ -20,26 +20,26 @@ pub enum Fill {
     Mix,
 }
 
-/// Where a life stops, and what the stop leaves.
+/// Where a life stops (crashes), and what the crash leaves.
 #[derive(Clone, Copy, Debug, PartialEq, Eq)]
 pub struct Stop {
-    /// The K-th write or sync of the life, counted from 1, fails, and every call after it, reads too.
-    /// With 0 no call fails, and the stop comes at the life's end.
+    /// The K-th write or sync of the life, counted from 1, fails, and so does every call after it, reads too.
+    /// With 0 no call fails, and the crash comes at the end of the life.
     pub k: u32,
-    /// What the pending places then hold.
+    /// The bytes of the pending places after the crash.
     pub fill: Fill,
 }
 
-// How far a life has come.
+// The progress of a life.
 #[derive(Clone, Copy, Debug, PartialEq, Eq)]
 struct Life {
     fill: Fill,
-    // The writes and syncs up to the one that fails, that one included: 0 once it has failed. None: no call fails.
+    // The number of writes and syncs up to and including the one that fails: 0 once it has failed. None: no call fails.
     calls_left: Option<u32>,
 }
 
 impl Life {
-    // A life that no call stops.
+    // A life without a crash.
     fn endless() -> Self
         ensures { result ≡ endless }
     {
@@ -49,7 +49,7 @@ impl Life {
         }
     }
 
-    // A life that stops so, at its beginning.
+    // A life with this stop, at its beginning.
     fn new(stop: Stop) -> Self
         ensures { result ≡ life_of stop }
     {
@@ -59,7 +59,7 @@ impl Life {
         }
     }
 
-    // Counts a write or sync, and says whether it fails.
+    // Counts a write or sync, and returns whether it fails.
     fn count_call(&mut self) -> bool
         ensures counted { self.new ≡ life_after_call self.old }
         ensures stopped { result ≡ is_stopped self.new }
@@ -70,7 +70,7 @@ impl Life {
         self.is_stopped()
     }
 
-    // Whether every call fails.
+    // Whether every call fails: the crash has come.
     fn is_stopped(&self) -> bool
         ensures { result ≡ is_stopped self.now }
     {
@@ -78,7 +78,7 @@ impl Life {
     }
 }
 
-// The life that runs, and those to come.
+// The present life, and the stops of later ones.
 #[derive(Drop)]
 pub(crate) struct Lives {
     life: Life,
@@ -93,7 +93,7 @@ impl Model for Lives {
 }
 
 impl Lives {
-    // The first of these lives begins.
+    // Begins the first of these lives.
     pub(crate) fn new(stops: Vec<Stop>) -> Self
         ensures { result ≡ next_life stops.items }
     {
@@ -106,7 +106,7 @@ impl Lives {
         lives
     }
 
-    // One life without end.
+    // One life without a crash.
     pub(crate) fn endless(alloc: Global) -> Self
         ensures { result ≡ next_life [] }
     {
@@ -117,7 +117,7 @@ impl Lives {
         }
     }
 
-    // The next life begins.
+    // Begins the next life.
     #[tactic(auto, using(crate::proofs::ToCome::next_stop, crate::proofs::ToCome::no_stop))]
     pub(crate) fn begin_next(&mut self)
         ensures { self.new ≡ next_life self.old.to_come }
@@ -131,7 +131,7 @@ impl Lives {
         }
     }
 
-    // Counts a write or sync, and says whether it fails.
+    // Counts a write or sync, and returns whether it fails.
     pub(crate) fn count_call(&mut self) -> bool
         ensures counted { self.new ≡ plan_after_call self.old }
         ensures stopped { result ≡ is_stopped self.new.life }
@@ -139,14 +139,14 @@ impl Lives {
         self.life.count_call()
     }
 
-    // Whether every call fails.
+    // Whether every call fails: the crash has come.
     pub(crate) fn is_stopped(&self) -> bool
         ensures { result ≡ is_stopped self.now.life }
     {
         self.life.is_stopped()
     }
 
-    // What a stop now leaves in the pending places.
+    // What a crash now leaves in the pending places.
     pub(crate) fn fill(&self) -> Fill
         ensures { result ≡ self.now.life.fill }
     {
@@ -154,7 +154,7 @@ impl Lives {
     }
 }
 
-// The byte of a pending place after a stop.
+// The byte of a pending place after a crash.
 pub(crate) fn filled_byte(fill: Fill, place: usize, shown: u8, settled: u8) -> u8
     ensures { result ≡ filled fill place shown settled }
 {

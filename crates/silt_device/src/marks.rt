@@ -1,12 +1,12 @@
-// Marks of places, and a range outside of which there is none.
+// Marks of places, and a range that contains all marked places.
 ghost use Rattle.std.specs.Prelude.{◌≡◌, ◌+◌, ◌-◌, ◌≤◌, ◌||◌, ◌&&◌, not, ℕ, false, length, get_or};
 ghost use Rattle.silt_disk.specs.Disk.{within};
 
 use std::alloc::{AllocError, Global};
 use std::marker::Model;
 
-/// Places from 0 on, each marked or not. All that are marked lie in one range, so that what is done to each of them takes as long as
-/// that range, and not as all places.
+/// Places from 0 on, each marked or not. All marked places lie in one range. So work on the marked places takes time in
+/// proportion to that range, and not to all places.
 #[derive(Drop)]
 pub(crate) struct Marks {
     marked: Vec<bool>,
@@ -25,7 +25,7 @@ impl Model for Marks {
     ghost invariant = { λ m. LieWithin m.from m.to m.marked.items };
 }
 
-// Marks a range, and says where it ends.
+// Marks a range, and returns where it ends.
 fn mark_range(marked: &mut [bool], at: usize, count: usize) -> usize
     requires { at + count ≤ length marked.old }
     ensures marks { (place : ℕ) → get_or marked.new place false ≡ (get_or marked.old place false || within at count place) }
@@ -36,7 +36,7 @@ fn mark_range(marked: &mut [bool], at: usize, count: usize) -> usize
     end
 }
 
-// Takes the marks of a range away.
+// Clears the marks of a range.
 fn clear_range(marked: &mut [bool], from: usize, to: usize)
     requires order { from ≤ to }
     requires fits { to ≤ length marked.old }
@@ -50,7 +50,7 @@ impl Marks {
     ghost use Rattle.silt_disk.specs.Disk.{within};
     ghost use Rattle.silt_device.specs.Marks.{LieWithin};
 
-    /// This many places, none of them marked.
+    /// This many places, all unmarked.
     pub(crate) fn new(alloc: Global, len: usize) -> Result<Self, AllocError>
         ensures { IfOk result (λ marks. marks ≡ replicate len false) }
     {
@@ -84,14 +84,14 @@ impl Marks {
         self.marked.as_slice()
     }
 
-    /// A range that all marked places lie in: where it begins, and where it ends.
+    /// A range that contains all marked places: where it begins, and where it ends.
     pub(crate) fn range(&self) -> (usize, usize)
         ensures { LieWithin result.0 result.1 self.now }
     {
         (self.from, self.to)
     }
 
-    /// Takes all marks away.
+    /// Clears all marks.
     pub(crate) fn clear(&mut self)
         ensures none { (place : ℕ) → get_or self.new place false ≡ false }
         ensures size { length self.new ≡ length self.old }

@@ -1,4 +1,4 @@
-// A disk in memory that can stop at a chosen write or sync, and then holds what such a stop could leave.
+// A disk in memory that can crash at a chosen write or sync, and then has a possible crash image.
 ghost use Rattle.std.specs.Prelude.{◌≡◌, ◌+◌, ◌≤◌, ◌%◌, ◌^◌, ◌||◌, ℕ, true, false, length, get_or, slice_range};
 ghost use Rattle.silt_disk.specs.Disk.{splice, within};
 ghost use Rattle.silt_device.specs.Lives.{filled};
@@ -10,8 +10,8 @@ use std::alloc::{AllocError, Global};
 use std::error::Error;
 use std::fmt;
 
-/// The fault of one device call: the call, its range, and how many calls had failed then. Only a disk makes one, and nothing
-/// copies it.
+/// The fault of one device call: the call, its range, and how many calls had failed then. Only a disk makes a fault, and nothing
+/// copies one.
 #[derive(Debug, Drop)]
 pub struct MemFault {
     call: Call,
@@ -20,7 +20,7 @@ pub struct MemFault {
     failures: u64,
 }
 
-// What failed.
+// The call that failed.
 impl fmt::Display for MemFault {
     fn fmt<W: fmt::Write>(&self, f: &mut fmt::Formatter<W>) -> fmt::Result {
         let call = CallAt {
@@ -33,8 +33,8 @@ impl fmt::Display for MemFault {
 
 impl Error for MemFault {}
 
-/// A disk in memory, on which the K-th write or sync of a life can be made to fail, and which can then be restarted with what
-/// such a stop could leave.
+/// A disk in memory. The K-th write or sync of a life can be made to fail, which is a stop (a crash). A restart then gives the
+/// disk a possible crash image.
 #[derive(Drop)]
 pub struct MemDisk {
     shown: Vec<u8>,
@@ -48,7 +48,7 @@ pub struct MemDisk {
         → get_or shown.items place 0 ≡ get_or settled.items place 0 },
 }
 
-// Writes bytes, and marks their range.
+// Writes bytes, and marks their range as pending.
 fn overwrite(shown: &mut [u8], pending: &mut Marks, at: usize, bytes: &[u8])
     requires fits { at + length bytes.now ≤ length shown.old }
     requires sizes { length pending.old ≡ length shown.old }
@@ -106,7 +106,7 @@ impl MemDisk {
         })
     }
 
-    /// A disk that shows these bytes, with nothing pending, on which no call fails: for tests of images that were made byte by byte.
+    /// A disk that shows these bytes, with nothing pending, on which no call fails: for tests with images made byte by byte.
     pub fn with_bytes(alloc: Global, bytes: &[u8]) -> Result<Self, AllocError>
         ensures { IfOk result (IsFresh bytes.now) }
     {
@@ -116,14 +116,14 @@ impl MemDisk {
         Ok(disk)
     }
 
-    /// What reads give, the whole of it. It is no device call: no stop counts it, and it does not fail.
+    /// All bytes that reads give. It is no device call: it counts for no stop, and it does not fail.
     pub fn shown(&self) -> &[u8]
         ensures { result.now ≡ (memory_content self.now).shown }
     {
         &self.shown
     }
 
-    /// Begins a life at once, with the first of these stops. Each restart begins the next. Past the list no call fails, and the
+    /// Begins a life now, with the first of these stops. Each restart begins the next one. After the last stop no call fails, and the
     /// fill is `Old`.
     pub fn arm(mut self, stops: Vec<Stop>) -> Self
         ensures content { Stays (memory_content self) (memory_content result) }
@@ -134,7 +134,7 @@ impl MemDisk {
         self
     }
 
-    // The fault of a call of the disk as it stands.
+    // The fault of a call of the disk in its present state.
     pub(crate) fn fault(&self, call: Call, at: u64, count: usize) -> MemFault
         ensures { memory_gave self.now result call at count }
     {
@@ -146,7 +146,7 @@ impl MemDisk {
         }
     }
 
-    // Counts a failed write or sync, modulo 2^64, and gives its fault.
+    // Counts a failed write or sync, modulo 2^64, and makes its fault.
     fn fail(&mut self, call: Call, at: u64, count: usize) -> MemFault
         ensures counted { self.new ≡ record self.old { failures = (self.old.failures + 1) % 2 ^ 64 } }
         ensures gave { memory_gave self.new result call at count }
@@ -155,7 +155,7 @@ impl MemDisk {
         self.fault(call, at, count)
     }
 
-    // A write that is refused: it shows nothing new, and is one more call of the life.
+    // Refuses a write: it shows nothing new, and counts as one call of the life.
     pub(crate) fn refuse_write(&mut self, at: u64, count: usize) -> MemFault
         requires { at + count ≤ length self.old.shown.items }
         ensures shown { self.new.shown.items ≡ self.old.shown.items }
@@ -169,7 +169,7 @@ impl MemDisk {
         self.fail(Call::Write, at, count)
     }
 
-    // A sync that is refused: it settles nothing, and is one more call of the life.
+    // Refuses a sync: it settles nothing, and counts as one call of the life.
     pub(crate) fn refuse_sync(&mut self) -> MemFault
         ensures content { Stays (memory_content self.old) (memory_content self.new) }
         ensures lives { self.new.lives ≡ plan_after_call self.old.lives }
@@ -192,7 +192,7 @@ impl MemDisk {
         self.pending.clear();
     }
 
-    // Leaves what this stop leaves.
+    // Crashes: fills the pending places as the stop says.
     fn stop(&mut self)
         ensures content { Restarts (memory_content self.old) (memory_content self.new) }
         ensures filled { IsFilled self.old self.new.shown.items }
@@ -242,7 +242,7 @@ impl Disk for MemDisk {
         Ok(())
     }
 
-    // The bytes of a write that fails are shown as well.
+    // A write that fails shows its bytes too.
     fn write(&mut self, at: u64, buf: &[u8]) -> Result<(), MemFault>
         requires { at + length buf.now ≤ length self.old.shown.items }
         ensures torn { Tears at (length buf.now) (memory_content self.old) (memory_content self.new) }

@@ -1,4 +1,4 @@
-// Where disks come from: a path names a disk, which is opened there or made there.
+// Sources of disks: a path names a disk, and the source opens it or makes it.
 ghost use Rattle.std.specs.Prelude.{◌≡◌, ℕ, List, IfOk, IfErr};
 ghost use Rattle.silt_disk.specs.Disk.{size};
 
@@ -10,61 +10,61 @@ use std::fs::File;
 use std::io;
 use thiserror::Error;
 
-/// Where one disk comes from. A source is used up by the disk that it gives.
+/// A source of one disk. Taking the disk consumes the source.
 pub trait DiskSource: Drop {
-    /// The disks that it gives.
+    /// The type of its disks.
     type Disk: Disk;
 
-    /// Why it gives none. Code that is generic over sources can neither make nor copy one.
+    /// Why it gives no disk. Code that is generic over sources can neither make nor copy one.
     type Error: Drop;
 
-    /// The source opened this disk, at this path.
+    /// The source opened this disk at this path.
     ghost opened: { Self → List ℕ → Self.Disk → Type 0 };
 
-    /// The source answered that it cannot open a disk at this path, with this error.
+    /// The source reported that it cannot open a disk at this path, with this error.
     ghost not_opened: { Self → List ℕ → Self.Error → Type 0 };
 
-    /// The source opened this disk, at this path, to be read beside others.
+    /// The source opened this disk at this path, shared with other readers.
     ghost shared: { Self → List ℕ → Self.Disk → Type 0 };
 
-    /// The source answered that it cannot open a disk at this path to be read beside others, with this error.
+    /// The source reported that it cannot open a disk at this path for shared reading, with this error.
     ghost not_shared: { Self → List ℕ → Self.Error → Type 0 };
 
-    /// The source opened this disk, at this path, or made it of no length, and changed nothing that it held.
+    /// The source opened this disk at this path, or made it with length 0. It changed no bytes.
     ghost found: { Self → List ℕ → Self.Disk → Type 0 };
 
-    /// The source answered that it can neither open nor make a disk at this path, with this error.
+    /// The source reported that it can neither open nor make a disk at this path, with this error.
     ghost not_found: { Self → List ℕ → Self.Error → Type 0 };
 
-    /// A disk that was found was given this length in bytes, and then it is the second one.
+    /// A disk that `find` returned was given this length in bytes, and became the second one.
     ghost resized: { Self.Disk → ℕ → Self.Disk → Type 0 };
 
-    /// A disk that was found cannot be given this length, with this error.
+    /// A disk that `find` returned cannot be given this length, with this error.
     ghost not_resized: { Self.Disk → ℕ → Self.Error → Type 0 };
 
-    /// Opens the disk that is there, for itself alone.
+    /// Opens an existing disk for exclusive use.
     fn open(self, path: &str) -> Result<Self::Disk, Self::Error>
         ensures opened { IfOk result (opened self path.now) }
         ensures not_opened { IfErr result (not_opened self path.now) };
 
-    /// Opens the disk that is there, to be read beside others.
+    /// Opens an existing disk to read, shared with other readers.
     fn open_shared(self, path: &str) -> Result<Self::Disk, Self::Error>
         ensures shared { IfOk result (shared self path.now) }
         ensures not_shared { IfErr result (not_shared self path.now) };
 
-    /// Opens the disk that is there, or makes one of no length, for itself alone. Nothing that it holds is changed.
+    /// Opens the disk, or makes one of length 0, for exclusive use. It changes no bytes.
     fn find(self, path: &str) -> Result<Self::Disk, Self::Error>
         ensures found { IfOk result (found self path.now) }
         ensures not_found { IfErr result (not_found self path.now) };
 
-    /// Gives a disk that was found exactly this length in bytes.
+    /// Gives a disk that `find` returned exactly this length in bytes.
     fn resize(alloc: Global, disk: Self::Disk, len: u64) -> Result<Self::Disk, Self::Error>
         ensures resized { IfOk result (resized disk len) }
         ensures size { IfOk result (λ new. size (Self.Disk.Disk.content new) ≡ len) }
         ensures not_resized { IfErr result (not_resized disk len) };
 }
 
-/// The files of a system, each of them a disk.
+/// The files of a system, each a disk.
 #[derive(Drop)]
 pub struct FileDisks<S> {
     system: S,
@@ -124,12 +124,12 @@ where
     }
 }
 
-/// There is no disk under this path, or it has another length.
+/// There is no disk at this path, or it has another length.
 #[derive(Debug, Drop, Error)]
 #[error("no such disk, or it has another length")]
 pub struct NoSuchDisk;
 
-/// One disk under one path, as in a folder with nothing else in it.
+/// One disk at one path, like a folder with a single file.
 #[derive(Drop)]
 pub struct NamedDisk<D> {
     path: String,
@@ -139,7 +139,7 @@ pub struct NamedDisk<D> {
 impl<D> NamedDisk<D> {
     ghost use Rattle.std.specs.Prelude.{string_bytes};
 
-    /// This disk, under this path.
+    /// This disk, at this path.
     pub fn new(path: String, disk: D) -> Self
         ensures path { string_bytes result.path ≡ string_bytes path }
         ensures disk { result.disk ≡ disk }

@@ -1,5 +1,5 @@
-// The calls of the system that a disk in a file is made of. Each has a relation of its own here, which code over any system can
-// state only of a call that it made, and clauses that say what it does to the bytes of a file that behaves.
+// The system calls that a disk in a file uses. Each has a relation of its own. Code over any system can state it only of a call
+// that it made. Clauses say what each call does to the bytes of a file that behaves.
 ghost use Rattle.std.specs.Prelude.{◌≡◌, ◌+◌, ◌≤◌, ◌^◌, ℕ, List, length, slice_range, IfOk, OnOk, OnErr, IsErr, IsTrue};
 ghost use Rattle.std.specs.Fs.{metadata_len};
 ghost use Rattle.std.specs.declared.fs.attrs.Metadata.{Metadata as MetadataOf};
@@ -14,43 +14,43 @@ use std::rt::Files;
 
 /// An open file that is read and written at offsets.
 ///
-/// Its content says whether the file behaves. A file that does keeps the crash premise, as an honest disk does: each call does to its bytes
-/// what the clauses say. Of the bytes of any other file they say nothing.
+/// Its content says whether the file behaves. A file that behaves obeys the crash model, as an honest disk does: each call does to
+/// its bytes what the clauses say. About the bytes of any other file they say nothing.
 pub trait RandomAccessFile: Drop {
-    /// Whether the file behaves, what reads of it give, and what a stop may leave.
+    /// Whether the file behaves, what reads of it give, and the possible crash images.
     ghost content: { Self → Content };
 
-    /// The system gave the file this length, and then it is the second one.
+    /// The system gave the file this length, and it became the second one.
     ghost resized: { Self → ℕ → Self → Type 0 };
 
-    /// The system told this of the file.
+    /// The system reported this metadata of the file.
     ghost measured: { Self → MetadataOf → Type 0 };
 
-    /// The system settled the file's bytes and its length, and then it is the second one.
+    /// The system settled the file's bytes and its length, and it became the second one.
     ghost synced: { Self → Self → Type 0 };
 
-    /// The system settled the file's bytes, and then it is the second one.
+    /// The system settled the file's bytes, and it became the second one.
     ghost data_synced: { Self → Self → Type 0 };
 
-    /// The system was asked to settle the file's bytes, and could not. Then it is the second one.
+    /// The system was asked to settle the file's bytes, and failed. The file became the second one.
     ghost not_data_synced: { Self → Self → Type 0 };
 
-    /// The system read these bytes from this offset on.
+    /// The system read these bytes, from this offset on.
     ghost read_from: { Self → ℕ → List ℕ → Type 0 };
 
-    /// The system wrote these bytes from this offset on, and then it is the second one.
+    /// The system wrote these bytes from this offset on, and the file became the second one.
     ghost written_at: { Self → ℕ → List ℕ → Self → Type 0 };
 
-    /// The system was asked to write these bytes from this offset on, and could not. Then it is the second one.
+    /// The system was asked to write these bytes from this offset on, and failed. The file became the second one.
     ghost not_written_at: { Self → ℕ → List ℕ → Self → Type 0 };
 
-    /// Cuts the file off at this length, or adds zeros up to it, and gives it back.
+    /// Truncates the file to this length, or extends it with zeros, and returns it.
     fn resize(self, len: u64) -> io::Result<Self>
         ensures resized { IfOk result (resized self len) }
         ensures content { IfOk result (λ file. Resizes len (content self) (content file)) }
         ensures too_long { 2 ^ 63 ≤ len → IsErr result };
 
-    /// What the system tells of the file: the length of one that behaves.
+    /// The metadata of the file: for a file that behaves, its length.
     fn measure(&self) -> io::Result<Metadata>
         ensures measured { IfOk result (measured self.now) }
         ensures len { IsTrue (content self.now).honest → IfOk result (λ metadata. metadata_len metadata ≡ size (content self.now)) };
@@ -61,21 +61,21 @@ pub trait RandomAccessFile: Drop {
         ensures settled { OnOk result (Settles (content self.old) (content self.new)) }
         ensures unchanged { OnErr result (Stays (content self.old) (content self.new)) };
 
-    /// Settles the file's bytes. After an error nothing is changed.
+    /// Settles the file's bytes. After an error nothing has changed.
     fn settle_data(&mut self) -> io::Result<()>
         ensures synced { OnOk result (data_synced self.old self.new) }
         ensures not_synced { OnErr result (not_data_synced self.old self.new) }
         ensures settled { OnOk result (Settles (content self.old) (content self.new)) }
         ensures unchanged { OnErr result (Stays (content self.old) (content self.new)) };
 
-    /// Reads the whole buffer from this offset on. What lies past the end of a file that behaves it does not read.
+    /// Reads the whole buffer from this offset on. It does not read past the end of a file that behaves.
     fn read_all_from(&self, buf: &mut [u8], at: u64) -> io::Result<()>
         ensures read { OnOk result (read_from self.now at buf.new) }
         ensures bytes { IsTrue (content self.now).honest →
             OnOk result (buf.new ≡ slice_range (content self.now).shown at (at + length buf.old)) };
 
-    /// Writes all bytes from this offset on, and makes their range pending, where it lies in the file. After an error any bytes may be
-    /// shown in that range.
+    /// Writes all bytes from this offset on, and makes their range pending, if it lies in the file. After an error that range may
+    /// show any bytes.
     fn write_whole_at(&mut self, buf: &[u8], at: u64) -> io::Result<()>
         ensures wrote { OnOk result (written_at self.old at buf.now self.new) }
         ensures not_wrote { OnErr result (not_written_at self.old at buf.now self.new) }
@@ -86,57 +86,57 @@ pub trait RandomAccessFile: Drop {
 
 /// A system with files.
 pub trait FileSystem {
-    /// Its open files.
+    /// The type of its open files.
     type File: RandomAccessFile;
 
-    /// The system opened this file at this path, to read and to write.
+    /// The system opened this file at this path, to read and write.
     ghost opened: { Self → List ℕ → Self.File → Type 0 };
 
-    /// The system opened this file at this path, to read and to write, and made it where none was there.
+    /// The system opened this file at this path, to read and write. It made the file if there was none.
     ghost made: { Self → List ℕ → Self.File → Type 0 };
 
-    /// The system opened this file at this path, to read alone.
+    /// The system opened this file at this path, to read only.
     ghost opened_to_read: { Self → List ℕ → Self.File → Type 0 };
 
-    /// The system gave this file's exclusive lock, and then it is the second one.
+    /// The system took this file's exclusive lock, and the file became the second one.
     ghost locked: { Self → Self.File → Self.File → Type 0 };
 
-    /// The system gave a shared lock of this file, and then it is the second one.
+    /// The system took a shared lock of this file, and the file became the second one.
     ghost shared: { Self → Self.File → Self.File → Type 0 };
 
     /// The system settled the names in the folder of this path.
     ghost folder_synced: { Self → List ℕ → Type 0 };
 
-    /// Opens the file that is there, to read and to write.
+    /// Opens an existing file, to read and write.
     fn open_file_at(&self, path: &str) -> io::Result<Self::File>
         ensures { IfOk result (opened self.now path.now) };
 
-    /// Opens the file that is there, or makes an empty one, to read and to write.
+    /// Opens the file, or makes an empty one, to read and write.
     fn make_file_at(&self, path: &str) -> io::Result<Self::File>
         ensures { IfOk result (made self.now path.now) };
 
-    /// Opens the file that is there, to read alone.
+    /// Opens an existing file, to read only.
     fn open_file_to_read_at(&self, path: &str) -> io::Result<Self::File>
         ensures { IfOk result (opened_to_read self.now path.now) };
 
-    /// Takes the exclusive lock of the file, and gives the file back. It does not wait: where another open of the file has a lock,
-    /// it is an error.
+    /// Takes the exclusive lock of the file, and returns the file. It does not wait: it is an error if another open of the file has a
+    /// lock.
     fn lock_file(&self, file: Self::File) -> io::Result<Self::File>
         ensures locked { IfOk result (locked self.now file) }
         ensures content { IfOk result (λ held. Self.File.RandomAccessFile.content held ≡ Self.File.RandomAccessFile.content file) };
 
-    /// Takes a shared lock of the file, and gives the file back. It does not wait: where another open of the file has the exclusive
-    /// lock, it is an error.
+    /// Takes a shared lock of the file, and returns the file. It does not wait: it is an error if another open of the file has the
+    /// exclusive lock.
     fn share_file(&self, file: Self::File) -> io::Result<Self::File>
         ensures shared { IfOk result (shared self.now file) }
         ensures content { IfOk result (λ held. Self.File.RandomAccessFile.content held ≡ Self.File.RandomAccessFile.content file) };
 
-    /// Syncs the folder in which the path has its last name, so that a stop does not take that name away.
+    /// Syncs the folder that holds the last name of the path, so that a crash does not remove that name.
     fn sync_folder_of(&self, path: &str) -> io::Result<()>
         ensures { OnOk result (folder_synced self.now path.now) };
 }
 
-// Why a lock was not given, in words that say more than the system's where another open of the file has one.
+// Why a lock was refused. The text is clearer than the system's if another open of the file has a lock.
 fn lock_error(error: TryLockError) -> io::Error {
     match error {
         TryLockError::Error(error) => error,
@@ -147,8 +147,8 @@ fn lock_error(error: TryLockError) -> io::Error {
     }
 }
 
-// Whether a file of the system behaves is an assumption: std says nothing of its bytes. Of its content this crate alone knows what its calls
-// are proved by; to all others it is any content, so that each theorem for a file that behaves holds of it if it does.
+// Whether a file of the system behaves is an assumption: std promises nothing about its bytes. Only this crate knows the law about
+// its content. To all others it is any content, so each theorem about a file that behaves holds for it if it does.
 impl RandomAccessFile for File {
     ghost use Rattle.std.specs.Prelude.{⊤};
     ghost use Rattle.silt_assumption.specs.Files.{system_content};

@@ -9,9 +9,9 @@ use std::alloc::Global;
 use std::fs::File;
 use std::io;
 
-/// A disk in a file of the system, whose length never changes: it buffers adjacent writes for the random-access disk of such a file.
-/// So all that is proved of these two, over any disks and any files, holds of it: it is as honest as its file behaves. That the file does
-/// is an assumption, which no clause states or denies.
+/// A disk in a file of the system. Its length never changes. It buffers adjacent writes for the random-access disk of the file. So
+/// all that is proved of these two, over any disks and any files, holds for it: it is honest (obeys the crash model) if its file
+/// behaves. That the file does is an assumption, which no clause states or denies.
 #[derive(Drop)]
 pub struct FileDisk {
     inner: BufferedDisk<RandomAccessDisk<File>>,
@@ -21,14 +21,14 @@ impl FileDisk {
     ghost use Rattle.silt_device.specs.File.{IsOpened, IsOpenedFile, IsFoundFile, IsMadeFile, IsResizedFile};
     ghost use Rattle.silt_assumption.specs.Files.{system_content};
 
-    /// Opens the file that is there, or makes an empty one, and locks it. Nothing in it is changed: the disk has what the file holds,
-    /// at its length. The folder that it is in is synced; where the path is a link, that of the link. The lock goes with the disk:
-    /// until the disk is dropped no other open of the file gets one.
+    /// Opens the file, or makes an empty one, and locks it. Nothing in the file changes: the disk has its bytes and its length. The
+    /// folder of the file is synced; if the path is a link, the folder of the link. The disk holds the lock: until the disk is
+    /// dropped no other open of the file gets one.
     ///
     /// # Errors
     ///
-    /// The error of the system, where the file cannot be opened, locked or measured, or its folder cannot be synced. Where the bytes
-    /// that it buffers find no memory, an error of that kind.
+    /// The error of the system, if the file cannot be opened, locked or measured, or its folder cannot be synced. An error of kind
+    /// out of memory, if the buffer cannot be allocated.
     pub fn find<R: FileSystem<File = File> + AllocGlobal>(
         system: &R,
         path: &str,
@@ -41,13 +41,13 @@ impl FileDisk {
         Ok(FileDisk { inner })
     }
 
-    /// Gives the file exactly this length in bytes, and syncs it. What it held up to this length stays, and what is new are zeros. What
-    /// was written on the disk and not yet synced may be gone.
+    /// Gives the file exactly this length in bytes, and syncs it. Its bytes up to this length stay, and new bytes are zeros. Bytes that
+    /// were written on the disk and not yet synced may be lost.
     ///
     /// # Errors
     ///
-    /// The error of the system, where the file cannot be sized or synced. It may then have its old length or the new one. A length of
-    /// 2^63 or more is always an error. Where the bytes that it buffers find no memory, an error of that kind.
+    /// The error of the system, if the file cannot be resized or synced. It may then have its old length or the new one. A length of
+    /// 2^63 or more is always an error. An error of kind out of memory, if the buffer cannot be allocated.
     pub fn resize(self, alloc: Global, len: u64) -> io::Result<FileDisk>
         ensures opened { IfOk result (λ disk. IsOpened system_content len disk.inner.inner) }
         ensures resized { IfOk result (λ disk. IsResizedFile system_content (λ _ _ _. ⊤) (λ _ _. ⊤) self.inner.inner.file len disk.inner.inner.file) }
@@ -58,12 +58,12 @@ impl FileDisk {
         Ok(FileDisk { inner })
     }
 
-    /// Makes the file, or takes the one that is there, locks it, gives it exactly this length in bytes, and syncs it and the folder
-    /// that it is in. What a file that is there held up to this length stays, and what is new are zeros.
+    /// Opens the file, or makes it, and locks it. Then gives it exactly this length in bytes, and syncs it and its folder. Bytes of an
+    /// existing file up to this length stay, and new bytes are zeros.
     ///
     /// # Errors
     ///
-    /// Those of `find`, and then nothing in the file is changed, and those of `resize`.
+    /// Those of `find`, and then nothing in the file has changed, and those of `resize`.
     pub fn create<R: FileSystem<File = File> + AllocGlobal>(
         system: &R,
         path: &str,
@@ -77,13 +77,13 @@ impl FileDisk {
         FileDisk::find(system, path)?.resize(system.alloc(), len)
     }
 
-    /// Opens a file that is there, locks it, and syncs it, at the length that it then has: what an earlier process wrote and did
-    /// not sync is then settled. The lock goes with the disk.
+    /// Opens an existing file, locks it, and syncs it, at its present length. The sync settles what an earlier process wrote and did
+    /// not sync. The disk holds the lock until it is dropped.
     ///
     /// # Errors
     ///
-    /// The error of the system, where the file is not there, another open of it has a lock, or it cannot be read, written, measured
-    /// or synced, or where the bytes that it buffers find no memory.
+    /// The error of the system, if the file does not exist, another open of it has a lock, or it cannot be read, written, measured
+    /// or synced. An error of kind out of memory, if the buffer cannot be allocated.
     pub fn open<R: FileSystem<File = File> + AllocGlobal>(
         system: &R,
         path: &str,
@@ -95,12 +95,12 @@ impl FileDisk {
         Ok(FileDisk { inner })
     }
 
-    /// Opens a file that is there, to read alone, at the length that it has. It shares the file's lock with others that do so, and
-    /// syncs nothing. It buffers nothing: each write on the disk is an error.
+    /// Opens an existing file to read only, at its present length. It shares the file's lock with others that do so, and syncs
+    /// nothing. It buffers nothing: each write on the disk is an error.
     ///
     /// # Errors
     ///
-    /// The error of the system, where the file is not there, another open of it has the exclusive lock, or it cannot be read or
+    /// The error of the system, if the file does not exist, another open of it has the exclusive lock, or it cannot be read or
     /// measured.
     pub fn open_shared<R: FileSystem<File = File> + AllocGlobal>(
         system: &R,

@@ -1,4 +1,4 @@
-// Adjacent bytes that wait to be written.
+// A buffer of adjacent bytes that wait to be written.
 ghost use Rattle.std.specs.Prelude.{◌≡◌, ◌≤◌, ◌<◌, ◌+◌, ◌^◌, ◌==◌, ℕ, List, [], length, slice_range, IsTrue, IfOk};
 ghost use Rattle.silt_disk.specs.Disk.{splice};
 ghost use Rattle.silt_device.specs.Buffered.{takes, grown, emptied, holds, LaidOver};
@@ -6,7 +6,7 @@ ghost use Rattle.silt_device.specs.Buffered.{takes, grown, emptied, holds, LaidO
 use std::alloc::{AllocError, Global};
 use std::marker::Model;
 
-/// Adjacent bytes that wait to be written from a place on. How many there is room for never changes.
+/// Adjacent bytes that wait to be written, and where they begin. The room of the buffer never changes.
 #[derive(Drop)]
 pub(crate) struct WriteBuffer {
     at: u64,
@@ -25,7 +25,7 @@ impl Model for WriteBuffer {
     ghost invariant = { λ g. (g.count ≤ length g.bytes.items) × (g.at + g.count < 2 ^ 64) };
 }
 
-// Puts a part into bytes, from this place on.
+// Copies a part into bytes, from this place on.
 fn put(bytes: &mut [u8], from: usize, part: &[u8])
     requires { from + length part.now ≤ length bytes.old }
     ensures { bytes.new ≡ splice from part.now bytes.old }
@@ -34,7 +34,7 @@ fn put(bytes: &mut [u8], from: usize, part: &[u8])
 }
 
 impl WriteBuffer {
-    // None, with room for this many.
+    // An empty buffer, with room for this many bytes.
     pub(crate) fn new(alloc: Global, room: usize) -> Result<Self, AllocError>
         ensures { IfOk result (λ buffer. buffer ≡ record { at = 0; bytes = []; room = room }) }
     {
@@ -45,28 +45,28 @@ impl WriteBuffer {
         })
     }
 
-    // Where they begin.
+    // Where the bytes begin.
     pub(crate) fn at(&self) -> u64
         ensures { result ≡ self.now.at }
     {
         self.at
     }
 
-    // The bytes.
+    // The bytes that wait.
     pub(crate) fn bytes(&self) -> &[u8]
         ensures { result.now ≡ self.now.bytes }
     {
         &self.bytes[..self.count]
     }
 
-    // Whether none waits.
+    // Whether no bytes wait.
     pub(crate) fn is_empty(&self) -> bool
         ensures { result ≡ (length self.now.bytes == 0) }
     {
         self.count == 0
     }
 
-    // Whether this many bytes from this place on continue them, and find room.
+    // Whether this many bytes from this place on continue the waiting ones, and there is room.
     pub(crate) fn takes(&self, at: u64, count: usize) -> bool
         ensures { result ≡ takes self.now at count }
     {
@@ -74,7 +74,7 @@ impl WriteBuffer {
             && count <= self.bytes.len() - self.count
     }
 
-    // Puts bytes behind them.
+    // Appends bytes.
     pub(crate) fn append(&mut self, at: u64, bytes: &[u8])
         requires takes { IsTrue (takes self.old at (length bytes.now)) }
         requires end { at + length bytes.now < 2 ^ 64 }
@@ -86,14 +86,14 @@ impl WriteBuffer {
         self.count = end;
     }
 
-    // None waits any longer.
+    // Drops all bytes.
     pub(crate) fn empty(&mut self)
         ensures { self.new ≡ emptied self.old }
     {
         self.count = 0;
     }
 
-    // Whether all of this many bytes from this place on wait.
+    // Whether the buffer has all of this many bytes from this place on.
     pub(crate) fn holds(&self, at: u64, count: usize) -> bool
         requires { at + count < 2 ^ 64 }
         ensures { result ≡ holds self.now at count }
@@ -101,7 +101,7 @@ impl WriteBuffer {
         self.at <= at && at + count as u64 <= self.at + self.count as u64
     }
 
-    // Lays them over bytes from this place on.
+    // Copies the waiting bytes over bytes from this place on.
     #[tactic(auto, using(crate::proofs::Waiting::laid_nowhere, crate::proofs::Waiting::laid_there))]
     pub(crate) fn lay_over(&self, at: u64, out: &mut [u8])
         requires { at + length out.old < 2 ^ 64 }

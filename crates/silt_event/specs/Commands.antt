@@ -5,7 +5,7 @@ use Rattle.std.specs.Cmp.Lexicographic.{slice_cmp}
 use Rattle.std.specs.FinMap.{FinMap, insert, remove, code}
 use Rattle.std.specs.Coded.{Coded, coded_ℕ, coded_list}
 
--- a change of the map
+-- a command that changes the map
 pub data Command : Type 0 where
   put : List ℕ → List ℕ → Command
   delete : List ℕ → Command
@@ -24,17 +24,17 @@ abbrev pub map_after : Map → List Command → Map
 map_after map [] = map
 map_after map (command ∷ commands) = map_after (changed map command) commands
 
--- these are the first of all commands
+-- these commands are a prefix of all commands
 pub record Begins (some all : List Command) : Type 0 where
   pub rest : List Command
   pub is : some ++ rest ≡ all
 
--- this command waits behind those that waited, and the base is as it was
+-- this command joins the end of the waiting ones, and the base stays
 pub record WaitsBehind (command : Command) (old_base new_base : Map) (old_waiting new_waiting : List Command) : Type 0 where
   pub waiting : new_waiting ≡ old_waiting ++ command ∷ []
   pub base : new_base ≡ old_base
 
--- what waited went into the base, and this command alone waits
+-- the waiting commands went into the base, and this command alone waits
 pub record WaitsAlone (command : Command) (old_base new_base : Map) (old_waiting new_waiting : List Command) : Type 0 where
   pub waiting : new_waiting ≡ command ∷ []
   pub base : new_base ≡ map_after old_base old_waiting

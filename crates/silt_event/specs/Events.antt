@@ -1,4 +1,4 @@
--- What a store may answer to events, and what a stop may take away.
+-- Which replies a store may give, and which commands a crash may take away.
 use Rattle.std.specs.Prelude.{Vec, ◌≡◌, ◌≤◌, ℕ, ◌+◌, Bool, true, false, ◌||◌, IsTrue, Some, None, List, [], ◌∷◌, ◌++◌, length, codes}
 use Rattle.std.specs.FinMap.{get}
 use Rattle.std.specs.declared.alloc.Global.{Global}
@@ -53,18 +53,18 @@ plain (Refused refusal) = Refused (plain_refusal refusal)
 plain (Unsettled n) = Unsettled n
 plain NotServed = NotServed
 
--- a reply as it is recorded and printed
+-- a reply in the form for records and output
 abbrev pub PlainReply : Type 0
 PlainReply = Reply (Unit {0})
 
 -- ---- one event
 
--- a put's value is as long as the store's values
+-- a put's value has the store's value length
 abbrev pub HasValueOf : ℕ → Event → Type 0
 HasValueOf len (Put key value) = length value ≡ len
 HasValueOf len event = Unit {0}
 
--- An event takes a map to a map and is answered so. A refused event changes nothing.
+-- An event with this reply takes one map to the other. A refused event changes nothing.
 abbrev pub Step : {F : Type 0} → Map → Event → Reply F → Map → Type 0
 Step map (Put key value) (Accepted n) to = to ≡ changed map (put key.0 value)
 Step map (Delete key) (Accepted n) to = to ≡ changed map (delete key.0)
@@ -76,7 +76,7 @@ Step map Merge (Progress progress) to = to ≡ map
 Step map event (Refused refusal) to = to ≡ map
 Step map event reply to = ⊥
 
--- how many commands were accepted before the reply and after it, and the number that the reply tells
+-- how many commands were accepted before the reply and after it, and the number in the reply
 abbrev pub Counts : {F : Type 0} → ℕ → Reply F → ℕ → Type 0
 Counts old (Accepted n) new = (n ≡ old + 1) × (new ≡ old + 1)
 Counts old (Acknowledged n) new = (n ≡ old) × (new ≡ old)
@@ -84,14 +84,14 @@ Counts old reply new = new ≡ old
 
 -- ---- lists of events
 
--- The replies to these events, in order, take the count and the map from the first to the last: each reply is that of a plain map.
+-- The replies to these events, in order, take the count and the map from the first to the last. Each reply is that of a plain map.
 abbrev pub Legal : {F : Type 0} → ℕ → Map → List Event → List (Reply F) → ℕ → Map → Type 0
 Legal count map [] [] end to = (end ≡ count) × (to ≡ map)
 Legal count map (event ∷ events) (reply ∷ replies) end to =
     (next : ℕ) × (between : Map) × Counts count reply next × Step map event reply between × Legal next between events replies end to
 Legal count map events replies end to = ⊥
 
--- the command that an answered event adds
+-- the command that an event with this reply adds
 abbrev pub accepted_command : {F : Type 0} → Event → Reply F → List Command
 accepted_command (Put key value) (Accepted n) = put key.0 value ∷ []
 accepted_command (Delete key) (Accepted n) = delete key.0 ∷ []
@@ -102,57 +102,57 @@ abbrev pub accepted_commands : {F : Type 0} → List Event → List (Reply F) �
 accepted_commands (event ∷ events) (reply ∷ replies) = accepted_command event reply ++ accepted_commands events replies
 accepted_commands events replies = []
 
--- the number that this reply acknowledges, or else the one before
+-- the number that this reply acknowledges, or else the number before
 abbrev pub acknowledged_by : {F : Type 0} → ℕ → Reply F → ℕ
 acknowledged_by before (Acknowledged n) = n
 acknowledged_by before reply = before
 
--- the number that the last acknowledging reply tells, or else the one before
+-- the number in the last acknowledging reply, or else the number before
 abbrev pub acknowledged_after : {F : Type 0} → ℕ → List (Reply F) → ℕ
 acknowledged_after before [] = before
 acknowledged_after before (reply ∷ replies) = acknowledged_after (acknowledged_by before reply) replies
 
--- a device's fault was answered
+-- whether the reply is a device's fault
 abbrev pub is_fault : {F : Type 0} → Reply F → Bool
 is_fault (Refused (Device fault)) = true
 is_fault reply = false
 
--- it was answered that the store is failed
+-- whether the reply says that the store has failed
 abbrev pub is_failed : {F : Type 0} → Reply F → Bool
 is_failed (Refused Failed) = true
 is_failed reply = false
 
--- a device's fault is among the replies, or was answered before
+-- whether one of the replies, or one before them, is a device's fault
 abbrev pub has_fault : {F : Type 0} → Bool → List (Reply F) → Bool
 has_fault before [] = before
 has_fault before (reply ∷ replies) = has_fault (before || is_fault reply) replies
 
--- Failed is answered only after a device's fault
+-- the reply `Failed` comes only after a device's fault
 abbrev pub FailsAfterFault : {F : Type 0} → Bool → List (Reply F) → Type 0
 FailsAfterFault before [] = Unit {0}
 FailsAfterFault before (reply ∷ replies) = (IsTrue (is_failed reply) → IsTrue before) × FailsAfterFault (before || is_fault reply) replies
 
 -- ---- lives
 
--- what a stop may keep of a life: a beginning of its accepted commands that holds each acknowledged one
+-- what a crash may keep of a life: a prefix of its accepted commands that holds each acknowledged one
 pub record Keeps {F : Type 0} (events : List Event) (replies : List (Reply F)) (kept : List Command) : Type 0 where
   pub begins : Begins kept (accepted_commands events replies)
   pub acknowledged : acknowledged_after 0 replies ≤ length kept
 
--- an opening of a good store is refused by its device or for want of memory alone
+-- a good store refuses to open only because of its device or because it is out of memory
 abbrev pub IsOpeningRefusal : {F : Type 0} → Refusal F → Type 0
 IsOpeningRefusal (Device fault) = Unit {0}
 IsOpeningRefusal NoMemory = Unit {0}
 IsOpeningRefusal refusal = ⊥
 
--- One life from a map: its replies are those of a plain map, and the next life begins at the map after what a stop kept.
+-- One life from a map: its replies are those of a plain map, and the next life begins at the map that the crash kept.
 abbrev pub LifeHistory : {F : Type 0} → Map → List Event → LifeReply F → Map → Type 0
 LifeHistory map events (NotOpened refusal) to = IsOpeningRefusal refusal × (to ≡ map)
 LifeHistory map events (Opened replies) to =
     (count : ℕ) × (end : Map) × (kept : List Command) × Legal 0 map events replies.items count end × Keeps events replies.items kept
     × FailsAfterFault false replies.items × (to ≡ map_after map kept)
 
--- Lives in order, each from the map at which the one before left the device.
+-- lives in order: each begins at the map that the one before left on the device
 abbrev pub LivesHistory : {F : Type 0} → Map → List (Vec Event Global) → List (LifeReply F) → Map → Type 0
 LivesHistory map [] [] to = to ≡ map
 LivesHistory map (life ∷ lives) (reply ∷ replies) to = (next : Map) × LifeHistory map life.items reply next × LivesHistory next lives replies to

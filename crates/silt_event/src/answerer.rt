@@ -1,4 +1,4 @@
-// What answers events.
+// A type that replies to events.
 ghost use Rattle.std.specs.Prelude.{◌≡◌, ℕ};
 ghost use Rattle.silt_event.specs.declared.event.Event.{Event as EventOf};
 ghost use Rattle.silt_event.specs.Events.{HasValueOf, PlainReply};
@@ -6,15 +6,15 @@ ghost use Rattle.silt_event.specs.Events.{HasValueOf, PlainReply};
 use crate::{Event, Reply};
 use std::alloc::Global;
 
-/// What answers events: a store, or what stands in front of one.
+/// A type that replies to events: a store, or a layer in front of one.
 pub trait Answerer {
-    /// The length of its values. It stays.
+    /// The length of its values, in bytes. It never changes.
     ghost value_len: { Self → ℕ };
 
-    /// The answerer before and after an answer, the event and its reply.
+    /// The answerer before and after a reply, the event and the reply.
     ghost answers: { Self → Self → EventOf → PlainReply → Type 0 };
 
-    /// Answers one event. A put's value is as long as the answerer's values: that is the caller's part.
+    /// Replies to one event. The caller makes sure that a put's value has the answerer's value length.
     fn answer(&mut self, alloc: Global, event: Event) -> Reply<()>
         requires { HasValueOf (value_len self.old) event }
         ensures stays { value_len self.new ≡ value_len self.old }

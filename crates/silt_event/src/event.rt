@@ -1,17 +1,17 @@
-// What callers ask of a store.
+// The calls of a store, as data.
 
 use silt_frame::{Key, Value};
 
-/// What a caller asks of a store.
+/// One call of a store.
 #[derive(Debug, Drop)]
 pub enum Event {
     /// Sets the value of a key.
     Put(Key, Value),
-    /// Takes a key's value away.
+    /// Deletes a key.
     Delete(Key),
-    /// Acknowledges all commands that were accepted so far.
+    /// Acknowledges all commands accepted so far.
     Flush,
-    /// Asks for a key's value.
+    /// Looks up a key's value.
     Get(Key),
     /// One step of the conversion of a frozen log into a hash store.
     Convert,

@@ -1,13 +1,14 @@
-//! What is asked of a store, and what it answers.
+//! The calls of a store, and its replies.
 //!
-//! An [`Event`] is asked, and a [`Reply`] answers it; where a call is refused the reply holds a [`Refusal`]. What is wrong with a device
-//! is a [`Finding`], and where the [`Place`]. A step in the background answers with its [`Progress`]. A whole life is answered by a [`LifeReply`], and a look at
-//! a device by a [`Report`]. Whatever answers events one after the other, a store or what stands in front of one, is an [`Answerer`].
+//! An [`Event`] is a call, and a [`Reply`] its result. If a call is refused, the reply holds a [`Refusal`]. A [`Finding`] says what
+//! is wrong with a device, and a [`Place`] says where. A step of background work returns its [`Progress`]. A life is a run from
+//! opening to crash or close: it returns a [`LifeReply`]. A look at a device returns a [`Report`]. An [`Answerer`] replies to
+//! events one after the other: it is a store, or a layer in front of one.
 //!
-//! In `specs/` stand the words that all promises are made of: `Commands` has maps and the commands that change them; `Rows` says which
-//! command a row of a device is, and so which map rows make; `Events` says
-//! which replies to events are those of a map, what a stop may take away of them, and which lives are a history. Nothing here reads
-//! or writes a device, so whoever speaks with a store, and not of how it is kept, stands on this crate alone.
+//! `specs/` has the definitions that all promises are made of. `Commands` has maps and the commands that change them. `Rows` says
+//! which command a row of a device is, and so which map rows make. `Events` says which replies to events are those of a map, which
+//! commands a crash may take away, and which lives are a history. Nothing here reads or writes a device. Code that speaks to a
+//! store, whatever the store is made of, needs only this crate.
 #![tactic(auto)]
 
 mod answerer;

@@ -1,14 +1,14 @@
-// Steps in the background.
+// Steps of background work.
 
-/// How far a step of conversion or merging came.
+/// The result of one step of conversion or merging.
 #[derive(Clone, Copy, Debug, PartialEq, Eq)]
 pub enum Progress {
     /// There is nothing to do.
     Idle,
-    /// There is work, and no region is free for it.
+    /// There is work, but no region is free for it.
     Waiting,
-    /// The work went one step on.
+    /// The work went one step further.
     Moved,
-    /// The work was finished.
+    /// The work is finished.
     Finished,
 }

@@ -14,31 +14,31 @@ pub enum Refusal<F> {
     /// A number is out of its limits, or the device has another length.
     #[error("a number is out of its limits, or the length is another one")]
     BadGeometry,
-    /// A part of the device is not as a store leaves it.
+    /// A part of the device is not in a state that a store leaves.
     #[error("{0}")]
     Damaged(Place),
-    /// The keys of a log find no places in a table.
+    /// The keys of a log do not fit into a table.
     #[error("the keys of a log find no places in a table")]
     Crowded,
-    /// A device call within this very call failed.
+    /// A device call of this very call failed.
     #[error("{0}")]
     Device(F),
-    /// A growth of memory was refused. Nothing was changed.
+    /// Out of memory. Nothing was changed.
     #[error("memory was wanted")]
     NoMemory,
-    /// The store holds as many put rows as it may. Nothing was changed.
+    /// The store is at its limit of put rows. Nothing was changed.
     #[error("the store holds as many put rows as it may")]
     StoreFull,
     /// The active log cannot take the row, and no log region is free. Nothing was changed.
     #[error("no log region is free")]
     NoRoom,
-    /// An earlier write or sync of this store failed. It is opened again.
+    /// An earlier write or sync of this store failed. Open the store again.
     #[error("an earlier write or sync failed")]
     Failed,
-    /// A number that counts up has reached its greatest value. Nothing was changed.
+    /// A counter has reached its greatest value. Nothing was changed.
     #[error("a number that counts up has reached its greatest value")]
     Spent,
-    /// The history holds as many calls as it may. Nothing was done.
+    /// The history is at its limit of calls. Nothing was done.
     #[error("the history holds as many calls as it may")]
     HistoryFull,
 }
@@ -47,7 +47,7 @@ impl<F: Drop> Refusal<F> {
     ghost use Rattle.std.specs.Prelude.{◌≡◌};
     ghost use Rattle.silt_event.specs.Events.{refusal_label, plain_refusal};
 
-    /// The number and the name by which a refusal is known in texts.
+    /// The number and the name of a refusal in texts.
     pub fn label(&self) -> (u32, &'static str)
         ensures number { result.0 ≡ (refusal_label self.now).0 }
         ensures name { result.1.now ≡ (refusal_label self.now).1 }

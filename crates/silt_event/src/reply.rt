@@ -1,14 +1,14 @@
-// What a store answers.
+// The replies of a store.
 
 use crate::{Progress, Refusal};
 use silt_frame::Value;
 
-/// What a store answers.
+/// The reply of a store.
 #[derive(Debug, Drop)]
 pub enum Reply<F> {
-    /// The command is done, and this is the number of commands accepted so far, this one included.
+    /// The command is done. The number counts the commands accepted so far, this one included.
     Accepted(u64),
-    /// So many commands survive any stop.
+    /// This many commands survive any crash.
     Acknowledged(u64),
     /// The key's value.
     Found(Value),
@@ -16,19 +16,19 @@ pub enum Reply<F> {
     Absent,
     /// What a background step did.
     Progress(Progress),
-    /// The call was refused.
+    /// The call is refused.
     Refused(Refusal<F>),
-    /// The command is done, with this number, and the flush after it was refused: a stop may lose it. No store answers so, but what
-    /// flushes in front of one.
+    /// The command is done, with this number, but the flush after it was refused: a crash may lose the command. No store replies so,
+    /// only a layer in front of one that flushes.
     Unsettled(u64),
-    /// What was asked is not done here, and nothing is done. No store answers so, but what stands in front of one.
+    /// The call is not served here, and nothing is done. No store replies so, only a layer in front of one.
     NotServed,
 }
 
-/// What a life answers.
+/// The replies of a life: a run from opening to crash or close.
 #[derive(Debug, Drop)]
 pub enum LifeReply<F> {
-    /// The store was not opened, and the events were not done.
+    /// The store was not opened, and no event was done.
     NotOpened(Refusal<F>),
     /// The replies to the events.
     Opened(Vec<Reply<F>>),
@@ -38,7 +38,7 @@ impl<F: Drop> Reply<F> {
     ghost use Rattle.std.specs.Prelude.{◌≡◌};
     ghost use Rattle.silt_event.specs.Events.{plain};
 
-    /// The reply without its fault, as it is recorded and printed.
+    /// The reply without its fault, in the form for records and output.
     pub fn plain(self) -> Reply<()>
         ensures { result ≡ plain self }
     {

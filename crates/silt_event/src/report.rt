@@ -1,35 +1,35 @@
 // What a store consists of.
 
-/// Whether a manifest says the digests of the stores that it names.
+/// Whether a manifest holds the digests of the stores that it names.
 #[derive(Clone, Copy, Debug, PartialEq, Eq)]
 pub enum Layout {
-    /// It says none: it was written before there were digests.
+    /// It holds none: the first version wrote it.
     One,
-    /// It says them.
+    /// It holds them.
     Two,
 }
 
-/// What a store consists of, in numbers.
+/// What a store consists of, in numbers of parts, rows and entries.
 #[derive(Clone, Copy, Debug, PartialEq, Eq)]
 pub struct Report {
-    /// The generation of the manifest body that rules.
+    /// The generation of the current manifest record.
     pub generation: u64,
     /// The region of the active log.
     pub active: u32,
-    /// How many rows the active log has.
+    /// The number of rows of the active log.
     pub active_rows: u32,
-    /// How many logs are frozen.
+    /// The number of frozen logs.
     pub frozen: u32,
-    /// How many rows they have together.
+    /// The number of rows of all frozen logs.
     pub frozen_rows: u32,
-    /// How many hash stores there are.
+    /// The number of hash stores.
     pub hashes: u32,
-    /// How many rows they have together.
+    /// The number of rows of all hash stores.
     pub hash_rows: u32,
-    /// How many entries the sorted store has.
+    /// The number of entries of the sorted store.
     pub entries: u32,
-    /// How many of all rows and entries are puts.
+    /// The number of puts among all rows and entries.
     pub charge: u32,
-    /// Whether the manifest body that rules comes with digests.
+    /// Whether the current manifest record comes with digests.
     pub layout: Layout,
 }
