@@ -1,4 +1,4 @@
--- The slot of a key is that of a candidate.
+-- The slot of a key is the slot of a candidate.
 use Rattle.std.proofs.Common.{◌≡◌, ℕ, inl, inr, Bool, true, false, cond, List, [], ◌∷◌, length, find, get_or, Option, Some, None, option_map, refl, sym, ap, ◌∙◌, arith}
 use Rattle.std.specs.List.{AllByRecursion}
 use Rattle.std.specs.Str.{bytes_eq}
@@ -16,7 +16,7 @@ use Rattle.silt_cuckoo.proofs.Placed.{has_entry}
 use Rattle.silt_cuckoo.proofs.Matching.{Stands, candidates_standing, pair_candidate}
 use Rattle.silt_cuckoo.proofs.Indexing.{has_key_is, is_has_key, newest_apart}
 
--- what is found among candidates passes and stands in its slot
+-- what a search among candidates finds passes the test and is in its slot
 found_candidate : (slots : Slots) (p : Candidate → Bool) (cs : List Candidate) (c : Candidate) → AllByRecursion (Stands slots) cs → find p cs ≡ Some c → (p c ≡ true) × Stands slots c
 found_candidate slots p [] c stand e = absurd (cc)
 found_candidate slots p (x ∷ cs) c stand e = go (p x) refl (found_candidate slots p cs c stand.1) e
@@ -25,7 +25,7 @@ found_candidate slots p (x ∷ cs) c stand e = go (p x) refl (found_candidate sl
     go true is rest h = let same : x ≡ c = cc in rw (← same) (is, stand.0)
     go false is rest h = rest h
 
--- where none is found, the test fails at each place
+-- if nothing is found, the test fails at each place
 none_found : (p : ℕ → Bool) (cs : List Candidate) (place : ℕ) → find (λ (c : Candidate). p c.place) cs ≡ None → IsOn place (places_of cs) → p place ≡ false
 none_found p [] place e on = absurd on
 none_found p (x ∷ cs) place e on = go (p x.place) refl (none_found p cs place) e on

@@ -75,7 +75,7 @@ has_key_is keys slots key slot h = go (entry_at slots slot) refl h
 pub is_has_key : (keys : List (List ℕ)) (slots : Slots) (key : List ℕ) (slot : ℕ) (e : Entry) → entry_at slots slot ≡ Some e → get_or keys e.1 [] ≡ key → is_entry_of keys slots key slot ≡ true
 is_has_key keys slots key slot e is same = let test = (bytes_eq-Decides (get_or keys e.1 []) key).1 same in rw (is, test) refl
 
--- where no slot has the key, no place that is held is that of the key
+-- if no slot has the key, no place in the table belongs to the key
 pub no_key : (keys : List (List ℕ)) (slots : Slots) (key : List ℕ) (place : ℕ) → slot_of_key keys slots key ≡ None → HoldsPlace slots place → get_or keys place [] ≢ key
 no_key keys slots key place none (slot, held) same =
     let entry = has_entry slots slot place held in

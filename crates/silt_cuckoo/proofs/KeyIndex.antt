@@ -9,7 +9,7 @@ fold_append : {A B : Type 0} (f : B → A → B) (a : B) (xs ys : List A) → fo
 fold_append f a [] ys = refl
 fold_append f a (x ∷ xs) ys = fold_append f (f a x) xs ys
 
--- one more key, where there is a table
+-- one more key, if there is a table
 abbrev pub next_index : ℕ → Option Index → List ℕ → Option Index
 next_index buckets index key = option_and_then (λ i. added buckets i key) index
 
@@ -18,7 +18,7 @@ pub indexed_append : (buckets : ℕ) (xs ys : List (List ℕ)) → indexed bucke
 unfolding indexed
 indexed_append buckets xs ys = fold_append (next_index buckets) _ xs ys
 
--- where the rule gave up, no table comes back
+-- once the rule has found no place, no table comes back
 pub stays_none : (buckets : ℕ) (keys : List (List ℕ)) → fold (next_index buckets) None keys ≡ None
 stays_none buckets [] = refl
 stays_none buckets (key ∷ keys) = stays_none buckets keys

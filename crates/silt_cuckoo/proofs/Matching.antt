@@ -24,7 +24,7 @@ filter_map_more {X} f a (suc n) j e =
     go None = refl
     go (Some x) = refl
 
--- what a match says: the slot has an entry with this tag and place
+-- what a match means: the slot has an entry with this tag and place
 pub match_is : (slots : Slots) (tag slot : ℕ) (c : Candidate) → match_at slots tag slot ≡ Some c → (c.slot ≡ slot) × (entry_at slots slot ≡ Some (tag, c.place))
 match_is slots tag slot c e = go (entry_at slots slot) e
   where
@@ -183,7 +183,7 @@ pair_candidate slots first second place apart is = elim (cases_held slots place)
           | inr (here, tag) ↦ in_second (found second first slot here (entry ∙ rw (← tag, ← place_is) refl))
         ]
 
--- no candidate's place stands twice
+-- no candidate's place occurs twice
 candidates_apart : (slots : Slots) (first second : ℕ) → PlacesApart slots → NoneTwice (places_of (candidates_of slots first second))
 candidates_apart slots first second apart = elim (cases_eq first second) [
   | inl same ↦ subst (λ (cs : List Candidate). NoneTwice (places_of cs)) (sym (candidates_same slots first second same)) (matches_apart slots second (4 * first) 4 apart)
@@ -227,7 +227,7 @@ candidates_once slots first second apart = pairs_apart (places_of (candidates_of
 abbrev pub Stands : Slots → Candidate → Type 0
 Stands slots c = place_at slots c.slot ≡ Some c.place
 
--- each candidate stands in its slot
+-- each candidate is in its slot
 pub candidates_standing : (slots : Slots) (first second : ℕ) → All (Stands slots) (candidates_of slots first second)
 unfolding candidates_of
 candidates_standing slots first second = go (first == second)

@@ -1,4 +1,4 @@
--- A path that the placing rule finds leads on from entry to entry, names no slot twice and stays inside the table.
+-- A path that the placing rule finds leads from entry to entry, names no slot twice and stays inside the table.
 use Rattle.std.proofs.Common.{◌≡◌, ◌≢◌, ◌⊎◌, inl, inr, ℕ, zero, suc, ◌+◌, ◌*◌, ◌/◌, ◌%◌, ◌<◌, ◌≤◌, true, false, not, ◌==◌, List, [], ◌∷◌, ◌++◌, length, slice_index, slice_set, Option, Some, None, IsNone, IfSome, ◌↔◌, is_none, option_map, option_and_then, refl, sym, subst, ap, ◌∙◌, arith, length-append}
 use Rattle.std.specs.List.{list_any}
 use Rattle.std.proofs.lemmas.Bool.{cases_lt, eq-eqb, not-true, and_parts}
@@ -13,7 +13,7 @@ abbrev pub IsOn : ℕ → List ℕ → Type 0
 IsOn slot [] = ⊥
 IsOn slot (s ∷ path) = (slot ≡ s) ⊎ IsOn slot path
 
--- no slot stands twice
+-- no slot occurs twice
 abbrev pub NoneTwice : List ℕ → Type 0
 NoneTwice [] = Unit {0}
 NoneTwice (s ∷ path) = ¬ IsOn s path × NoneTwice path
@@ -78,7 +78,7 @@ on_passes slot [] on = absurd on
 on_passes slot (s ∷ path) (inl same) = let test = eq-eqb slot s same in rw test refl
 on_passes slot (s ∷ path) (inr on) = let rest = on_passes slot path on in rw rest (or-true (slot == s))
 
--- the victim of a turn stands in the bucket and is not on the path
+-- the entry that a turn moves is in the bucket and not on the path
 pub victim_is : (slots : Slots) (path : List ℕ) (bucket turn slot : ℕ) → victim slots path bucket turn ≡ Some slot → (slot / 4 ≡ bucket) × ¬ IsOn slot path
 unfolding victim
 victim_is slots path bucket turn slot e =
@@ -143,7 +143,7 @@ turns_are slots bucket (suc n) path full e = go (turns slots bucket n) refl (λ 
             let entry = full_bucket slots (bucket_after slots bucket p) slot (full n p (omega arith) is) it.0 in
             rw (← longer) (chain_push slots bucket p slot earlier.0 it.0 entry, none_twice_push p slot earlier.1 it.1, omega (arith, length-append p (slot ∷ []), earlier.2))
 
--- a walk that has not ended stands in a full bucket
+-- a walk that has not ended is at a full bucket
 pub full_here : (slots : Slots) (bucket n : ℕ) (path : List ℕ) → ended_walk slots bucket n ≡ None → turns slots bucket n ≡ Some path → free_slot slots (bucket_after slots bucket path) ≡ None
 full_here slots bucket n path none is =
     go (free_slot slots (bucket_after slots bucket path)) (let h : option_map (λ (slot : ℕ). path ++ slot ∷ []) (free_slot slots (bucket_after slots bucket path)) ≡ None = rw is at none in h)
@@ -277,7 +277,7 @@ unfolding placed put_along
 plan_placed slots plan path place planned same =
     ap (option_map (put_along slots plan.first plan.second place)) (planned.path ∙ ap Some (sym same))
 
--- a plan stands for the table that it was made of
+-- a plan belongs to the table that it was made of
 pub plan_stands : (slots : Slots) (first second : ℕ) → first < bucket_count slots → second < bucket_count slots → IfSome (plan_for slots first second) (IsPlanFor slots)
 plan_stands slots first second first_there second_there = go (path_for slots first second) refl
   where
@@ -285,7 +285,7 @@ plan_stands slots first second first_there second_there = go (path_for slots fir
     go None is = tt
     go (Some path) is = record { first_there = first_there; second_there = second_there; path = is }
 
--- there is no plan exactly where nothing is placed
+-- there is no plan if and only if nothing is placed
 pub plan_gives_up : (slots : Slots) (first second place : ℕ) → IsNone (plan_for slots first second) ↔ (placed slots first second place ≡ None)
 unfolding placed
 plan_gives_up slots first second place = go (path_for slots first second)

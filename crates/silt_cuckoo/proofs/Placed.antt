@@ -157,7 +157,7 @@ put_table old new first second place s path table first_there second_there is_ne
       | inr other ↦ rw (put.others x other) (tag_at-moved_along old (s ∷ path) x table along.inside)
     ]
 
--- the new place stands under its pair, and the others keep theirs
+-- the new place has its pair, and the others keep theirs
 put_pairs : (old new : Slots) (first second place s : ℕ) (path : List ℕ) → IsTable old → IsTable new → ¬ HoldsPlace old place → Displaces old first second (s ∷ path) → Put old new first second place s path → AddsPair old new place first second
 put_pairs old new first second place s path table after is_new along put p = elim (cases_eq p place) [
   | inl same ↦

@@ -1,4 +1,4 @@
--- Which places are held, and which are not.
+-- Which places are in the table, and which are not.
 use Rattle.std.proofs.Common.{◌≡◌, ◌≢◌, inl, inr, ℕ, ◌+◌, ◌*◌, ◌/◌, ◌≤◌, Some, None, option_map, sym, ap, ◌∙◌, arith}
 use Rattle.std.proofs.lemmas.Bool.{cases_eq, ne_eqb}
 use Rattle.silt_cuckoo.specs.Slots.{Slots, Entry, IsTable, HoldsPlace, PlacesBelow, empty_slots, place_at}
@@ -6,7 +6,7 @@ use Rattle.silt_cuckoo.specs.Pairs.{pair_of, table_pairs, AddsPair}
 use Rattle.silt_cuckoo.proofs.Placed.{has_entry, table_pairs-held, table_pairs-not_held, cases_held}
 use Rattle.silt_cuckoo.proofs.Tables.{entry_at-free}
 
--- a place that is not below the bound is not held
+-- a place that is not below the bound is not in the table
 pub above_not_held : (slots : Slots) (bound place : ℕ) → PlacesBelow slots bound → bound ≤ place → ¬ HoldsPlace slots place
 above_not_held slots bound place below above (slot, is) = let low = below slot place is in omega arith
 
@@ -17,20 +17,20 @@ empty_below buckets bound slot place is =
     let h : option_map (λ (e : Entry). e.1) None ≡ Some place = rw none at is in
     absurd (cc)
 
--- a place that is held has a pair
+-- a place in the table has a pair
 pub pair_held : (slots : Slots) (slot place : ℕ) → IsTable slots → place_at slots slot ≡ Some place → (pair : ℕ × ℕ) × (table_pairs slots place ≡ Some pair)
 pair_held slots slot place table is =
     let entry = has_entry slots slot place is in
     (pair_of (slot / 4) entry.0.0, table_pairs-held slots slot place table.places_apart is ∙ ap (option_map (λ (e : Entry). pair_of (slot / 4) e.0)) entry.1)
 
--- a place that has a pair is held
+-- a place that has a pair is in the table
 pub holds_from_pair : (slots : Slots) (place : ℕ) (pair : ℕ × ℕ) → table_pairs slots place ≡ Some pair → HoldsPlace slots place
 holds_from_pair slots place pair is = elim (cases_held slots place) [
   | inl held ↦ held
   | inr not_held ↦ let none = table_pairs-not_held slots place not_held in absurd (cc)
 ]
 
--- a place that is held after a new one was placed is the new one or was held before
+-- after a new place was placed, a place in the table is the new one or was there before
 pub held_before : (old new : Slots) (place first second slot p : ℕ) → IsTable new → AddsPair old new place first second → place_at new slot ≡ Some p → p ≢ place → HoldsPlace old p
 held_before old new place first second slot p table adds is other =
     let pair = pair_held new slot p table is in

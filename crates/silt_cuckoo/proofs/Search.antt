@@ -12,7 +12,7 @@ found_at p f a (suc n) (suc k) m e below before here =
     let rest = found_at p f (a + 1) n k m (omega arith) (omega arith) (λ j low high. before j (omega arith) high) here in
     rw (not_yet, rest) refl
 
--- nothing is found where none passes
+-- nothing is found if none passes
 pub found_nowhere : {X : Type 0} (p : X → Bool) (f : ℕ → X) (a n : ℕ) → ((j : ℕ) → a ≤ j → j < a + n → p (f j) ≡ false) → find p (map f (range_with_len a n)) ≡ None
 found_nowhere p f a zero none = refl
 found_nowhere p f a (suc n) none =
@@ -29,7 +29,7 @@ first_at f a (suc n) (suc k) m x e below before here =
     let rest = first_at f (a + 1) n k m x (omega arith) (omega arith) (λ j low high. before j (omega arith) high) here in
     rw (not_yet, rest) refl
 
--- there is no first value where there is none
+-- there is no first value if there is no value
 pub first_nowhere : {X : Type 0} (f : ℕ → Option X) (a n : ℕ) → ((j : ℕ) → a ≤ j → j < a + n → f j ≡ None) → slice_get (filter_map f (range_with_len a n)) 0 ≡ None
 first_nowhere f a zero none = refl
 first_nowhere f a (suc n) none =
@@ -47,7 +47,7 @@ found_in_range p a (suc n) x e = go (p a) refl (found_in_range p (a + 1) n x) e
     go true is rest h = let same : a ≡ x = cc in (omega arith, omega arith, rw same at is)
     go false is rest h = let there = rest h in (omega (arith, there.0), omega (arith, there.1), there.2)
 
--- where nothing is found, none of the numbers passes
+-- if nothing is found, none of the numbers passes
 pub none_in_range : (p : ℕ → Bool) (a n : ℕ) → find p (range_with_len a n) ≡ None → (x : ℕ) → a ≤ x → x < a + n → p x ≡ false
 none_in_range p a zero e x low high = absurd (omega arith)
 none_in_range p a (suc n) e x low high = go (p a) refl (none_in_range p (a + 1) n) e

@@ -1,4 +1,4 @@
--- Where the entry of each slot comes from, when entries move along a path.
+-- The slot that the entry of each slot comes from, when entries move along a path.
 use Rattle.std.proofs.Common.{◌≡◌, ◌≢◌, ◌⊎◌, inl, inr, ℕ, ◌/◌, ◌<◌, ◌==◌, if◌then◌else◌, min, max, List, [], ◌∷◌, length, slice_set, Option, Some, None, option_map, unwrap_or, refl, sym, subst, ap, ◌∙◌, arith, get_or-set_other, get_or-set_same, length-set}
 use Rattle.std.proofs.lemmas.Bool.{cases_eq, eq-eqb, ne_eqb}
 use Rattle.silt_cuckoo.specs.Slots.{Slots, Entry, IsTable, bucket_count, entry_at, tag_at, place_at}

@@ -1,4 +1,4 @@
--- Stored slots and what they stand for.
+-- Stored slots and what they represent.
 use Rattle.std.proofs.Common.{◌≡◌, ℕ, zero, suc, ◌<◌, List, ◌∷◌, length, replicate, slice_set, get_or, None, refl, ap}
 use Rattle.std.proofs.lemmas.List.{get_or-map, map-set}
 use Rattle.silt_cuckoo.specs.declared.slot.Slot.{Slot}

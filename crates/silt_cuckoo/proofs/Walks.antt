@@ -38,7 +38,7 @@ pub shortest_at : (slots : Slots) (bucket n : ℕ) (path : List ℕ) → n < 128
 unfolding shortest_walk
 shortest_at slots bucket n path below before here = first_at (ended_walk slots bucket) 1 128 n (n + 1) path (omega arith) below before here
 
--- none ends where a turn has no victim
+-- none ends if a turn finds no entry to move
 pub shortest_none : (slots : Slots) (bucket n : ℕ) → ((k : ℕ) → 1 ≤ k → k < n + 1 → ended_walk slots bucket k ≡ None) → turns slots bucket (n + 1) ≡ None → shortest_walk slots bucket ≡ None
 unfolding shortest_walk
 shortest_none slots bucket n before stuck = first_nowhere (ended_walk slots bucket) 1 128 (λ k low high. elim (cases_lt k (n + 1)) [
@@ -50,7 +50,7 @@ shortest_none slots bucket n before stuck = first_nowhere (ended_walk slots buck
       rw here refl
 ])
 
--- nor where 128 turns have ended nothing
+-- nor if 128 turns have ended nothing
 pub shortest_never : (slots : Slots) (bucket : ℕ) → ((k : ℕ) → 1 ≤ k → k < 129 → ended_walk slots bucket k ≡ None) → shortest_walk slots bucket ≡ None
 unfolding shortest_walk
 shortest_never slots bucket before = first_nowhere (ended_walk slots bucket) 1 128 (λ k low high. before k low (omega arith))
@@ -67,14 +67,14 @@ turn_made slots first bucket turn slot path so_far here found =
 abbrev pub NotEnded : Slots → ℕ → ℕ → Type 0
 NotEnded slots first turn = (n : ℕ) → 1 ≤ n → n < turn + 1 → ended_walk slots first n ≡ None
 
--- a turn without a victim: the rule gives up
+-- a turn that finds no entry to move: the walk fails
 pub walk_stuck : (slots : Slots) (first bucket turn : ℕ) (path : List ℕ) → turns slots first turn ≡ Some path → bucket ≡ bucket_after slots first path
     → NotEnded slots first turn → victim slots path bucket turn ≡ None → shortest_walk slots first ≡ None
 walk_stuck slots first bucket turn path so_far here none stuck =
     let stuck_here : victim slots path (bucket_after slots first path) turn ≡ None = rw here at stuck in
     shortest_none slots first turn none (turns_next slots first turn path so_far ∙ ap (option_map (λ s. path ++ s ∷ [])) stuck_here)
 
--- a turn that comes to a bucket with a free slot: the walk ends there
+-- a turn that reaches a bucket with a free slot: the walk ends there
 pub walk_ends : (slots : Slots) (first bucket turn slot free : ℕ) (path : List ℕ) → turn < 128 → turns slots first turn ≡ Some path → bucket ≡ bucket_after slots first path
     → NotEnded slots first turn → victim slots path bucket turn ≡ Some slot → free_slot slots (tag_at slots slot) ≡ Some free
     → shortest_walk slots first ≡ Some ((path ++ slot ∷ []) ++ free ∷ [])
@@ -83,7 +83,7 @@ walk_ends slots first bucket turn slot free path low so_far here none found ther
     let free_here : free_slot slots (bucket_after slots first (path ++ slot ∷ [])) ≡ Some free = rw made.1 at there in
     shortest_at slots first turn _ low none (ended slots first (turn + 1) free (path ++ slot ∷ []) made.0 free_here)
 
--- a turn that comes to a full bucket: no walk has ended yet
+-- a turn that reaches a full bucket: no walk has ended yet
 pub walk_goes_on : (slots : Slots) (first bucket turn slot : ℕ) (path : List ℕ) → turns slots first turn ≡ Some path → bucket ≡ bucket_after slots first path
     → NotEnded slots first turn → victim slots path bucket turn ≡ Some slot → free_slot slots (tag_at slots slot) ≡ None → NotEnded slots first (turn + 1)
 walk_goes_on slots first bucket turn slot path so_far here none found full n low high =

@@ -7,7 +7,7 @@ use Rattle.byteorder.specs.Endian.{big_number}
 abbrev pub first_bucket : ℕ → List ℕ → ℕ
 first_bucket buckets key = big_number 2 (slice_range key 0 2) % buckets
 
--- a key's second bucket: the same of its bytes 2 and 3
+-- a key's second bucket: its bytes 2 and 3 as a number, modulo the number of buckets
 abbrev pub second_bucket : ℕ → List ℕ → ℕ
 second_bucket buckets key = big_number 2 (slice_range key 2 4) % buckets
 

@@ -1,10 +1,10 @@
--- What a look-up finds: the entries of two buckets.
+-- The result of a look-up: the entries of two buckets.
 use Rattle.std.specs.Prelude.{ℕ, ◌*◌, ◌==◌, if◌then◌else◌, List, [], ◌++◌, map, filter_map, Option, Some, None, option_and_then}
 use Rattle.std.specs.List.{range_with_len}
 use Rattle.silt_cuckoo.specs.declared.lookup.Candidate.{Candidate}
 use Rattle.silt_cuckoo.specs.Slots.{Entry, Slots, entry_at}
 
--- the entry in this slot, where it has this tag
+-- the entry in this slot, if it has this tag
 abbrev pub match_at : Slots → ℕ → ℕ → Option Candidate
 match_at slots tag slot = option_and_then
     (λ (e : Entry). if e.0 == tag then Some (record { slot = slot; place = e.1 }) else None)

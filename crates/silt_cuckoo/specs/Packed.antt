@@ -3,10 +3,10 @@ use Rattle.std.specs.Prelude.{◌+◌, ◌-◌, ◌*◌, ◌==◌, if◌then◌e
 use Rattle.silt_cuckoo.specs.declared.slot.Slot.{Slot}
 use Rattle.silt_cuckoo.specs.Slots.{Entry, Slots}
 
--- the entry that a stored slot stands for: none where its mark is 0, else the mark is the tag and 1
+-- the entry that a stored slot represents: none if its mark is 0, else its tag is the mark minus 1
 abbrev pub unpacked : Slot → Option Entry
 unpacked slot = if slot.mark == 0 then None else Some (slot.mark - 1, 65536 * slot.high + slot.low)
 
--- the slots that stored slots stand for
+-- the slots that stored slots represent
 abbrev pub unpacked_all : List Slot → Slots
 unpacked_all slots = map unpacked slots

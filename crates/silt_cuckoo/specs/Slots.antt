@@ -1,4 +1,4 @@
--- The slots of a table: buckets of four, in which each entry stands in one of its two buckets and names the other.
+-- The slots of a table: buckets of four, in which each entry lies in one of its two buckets and names the other.
 use Rattle.std.specs.Prelude.{◌≡◌, ◌<◌, ◌≤◌, ℕ, ◌*◌, ◌/◌, IsTrue, List, length, replicate, get_or, Option, Some, None, unwrap_or, option_map}
 use Rattle.std.specs.Int.{is_power_of_two}
 
@@ -10,19 +10,19 @@ Entry = ℕ × ℕ
 abbrev pub Slots : Type 0
 Slots = List (Option Entry)
 
--- how many buckets the slots make
+-- the number of buckets of these slots
 abbrev pub bucket_count : Slots → ℕ
 bucket_count slots = length slots / 4
 
--- so many buckets of free slots
+-- this many buckets of free slots
 abbrev pub empty_slots : ℕ → Slots
 empty_slots buckets = replicate (4 * buckets) None
 
--- the entry in a slot, none where the slot is free or past the last
+-- the entry in a slot; none if the slot is free or past the last one
 abbrev pub entry_at : Slots → ℕ → Option Entry
 entry_at slots slot = get_or slots slot None
 
--- the tag in a slot, and 0 where the slot is free
+-- the tag in a slot, or 0 if the slot is free
 abbrev pub tag_at : Slots → ℕ → ℕ
 tag_at slots slot = unwrap_or (option_map (λ (e : Entry). e.0) (entry_at slots slot)) 0
 
@@ -34,21 +34,21 @@ place_at slots slot = option_map (λ (e : Entry). e.1) (entry_at slots slot)
 abbrev pub HoldsPlace : Slots → ℕ → Type 0
 HoldsPlace slots place = (slot : ℕ) × (place_at slots slot ≡ Some place)
 
--- no place is held twice
+-- no place occurs twice
 abbrev pub PlacesApart : Slots → Type 0
 PlacesApart slots = (i j place : ℕ) → place_at slots i ≡ Some place → place_at slots j ≡ Some place → i ≡ j
 
--- every place that is held is below this number
+-- every place in the table is below this number
 abbrev pub PlacesBelow : Slots → ℕ → Type 0
 PlacesBelow slots bound = (slot place : ℕ) → place_at slots slot ≡ Some place → place < bound
 
--- a table may have so many buckets
+-- the numbers of buckets that a table may have
 pub record IsBucketCount (buckets : ℕ) : Type 0 where
   pub least : 2 ≤ buckets
   pub most : buckets ≤ 32768
   pub power : IsTrue (is_power_of_two buckets)
 
--- what every table keeps: four slots a bucket, each tag the number of a bucket, no place held twice
+-- the invariant of a table: four slots a bucket, each tag the number of a bucket, no place twice
 pub record IsTable (slots : Slots) : Type 0 where
   pub buckets : IsBucketCount (bucket_count slots)
   pub four_each : length slots ≡ 4 * bucket_count slots

@@ -13,13 +13,13 @@ use crate::slot::{Slot, entry_at, tag_at};
 use std::alloc::{AllocError, Global};
 use std::marker::Model;
 
-/// The most turns of a walk.
+/// The greatest number of turns of a walk.
 const MOST_TURNS: u32 = 128;
 
-/// A partial-key cuckoo table of 2 to 32,768 buckets of four slots, in six bytes a slot.
+/// A partial-key cuckoo table of 2 to 32,768 buckets of four slots. A slot takes six bytes.
 ///
-/// Contracts see the list of its slots, each with an entry's tag and place or free. Every tag is the number of a bucket,
-/// and no place is held twice.
+/// In contracts it is the list of its slots. Each is free or has the tag and the place of an entry. Every tag is the number of a
+/// bucket, and no place occurs twice.
 #[derive(Drop)]
 pub struct Table {
     slots: Vec<Slot>,
@@ -34,7 +34,7 @@ impl Model for Table {
 }
 
 impl Table {
-    /// An empty table of so many buckets, a power of two.
+    /// An empty table of this many buckets, a power of two.
     pub fn new(alloc: Global, buckets: u32) -> Result<Self, AllocError>
         requires { IsBucketCount buckets }
         ensures empty { IfOk result (λ table. table ≡ empty_slots buckets) }
@@ -44,7 +44,7 @@ impl Table {
         Ok(Table { slots })
     }
 
-    /// How many buckets there are.
+    /// The number of buckets.
     pub fn bucket_count(&self) -> u32
         ensures count { result ≡ bucket_count self.now }
         ensures table { IsTable self.now }
@@ -52,7 +52,7 @@ impl Table {
         (self.slots.len() / 4) as u32
     }
 
-    /// The tag and the place in a slot, none where it is free or past the last.
+    /// The tag and the place in a slot. `None` if the slot is free or past the last one.
     pub fn slot(&self, slot: usize) -> Option<(u32, u32)>
         ensures { result ≡ entry_at self.now slot }
     {
@@ -62,8 +62,8 @@ impl Table {
         }
     }
 
-    /// The entries of these two buckets: those in the first with the second as their tag, in slot order, then, where the
-    /// two differ, those in the second with the first as their tag.
+    /// The entries of these two buckets. First those in the first bucket whose tag is the second, in slot order. Then, if the buckets
+    /// differ, those in the second whose tag is the first.
     pub fn candidates(&self, first: u32, second: u32) -> Candidates
         requires first_there { first < bucket_count self.now }
         requires second_there { second < bucket_count self.now }
@@ -75,9 +75,8 @@ impl Table {
         Candidates::of(self.slots.as_slice(), first, second)
     }
 
-    /// Where a new entry of these two buckets goes, none where the rule gives up: to the lowest free slot of the first
-    /// bucket, else of the second, else into the first by a walk of at most 128 turns, each of which moves one entry to
-    /// its other bucket.
+    /// Where a new entry of these two buckets goes: to the lowest free slot of the first bucket, else of the second, else into the
+    /// first by a walk of at most 128 turns. Each turn moves one entry to its other bucket. `None` if the walk finds no free slot.
     pub fn plan(&self, first: u32, second: u32) -> Option<Path>
         requires first_there { first < bucket_count self.now }
         requires second_there { second < bucket_count self.now }
@@ -88,7 +87,7 @@ impl Table {
         find_path(self.slots.as_slice(), first, second)
     }
 
-    /// Moves the entries of a path on and puts a new entry with this place into the path's first slot.
+    /// Moves the entries along a path, and puts a new entry with this place into the path's first slot.
     pub fn apply(&mut self, path: &Path, place: u32)
         requires planned { IsPlanFor self.old path.now }
         requires new { ¬ HoldsPlace self.old place }
@@ -100,7 +99,7 @@ impl Table {
         put_along(self.slots.as_mut_slice(), path, place);
     }
 
-    /// The entry of a slot takes another place.
+    /// Gives the entry of a slot another place.
     pub fn replace(&mut self, slot: usize, place: u32)
         requires entry { IsSome (entry_at self.old slot) }
         requires new { ¬ HoldsPlace self.old place }
@@ -144,7 +143,7 @@ fn find_path(slots: &[Slot], first: u32, second: u32) -> Option<Path>
     walk(slots, path)
 }
 
-/// The slot whose entry a turn of a walk moves out of a full bucket.
+/// The slot whose entry a turn of the walk moves out of a full bucket.
 #[tactic(auto, unfolding(crate::specs::Placing::victim))]
 fn turn_victim(slots: &[Slot], path: &Path, bucket: u32, turn: u32) -> Option<u32>
     requires there { 4 * bucket + 4 ≤ length slots.now }
@@ -197,7 +196,7 @@ fn move_along(slots: &mut [Slot], path: &[u32])
     }
 }
 
-/// Moves the entries of a path on and puts a new entry into the path's first slot.
+/// Moves the entries along a path, and puts a new entry into the path's first slot.
 fn put_along(slots: &mut [Slot], path: &Path, place: u32)
     requires table { IsTable (unpacked_all slots.old) }
     requires planned { IsPlanFor (unpacked_all slots.old) path.now }

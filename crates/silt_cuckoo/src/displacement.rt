@@ -10,9 +10,9 @@ use std::marker::Model;
 /// The longest path: 128 turns of a walk and the free slot at its end.
 const LONGEST: usize = 129;
 
-/// Where a new entry goes: the slots along which entries move to make room for it, the last of them free.
+/// Where a new entry goes: the slots along which entries move to make room for it. The last of them is free.
 ///
-/// It holds for the table as it stood when the path was planned.
+/// It is valid only for the table as it was when the path was planned.
 #[derive(Drop)]
 pub struct Path {
     first: u32,
@@ -64,7 +64,7 @@ impl Path {
         self.slots[0] as usize
     }
 
-    /// The tag that the new entry has in this slot.
+    /// The tag of the new entry in this slot.
     pub(crate) fn tag_in(&self, slot: usize) -> u32
         ensures { result ≡ other_bucket self.now.first self.now.second slot }
     {
@@ -82,7 +82,7 @@ impl Path {
         self.slots().iter().any(|s| slot == *s)
     }
 
-    /// One slot more.
+    /// Appends a slot.
     pub(crate) fn push(&mut self, slot: u32)
         requires { length self.old.slots < LONGEST }
         ensures { self.new ≡ record self.old { slots = self.old.slots ++ slot ∷ [] } }

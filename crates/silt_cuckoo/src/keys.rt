@@ -5,7 +5,7 @@ ghost use Rattle.silt_cuckoo.specs.Keys.{first_bucket, second_bucket};
 
 use byteorder::{BigEndian, ByteOrder};
 
-/// The two buckets of a key in a table of so many buckets: its bytes 0 and 1, and its bytes 2 and 3, as big-endian
+/// The two buckets of a key in a table of this many buckets. They are its bytes 0 and 1, and its bytes 2 and 3, as big-endian
 /// numbers modulo the number of buckets.
 pub fn key_buckets(key: &[u8], buckets: u32) -> (u32, u32)
     requires four_bytes { 4 ≤ length key.now }

@@ -1,11 +1,11 @@
-//! A partial-key cuckoo table: an index in memory that knows of each key only its two buckets.
+//! A partial-key cuckoo table: an index in memory that stores only the two buckets of each key.
 //!
-//! A table has buckets of four slots. An entry stands in one of the two buckets of its key and has the number of the
-//! other as its tag, so that it can be moved between them without a look at the key. With each entry goes a place, by
-//! which the caller finds what the entry stands for: a match of buckets is a candidate, and the caller compares the keys.
+//! A table has buckets of four slots. An entry lies in one of the two buckets of its key, and its tag is the number of the
+//! other. So it can move between the two without reading the key. Each entry has a place, which is the caller's name for the
+//! key's row. A match of buckets is only a candidate: the caller compares the keys.
 //!
-//! A new entry goes in by two steps: [`Table::plan`] finds the path along which entries have to move to make room, and
-//! [`Table::apply`] moves them, from the free end backwards, and puts the new entry in. Only [`Table::new`] takes memory.
+//! A new entry goes in by two steps. [`Table::plan`] finds the path along which entries have to move to make room.
+//! [`Table::apply`] moves them, from the free end backwards, and puts the new entry in. Only [`Table::new`] allocates memory.
 #![tactic(auto)]
 
 mod cuckoo;

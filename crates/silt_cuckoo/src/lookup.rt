@@ -1,4 +1,4 @@
-//! What a look-up finds.
+//! The result of a look-up.
 
 ghost use Rattle.std.specs.Prelude.{◌≡◌, ℕ, ◌+◌, ◌*◌, ◌<◌, ◌≤◌, length, List, take, [], ◌∷◌, ◌++◌};
 ghost use Rattle.silt_cuckoo.specs.Packed.{unpacked_all};
@@ -8,7 +8,7 @@ ghost use Rattle.silt_cuckoo.specs.Lookup.{match_at, matches_in, candidates_of};
 use crate::slot::{Slot, entry_at};
 use std::marker::Model;
 
-/// An entry that may be the one that is looked for: its slot and its place.
+/// An entry that may belong to the key that is looked up: its slot and its place.
 #[derive(Clone, Copy, PartialEq, Eq, Debug)]
 pub struct Candidate {
     pub slot: usize,
@@ -62,7 +62,7 @@ impl Candidates {
         &self.found[..self.len]
     }
 
-    /// One candidate more.
+    /// Appends a candidate.
     fn push(&mut self, candidate: Candidate)
         requires { length self.old < 8 }
         ensures { self.new ≡ self.old ++ candidate ∷ [] }
@@ -71,7 +71,7 @@ impl Candidates {
         self.len += 1;
     }
 
-    /// The entries of a bucket with this tag.
+    /// Adds the entries of a bucket that have this tag.
     fn add_matches(&mut self, slots: &[Slot], bucket: u32, tag: u32)
         requires room { length self.old ≤ 4 }
         requires there { 4 * bucket + 4 ≤ length slots.now }
@@ -87,7 +87,7 @@ impl Candidates {
     }
 }
 
-/// The entry in a slot, where it has this tag.
+/// The entry in a slot, if it has this tag.
 fn match_at(slots: &[Slot], tag: u32, slot: usize) -> Option<Candidate>
     requires { slot < length slots.now }
     ensures { result ≡ match_at (unpacked_all slots.now) tag slot }

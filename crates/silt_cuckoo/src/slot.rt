@@ -4,10 +4,10 @@ ghost use Rattle.std.specs.Prelude.{◌≡◌, ◌<◌, ◌^◌, length, option_
 ghost use Rattle.silt_cuckoo.specs.Slots.{Entry, entry_at, tag_at};
 ghost use Rattle.silt_cuckoo.specs.Packed.{unpacked, unpacked_all};
 
-/// A slot in six bytes. The place stands in two halves, since a `u32` would align the slot to eight bytes.
+/// A slot in six bytes. The place is split into two halves, since a `u32` would align the slot to eight bytes.
 #[derive(Clone, Copy)]
 pub struct Slot {
-    /// 0 in a free slot, else the tag and 1.
+    /// 0 in a free slot, else the tag plus 1.
     mark: u16,
     high: u16,
     low: u16,
@@ -44,7 +44,7 @@ impl Slot {
         Some((self.mark as u32 - 1, place))
     }
 
-    /// The slot with another tag, or free where it is free.
+    /// The slot with another tag. A free slot stays free.
     pub fn with_tag(self, tag: u32) -> Self
         requires { tag < 2 ^ 15 }
         ensures { unpacked result ≡ option_map (λ (e : Entry). (tag, e.1)) (unpacked self) }
@@ -68,7 +68,7 @@ pub fn entry_at(slots: &[Slot], slot: usize) -> Option<(u32, u32)>
     slots[slot].entry()
 }
 
-/// The tag in a slot, and 0 where it is free.
+/// The tag in a slot, or 0 if the slot is free.
 pub fn tag_at(slots: &[Slot], slot: usize) -> u32
     requires { slot < length slots.now }
     ensures { result ≡ tag_at (unpacked_all slots.now) slot }

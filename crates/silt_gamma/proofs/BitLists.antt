@@ -38,7 +38,7 @@ drop-bits_of k bytes within =
     let sized : length (bits_of (take k bytes)) ≡ 8 * k = length-bits_of (take k bytes) ∙ ap (λ (x : ℕ). 8 * x) front in
     ap (λ (xs : List ℕ). drop (8 * k) xs) split ∙ drop_at (bits_of (take k bytes)) (bits_of (drop k bytes)) (8 * k) sized
 
--- what stands above the lowest w bits does not matter
+-- bits above the lowest w do not matter
 pub low_bits_above : (w h n : ℕ) → low_bits w (h * 2 ^ w + n) ≡ low_bits w n
 low_bits_above zero h n = refl
 low_bits_above (suc w) h n =
@@ -117,7 +117,7 @@ bits_of-zeros (suc k) =
     let eight : 8 + 8 * k ≡ 8 * suc k = omega arith in
     ap (λ (xs : List ℕ). replicate 8 0 ++ xs) (bits_of-zeros k) ∙ replicate-append-replicate 8 (8 * k) 0 ∙ ap (λ (n : ℕ). replicate n 0) eight
 
--- a front that reaches no zeros of either filling
+-- a front that ends before the filling zeros
 pub take_filled : (n a b : ℕ) (xs : List ℕ) → n ≤ length xs + a → n ≤ length xs + b → take n (xs ++ replicate a 0) ≡ take n (xs ++ replicate b 0)
 take_filled zero a b xs p q = refl
 take_filled (suc n) a b (x ∷ xs) p q = ap (λ (ys : List ℕ). x ∷ ys) (take_filled n a b xs (omega arith) (omega arith))
@@ -125,7 +125,7 @@ take_filled (suc n) zero b [] p q = absurd (omega arith)
 take_filled (suc n) (suc a) zero [] p q = absurd (omega arith)
 take_filled (suc n) (suc a) (suc b) [] p q = ap (λ (ys : List ℕ). 0 ∷ ys) (take_filled n a b [] (omega arith) (omega arith))
 
--- a front that ends in what fills up
+-- a front that ends within the filling zeros
 pub take_into_zeros : (xs : List ℕ) (n a : ℕ) → length xs ≤ n → n ≤ length xs + a → take n (xs ++ replicate a 0) ≡ xs ++ replicate (n - length xs) 0
 take_into_zeros xs n a low high =
     let e : n ≡ length xs + (n - length xs) = omega arith in

@@ -31,7 +31,7 @@ one_exponent j k n a b c d = elim (cases_order j k) [
   | inr (inr above) ↦ let h : 2 ^ (k + 1) ≤ 2 ^ j = pow_mono {i = k + 1} {j = j} (omega arith) in absurd (omega arith)
 ]
 
--- the code is what the standard says
+-- the code is the one that the standard defines
 pub gamma_law : GammaLaw
 unfolding gamma_code
 gamma_law n within =
@@ -114,6 +114,6 @@ codes_apart m n xs ys inm inn e =
     prefix_from (exponent_up_to 31 m) (exponent_up_to 31 n) m n xs ys fm.0 fm.1 fn.0 fn.1
     (sym (ap (λ (w : ℕ). (replicate (exponent_up_to 31 m) 0 ++ low_bits w m) ++ xs) a) ∙ e ∙ ap (λ (w : ℕ). (replicate (exponent_up_to 31 n) 0 ++ low_bits w n) ++ ys) b)
 
--- no code begins another
+-- no code is a prefix of another
 pub prefix_law : PrefixLaw
 prefix_law bits m n xs ys one other = codes_apart m n xs ys one.in_range other.in_range (sym one.split ∙ other.split)

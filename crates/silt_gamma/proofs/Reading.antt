@@ -20,7 +20,7 @@ gamma_code_is k n within low high =
     let width : k + (k + 1) ≡ 2 * k + 1 = omega arith in
     ap (λ (e : ℕ). replicate e 0 ++ low_bits (e + 1) n) same ∙ sym (low_bits_small k (k + 1) n high) ∙ ap (λ (w : ℕ). low_bits w n) width
 
--- what a reader's fields say of the bits that are left
+-- what a reader's fields mean for the bits that are left
 pub record Shows (bytes : List ℕ) (at end window ready : ℕ) (left : List ℕ) : Type 0 where
   pub is : IsWindow bytes at end window ready
   pub view : take (end - at) (drop at (bits_of bytes)) ≡ left
@@ -144,7 +144,7 @@ reads_code bytes at end window ready w left shows width word within =
     let code : take w left ≡ gamma_code n = front_of bytes at end window ready w left shows word within ∙ ap (λ (x : ℕ). low_bits x n) width ∙ sym (gamma_code_is z n has low high) in
     (fits, record { in_range = has; split = sym (take-append-drop w left) ∙ ap (λ (xs : List ℕ). xs ++ drop w left) code ∙ ap (λ (xs : List ℕ). gamma_code n ++ xs) (sym (left_after bytes at end window ready w left shows within)) })
 
--- where a word that is long enough begins with a code, its zeros in front are as many as the code's
+-- if a word is long enough and begins with a code, it has as many zeros in front as the code
 code_reads : (bytes : List ℕ) (at end window ready n : ℕ) (left rest : List ℕ) → Shows bytes at end window ready left → BeginsWithCode left n rest → (ready ≡ 64) ⊎ (end - at < ready)
     → (count_leading_zeros 64 window ≤ 31) × (2 * count_leading_zeros 64 window + 1 ≤ end - at)
 code_reads bytes at end window ready n left rest shows begins enough =
@@ -178,7 +178,7 @@ code_reads bytes at end window ready n left rest shows begins enough =
         let top = leading_top 64 window (omega arith) shows.is.small in
         top_from_number window n (exponent_up_to 31 n) top.0 (count_leading_zeros 64 window) spare top.1 top.2 top.3 e number low high few
 
--- where a word has too many zeros in front, or what is left is too short, no code is there
+-- if a word has too many zeros in front, or too few bits are left, no code is there
 pub no_code : (bytes : List ℕ) (at end window ready w n : ℕ) (left rest : List ℕ) → Shows bytes at end window ready left → w ≡ 2 * count_leading_zeros 64 window + 1 → (ready ≡ 64) ⊎ (w ≤ ready)
     → (ready < w) ⊎ (end - at < w) → BeginsWithCode left n rest → ⊥
 no_code bytes at end window ready w n left rest shows width full short begins = elim full [

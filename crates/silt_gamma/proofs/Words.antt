@@ -42,7 +42,7 @@ window_inside at q s bytes place within small =
     let left = length-drop at (bits_of bytes) in
     ap (take 64) here ∙ sym (ap (take 64) (drop-append-le at (bits_of bytes) (replicate 72 0) (omega arith)) ∙ take-append-le 64 (drop at (bits_of bytes)) (replicate 72 0) (omega arith))
 
--- the same where the bytes end early and zeros fill up
+-- the same if the bytes end early and zeros fill up
 pub window_padded : (at q s r : ℕ) (bytes : List ℕ) → at ≡ 8 * q + s → s < 8 → at ≤ 8 * length bytes → q + r ≡ length bytes → r < 9
     → take 64 (drop s (bits_of (drop q bytes ++ replicate (9 - r) 0))) ≡ take 64 (drop at (bits_of bytes ++ replicate 72 0))
 window_padded at q s r bytes place small within sized short =

@@ -23,7 +23,7 @@ aligned width value some word small =
     let fits : value * 2 ^ (64 - width) % 2 ^ 64 ≡ value * 2 ^ (64 - width) = shl_whole value width (64 - width) 64 small (omega arith) in
     (ap (λ x. x / 2 ^ (64 - width)) fits ∙ shl-shr value (64 - width), ap (low_bits 64) fits ∙ ap (λ w. low_bits w (value * 2 ^ (64 - width))) (sym whole) ∙ low_bits_moved width (64 - width) value)
 
--- bits of which the last byte is whole take more bytes behind it
+-- appending to bits that end with a whole byte adds bytes behind it
 pub append_whole : (width word len k : ℕ) (bytes more new : List ℕ) → HoldsBits bytes (take len (bits_of bytes)) → len ≤ 8 * length bytes → len % 8 ≡ 0 → width ≤ 64
     → low_bits 64 word ≡ low_bits width (word / 2 ^ (64 - width)) ++ replicate (64 - width) 0 → more ≡ to_be_bytes w64 word → width ≤ 8 * k → 8 * k < width + 8 → new ≡ bytes ++ take k more
     → HoldsBits new (take len (bits_of bytes) ++ low_bits width (word / 2 ^ (64 - width)))
@@ -105,7 +105,7 @@ last_byte len q u f b bytes more filled within place some byte read =
       zeros = sym (drop_at before (low_bits f b) len long) ∙ sym (ap (drop len) all) ∙ ap (drop len) filled.code ∙ drop_at bits (replicate filled.spare 0) len count ∙ ap (λ n. replicate n 0) spare;
     }
 
--- bits of which the last byte has room take the front of the word there, and bytes behind it
+-- appending to bits that end within a byte fills that byte first, and adds bytes behind it
 pub append_partly : (width word len k b : ℕ) (bytes more new : List ℕ) → HoldsBits bytes (take len (bits_of bytes)) → len ≤ 8 * length bytes → 0 < len % 8 → 1 ≤ width → width ≤ 64 → word < 2 ^ 64
     → low_bits 64 word ≡ low_bits width (word / 2 ^ (64 - width)) ++ replicate (64 - width) 0 → more ≡ to_be_bytes w64 (word * 2 ^ (8 - len % 8) % 2 ^ 64) → k ≡ (len % 8 + width - 1) / 8
     → b ≡ get_or (bytes ++ take k more) (len / 8) b → new ≡ set (bytes ++ take k more) (len / 8) (bit_or b (word / 2 ^ (56 + len % 8)))
@@ -139,7 +139,7 @@ append_partly width word len k b bytes more new filled within some one small fit
           ∙ ap (λ xs. xs ++ (low_bits f x ++ bits_of (take k more))) (sym last.bits_are) ∙ ap (λ xs. take len (bits_of bytes) ++ xs) tail ∙ sym (append_assoc (take len (bits_of bytes)) top (replicate (f + 8 * k - width) 0));
     }
 
--- what a writer's fields say
+-- what a writer's fields mean
 pub record Holds (len : ℕ) (bytes bits : List ℕ) : Type 0 where
   pub view : take len (bits_of bytes) ≡ bits
   pub filled : HoldsBits bytes (take len (bits_of bytes))

@@ -19,7 +19,7 @@ first_bits n bytes = take n (bits_of bytes)
 abbrev pub high_bits : ℕ → ℕ → List ℕ
 high_bits w word = low_bits w (word / 2 ^ (64 - w))
 
--- the bytes hold exactly these bits: zeros fill up the last byte, and there is no byte more
+-- the bytes hold exactly these bits: zeros fill up the last byte, and no byte follows
 pub record HoldsBits (bytes bits : List ℕ) : Type 0 where
   pub spare : ℕ
   pub short : spare < 8
@@ -30,7 +30,7 @@ pub record IsFilledTo (n : ℕ) (bytes : List ℕ) : Type 0 where
   pub filled : HoldsBits bytes (first_bits n bytes)
   pub within : n ≤ 8 * length bytes
 
--- a place and an end within some bytes, and a word that begins with so many bits from that place on
+-- a place and an end within some bytes, and a word whose first `ready` bits are those from that place on
 pub record IsWindow (bytes : List ℕ) (at end window ready : ℕ) : Type 0 where
   pub ordered : at ≤ end
   pub inside : end ≤ 8 * length bytes

@@ -9,7 +9,7 @@ pub record IsGamma (n : ℕ) (bits : List ℕ) : Type 0 where
   pub below : n < 2 ^ (zeros + 1)
   pub code : bits ≡ replicate zeros 0 ++ low_bits (zeros + 1) n
 
--- the greatest exponent up to k of a power of two that is at most n
+-- the greatest exponent, at most k, of a power of two that is at most n
 abbrev pub exponent_up_to : ℕ → ℕ → ℕ
 exponent_up_to zero n = 0
 exponent_up_to (suc k) n = if nat_le (2 ^ suc k) n then suc k else exponent_up_to k n
@@ -18,19 +18,19 @@ exponent_up_to (suc k) n = if nat_le (2 ^ suc k) n then suc k else exponent_up_t
 unfoldable pub gamma_code : ℕ → List ℕ
 gamma_code n = replicate (exponent_up_to 31 n) 0 ++ low_bits (exponent_up_to 31 n + 1) n
 
--- a number that the code is for
+-- the numbers that have a code
 abbrev pub HasCode : ℕ → Type 0
 HasCode n = (1 ≤ n) × (n < 2 ^ 32)
 
--- the bits begin with the code of n, and these are the rest
+-- the bits begin with the code of n, and the rest follows
 pub record BeginsWithCode (bits : List ℕ) (n : ℕ) (rest : List ℕ) : Type 0 where
   pub in_range : HasCode n
   pub split : bits ≡ gamma_code n ++ rest
 
--- the gamma code is what the standard says, and no other list of bits is one
+-- the gamma code is the one that the standard defines, and no other list of bits is
 abbrev pub GammaLaw : Type 0
 GammaLaw = (n : ℕ) → HasCode n → IsGamma n (gamma_code n) × ((bits : List ℕ) → IsGamma n bits → bits ≡ gamma_code n)
 
--- no code begins another: bits that begin with two codes begin with one, and go on alike
+-- no code is a prefix of another: bits that begin with two codes begin with the same code, and the rests are equal
 abbrev pub PrefixLaw : Type 0
 PrefixLaw = (bits : List ℕ) (m n : ℕ) (xs ys : List ℕ) → BeginsWithCode bits m xs → BeginsWithCode bits n ys → (m ≡ n) × (xs ≡ ys)

@@ -7,11 +7,11 @@ ghost use Rattle.silt_gamma.specs.Gamma.{BeginsWithCode};
 use super::window::window_at;
 use std::marker::Model;
 
-/// The bits of some bytes from one place up to another, read from the front. To contracts it is
+/// The bits of some bytes from one place up to another, read from the front. In contracts it is
 /// the list of the bits that are left.
 ///
-/// The highest `ready` bits of `window` are the next ones, so that most codes are read without a
-/// look at the bytes.
+/// The highest `ready` bits of `window` are the next ones. So most codes are read without access
+/// to the bytes.
 #[derive(Drop)]
 pub struct BitReader<'a> {
     bytes: &'a [u8],
@@ -45,15 +45,15 @@ impl<'a> BitReader<'a> {
         }
     }
 
-    /// How many bits are left.
+    /// The number of bits that are left.
     pub fn len(&self) -> usize
         ensures { result ≡ length self.now }
     {
         self.end - self.at
     }
 
-    /// Takes the gamma code with which the bits left begin, and gives its number. Where they begin
-    /// with no whole code, or with 32 zeros, it takes nothing.
+    /// Takes the gamma code at the front, and returns its number. If no whole code is there, or 32
+    /// zeros come first, it takes nothing.
     pub fn read_gamma(&mut self) -> Option<u32>
         ensures read { (n : ℕ) (rest : List ℕ) → BeginsWithCode self.old n rest
             → (result ≡ Some n) × (self.new ≡ rest) }
@@ -71,7 +71,7 @@ impl<'a> BitReader<'a> {
         Some((window >> (64 - width)) as u32)
     }
 
-    /// Takes so many bits off the front.
+    /// Takes this many bits off the front.
     pub fn skip(&mut self, count: usize)
         requires { count ≤ length self.old }
         ensures { self.new ≡ drop count self.old }
@@ -82,7 +82,7 @@ impl<'a> BitReader<'a> {
     }
 }
 
-/// The window where it has all of the code that it begins with, and else one that is read anew.
+/// The window, if it has all of the code at its front, and else one that is read again.
 fn wide_window(bytes: &[u8], at: usize, window: u64, ready: usize) -> (u64, usize)
     requires { at ≤ 8 * length bytes.now }
     ensures same { (end : ℕ) → IsWindow bytes.now at end window ready
@@ -95,7 +95,7 @@ fn wide_window(bytes: &[u8], at: usize, window: u64, ready: usize) -> (u64, usiz
     (window_at(bytes, at), 64)
 }
 
-/// How many bits the code takes with which a word begins; more than 64 are none.
+/// The number of bits of the code at the front of a word. More than 64 means that no code is there.
 fn code_width(window: u64) -> usize
     ensures { result ≡ 2 * count_leading_zeros 64 window + 1 }
 {

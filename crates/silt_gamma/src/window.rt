@@ -1,8 +1,8 @@
-//! Bits by the word: 64 at a time, from any place of some bytes.
+//! Words of 64 bits, read from any place of some bytes.
 ghost use Rattle.std.specs.Prelude.{◌≡◌, ◌*◌, ◌<◌, ◌≤◌, ◌++◌, length, take, drop, replicate};
 ghost use Rattle.silt_gamma.specs.Bits.{low_bits, bits_of};
 
-/// The 64 bits from place `at` on, with zeros past the last byte.
+/// The 64 bits from place `at` on, with zeros after the last byte.
 pub(crate) fn window_at(bytes: &[u8], at: usize) -> u64
     requires { at ≤ 8 * length bytes.now }
     ensures { low_bits 64 result ≡ take 64 (drop at (bits_of bytes.now ++ replicate 72 0)) }
@@ -16,7 +16,7 @@ pub(crate) fn window_at(bytes: &[u8], at: usize) -> u64
     front_window(&padded, at % 8)
 }
 
-/// The 64 bits that follow the first `skipped` ones.
+/// The 64 bits after the first `skipped` ones.
 fn front_window(bytes: &[u8], skipped: usize) -> u64
     requires enough { 9 ≤ length bytes.now }
     requires within { skipped < 8 }

@@ -7,8 +7,8 @@ use super::reader::BitReader;
 use std::alloc::{AllocError, Global};
 use std::marker::Model;
 
-/// Bits in memory, as they were appended: they fill bytes from the highest bit of the first byte
-/// on. To contracts it is the list of its bits.
+/// Bits in memory, in the order of appending. They fill bytes from the highest bit of the first byte
+/// on. In contracts it is the list of its bits.
 #[derive(Drop)]
 pub struct BitWriter {
     bytes: Vec<u8>,
@@ -34,14 +34,14 @@ impl BitWriter {
         }
     }
 
-    /// How many bits there are.
+    /// The number of bits.
     pub fn len(&self) -> usize
         ensures { result ≡ length self.now }
     {
         self.len
     }
 
-    /// The bytes that the bits fill; the last one ends in zeros.
+    /// The bytes that hold the bits. Zeros fill up the last one.
     pub fn as_bytes(&self) -> &[u8]
         ensures { HoldsBits result.now self.now }
     {
@@ -57,14 +57,14 @@ impl BitWriter {
         BitReader::new(&self.bytes, start, count)
     }
 
-    /// Gives back the memory that the bits don't need.
+    /// Frees the memory that the bits do not need.
     pub fn shrink_to_fit(&mut self)
         ensures { self.new ≡ self.old }
     {
         self.bytes.shrink_to_fit();
     }
 
-    /// Appends the gamma code of `n`. Bits that a `usize` can't count are want of memory too.
+    /// Appends the gamma code of `n`. If a `usize` cannot count the bits, that is out of memory too.
     pub fn write_gamma(&mut self, n: u32) -> Result<(), AllocError>
         requires { 1 ≤ n }
         ensures ok { OnOk result (self.new ≡ self.old ++ gamma_code n) }
@@ -74,7 +74,7 @@ impl BitWriter {
         self.write_bits(u64::from(n), 2 * zeros + 1)
     }
 
-    /// Appends the lowest `width` bits of `value`, which has no others.
+    /// Appends the lowest `width` bits of `value`. Its other bits are 0.
     fn write_bits(&mut self, value: u64, width: usize) -> Result<(), AllocError>
         requires some { 1 ≤ width }
         requires word { width ≤ 64 }
@@ -89,7 +89,7 @@ impl BitWriter {
     }
 }
 
-/// Appends the highest `width` bits of `word`, which has no others, to the `len` bits in `bytes`.
+/// Appends the highest `width` bits of `word` to the `len` bits in `bytes`. The other bits of `word` are 0.
 fn append(bytes: &mut Vec<u8>, len: usize, word: u64, width: usize) -> Result<(), AllocError>
     requires some { 1 ≤ width }
     requires word { width ≤ 64 }

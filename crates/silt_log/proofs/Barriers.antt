@@ -1,4 +1,4 @@
--- A write behind a sync.
+-- A write after a sync.
 use Rattle.std.proofs.Common.{◌≡◌, ℕ, List, sym, ap, subst, ◌∙◌, inl, inr}
 use Rattle.silt_disk.specs.Disk.{Content, Torn, ChangesWithin, Writes, Settles, Stays, splice}
 use Rattle.silt_disk.proofs.Images.{shown_left, left_after_sync, left_after_failed_sync, torn_refl}
@@ -12,7 +12,7 @@ not_begun at count old new stays = record {
   left = λ honest image left. inl (left_after_failed_sync stays honest image left);
 }
 
--- the sync was answered Ok, and the write was begun
+-- the sync returned Ok, and the write was begun
 pub begun : (at count : ℕ) (old between new : Content) → Settles old between → ChangesWithin at count between new → SyncsAndTears at count old new
 begun at count old between new settles changes = record {
   honest = changes.honest ∙ settles.honest;
@@ -22,7 +22,7 @@ begun at count old between new settles changes = record {
       inr (subst (λ before. Torn at count before image) (left_after_sync settles honest from.0 from.1) from.2);
 }
 
--- both were answered Ok
+-- both returned Ok
 pub written_after_sync : (at : ℕ) (bytes : List ℕ) (old between new : Content) → Settles old between → Writes at bytes between new → Writes at bytes old new
 written_after_sync at bytes old between new settles writes = record {
   honest = writes.honest ∙ settles.honest;
@@ -40,7 +40,7 @@ barrier_within at count old new tears = record {
   ];
 }
 
--- a range that is named in another way
+-- a range under another name
 pub tears_at : (at count at_other count_other : ℕ) (old new : Content) → at ≡ at_other → count ≡ count_other → SyncsAndTears at count old new → SyncsAndTears at_other count_other old new
 tears_at at count at_other count_other old new same_at same_count tears =
     subst (λ n. SyncsAndTears at_other n old new) same_count (subst (λ n. SyncsAndTears n count old new) same_at tears)

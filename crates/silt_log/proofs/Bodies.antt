@@ -28,11 +28,11 @@ map_range_same f h from (suc n) same =
     cc
 
 module _ (bodies len : ℕ) where
-  -- a body ends before or where a later one begins
+  -- a body ends at or before the beginning of a later one
   pub body_before : (place later : ℕ) → place < later → bodies + place * len + len ≤ bodies + later * len
   body_before place later before = let apart = next_region place later len before in omega (arith, apart)
 
-  -- the body of a write stands behind the rows before it
+  -- the body of a write comes after the rows before it
   pub rows_below : (old new : List ℕ) (used count n : ℕ) → used < count → bodies + count * len ≤ length old → Torn (bodies + used * len) len old new → n ≤ used → map (body_row bodies len new) (range_with_len 0 n) ≡ map (body_row bodies len old) (range_with_len 0 n)
   rows_below old new used count n room fits torn below = map_range_same (body_row bodies len new) (body_row bodies len old) 0 n
       (λ place low high.

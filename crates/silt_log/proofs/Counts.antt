@@ -1,4 +1,4 @@
--- How many gates stand open before the first closed one.
+-- How many gates are open before the first closed one.
 use Rattle.std.proofs.Common.{◌≡◌, ℕ, ◌+◌, ◌-◌, ◌≤◌, ◌<◌, true, false, List, length, drop, get_or, sym, ap, ◌∙◌, inl, inr, arith, length-drop}
 use Rattle.std.specs.List.{prefix_len, list_any}
 use Rattle.std.proofs.lemmas.Bool.{cases_lt, cases_order, cases_Bool, false≢true}
@@ -10,7 +10,7 @@ use Rattle.silt_disk.specs.Disk.{Torn}
 use Rattle.silt_frame.specs.Gate.{is_open}
 use Rattle.silt_log.specs.Rows.{GatesAre, gate_bytes}
 
--- a place that is equal to another holds the same byte
+-- equal places have the same byte
 pub same_byte : (image : List ℕ) (a b : ℕ) → a ≡ b → get_or image a 0 ≡ get_or image b 0
 same_byte image a b same = ap (λ (n : ℕ). get_or image n 0) same
 
@@ -63,7 +63,7 @@ module _ (gates count : ℕ) (image : List ℕ) (fits : gates + count ≤ length
         ],
       )
 
-  -- where no gate past the counted ones is open, the gates are as counted
+  -- if no gate past the counted ones is open, exactly the counted ones are
   pub gates_counted : list_any is_open (drop (prefix_len is_open (gate_bytes gates count image)) (gate_bytes gates count image)) ≡ false → GatesAre gates count (prefix_len is_open (gate_bytes gates count image)) image
   gates_counted none =
       let bytes : List ℕ = gate_bytes gates count image in
@@ -80,7 +80,7 @@ module _ (gates count : ℕ) (image : List ℕ) (fits : gates + count ≤ length
 
 -- ---- after a write
 
--- gates that a write did not touch are as they were
+-- gates outside a write's range stay
 pub torn_gates : (gates count n at len : ℕ) (old new : List ℕ) → n ≤ count → gates + count ≤ at → Torn at len old new → GatesAre gates count n old → GatesAre gates count n new
 torn_gates gates count n at len old new most apart torn are = record {
   opened = λ place below. ap is_open (torn.before (gates + place) (omega arith)) ∙ are.opened place below;

@@ -16,7 +16,7 @@ use Rattle.silt_log.proofs.Bodies.{body_before, map_range_same, range_split, row
 use Rattle.silt_log.proofs.Standing.{gates_within}
 use Rattle.silt_log.proofs.Exits.{StandsIn, region_lies, log_from, log_standing, stands_resized}
 
--- a range outside a log's gates and bodies lies before its gates or behind its bodies
+-- a range outside a log's gates and bodies lies before its gates or after its bodies
 pub outside_bodies : (s : Shape) (region at count : ℕ) → LiesOutside (gates_at s region) (log_len s) at count → (at + count ≤ gates_at s region) ⊎ (bodies_at s region + s.log_capacity * row_len s ≤ at)
 outside_bodies s region at count outside = elim outside [
   | inl before ↦ inl before
@@ -25,7 +25,7 @@ outside_bodies s region at count outside = elim outside [
 
 -- ---- the rows of a log
 
--- all rows are the settled ones and then those that wait
+-- all rows are the settled ones and then the waiting ones
 pub all_are_settled_and_waiting : (content : Content) (log : LogState) → log.settled ≤ log.used → all_rows content log ≡ settled_rows content log ++ waiting_rows content log
 unfolding rows_from
 all_are_settled_and_waiting content log order =
@@ -34,7 +34,7 @@ all_are_settled_and_waiting content log order =
     ap (λ n. map row (range_with_len 0 n)) (omega arith) ∙ range_split row 0 log.settled more
     ∙ ap (λ n. map row (range_with_len 0 log.settled) ++ map row (range_with_len n more)) (omega arith)
 
--- as many as the log counts
+-- their number is the log's count
 pub all_count : (content : Content) (log : LogState) → length (all_rows content log) ≡ log.used
 unfolding rows_from
 all_count content log = length-map-range_with_len (row_at log.shape log.region content.shown) 0 log.used
@@ -48,7 +48,7 @@ row_of_all content log place default below = get_or-map-range_with_len (row_at l
 pub shown_rows : (content : Content) (log : LogState) → IsLog content log → IsTrue content.honest → log_rows log.shape log.region content.shown ≡ settled_rows content log
 shown_rows content log is honest = is.images.each honest content.shown (shown_left content)
 
--- after a stop what is shown has the settled rows
+-- after a crash what is shown has the settled rows
 pub restarted_rows : (old new : Content) (log : LogState) → IsLog old log → Restarts old new → IsTrue old.honest → log_rows log.shape log.region new.shown ≡ settled_rows old log
 restarted_rows old new log is restarts honest = is.images.each honest new.shown (restarts.left honest)
 
@@ -124,7 +124,7 @@ log_synced old new log is fits same settles = log_elsewhere old new log 0 0 is f
 pub log_unsynced : (old new : Content) (log : LogState) → IsLog old log → device_size log.shape ≤ size old → size new ≡ size old → Stays old new → KeepsRows old new log log
 log_unsynced old new log is fits same stays = log_elsewhere old new log 0 0 is fits same (inl (omega arith)) (failed_sync_within 0 0 stays)
 
--- ---- what a call changes lies in the log's region
+-- ---- the changes of a call lie in the log's region
 
 -- a body
 pub body_in_region : (s : Shape) (region place : ℕ) (old new : Content) → place < s.log_capacity → ChangesWithin (body_at s region place) (row_len s) old new → ChangesWithin (gates_at s region) (log_size s) old new

@@ -1,4 +1,4 @@
--- What stands at each exit of the calls of a log.
+-- The state at each exit of the calls of a log.
 use Rattle.std.proofs.Common.{◌≡◌, ℕ, ◌+◌, ◌-◌, ◌*◌, ◌≤◌, ◌<◌, false, IsTrue, List, [], ◌∷◌, ◌++◌, length, map, refl, sym, ap, ◌∙◌, subst, arith}
 use Rattle.std.specs.List.{range_with_len}
 use Rattle.std.proofs.lemmas.Bool.{false≢true}
@@ -30,11 +30,11 @@ region_lies s region len before fits =
 pub body_inside : (s : Shape) (bodies place : ℕ) → bodies + s.log_capacity * row_len s ≤ device_size s → place < s.log_capacity → bodies + place * row_len s + row_len s ≤ device_size s
 body_inside s bodies place inside before = let ends : bodies + place * row_len s + row_len s ≤ bodies + s.log_capacity * row_len s = body_before bodies (row_len s) place s.log_capacity before in omega (arith, inside, ends)
 
--- the settled rows stand in an image of this disk
+-- an image of this disk has the settled rows
 abbrev pub StandsIn : Content → LogState → List StoredRow → List ℕ → Type 0
 StandsIn content log rows = Stands (gates_at log.shape log.region) log.shape.log_capacity (bodies_at log.shape log.region) (row_len log.shape) (size content) log.settled rows
 
--- a log stands where its settled rows stand in each image
+-- a log matches the disk if each image has its settled rows
 pub log_from : (content : Content) (log : LogState) (rows : List StoredRow) → InBounds log → log.loose ≡ false → device_size log.shape ≤ size content → LeavesOnly content (StandsIn content log rows) → IsLog content log
 unfolding log_rows rows_from row_at open_count
 log_from content log rows bounds sealed fits leaves =
@@ -53,7 +53,7 @@ log_from content log rows bounds sealed fits leaves =
       gates = record { each = λ honest image left. (leaves.each honest image left).are };
     }
 
--- in each image of a log its settled rows stand
+-- each image of a log has its settled rows
 pub log_standing : (content : Content) (log : LogState) → IsLog content log → device_size log.shape ≤ size content → LeavesOnly content (StandsIn content log (settled_rows content log))
 unfolding log_rows rows_from row_at open_count
 log_standing content log is fits =
@@ -70,7 +70,7 @@ log_standing content log is fits =
           };
     }
 
--- the rows that a log has where they stand
+-- the rows of a log in its images
 pub stands_images : (content : Content) (log : LogState) (rows : List StoredRow) → InBounds log → device_size log.shape ≤ size content → LeavesOnly content (StandsIn content log rows) → LeavesOnly content (λ image. log_rows log.shape log.region image ≡ rows)
 unfolding log_rows rows_from row_at open_count
 stands_images content log rows bounds fits leaves =
@@ -81,7 +81,7 @@ stands_images content log rows bounds fits leaves =
 pub stands_resized : (old new : Content) (log : LogState) (rows : List StoredRow) (image : List ℕ) → size new ≡ size old → StandsIn old log rows image → StandsIn new log rows image
 stands_resized old new log rows image same stands = record { long = stands.long ∙ sym same; are = stands.are; hold = stands.hold }
 
--- ---- append: a write over a body behind the rows
+-- ---- append: a write over a body after the rows
 
 module _ (old new : Content) (log : LogState) (is : IsLog old log) (fits : device_size log.shape ≤ size old) (same : size new ≡ size old) (room : log.used < log.shape.log_capacity) (changes : ChangesWithin (body_at log.shape log.region log.used) (row_len log.shape) old new) where
   append_stands : LeavesOnly new (StandsIn new log (settled_rows old log))
@@ -132,7 +132,7 @@ module _ (old new : Content) (log : LogState) (is : IsLog old log) (fits : devic
             ∙ row_written (bodies_at log.shape log.region) (row_len log.shape) old.shown bytes log.used log.shape.log_capacity room long place.inside);
       }
 
--- the same of a row and a log that are named in another way
+-- the same for a row and a log under other names
 pub appends_as : (row row_other : StoredRow) (old new : Content) (before after after_other : LogState) → row ≡ row_other → after_other ≡ after → Appends row old new before after → Appends row_other old new before after_other
 appends_as row row_other old new before after after_other same_row same_after appends =
     subst (λ r. Appends r old new before after_other) same_row (subst (λ l. Appends row old new before l) (sym same_after) appends)

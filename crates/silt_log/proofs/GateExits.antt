@@ -1,4 +1,4 @@
--- What stands at each exit of the calls that write all gates of a log or those of the rows that wait.
+-- The state at each exit of the calls that write all gates of a log or those of the waiting rows.
 use Rattle.std.proofs.Common.{◌≡◌, ℕ, ◌+◌, ◌-◌, ◌≤◌, ◌<◌, false, IsTrue, List, [], ◌++◌, length, map, get_or, replicate, refl, sym, ap, ◌∙◌, subst, inl, inr, arith}
 use Rattle.std.specs.List.{prefix_len, range_with_len}
 use Rattle.std.proofs.lemmas.Bool.{false≢true}
@@ -48,17 +48,17 @@ prepare_done old new log bytes region fits same all writes rests =
     }) in
     record { log = refl; stands = log_from new after [] bounds refl fits_new leaves; images = stands_images new after [] bounds fits_new leaves }
 
--- ---- open_gates: a sync, a write over the gates of the rows that wait, a sync
+-- ---- open_gates: a sync, a write over the gates of the waiting rows, a sync
 
 module _ (old : Content) (log : LogState) (is : IsLog old log) (fits : device_size log.shape ≤ size old) where
   open_most : log.settled + (log.used - log.settled) ≤ log.shape.log_capacity
   open_most = omega (arith, is.bounds.order, is.bounds.room)
 
-  -- the settled rows stand in what is shown
+  -- what is shown has the settled rows
   open_shown : IsTrue old.honest → StandsIn old log (settled_rows old log) old.shown
   open_shown honest = (log_standing old log is fits).each honest old.shown (shown_left old)
 
-  -- the gates of the rows that wait lie within what is shown
+  -- the gates of the waiting rows lie within what is shown
   open_within : gates_at log.shape log.region + log.settled + length {A = ℕ} (replicate (log.used - log.settled) 167) ≤ length old.shown
   open_within =
       let place = region_lies log.shape log.region (size old) is.bounds.region fits in
@@ -67,7 +67,7 @@ module _ (old : Content) (log : LogState) (is : IsLog old log) (fits : device_si
       let long : length ones ≡ log.used - log.settled = length-replicate (log.used - log.settled) 167 in
       omega (arith, within, open_most, long)
 
-  -- after a write there, with all of these gates open the same image is had
+  -- after a write there, with all of these gates open, the image is the same
   pub open_full_same : (new : List ℕ) → Torn (gates_at log.shape log.region + log.settled) (log.used - log.settled) old.shown new
       → splice (gates_at log.shape log.region + log.settled) (replicate (log.used - log.settled) 167) new ≡ opened_image old log
   open_full_same new torn =
@@ -140,6 +140,6 @@ module _ (old : Content) (log : LogState) (is : IsLog old log) (fits : device_si
         all = λ honest. (stands honest).hold;
       }
 
--- the same of a log that is named in another way
+-- the same for a log under another name
 pub opens_as : (old new : Content) (before after after_other : LogState) → after_other ≡ after → OpensGates old new before after → OpensGates old new before after_other
 opens_as old new before after after_other same opens = subst (λ l. OpensGates old new before l) (sym same) opens

@@ -37,6 +37,6 @@ front_read s region place at count image bytes head same fits least most read fr
     let part : slice_range image at (at + 21) ≡ take 21 (slice_range image at (at + count)) = ap (λ n. slice_range image n (n + 21)) (omega arith) ∙ slice_of_slice image at count 0 21 least (omega (arith, most, fits)) in
     head_read s region place at image head same fits (front ∙ ap (take 21) read ∙ sym part)
 
--- and behind the head of a whole body stands the value
+-- and the value follows the head of a whole body
 pub front_value : (s : Shape) (region place at count : ℕ) (image bytes : List ℕ) → at ≡ body_at s region place → count ≡ row_len s → bytes ≡ slice_range image at (at + count) → drop 21 bytes ≡ (row_at s region image place).value
 front_value s region place at count image bytes same whole read = ap (λ r. r.value) (body_read s region place at count image bytes same whole read)

@@ -6,7 +6,7 @@ use Rattle.silt_frame.specs.declared.key.Kind.{Kind}
 use Rattle.silt_frame.specs.declared.key.Kind.TheVariants.{Put, Delete}
 use Rattle.silt_frame.specs.Rows.{puts_of}
 
--- the kind that a byte stands for has this byte
+-- the kind of a byte has this byte
 pub kind_of_byte : (byte : ℕ) (kind : Kind) → kind_of byte ≡ Some kind → kind_byte kind ≡ byte
 kind_of_byte byte kind is = elim (cases_Bool (eqb byte 1)) [
   | inl one ↦
@@ -24,7 +24,7 @@ kind_of_byte byte kind is = elim (cases_Bool (eqb byte 1)) [
   ]
 ]
 
--- the byte of a kind stands for it
+-- the byte of a kind has this kind
 pub byte_of_kind : (kind : Kind) → kind_of (kind_byte kind) ≡ Some kind
 byte_of_kind Put = refl
 byte_of_kind Delete = refl

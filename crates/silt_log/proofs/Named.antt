@@ -1,19 +1,19 @@
--- The places and counts of a log in memory, of which a proof knows the fields, by the log that they stand for.
+-- The places and counts of a log in memory, from its fields, as places and counts of the log that it represents.
 use Rattle.std.proofs.Common.{◌≡◌, ℕ, ◌+◌, ◌-◌, ◌≤◌, List, length, take, ap, ◌∙◌, arith, length-take-le}
 use Rattle.silt_disk.specs.Layout.{gates_at}
 use Rattle.silt_log.specs.Rows.{body_at}
 use Rattle.silt_log.specs.State.{LogState, IsHeld}
 
--- the body behind the rows
+-- the body after the rows
 pub body_place : (fields log : LogState) (at : ℕ) → fields ≡ log → at ≡ body_at log.shape log.region fields.used → at ≡ body_at log.shape log.region log.used
 body_place fields log at same is = is ∙ ap (λ (l : LogState). body_at log.shape log.region l.used) same
 
--- the first gate of a row that waits
+-- the first gate of a waiting row
 pub waiting_place : (fields log : LogState) (gates from : ℕ) → fields ≡ log → gates ≡ gates_at fields.shape fields.region → from ≡ fields.settled → gates + from ≡ gates_at log.shape log.region + log.settled
 waiting_place fields log gates from same is first =
     ap (λ n. n + from) is ∙ ap (λ n. gates_at fields.shape fields.region + n) first ∙ ap (λ (l : LogState). gates_at l.shape l.region + l.settled) same
 
--- as many bytes of the buffer as rows wait
+-- the buffer has a byte for each waiting row
 pub waiting_count : (fields log : LogState) (buffer : List ℕ) → fields ≡ log → IsHeld fields (length buffer) → length (take (fields.used - fields.settled) buffer) ≡ log.used - log.settled
 waiting_count fields log buffer same held =
     let enough : fields.used - fields.settled ≤ length buffer = omega (arith, held.buffer, held.bounds.room) in
@@ -25,7 +25,7 @@ past_place fields log gates from same is first =
     let one_further : (n : ℕ) → n + (fields.used + 1) ≡ n + fields.used + 1 = λ n. omega arith in
     ap (λ n. n + from) is ∙ ap (λ n. gates_at fields.shape fields.region + n) first ∙ one_further (gates_at fields.shape fields.region) ∙ ap (λ (l : LogState). gates_at l.shape l.region + l.used + 1) same
 
--- as many bytes of the buffer as gates are past the first closed one
+-- the buffer has a byte for each gate past the first closed one
 pub past_count : (fields log : LogState) (capacity : ℕ) (buffer : List ℕ) → fields ≡ log → capacity ≡ fields.shape.log_capacity → IsHeld fields (length buffer) → length (take (capacity - (fields.used + 1)) buffer) ≡ log.shape.log_capacity - (log.used + 1)
 past_count fields log capacity buffer same is held =
     let enough : capacity - (fields.used + 1) ≤ length buffer = omega (arith, held.buffer) in

@@ -1,4 +1,4 @@
--- What a read of a part of a body gives.
+-- The result of a read of a part of a body.
 use Rattle.std.proofs.Common.{◌≡◌, ℕ, ◌+◌, ◌-◌, ◌≤◌, List, length, take, drop, slice_range, sym, ap, ◌∙◌, arith, length-drop}
 use Rattle.std.proofs.lemmas.List.{ext_get_or, get_or-drop, drop-take}
 use Rattle.std.proofs.lemmas.List.Edits.{length-between, get_or-between}

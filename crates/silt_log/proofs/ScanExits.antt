@@ -1,4 +1,4 @@
--- What a scan finds.
+-- The result of a scan.
 use Rattle.std.proofs.Common.{◌≡◌, ℕ, Bool, List, map, drop, Result, Ok, Err, sym, ap, ◌∙◌, subst}
 use Rattle.std.specs.List.{prefix_len, range_with_len, list_any}
 use Rattle.std.specs.Result.{is_ok, MatchResult}
@@ -11,7 +11,7 @@ use Rattle.silt_log.specs.Rows.{AreRows, FirstUnknown, gate_bytes, body_row, row
 use Rattle.silt_log.specs.Scans.{IsScanRefused}
 use Rattle.silt_log.proofs.Scanned.{refused_weaker}
 
--- an Ok that only an Ok becomes
+-- a mapped result is Ok only if the result was
 pub mapped_ok : {T E F : Type 0} (Q : E → Type 0) (before : Result T E) (after : Result T F) (x : T) → is_ok after ≡ is_ok before → MatchResult before (λ y. after ≡ Ok y) Q → after ≡ Ok x → before ≡ Ok x
 mapped_ok Q (Ok y) after x same mapped is = let value : y ≡ x = cc in ap Ok value
 mapped_ok Q (Err e) after x same mapped is = absurd (false≢true (sym same ∙ ap is_ok is))

@@ -46,7 +46,7 @@ rows_more rows stored row n are is =
 pub known_more : (stored : ℕ → StoredRow) (n : ℕ) → ((earlier : ℕ) → earlier < n → has_known_kind (stored earlier) ≡ true) → has_known_kind (stored n) ≡ true → (earlier : ℕ) → earlier < n + 1 → has_known_kind (stored earlier) ≡ true
 known_more stored n known here = below_more _ _ known here
 
--- what an answer says where it is Ok
+-- what a result promises if it is Ok
 pub on_ok_at : {T E P : Type 0} (r : Result T E) → is_ok r ≡ true → OnOk r P → P
 on_ok_at (Ok x) is holds = holds
 on_ok_at (Err e) is holds = absurd (false≢true is)
@@ -90,24 +90,24 @@ row_read bodies len place shown head kind key fits long read says =
       place = refl;
     }
 
--- a refusal that says less of a damaged row
+-- a weaker refusal for a damaged row
 pub refused_weaker : {F : Type 0} (strong weak : ℕ → Type 0) (was_given : F → Type 0) (error : ScanError F) → ((place : ℕ) → strong place → weak place) → IsScanRefused strong was_given error → IsScanRefused weak was_given error
 refused_weaker strong weak was_given (Damaged place) step refused = step place refused
 refused_weaker strong weak was_given (Device fault) step refused = refused
 refused_weaker strong weak was_given NoMemory step refused = refused
 
--- the first row of an unknown kind, where all before it are of known kinds
+-- the first row of an unknown kind, if all before it are of known kinds
 pub unknown_here : (stored : ℕ → StoredRow) (count place here : ℕ) → place < count → here ≡ place → has_known_kind (stored place) ≡ false → ((earlier : ℕ) → earlier < place → has_known_kind (stored earlier) ≡ true) → FirstUnknown stored count here
 unknown_here stored count place here below same unknown known =
     subst (FirstUnknown stored count) (sym same) (record { counts = below; unknown = unknown; known = known })
 
--- a refusal at this row, where all before it are of known kinds
+-- a refusal at this row, if all before it are of known kinds
 pub refused_here : {F : Type 0} (honest : Type 0) (stored : ℕ → StoredRow) (count place : ℕ) (was_given : F → Type 0) (error : ScanError F) → place < count → (honest → (earlier : ℕ) → earlier < place → has_known_kind (stored earlier) ≡ true)
     → IsScanRefused (λ damaged. (damaged ≡ place) × (honest → has_known_kind (stored place) ≡ false)) was_given error → IsScanRefused (λ damaged. honest → FirstUnknown stored count damaged) was_given error
 refused_here honest stored count place was_given error below known refused =
     refused_weaker (λ damaged. (damaged ≡ place) × (honest → has_known_kind (stored place) ≡ false)) (λ damaged. honest → FirstUnknown stored count damaged) was_given error
     (λ here damaged is. unknown_here stored count place here below damaged.0 (damaged.1 is) (known is)) refused
 
--- a list after a push that was answered Ok
+-- a list after a push that returned Ok
 pub pushed_ok : {X T E : Type 0} (answer : Result T E) (was now : List X) (x : X) → is_ok answer ≡ true → now ≡ cond (is_ok answer) (was ++ x ∷ []) was → now ≡ was ++ x ∷ []
 pushed_ok answer was now x ok pushed = pushed ∙ ap (λ b. cond b (was ++ x ∷ []) was) ok

@@ -1,4 +1,4 @@
--- What stands at each exit of a seal.
+-- The state at each exit of a seal.
 use Rattle.std.proofs.Common.{◌≡◌, ℕ, ◌+◌, ◌-◌, ◌≤◌, ◌<◌, false, IsTrue, List, length, map, get_or, replicate, refl, sym, ap, ◌∙◌, subst, inl, inr, arith}
 use Rattle.std.specs.List.{prefix_len, range_with_len}
 use Rattle.std.proofs.lemmas.Bool.{cases_lt, false≢true}
@@ -71,7 +71,7 @@ module _ (old new : Content) (log : LogState) (bounds : InBounds log) (fits : de
         seal_torn image long was room rest (subst (λ before. Torn (gates_at log.shape log.region + log.used + 1) long before image) (left_at_rest rests was from.0 from.1) from.2);
   }
 
-  -- at the exit with Ok, where a gate past the first closed one was open
+  -- at the exit with Ok, if a gate past the first closed one was open
   pub seal_done : (more : ℕ) → log.used < log.shape.log_capacity → more ≡ log.shape.log_capacity - (log.used + 1) → size new ≡ size old → Writes (gates_at log.shape log.region + log.used + 1) (replicate more 0) old new → Rests new
       → Seals old new log (record log { loose = false })
   unfolding rows_from row_at open_count
@@ -102,7 +102,7 @@ module _ (old new : Content) (log : LogState) (bounds : InBounds log) (fits : de
         settled = λ honest. (stands honest).hold;
       }
 
--- where no gate past the first closed one was open
+-- if no gate past the first closed one was open
 module _ (old : Content) (log : LogState) (bounds : InBounds log) (fits : device_size log.shape ≤ size old) (rests : Rests old) (scanned : IsTrue old.honest → IsScanned old log) where
   pub quiet_images : LeavesOnly old (λ image. log_rows log.shape log.region image ≡ log_rows log.shape log.region old.shown)
   quiet_images = record { each = λ honest image left. ap (log_rows log.shape log.region) (left_at_rest rests honest image left) }
@@ -122,6 +122,6 @@ module _ (old : Content) (log : LogState) (bounds : InBounds log) (fits : device
         settled = λ honest. refl;
       }
 
--- the same of a log that is named in another way
+-- the same for a log under another name
 pub seals_as : (old new : Content) (before after after_other : LogState) → after_other ≡ after → Seals old new before after → Seals old new before after_other
 seals_as old new before after after_other same seals = subst (λ l. Seals old new before l) (sym same) seals

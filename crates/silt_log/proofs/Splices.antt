@@ -10,7 +10,7 @@ use Rattle.silt_frame.specs.declared.key.Kind.{Kind}
 use Rattle.silt_frame.specs.Rows.{stored_row, row_of, StoredRow}
 use Rattle.silt_log.proofs.Counts.{same_byte}
 
--- the same bytes over a range hide what a write did there
+-- the same bytes over a range hide an earlier write there
 pub spliced_over : (at : ℕ) (bytes old new : List ℕ) → at + length bytes ≤ length old → Torn at (length bytes) old new → splice at bytes new ≡ splice at bytes old
 spliced_over at bytes old new fits torn =
     let fits_new : at + length bytes ≤ length new = omega (arith, torn.size) in
@@ -51,7 +51,7 @@ pub both_writes_within : (at first second : ℕ) (old between new : Content) →
 both_writes_within at first second old between new tears later =
     within_trans (first_write_within at first second old between tears) (within_wider at (first + second) (omega arith) (omega arith) (write_within later))
 
--- both of them, each answered Ok
+-- both of them, each with Ok
 pub both_written : (at : ℕ) (first second : List ℕ) (old between new : Content) → at + (length first + length second) ≤ size old → Writes at first old between → Writes (at + length first) second between new → Writes at (first ++ second) old new
 both_written at first second old between new fits writes later = record {
   honest = later.honest ∙ writes.honest;
@@ -60,16 +60,16 @@ both_written at first second old between new fits writes later = record {
       ∙ spliced_twice at first second old.shown (omega arith);
 }
 
--- a change of a range that is named in another way
+-- a change of a range under another name
 pub within_at : (at count at_other count_other : ℕ) (old new : Content) → at ≡ at_other → count ≡ count_other → ChangesWithin at count old new → ChangesWithin at_other count_other old new
 within_at at count at_other count_other old new same_at same_count changes =
     subst (λ n. ChangesWithin at_other n old new) same_count (subst (λ n. ChangesWithin n count old new) same_at changes)
 
--- a write to a place that is named in another way
+-- a write to a place under another name
 pub writes_at : (at at_other : ℕ) (bytes : List ℕ) (old new : Content) → at ≡ at_other → Writes at bytes old new → Writes at_other bytes old new
 writes_at at at_other bytes old new same writes = subst (λ n. Writes n bytes old new) same writes
 
--- a write of one byte to some places that are named in another way
+-- a write of one byte to some places under another name
 pub fills_at : (at at_other count count_other byte : ℕ) (old new : Content) → at ≡ at_other → count ≡ count_other → Writes at (replicate count byte) old new → Writes at_other (replicate count_other byte) old new
 fills_at at at_other count count_other byte old new same_at same_count writes =
     writes_at at at_other (replicate count_other byte) old new same_at (subst (λ n. Writes at (replicate n byte) old new) same_count writes)

@@ -1,4 +1,4 @@
--- Images in which the rows of a log stand.
+-- Images that have the rows of a log.
 use Rattle.std.proofs.Common.{◌≡◌, ℕ, ◌+◌, ◌-◌, ◌*◌, ◌≤◌, ◌<◌, List, length, map, replicate, ap, ◌∙◌, inl, inr, arith}
 use Rattle.std.specs.List.{prefix_len, range_with_len}
 use Rattle.std.proofs.lemmas.Bool.{cases_lt}
@@ -11,12 +11,12 @@ use Rattle.silt_frame.specs.Rows.{StoredRow}
 use Rattle.silt_log.proofs.Counts.{same_byte, count_is, count_between, torn_gates}
 use Rattle.silt_log.proofs.Bodies.{rows_below, rows_behind}
 
--- where the parts of a log region lie: its gates before its bodies, all within the device
+-- the parts of a log region: its gates before its bodies, all within the device
 pub record Lies (gates count bodies len whole : ℕ) : Type 0 where
   pub apart : gates + count ≤ bodies
   pub inside : bodies + count * len ≤ whole
 
--- the gates of these rows are open and all others closed, in an image of this size
+-- in an image of this size the gates of these rows are open and all others closed
 pub record Stands (gates count bodies len whole n : ℕ) (rows : List StoredRow) (image : List ℕ) : Type 0 where
   pub long : length image ≡ whole
   pub are : GatesAre gates count n image
@@ -27,12 +27,12 @@ module _ (gates count bodies len whole : ℕ) (lies : Lies gates count bodies le
   pub gates_within : (image : List ℕ) → length image ≡ whole → gates + count ≤ length image
   gates_within image long = omega (arith, lies.apart, lies.inside)
 
-  -- an image's rows are those that stand in it
+  -- an image's rows are the rows that it has
   pub rows_standing : (n : ℕ) (rows : List StoredRow) (image : List ℕ) → n ≤ count → Stands gates count bodies len whole n rows image → map (body_row bodies len image) (range_with_len 0 (prefix_len is_open (gate_bytes gates count image))) ≡ rows
   rows_standing n rows image most stands =
       ap (λ k. map (body_row bodies len image) (range_with_len 0 k)) (count_is gates count image (gates_within image stands.long) n most stands.are) ∙ stands.hold
 
-  -- a write over a body behind the rows
+  -- a write over a body after the rows
   pub body_torn : (used n : ℕ) (rows : List StoredRow) (before after : List ℕ) → used < count → n ≤ used → Stands gates count bodies len whole n rows before → Torn (bodies + used * len) len before after → Stands gates count bodies len whole n rows after
   body_torn used n rows before after room most stands torn = record {
     long = torn.size ∙ stands.long;
@@ -65,7 +65,7 @@ module _ (gates count bodies len whole : ℕ) (lies : Lies gates count bodies le
         hold = gates_torn_rows (gates + n) (length ones) 0 (n + more) before _ stands.long (omega arith) (omega (arith, long)) (omega arith) torn;
       }
 
-  -- a write over the gates of the rows that wait leaves the rows and a beginning of these
+  -- a write over the gates of the waiting rows leaves the rows and a prefix of these
   pub gates_torn : (n more : ℕ) (rows : List StoredRow) (before after : List ℕ) → n + more ≤ count → Stands gates count bodies len whole n rows before → Torn (gates + n) more before after
       → (n ≤ prefix_len is_open (gate_bytes gates count after)) × (prefix_len is_open (gate_bytes gates count after) ≤ n + more)
   gates_torn n more rows before after most stands torn = count_between gates count after (gates_within after (torn.size ∙ stands.long)) n (n + more) (omega arith) most

@@ -8,7 +8,7 @@ use Rattle.silt_log.specs.State.{LogState, IsLog, settled_rows, waiting_rows, al
 use Rattle.silt_log.specs.Calls.{HasBeginning, Appends, KeepsRows}
 use Rattle.silt_log.proofs.Elsewhere.{all_are_settled_and_waiting}
 
--- the rows that wait are fixed by all rows and those that are settled
+-- all rows and the settled ones determine the waiting rows
 waiting_from : (old new : Content) (before after : LogState) (more : List StoredRow) → before.settled ≤ before.used → after.settled ≤ after.used → settled_rows new after ≡ settled_rows old before → all_rows new after ≡ all_rows old before ++ more
     → waiting_rows new after ≡ waiting_rows old before ++ more
 waiting_from old new before after more order order_after settled all = append_cancel_left (settled_rows old before) (waiting_rows new after) (waiting_rows old before ++ more)
@@ -22,7 +22,7 @@ waiting_from old new before after more order order_after settled all = append_ca
 pub waiting_appended : (row : StoredRow) (old new : Content) (before after : LogState) → IsLog old before → IsTrue old.honest → Appends row old new before after → waiting_rows new after ≡ waiting_rows old before ++ row ∷ []
 waiting_appended row old new before after is honest appends = waiting_from old new before after (row ∷ []) is.bounds.order appends.stands.bounds.order (appends.settled honest) (appends.all honest)
 
--- where the log is kept, the same rows wait
+-- if the log is unchanged, the same rows wait
 pub waiting_kept : (old new : Content) (before after : LogState) → IsLog old before → IsTrue old.honest → KeepsRows old new before after → waiting_rows new after ≡ waiting_rows old before
 waiting_kept old new before after is honest keeps =
     waiting_from old new before after [] is.bounds.order keeps.stands.bounds.order (keeps.settled honest) (keeps.all honest ∙ sym (append-nil (all_rows old before))) ∙ append-nil (waiting_rows old before)
@@ -34,11 +34,11 @@ none_waiting content log same =
     let none : log.used - log.settled ≡ 0 = omega arith in
     ap (λ n. rows_from log.shape log.region content.shown log.settled n) none
 
--- an image with the settled rows alone has a beginning of those that wait
+-- an image with the settled rows alone has an empty prefix of the waiting ones
 pub begins_with_none : (content : Content) (log : LogState) (image : List ℕ) → log_rows log.shape log.region image ≡ settled_rows content log → HasBeginning content log image
 begins_with_none content log image same = (0, omega arith, same ∙ sym (append-nil (settled_rows content log)))
 
--- so has one with all rows
+-- an image with all rows has all of them
 pub begins_with_all : (content : Content) (log : LogState) (image : List ℕ) → log.settled ≤ log.used → log_rows log.shape log.region image ≡ all_rows content log → HasBeginning content log image
 begins_with_all content log image order same =
     let waiting : List StoredRow = waiting_rows content log in

@@ -5,14 +5,14 @@ use Rattle.silt_log.specs.Rows.{log_rows}
 use Rattle.silt_frame.specs.Rows.{StoredRow}
 use Rattle.silt_log.specs.State.{LogState, IsLog, settled_rows, waiting_rows, all_rows, opened_image}
 
--- A sync and then a write to this range, as far as they came: what a stop may leave is what it might have left before, or
--- what was shown, torn in the range.
+-- A sync and then a write to this range, as far as they got: each possible crash image was possible before, or is what was shown,
+-- torn in the range.
 pub record SyncsAndTears (at count : ℕ) (old new : Content) : Type 0 where
   pub honest : new.honest ≡ old.honest
   pub shown : IsTrue old.honest → Torn at count old.shown new.shown
   pub left : IsTrue old.honest → (image : List ℕ) → Left new image → Left old image ⊎ Torn at count old.shown image
 
--- the log has no rows, and whatever a stop leaves has none
+-- the log has no rows, and each possible crash image has none
 pub record Empties (new : Content) (before after : LogState) : Type 0 where
   pub log : after ≡ record before { settled = 0; used = 0; loose = false }
   pub stands : IsLog new after
@@ -25,7 +25,7 @@ pub record Appends (row : StoredRow) (old new : Content) (before after : LogStat
   pub settled : IsTrue old.honest → settled_rows new after ≡ settled_rows old before
   pub all : IsTrue old.honest → all_rows new after ≡ all_rows old before ++ row ∷ []
 
--- the log stands as before, with the same rows
+-- the log is as before, with the same rows
 pub record KeepsRows (old new : Content) (before after : LogState) : Type 0 where
   pub log : after ≡ before
   pub stands : IsLog new after
@@ -40,13 +40,13 @@ pub record OpensGates (old new : Content) (before after : LogState) : Type 0 whe
   pub settled : IsTrue old.honest → settled_rows new after ≡ all_rows old before
   pub all : IsTrue old.honest → all_rows new after ≡ all_rows old before
 
--- an image has the settled rows and then a beginning of the waiting ones
+-- an image has the settled rows and then a prefix of the waiting ones
 abbrev pub HasBeginning : Content → LogState → List ℕ → Type 0
 HasBeginning content log image =
     (n : ℕ) × (n ≤ length (waiting_rows content log))
     × (log_rows log.shape log.region image ≡ settled_rows content log ++ take n (waiting_rows content log))
 
--- some of the gates of the waiting rows may be open, and the rows that would be found with all of them open are the same
+-- some gates of the waiting rows may be open, and with all of them open the rows are the same
 pub record OpensSome (old new : Content) (before after : LogState) : Type 0 where
   pub log : after ≡ before
   pub images : LeavesOnly new (HasBeginning old before)

@@ -4,8 +4,8 @@ use Rattle.silt_disk.specs.Layout.{Shape}
 use Rattle.silt_log.specs.Rows.{log_rows}
 use Rattle.silt_frame.specs.Rows.{StoredRow, has_known_kind}
 
--- A store with the number of its region. The rows of a log stand the oldest first, those of a hash region in the order of its
--- slots, of which the empty ones have kind 0.
+-- A store with the number of its region. The rows of a log are in order from the oldest. Those of a hash region are in the order of
+-- its slots, and empty slots have kind 0.
 pub record Part : Type 0 where
   pub region : ℕ
   pub rows : List StoredRow
@@ -18,7 +18,7 @@ part_rows part = part.rows
 abbrev pub known_rows : Part → List StoredRow
 known_rows part = filter has_known_kind part.rows
 
--- the rows of stores that are listed the newest first, as one list from the oldest row on
+-- the rows of stores, which are listed from the newest, as one list from the oldest row
 abbrev pub oldest_first : List (List StoredRow) → List StoredRow
 oldest_first [] = []
 oldest_first (newest ∷ older) = oldest_first older ++ newest

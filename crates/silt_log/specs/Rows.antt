@@ -1,4 +1,4 @@
--- What the bytes of a log region say: its gates, and the rows in its bodies.
+-- The bytes of a log region: its gates, and the rows in its bodies.
 use Rattle.std.specs.Prelude.{◌≡◌, ℕ, ◌+◌, ◌*◌, ◌≤◌, ◌<◌, Bool, true, false, Option, List, length, map, drop, replicate, slice_index, slice_range}
 use Rattle.std.specs.List.{prefix_len, range_with_len, list_any}
 use Rattle.std.specs.Option.{is_some, option_map}
@@ -11,16 +11,16 @@ use Rattle.silt_frame.specs.declared.key.Kind.TheVariants.{Put, Delete}
 use Rattle.silt_frame.specs.declared.key.Row.{Row}
 use Rattle.silt_frame.specs.Rows.{StoredRow, row_of, has_known_kind}
 
--- a row of this kind may have this value: a put any, a delete zeros alone
+-- a row of this kind may have this value: a put may have any, a delete has zeros
 abbrev pub IsValueOf : Kind → List ℕ → Type 0
 IsValueOf Put value = Unit {0}
 IsValueOf Delete value = value ≡ replicate (length value) 0
 
--- the kind and the key of a row, none where its kind is unknown
+-- the kind and the key of a row; none if its kind is unknown
 unfoldable pub row_head : StoredRow → Option (Kind × Key)
 row_head row = option_map (λ kind. (kind, record { 0 = row.key })) (kind_of row.kind)
 
--- ---- by offsets: where the gates begin and how many there are, where the bodies begin and how long each is
+-- ---- by offsets: where the gates begin, how many there are, where the bodies begin, how long each is
 
 -- the bytes of the gates
 abbrev pub gate_bytes : ℕ → ℕ → List ℕ → List ℕ
@@ -30,7 +30,7 @@ gate_bytes gates count image = slice_range image gates (gates + count)
 abbrev pub body_row : ℕ → ℕ → List ℕ → ℕ → StoredRow
 body_row bodies len image place = row_of (slice_range image (bodies + place * len) (bodies + place * len + len))
 
--- of this many gates the first n are open and all others closed
+-- the first n of this many gates are open, and all others are closed
 pub record GatesAre (gates count n : ℕ) (image : List ℕ) : Type 0 where
   pub opened : (place : ℕ) → place < n → is_open (slice_index image (gates + place)) ≡ true
   pub closed : (place : ℕ) → n ≤ place → place < count → is_open (slice_index image (gates + place)) ≡ false
@@ -41,11 +41,11 @@ pub record GatesAre (gates count n : ℕ) (image : List ℕ) : Type 0 where
 abbrev pub body_at : Shape → ℕ → ℕ → ℕ
 body_at shape region place = bodies_at shape region + place * row_len shape
 
--- the row in the body of this number, behind whatever gate
+-- the row in the body of this number, whether its gate is open or not
 unfoldable pub row_at : Shape → ℕ → List ℕ → ℕ → StoredRow
 row_at shape region image place = body_row (bodies_at shape region) (row_len shape) image place
 
--- how many gates stand open before the first closed one
+-- how many gates are open before the first closed one
 unfoldable pub open_count : Shape → ℕ → List ℕ → ℕ
 open_count shape region image = prefix_len is_open (gate_bytes (gates_at shape region) shape.log_capacity image)
 
@@ -54,19 +54,19 @@ unfoldable pub has_loose_gate : Shape → ℕ → List ℕ → Bool
 has_loose_gate shape region image =
     list_any is_open (drop (open_count shape region image) (gate_bytes (gates_at shape region) shape.log_capacity image))
 
--- this many rows from a place on, the oldest first
+-- this many rows from a place on, in order from the oldest
 unfoldable pub rows_from : Shape → ℕ → List ℕ → ℕ → ℕ → List StoredRow
 rows_from shape region image from count = map (row_at shape region image) (range_with_len from count)
 
--- the first n bodies as rows, the oldest first
+-- the first n bodies as rows, in order from the oldest
 abbrev pub first_rows : Shape → ℕ → List ℕ → ℕ → List StoredRow
 first_rows shape region image n = rows_from shape region image 0 n
 
--- the rows before the first closed gate, the oldest first
+-- the rows before the first closed gate, in order from the oldest
 unfoldable pub log_rows : Shape → ℕ → List ℕ → List StoredRow
 log_rows shape region image = first_rows shape region image (open_count shape region image)
 
--- the kind and the key of this stored row, which is of a known kind, with its number
+-- the kind, the key and the number of this stored row, whose kind is known
 pub record IsRow (number : ℕ) (stored : StoredRow) (row : Row) : Type 0 where
   pub known : has_known_kind stored ≡ true
   pub kind : kind_byte row.kind ≡ stored.kind
@@ -79,7 +79,7 @@ pub record AreRows (rows : List Row) (stored : List StoredRow) : Type 0 where
   pub keys : map (λ row. row.key.0) rows ≡ map (λ row. row.key) stored
   pub places : map (λ row. row.place) rows ≡ range_with_len 0 (length stored)
 
--- of the first rows, this many, the one of this number is the first of an unknown kind
+-- the row of this number is the first of an unknown kind among the first rows, this many
 pub record FirstUnknown (row : ℕ → StoredRow) (count place : ℕ) : Type 0 where
   pub counts : place < count
   pub unknown : has_known_kind (row place) ≡ false

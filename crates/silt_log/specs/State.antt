@@ -1,4 +1,4 @@
--- A log, and how it stands on a disk.
+-- A log in memory, and what the disk has of it.
 use Rattle.std.specs.Prelude.{◌≡◌, ℕ, ◌+◌, ◌-◌, ◌≤◌, ◌<◌, Bool, false, IsTrue, List, replicate}
 use Rattle.silt_disk.specs.Disk.{Content, LeavesOnly, splice}
 use Rattle.silt_disk.specs.Layout.{Shape, gates_at}
@@ -6,8 +6,8 @@ use Rattle.silt_frame.specs.Gate.{gate_open}
 use Rattle.silt_log.specs.Rows.{GatesAre, rows_from, first_rows, log_rows, open_count, has_loose_gate}
 use Rattle.silt_frame.specs.Rows.{StoredRow}
 
--- A log: its region, how many of its rows have an open gate that is settled, how many rows it has, those that wait included,
--- and whether a gate past the first closed one is open.
+-- A log: its region, how many of its rows have an open gate that is settled, how many rows it has with the waiting ones, and
+-- whether a gate past the first closed one is open.
 pub record LogState : Type 0 where
   pub shape : Shape
   pub region : ℕ
@@ -15,14 +15,14 @@ pub record LogState : Type 0 where
   pub used : ℕ
   pub loose : Bool
 
--- the numbers of a log lie within its region
+-- the numbers of a log are within its region
 pub record InBounds (log : LogState) : Type 0 where
   pub region : log.region < log.shape.logs
   pub order : log.settled ≤ log.used
   pub room : log.used ≤ log.shape.log_capacity
   pub gap : IsTrue log.loose → log.used < log.shape.log_capacity
 
--- a log whose numbers lie within its region, with a byte for each gate
+-- a log whose numbers are within its region, with a byte for each gate
 pub record IsHeld (log : LogState) (buffer_len : ℕ) : Type 0 where
   pub bounds : InBounds log
   pub buffer : buffer_len ≡ log.shape.log_capacity
@@ -31,11 +31,11 @@ pub record IsHeld (log : LogState) (buffer_len : ℕ) : Type 0 where
 abbrev pub settled_rows : Content → LogState → List StoredRow
 settled_rows content log = first_rows log.shape log.region content.shown log.settled
 
--- the rows behind them, whose gates are still closed
+-- the rows after them, whose gates are still closed
 abbrev pub waiting_rows : Content → LogState → List StoredRow
 waiting_rows content log = rows_from log.shape log.region content.shown log.settled (log.used - log.settled)
 
--- both, the oldest first
+-- both, in order from the oldest
 abbrev pub all_rows : Content → LogState → List StoredRow
 all_rows content log = first_rows log.shape log.region content.shown log.used
 
@@ -43,8 +43,8 @@ all_rows content log = first_rows log.shape log.region content.shown log.used
 abbrev pub opened_image : Content → LogState → List ℕ
 opened_image content log = splice (gates_at log.shape log.region + log.settled) (replicate (log.used - log.settled) gate_open) content.shown
 
--- A log as it stands on a disk: whatever a stop leaves has the settled rows and no others, and with the gates of the
--- waiting rows open what is shown has all rows.
+-- A log that matches the disk: each possible crash image has exactly the settled rows, and what is shown, with the gates of the
+-- waiting rows open, has all rows.
 pub record IsLog (content : Content) (log : LogState) : Type 0 where
   pub bounds : InBounds log
   pub sealed : log.loose ≡ false
@@ -52,7 +52,7 @@ pub record IsLog (content : Content) (log : LogState) : Type 0 where
   pub full : IsTrue content.honest → log_rows log.shape log.region (opened_image content log) ≡ all_rows content log
   pub gates : LeavesOnly content (GatesAre (gates_at log.shape log.region) log.shape.log_capacity log.settled)
 
--- a log as it was scanned on a disk: its rows are those before the first closed gate
+-- a log that was scanned on a disk: its rows are those before the first closed gate
 pub record IsScanned (content : Content) (log : LogState) : Type 0 where
   pub settled : log.settled ≡ open_count log.shape log.region content.shown
   pub used : log.used ≡ open_count log.shape log.region content.shown

@@ -1,4 +1,4 @@
-// What a look-up of a key finds.
+// The result of a look-up.
 use silt_frame::Kind;
 
 /// A key that was found: the kind of its last row, and the row's place.

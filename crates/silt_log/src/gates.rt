@@ -9,7 +9,7 @@ ghost use Rattle.silt_log.specs.Calls.{SyncsAndTears};
 use silt_disk::{Disk, write_synced};
 use silt_frame::GATE_OPEN;
 
-// Writes this byte over the gates from here on, as many as the buffer has bytes, and syncs.
+// Writes this byte over the gates from here on, as many as the buffer is long, and syncs.
 pub fn write_gates<D: Disk>(
     disk: &mut D,
     at: u64,
@@ -28,7 +28,7 @@ pub fn write_gates<D: Disk>(
     Ok(())
 }
 
-// Syncs, so that the bodies stand first, and then opens the gates from here on, as many as the buffer has bytes, and syncs.
+// Syncs, so that the bodies are settled first. Then opens the gates from here on, as many as the buffer is long, and syncs.
 #[tactic(auto, using(crate::proofs::Barriers::not_begun, crate::proofs::Barriers::begun, crate::proofs::Barriers::written_after_sync))]
 pub fn open_behind_sync<D: Disk>(disk: &mut D, at: u64, buffer: &mut [u8]) -> Result<(), D::Fault>
     requires { at + length buffer.old ≤ size (D.content disk.old) }
@@ -57,7 +57,7 @@ pub fn write_row<D: Disk>(disk: &mut D, at: u64, head: &[u8], value: &[u8]) -> R
     Ok(())
 }
 
-// Reads the gates from here on, as many as the buffer has bytes: how many stand open before the first closed one, and
+// Reads the gates from here on, as many as the buffer is long. Returns how many are open before the first closed one, and
 // whether one past it is open.
 pub fn read_gates<D: Disk>(disk: &D, at: u64, buffer: &mut [u8]) -> Result<(usize, bool), D::Fault>
     requires { at + length buffer.old ≤ size (D.content disk.now) }
@@ -72,7 +72,7 @@ pub fn read_gates<D: Disk>(disk: &D, at: u64, buffer: &mut [u8]) -> Result<(usiz
     Ok((count, has_open(&buffer[count..])))
 }
 
-// How many gates stand open before the first closed one.
+// How many gates are open before the first closed one.
 fn count_open(gates: &[u8]) -> usize
     ensures count { result ≡ prefix_len is_open gates.now }
     ensures most { result ≤ length gates.now }

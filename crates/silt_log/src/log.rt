@@ -17,7 +17,7 @@ use std::marker::Model;
 
 /// A log region: how many rows it has, and how many of them are settled behind open gates.
 ///
-/// It holds one byte for each row that the region has room for, so that no later call but `scan` takes memory.
+/// It holds one byte for each row that fits into the region. So no later call except `scan` allocates memory.
 #[derive(Drop)]
 pub struct Log {
     geometry: Geometry,
@@ -45,11 +45,11 @@ impl Log {
     ghost use Rattle.silt_log.specs.Calls.{Empties, Appends, KeepsRows, OpensGates, OpensSome, Seals};
     ghost use Rattle.silt_frame.specs.Frame.{head_len};
 
-    /// A log of this region with no rows. It is `prepare`d or scanned before it is used.
+    /// A log of this region with no rows. `prepare` or scan it before use.
     ///
     /// # Errors
     ///
-    /// Where the bytes for the gates find no memory.
+    /// Out of memory: the bytes for the gates could not be allocated.
     pub fn new(alloc: Global, geometry: Geometry, region: u32) -> Result<Self, AllocError>
         requires { region < geometry.logs }
         ensures { IfOk result (λ log. log ≡ record { shape = geometry; region = region; settled = 0; used = 0; loose = false }) }
@@ -65,7 +65,7 @@ impl Log {
         })
     }
 
-    /// How many rows there are, those that wait included.
+    /// The number of rows, with the waiting ones.
     pub fn len(&self) -> u32
         ensures value { result ≡ self.now.used }
         ensures bounds { InBounds self.now }
@@ -73,14 +73,14 @@ impl Log {
         self.used
     }
 
-    /// Whether there is no row, not even one that waits.
+    /// Whether there is no row, not even a waiting one.
     pub fn is_empty(&self) -> bool
         ensures { result ≡ (self.now.used == 0) }
     {
         self.used == 0
     }
 
-    /// How many rows are settled behind open gates.
+    /// The number of rows that are settled behind open gates.
     pub fn settled(&self) -> u32
         ensures value { result ≡ self.now.settled }
         ensures bounds { InBounds self.now }
@@ -96,7 +96,7 @@ impl Log {
         self.settled < self.used
     }
 
-    /// Whether there is no room for a further row.
+    /// Whether there is no room for another row.
     pub fn is_full(&self) -> bool
         ensures value { result ≡ (self.now.used == self.now.shape.log_capacity) }
         ensures bounds { InBounds self.now }
@@ -104,7 +104,7 @@ impl Log {
         self.used == self.geometry.log_capacity()
     }
 
-    /// How many rows the region has room for.
+    /// The number of rows that fit into the region.
     pub fn capacity(&self) -> u32
         ensures value { result ≡ self.now.shape.log_capacity }
         ensures bounds { InBounds self.now }
@@ -150,7 +150,7 @@ impl Log {
         Ok(())
     }
 
-    /// Writes a row behind the others: the head, then the value. Its gate stays closed. A delete's value is zeros.
+    /// Writes a row after the others: the head, then the value. Its gate stays closed. A delete's value is zeros.
     ///
     /// # Errors
     ///
@@ -181,11 +181,11 @@ impl Log {
         Ok(())
     }
 
-    /// Opens the gates of the rows that wait: a sync, one write over these gates, a sync.
+    /// Opens the gates of the waiting rows: a sync, one write over these gates, a sync.
     ///
     /// # Errors
     ///
-    /// The fault of a sync or of the write. A stop then leaves the settled rows and a beginning of those that wait.
+    /// The fault of a sync or of the write. A crash then leaves the settled rows and a prefix of the waiting ones.
     pub fn open_gates<D: Disk>(&mut self, disk: &mut D) -> Result<(), D::Fault>
         requires waiting { self.old.settled < self.old.used }
         requires size { device_size self.old.shape ≤ size (D.content disk.old) }
@@ -206,8 +206,8 @@ impl Log {
         Ok(())
     }
 
-    /// Closes all gates past the first closed one, which is not touched, and syncs. Where they are closed already it makes
-    /// no device call.
+    /// Closes all gates past the first closed one, and syncs. It does not touch that one. If they are closed already, it makes no
+    /// device call.
     ///
     /// # Errors
     ///
@@ -238,13 +238,13 @@ impl Log {
         Ok(())
     }
 
-    /// Reads which gates are open, and the kind and key of each row before the first closed gate. It is how a log is read that
-    /// has no table; a log with one reads its gates (`scan_gates`), and then its rows one by one.
+    /// Reads which gates are open, and the kind and key of each row before the first closed gate. This is for a log without a
+    /// table. A log with one reads its gates (`scan_gates`), and then its rows one by one.
     ///
     /// # Errors
     ///
-    /// `Damaged` with the number of the first row of an unknown kind, `Device` with the fault of a read, and `NoMemory`
-    /// where the list finds none. The log is then as it was.
+    /// `Damaged` with the number of the first row of an unknown kind, `Device` with the fault of a read, and `NoMemory` if the list
+    /// could not be allocated. The log has not changed.
     pub fn scan<D: Disk>(
         &mut self,
         alloc: Global,
@@ -273,12 +273,12 @@ impl Log {
         Ok(rows)
     }
 
-    /// Reads which gates are open, and no row: how many rows there are before the first closed gate, and whether a gate past
-    /// it is open.
+    /// Reads which gates are open, and no row. Returns how many rows come before the first closed gate, and whether a gate past it
+    /// is open.
     ///
     /// # Errors
     ///
-    /// The fault of the read. The log is then as it was.
+    /// The fault of the read. The log has not changed.
     pub fn scan_gates<D: Disk>(&mut self, disk: &D) -> Result<(), D::Fault>
         requires size { device_size self.old.shape ≤ size (D.content disk.now) }
         ensures region { (self.new.shape ≡ self.old.shape) × (self.new.region ≡ self.old.region) }
@@ -305,8 +305,8 @@ impl Log {
         self.geometry.bodies_at(self.region) + u64::from(place) * self.geometry.row_len() as u64
     }
 
-    /// Reads the key in the body of this number, behind whatever gate. It is for a row whose kind is known; the layers above read
-    /// both (`read_head`).
+    /// Reads the key in the body of this number, whether its gate is open or not. It is for a row whose kind is known. The crates
+    /// above read both (`read_head`).
     ///
     /// # Errors
     ///
@@ -322,11 +322,11 @@ impl Log {
         Ok(Key(key))
     }
 
-    /// Reads the value in the body of this number, behind whatever gate.
+    /// Reads the value in the body of this number, whether its gate is open or not.
     ///
     /// # Errors
     ///
-    /// The fault of the read. The bytes of `out` are then open.
+    /// The fault of the read. `out` may then hold any bytes.
     pub fn read_value<D: Disk>(&self, disk: &D, place: u32, out: &mut [u8]) -> Result<(), D::Fault>
         requires place { place < self.now.shape.log_capacity }
         requires out { length out.old ≡ self.now.shape.value_len }
@@ -338,7 +338,7 @@ impl Log {
         Ok(())
     }
 
-    /// Reads the kind and the key in the body of this number, behind whatever gate: `None` for a kind byte other than 1 and 2.
+    /// Reads the kind and the key in the body of this number, whether its gate is open or not. `None` for a kind byte other than 1 and 2.
     ///
     /// # Errors
     ///
@@ -354,12 +354,12 @@ impl Log {
         Ok(head_of(&head))
     }
 
-    /// Reads the first bytes of the body of this number, behind whatever gate, as many as `out` has: the kind and the key that stand
-    /// there, `None` for a kind byte other than 1 and 2. Where `out` has room for the whole body, the value stands behind them.
+    /// Reads the first bytes of the body of this number, as many as `out` is long, whether its gate is open or not. Returns the kind
+    /// and the key there, `None` for a kind byte other than 1 and 2. If `out` has room for the whole body, the value follows them.
     ///
     /// # Errors
     ///
-    /// The fault of the read. The bytes of `out` are then open.
+    /// The fault of the read. `out` may then hold any bytes.
     pub fn read_front<D: Disk>(
         &self,
         disk: &D,
@@ -382,11 +382,11 @@ impl Log {
         Ok(head_of(&head))
     }
 
-    /// Reads the bytes of the body of this number, behind whatever gate: the kind, the key and the value.
+    /// Reads the body of this number, whether its gate is open or not: the kind, the key and the value.
     ///
     /// # Errors
     ///
-    /// The fault of the read. The bytes of `out` are then open.
+    /// The fault of the read. `out` may then hold any bytes.
     pub fn read_row<D: Disk>(&self, disk: &D, place: u32, out: &mut [u8]) -> Result<(), D::Fault>
         requires place { place < self.now.shape.log_capacity }
         requires out { length out.old ≡ row_len self.now.shape }

@@ -11,18 +11,18 @@ use silt_disk::Disk;
 use silt_frame::{HEAD_LEN, Row, head_of};
 use std::alloc::Global;
 
-/// Why a region was not read: a log, or the slots or the entries that a store is rebuilt from.
+/// Why a region could not be read: a log, or the slots or entries that a store is rebuilt from.
 #[derive(Debug, Drop)]
 pub enum ScanError<F> {
-    /// The row of this number is the first in which something is wrong: in a log, a kind byte other than 1 and 2.
+    /// The row of this number is the first damaged one. In a log that means a kind byte other than 1 and 2.
     Damaged(u32),
     /// A read failed with this fault.
     Device(F),
-    /// What is made of the rows, or what is read, found no memory.
+    /// Out of memory for the rows that are read, or for what is built of them.
     NoMemory,
 }
 
-// Reads the heads of the first rows, whose bodies have this length and begin here.
+// Reads the heads of the first rows. The bodies begin here and have this length.
 pub fn read_rows<D: Disk>(
     alloc: Global,
     disk: &D,

@@ -22,14 +22,14 @@ pub index_elsewhere : (old new : Content) (store : LogStoreState) (at count : �
 index_elsewhere old new store at count index bounds fits outside changes =
     index_kept old new store store changes.honest index refl refl refl (rows_outside old new store.log at count bounds fits outside changes)
 
--- a store that takes rows stands
+-- a store that takes rows still matches the disk
 pub store_elsewhere : (old new : Content) (store : LogStoreState) (at count : ℕ) → IsLogStore old store → device_size store.log.shape ≤ size old → size new ≡ size old → LiesOutside (gates_at store.log.shape store.log.region) (log_len store.log.shape) at count → ChangesWithin at count old new → IsLogStore new store
 store_elsewhere old new store at count is fits same outside changes = record {
   log = (log_elsewhere old new store.log at count is.log fits same outside changes).stands;
   index = index_elsewhere old new store at count is.index is.log.bounds fits outside changes;
 }
 
--- a store that is only read stands
+-- so does a store that is only read
 pub frozen_elsewhere : (old new : Content) (store : LogStoreState) (at count : ℕ) → IsFrozenStore old store → InBounds store.log → device_size store.log.shape ≤ size old → LiesOutside (gates_at store.log.shape store.log.region) (log_len store.log.shape) at count → ChangesWithin at count old new → IsFrozenStore new store
 frozen_elsewhere old new store at count is bounds fits outside changes = record {
   images = record {
@@ -49,7 +49,7 @@ store_synced old new store is fits same settles = store_elsewhere old new store 
 pub frozen_synced : (old new : Content) (store : LogStoreState) → IsFrozenStore old store → InBounds store.log → device_size store.log.shape ≤ size old → Settles old new → IsFrozenStore new store
 frozen_synced old new store is bounds fits settles = frozen_elsewhere old new store 0 0 is bounds fits (inl (omega arith)) (sync_within 0 0 settles)
 
--- a store with no row that waits may be frozen
+-- a store with no waiting row may be frozen
 pub frozen_from : (content : Content) (store : LogStoreState) → IsLogStore content store → store.log.settled ≡ store.log.used → IsFrozenStore content store
 frozen_from content store is all = record {
   images = record { each = λ honest image left. is.log.images.each honest image left ∙ ap (first_rows store.log.shape store.log.region content.shown) all };

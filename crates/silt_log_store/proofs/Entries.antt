@@ -9,7 +9,7 @@ use Rattle.silt_cuckoo.proofs.Placed.{table_pairs-held}
 use Rattle.silt_cuckoo.proofs.Places.{holds_from_pair}
 use Rattle.silt_log_store.specs.Laws.{HasEntries, TableEntryLaw}
 
--- an entry's place is held
+-- an entry's place is in the table
 held_of : (slots : Slots) (slot tag place : ℕ) → entry_at slots slot ≡ Some (tag, place) → place_at slots slot ≡ Some place
 held_of slots slot tag place is = ap (option_map (λ (e : Entry). e.1)) is
 

@@ -1,4 +1,4 @@
--- What stands at the exits of the calls of a log store.
+-- The state at the exits of the calls of a log store.
 use Rattle.std.proofs.Common.{◌≡◌, ◌↔◌, ℕ, ◌+◌, ◌-◌, ◌<◌, ◌≤◌, true, false, List, [], ◌∷◌, ◌++◌, Option, Some, None, IsTrue, IsSome, IfSome, inl, inr, option_map, refl, sym, subst, ap, ◌∙◌, arith}
 use Rattle.std.specs.List.{list_all}
 use Rattle.std.specs.Option.{is_some, option_and_then}
@@ -69,7 +69,7 @@ module _ (content : Content) (store : LogStoreState) (key : List ℕ) (held : Is
       ∙ ap (placed_or_replaced store.log.shape.buckets store.table key store.log.used) (sym (standing_is (all_rows content store.log) store.table store.log.shape.buckets key store_indexes found (match_by_shape found first)))
       ∙ ap (λ n. placed_or_replaced n store.table key store.log.used (option_map (λ (m : Match). m.slot) found)) (sym held.count)
 
--- ---- what calls leave of the table
+-- ---- the table after each call
 
 -- the same rows have the same table and the same number of puts
 pub index_kept : (old new : Content) (before after : LogStoreState) → new.honest ≡ old.honest → IsIndexed old before → after.table ≡ before.table → after.puts ≡ before.puts → after.log.shape ≡ before.log.shape
@@ -102,7 +102,7 @@ empties_store new store log empties empty no_puts =
       };
     }
 
--- a store whose log took a row, with the key in the table and one put more where it is one
+-- a store whose log took a row, with the key in the table, and one put more if the row is one
 pub takes_row : (old new : Content) (store : LogStoreState) (log : LogState) (table : Slots) (puts : ℕ) (kind : Kind) (key : Key) (value : List ℕ) (placing : Placing) → new.honest ≡ old.honest → IsIndexed old store
     → IsPlacingFor old store key.0 placing → puts ≡ store.puts + puts_of kind
     → entered store.table placing store.log.used ≡ Some table
@@ -154,7 +154,7 @@ pub under_buckets : (buckets first second place : ℕ) (table : Slots) (key : Li
 under_buckets buckets first second place table key None older first_is second_is same = rw (first_is, second_is, ← same) refl
 under_buckets buckets first second place table key (Some slot) older first_is second_is same = rw (← same) refl
 
--- the placings that were planned for a key whose older row was found so
+-- the placings that are planned for a key once its older row is looked up
 abbrev pub IsPlannedFor : LogStoreState → List ℕ → Option Match → Option Placing → Type 0
 IsPlannedFor store key found placing = (place : ℕ) → option_and_then (λ (p : Placing). entered store.table p place) placing
     ≡ placed_or_replaced (bucket_count store.table) store.table key place (option_map (λ (m : Match). m.slot) found)
@@ -174,7 +174,7 @@ placing_found content store key found (Some placing) held room first holds plann
     table : IsTrue content.honest → IsIndexed content store → index_of_keys store.log.shape.buckets (keys_of (all_rows content store.log) ++ key ∷ []) ≡ entered store.table placing store.log.used
     table honest index = table_with_key content store key held honest index found (first honest index) ∙ sym (planned store.log.used)
 
--- none was planned exactly where the keys with this one have no table
+-- none was planned exactly if the keys with this one have no table
 pub placing_none : (content : Content) (store : LogStoreState) (key : List ℕ) (found : Option Match) (placing : Option Placing) → IsHeldStore store → store.log.used < store.log.shape.log_capacity
     → IsTrue content.honest → IsIndexed content store → IsMatchIn content store key found → IfSome placing (HoldsIn store.table) → IsPlannedFor store key found placing
     → (placing ≡ None) ↔ IsFullFor content store key
@@ -191,7 +191,7 @@ placing_none content store key found (Some placing) held room honest index first
   ],
 )
 
--- a placing is answered exactly where a row of the key can be taken
+-- a placing is returned exactly if a row of the key can be taken
 pub placing_exactly : (content : Content) (store : LogStoreState) (key : List ℕ) → IsTrue content.honest → IsIndexed content store → (placing : Option Placing) → IfSome placing (IsPlacingFor content store key)
     → ((placing ≡ None) ↔ IsFullFor content store key)
     → IsTrue (is_some placing) ↔ ((store.log.used < store.log.shape.log_capacity) × IsSome (index_of_keys store.log.shape.buckets (keys_of (all_rows content store.log) ++ key ∷ [])))
@@ -209,7 +209,7 @@ pub placing_room : (content : Content) (store : LogStoreState) (key : List ℕ) 
 placing_room content store key None some answered = absurd (cc)
 placing_room content store key (Some placing) some answered = some.room
 
--- a row can be taken where its key has a placing
+-- a row can be taken if its key has a placing
 pub placing_can : (content : Content) (store : LogStoreState) (key : List ℕ) (answer : Option Placing) (placing : Placing) → answer ≡ Some placing → IsLogStore content store → IfSome answer (IsPlacingFor content store key) → CanTake content store key
 placing_can content store key answer placing some is found =
     let at = subst (λ (o : Option Placing). IfSome o (IsPlacingFor content store key)) some found in
@@ -238,7 +238,7 @@ opens_some old new store log fits is changes opens =
           (λ honest. ap (all_rows new) opens.log ∙ gates_leave_rows old new store.log store.log.settled (store.log.used - store.log.settled) bounds fits (omega (arith, bounds.order, bounds.room)) changes honest);
     }
 
--- what holds of every store still holds of one that took a row
+-- the invariant of every store holds after it took a row
 pub held_after : (store : LogStoreState) (log : LogState) (table : Slots) (puts place : ℕ) → IsHeldStore store → InBounds log → log ≡ record store.log { used = store.log.used + 1 } → IsTable table → bucket_count table ≡ bucket_count store.table
     → place ≡ store.log.used → PlacesBelow table (place + 1) → puts ≤ store.puts + 1 → IsHeldStore (record { log = log; table = table; puts = puts })
 held_after store log table puts place held bounds taken is_table count at below few = record {

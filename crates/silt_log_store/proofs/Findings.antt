@@ -1,4 +1,4 @@
--- When nothing is found in a log.
+-- When there is no finding in a log.
 use Rattle.std.proofs.Common.{◌≡◌, ℕ, ◌+◌, ◌<◌, true, false, not, List, [], ◌∷◌, ◌++◌, length, take, drop, fold, flat_map, Option, Some, None, is_some, option_map, refl, sym, ap, ◌∙◌, arith, take-append-drop}
 use Rattle.std.specs.List.{list_all, enumerate_from}
 use Rattle.std.proofs.lemmas.Bool.{and_parts, and_from}
@@ -17,7 +17,7 @@ use Rattle.silt_event.proofs.Findings.{nothing_first, nothing_second, nothing_bo
 
 -- ---- tables
 
--- where keys have places, so have the first of them
+-- if keys have places, so have the first of them
 fits_keys : (buckets : ℕ) (keys more : List (List ℕ)) → is_some (index_of_keys buckets (keys ++ more)) ≡ true → is_some (index_of_keys buckets keys) ≡ true
 fits_keys buckets keys more fits = go (indexed buckets keys) refl
   where
@@ -44,7 +44,7 @@ fits_none shape = refl
 
 -- ---- one log
 
--- of the kinds of rows from a place on, and of places in the table, comes nothing
+-- rows of known kinds from a place on, with places in the table, give no finding
 nothing_from : (shape : Shape) (part : Part) (k : ℕ) (rows : List StoredRow) → list_all has_known_kind rows ≡ true → fits_table shape part.rows ≡ true → flat_map (row_findings shape part) (enumerate_from k rows) ≡ []
 nothing_from shape part k [] known fits = refl
 nothing_from shape part k (row ∷ rows) known fits =
@@ -55,7 +55,7 @@ nothing_from shape part k (row ∷ rows) known fits =
     (nothing_where_passes (fits_table shape (take (k + 1) part.rows)) Crowded (fits_take shape part.rows (k + 1) fits)))
     (nothing_from shape part (k + 1) rows parts.1 fits)
 
--- where nothing comes of rows, they are of known kinds
+-- rows that give no finding are of known kinds
 known_from : (shape : Shape) (part : Part) (k : ℕ) (rows : List StoredRow) → flat_map (row_findings shape part) (enumerate_from k rows) ≡ [] → list_all has_known_kind rows ≡ true
 known_from shape part k [] none = refl
 known_from shape part k (row ∷ rows) none =
@@ -86,7 +86,7 @@ all_fit shape part none = go part.rows refl
         let some : 0 < length part.rows = omega (arith, ap length e) in
         ap (fits_table shape) (sym (take_all (length part.rows) part.rows (omega arith))) ∙ last_fits shape part 0 (length part.rows) part.rows none (omega arith) some
 
--- nothing is found in a log of known kinds whose keys have places, and in no other
+-- there is no finding in a log exactly if its kinds are known and its keys have places
 pub log_sound_law : LogSoundLaw
 unfolding log_findings
 log_sound_law shape part = (
@@ -99,7 +99,7 @@ pub record AreFine (shape : Shape) (rows : List StoredRow) : Type 0 where
   pub known : list_all has_known_kind rows ≡ true
   pub fits : fits_table shape rows ≡ true
 
--- they are the rows of a log in which nothing is found
+-- they are the rows of a log without a finding
 pub fine_of : (shape : Shape) (part : Part) → log_findings shape part ≡ [] → AreFine shape part.rows
 fine_of shape part none = let both = (log_sound_law shape part).0 none in record { known = both.0; fits = both.1 }
 

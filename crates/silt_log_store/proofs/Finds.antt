@@ -1,4 +1,4 @@
--- What the first match says of the last row of a key.
+-- What the first match means for the last row of a key.
 use Rattle.std.proofs.Common.{◌≡◌, ◌≢◌, ◌⊎◌, ℕ, zero, suc, ◌<◌, List, [], ◌∷◌, ◌++◌, length, get_or, Option, Some, None, option_map, inl, inr, refl, sym, subst, ap, ◌∙◌, arith}
 use Rattle.std.specs.Option.{option_and_then}
 use Rattle.std.specs.Str.{bytes_eq}
@@ -50,7 +50,7 @@ last_below keys key (suc n) = elim (cases_Bool (bytes_eq (get_or keys n []) key)
       ]
 ]
 
--- a key whose slot is not there stands nowhere
+-- a key without a slot has no place
 none_of_key : (keys : List (List ℕ)) (slots : Slots) (buckets : ℕ) (key : List ℕ) → Indexes slots buckets keys → slot_of_key keys slots key ≡ None → (place : ℕ) → place < length keys → get_or keys place [] ≢ key
 none_of_key keys slots buckets key index none place below = elim (last_below keys key (length keys)) [
   | inl (p, (low, is, last)) ↦
@@ -88,7 +88,7 @@ module _ (rows : List StoredRow) (slots : Slots) (buckets : ℕ) (key : List ℕ
         first.kind.2,
       )
 
-  -- where there is no match no row has the key
+  -- if there is no match, no row has the key
   pub none_is_none : IsFirstMatch rows (candidates_of slots (first_bucket buckets key) (second_bucket buckets key)) key None → FindsLast rows key None
   none_is_none first = λ place below. none_of_key (keys_of rows) slots buckets key index (sym (standing_is None first)) place (subst (λ n. place < n) (sym (keys_count rows)) below)
 

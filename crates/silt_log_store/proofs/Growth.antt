@@ -100,7 +100,7 @@ key_refused key index place is at none =
 
 -- ---- the rows
 
--- what a head that was read says of its row
+-- what a head means for its row
 head_says : (row : StoredRow) (kind : Kind) (key : Key) → row_head row ≡ Some (kind, key) → (kind_of row.kind ≡ Some kind) × (row.key ≡ key.0)
 unfolding row_head
 head_says row kind key is = go (kind_of row.kind) is
@@ -137,7 +137,7 @@ known_at : (rows : List StoredRow) (place : ℕ) (row : StoredRow) → slice_get
 known_at rows place row is = get_or-map has_known_kind rows place row false (slice_get_within rows place row is) ∙ ap has_known_kind (get_or_from_slice_get rows place row row is)
 
 module _ (shape : Shape) (region : ℕ) (image : List ℕ) (count place : ℕ) (below : place < count) (index : KeyIndex) (is : IsKeyIndex index) (buckets : bucket_count index.table ≡ shape.buckets) (are : IsOfRows (first_rows shape region image place) index) where
-  -- the rows before this one were all well
+  -- the rows before this one were all good
   sound : IsSoundBefore shape.buckets (first_rows shape region image count) place
   sound =
       let fewer : take place (first_rows shape region image count) ≡ first_rows shape region image place = rows_taken shape region image count place (omega arith) in
@@ -178,7 +178,7 @@ module _ (shape : Shape) (region : ℕ) (image : List ℕ) (count place : ℕ) (
 
 -- ---- the store
 
--- a log with the table of all its keys and the number of its puts is held
+-- the store has a log with the table of all its keys and the number of its puts
 pub rebuilt_held : (log : LogState) (index : KeyIndex) → InBounds log → IsBucketCount log.shape.buckets → IsKeyIndex index → bucket_count index.table ≡ log.shape.buckets → length index.keys.items ≡ log.used → IsHeldStore (record { log = log; table = index.table; puts = index.puts })
 rebuilt_held log index bounds count is buckets keys =
     let holds = index_law (bucket_count index.table) index.keys.items index.table (subst IsBucketCount (sym buckets) count) is.indexed in
@@ -214,14 +214,14 @@ module _ (content : Content) (log : LogState) (index : KeyIndex) (scanned : IsTr
     counted = (are honest).counted ∙ ap put_count (rows_are honest);
   }
 
-  -- and frozen where the disk is at rest
+  -- and frozen if nothing is pending on the disk
   pub rebuilt_frozen : Rests content → IsFrozenStore content (record { log = log; table = index.table; puts = index.puts })
   rebuilt_frozen rests = record {
     images = record { each = λ honest image left. ap (log_rows log.shape log.region) (left_at_rest rests honest image left) ∙ sym (rows_are honest) };
     index = rebuilt_index;
   }
 
--- a refusal that says another thing of its row
+-- a refusal with another reason for its row
 pub refusal_as : {F : Type 0} (damaged other : ℕ → Type 0) (crowded further : Type 0) (was_given : F → Type 0) (error : RebuildError F) → ((place : ℕ) → damaged place → other place) → (crowded → further)
     → IsRefusedRebuild damaged crowded was_given error → IsRefusedRebuild other further was_given error
 refusal_as damaged other crowded further was_given (Damaged place) step step_crowded refused = step place refused
@@ -229,7 +229,7 @@ refusal_as damaged other crowded further was_given Crowded step step_crowded ref
 refusal_as damaged other crowded further was_given (Device fault) step step_crowded refused = refused
 refusal_as damaged other crowded further was_given NoMemory step step_crowded refused = refused
 
--- why a rebuild of a log that was scanned is refused
+-- why a rebuild of a scanned log is refused
 pub rebuild_refused : {F : Type 0} (content : Content) (log : LogState) (shape : Shape) (region : ℕ) (was_given : F → Type 0) (error : RebuildError F) → log.shape ≡ shape → log.region ≡ region → (IsTrue content.honest → IsScanned content log)
     → IsRefusedRebuild (λ row. IsTrue content.honest → IsFirstDamaged log.shape.buckets (first_rows log.shape log.region content.shown log.used) row)
     (IsTrue content.honest → (row : ℕ) × IsFirstCrowded log.shape.buckets (first_rows log.shape log.region content.shown log.used) row) was_given error

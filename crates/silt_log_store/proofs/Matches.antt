@@ -1,4 +1,4 @@
--- A row whose head was read, and the key that is looked for.
+-- A row whose head was read, and the key that is looked up.
 use Rattle.std.proofs.Common.{◌≡◌, ℕ, ◌+◌, ◌<◌, cond, Bool, true, false, List, [], get_or, length, Option, Some, None, option_map, refl, sym, ap, ◌∙◌}
 use Rattle.std.specs.List.{list_all, AllWithin}
 use Rattle.std.specs.Option.{is_some, option_and_then}

@@ -36,7 +36,7 @@ row_there content log place below =
 pub key_there : (content : Content) (log : LogState) (place : ℕ) → place < log.used → get_or (keys_of (all_rows content log)) place [] ≡ (row_at log.shape log.region content.shown place).key
 key_there content log place below = key_of_row (all_rows content log) place (row_at log.shape log.region content.shown place) (row_there content log place below)
 
--- where all pass, each does
+-- if all pass, each does
 pub passes_at : {X : Type 0} (p : X → Bool) (xs : List X) (place : ℕ) (x : X) → list_all p xs ≡ true → slice_get xs place ≡ Some x → p x ≡ true
 passes_at p xs place x all is =
     let here : get_or xs place x ≡ x = get_or_from_slice_get xs place x x is in

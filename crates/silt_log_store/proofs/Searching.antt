@@ -4,7 +4,7 @@ use Rattle.std.specs.List.{All, AllWithin, Contains}
 use Rattle.std.proofs.lemmas.Bool.{cond-true, cond-false}
 use Rattle.std.proofs.lemmas.Option.{slice_get-get_or}
 
--- it is found where all before it fail
+-- it is found if all before it fail
 pub find_first : {X : Type 0} (p : X → Bool) (xs : List X) (k : ℕ) (x d : X) → AllWithin (λ y. p y ≡ false) xs 0 k → k < length xs → get_or xs k d ≡ x → p x ≡ true → find p xs ≡ Some x
 find_first p [] k x d before low is passes = absurd (omega arith)
 find_first p (y ∷ ys) zero x d before low is passes = cond-true (p y) (Some y) (find p ys) (ap p is ∙ passes) ∙ ap Some is
@@ -12,14 +12,14 @@ find_first p (y ∷ ys) (suc k) x d before low is passes =
     let fails : p y ≡ false = before 0 y (omega arith) (omega arith) in
     cond-false (p y) (Some y) (find p ys) fails ∙ find_first p ys k x d (λ j other least below. before (suc j) other (omega arith) (omega arith)) (omega arith) is passes
 
--- nothing is found where all fail
+-- nothing is found if all fail
 pub find_nothing : {X : Type 0} (p : X → Bool) (xs : List X) → AllWithin (λ y. p y ≡ false) xs 0 (length xs) → find p xs ≡ None
 find_nothing p [] fail = refl
 find_nothing p (y ∷ ys) fail =
     let here : p y ≡ false = fail 0 y (omega arith) (omega arith) in
     cond-false (p y) (Some y) (find p ys) here ∙ find_nothing p ys (λ j d least below. fail (suc j) d (omega arith) (omega arith))
 
--- what is found passes and stands in the list
+-- what is found passes and is in the list
 pub found_passes : {X : Type 0} (p : X → Bool) (xs : List X) (x : X) → find p xs ≡ Some x → (p x ≡ true) × Contains xs x
 found_passes p [] x e = absurd (cc)
 found_passes {X} p (y ∷ ys) x e = go (p y) refl (found_passes p ys x) e

@@ -12,7 +12,7 @@ use Rattle.silt_log_store.specs.declared.log_store.TakeError.{TakeError}
 use Rattle.silt_log_store.specs.declared.log_store.TakeError.TheVariants.{Full, Read, Write}
 use Rattle.silt_log_store.specs.declared.placement.Placing.{Placing}
 
--- the store has no rows, and whatever a stop leaves has none
+-- the store has no rows, and each possible crash image has none
 pub record EmptiesStore (new : Content) (before after : LogStoreState) : Type 0 where
   pub log : Empties new before.log after.log
   pub table : after.table ≡ before.table
@@ -24,7 +24,7 @@ pub record TakesRow (row : StoredRow) (old new : Content) (before after : LogSto
   pub log : Appends row old new before.log after.log
   pub stands : IsLogStore new after
 
--- the store stands as before, with the same rows
+-- the store is as before, with the same rows
 pub record KeepsStore (old new : Content) (before after : LogStoreState) : Type 0 where
   pub store : after ≡ before
   pub log : KeepsRows old new before.log after.log
@@ -37,7 +37,7 @@ pub record OpensStore (old new : Content) (before after : LogStoreState) : Type 
   pub puts : after.puts ≡ before.puts
   pub stands : IsLogStore new after
 
--- some of the gates of the waiting rows may be open; what is found is the same
+-- some gates of the waiting rows may be open, and the rows are the same
 pub record OpensSomeOfStore (old new : Content) (before after : LogStoreState) : Type 0 where
   pub store : after ≡ before
   pub log : OpensSome old new before.log after.log
@@ -51,8 +51,8 @@ pub record SealsStore (old new : Content) (before after : LogStoreState) : Type 
   pub all : IsTrue old.honest → all_rows new after.log ≡ all_rows old before.log
   pub stands : IsIndexed old before → IsLogStore new after
 
--- A row of this key can be taken at this placing: the log has room, the placing was made for the table as it stands, and the table of
--- the keys with this one is that in which the key's entry went in by it.
+-- A row of this key can be taken at this placing: the log has room, the placing was made for this very table, and entering the key by
+-- it gives the table of all keys with this one.
 pub record IsPlacingFor (content : Content) (store : LogStoreState) (key : List ℕ) (placing : Placing) : Type 0 where
   pub room : store.log.used < store.log.shape.log_capacity
   pub holds : HoldsIn store.table placing
@@ -70,8 +70,8 @@ abbrev pub IsFullFor : Content → LogStoreState → List ℕ → Type 0
 IsFullFor content store key = (store.log.used ≡ store.log.shape.log_capacity) ⊎ (index_of_keys store.log.shape.buckets (keys_of (all_rows content store.log) ++ key ∷ []) ≡ None)
 
 module _ {D F : Type 0} (facts : Ghosts D F) (old new : D) (before after : LogStoreState) (key : List ℕ) where
-  -- why a row of this key was not taken: the store is full for it or a read failed, and nothing is written; or a write failed, and the
-  -- store has the same rows
+  -- why a row of this key was not taken: the store is full for it or a read failed, and nothing is written; or a write failed, and
+  -- the store has the same rows
   abbrev pub FailsTake : TakeError F → Type 0
   FailsTake Full = (new ≡ old) × (IsTrue (facts.content old).honest → IsFullFor (facts.content old) before key)
   FailsTake (Read fault) = (new ≡ old) × GaveAny facts.gave old fault

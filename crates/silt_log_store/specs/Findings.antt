@@ -1,4 +1,4 @@
--- What is found in the rows of a log.
+-- The findings in the rows of a log.
 use Rattle.std.specs.Prelude.{ℕ, ◌+◌, not, List, take, ◌≡◌, Bool, true, [], ◌++◌, flat_map, is_some, ◌↔◌, IsTrue}
 use Rattle.std.specs.List.{enumerate_from, list_all}
 use Rattle.silt_disk.specs.Layout.{Shape}
@@ -10,11 +10,11 @@ use Rattle.silt_cuckoo.specs.Index.{index_of_keys}
 use Rattle.silt_log.specs.Parts.{Part}
 use Rattle.silt_event.specs.Findings.{finding_if}
 
--- the keys of the rows of a log, the oldest first, have places in a table
+-- the keys of the rows of a log, from the oldest on, have places in a table
 unfoldable pub fits_table : Shape → List StoredRow → Bool
 fits_table shape rows = is_some (index_of_keys shape.buckets (keys_of rows))
 
--- a row of a log, with its place: an unknown kind, and then no place in the table of the rows before it
+-- the findings at a row of a log: an unknown kind, and then no place in the table of the rows before it
 abbrev pub row_findings : Shape → Part → ℕ × StoredRow → List Finding
 row_findings shape part (place, row) =
     finding_if (not (has_known_kind row)) (Damaged (Log part.region place))
@@ -24,6 +24,6 @@ row_findings shape part (place, row) =
 unfoldable pub log_findings : Shape → Part → List Finding
 log_findings shape part = flat_map (row_findings shape part) (enumerate_from 0 part.rows)
 
--- nothing is found in a log of known kinds whose keys have places, and in no other
+-- there is no finding in a log exactly if its kinds are known and its keys have places
 abbrev pub LogSoundLaw : Type 0
 LogSoundLaw = (shape : Shape) (part : Part) → (log_findings shape part ≡ []) ↔ ((list_all has_known_kind part.rows ≡ true) × IsTrue (fits_table shape part.rows))

@@ -7,12 +7,12 @@ use Rattle.silt_cuckoo.specs.Index.{index_of_keys}
 use Rattle.silt_frame.specs.Rows.{has_known_kind, StoredRow, keys_of, put_count, puts_of}
 use Rattle.silt_log_store.specs.declared.index.KeyIndex.{KeyIndex}
 
--- the table is that of the keys beside it, of which at most all are puts
+-- the table belongs to the keys beside it, and the number of puts is at most the number of keys
 pub record IsKeyIndex (index : KeyIndex) : Type 0 where
   pub indexed : index_of_keys (bucket_count index.table) index.keys.items ≡ Some index.table
   pub most : index.puts ≤ length index.keys.items
 
--- the keys are those of these rows, which are of known kinds, and so many of them are puts
+-- the keys are those of these rows, the rows are of known kinds, and this many of them are puts
 pub record IsOfRows (rows : List StoredRow) (index : KeyIndex) : Type 0 where
   pub keys_are : index.keys.items ≡ keys_of rows
   pub known : list_all has_known_kind rows ≡ true

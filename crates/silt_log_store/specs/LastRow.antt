@@ -14,7 +14,7 @@ pub record IsLastRow (rows : List StoredRow) (key : List ℕ) (place : ℕ) (row
 abbrev pub HasNoRow : List StoredRow → List ℕ → Type 0
 HasNoRow rows key = (place : ℕ) → place < length rows → get_or (keys_of rows) place [] ≢ key
 
--- what is found is the kind and the place of the key's last row, and nothing where no row has the key
+-- the result is the kind and the place of the key's last row, or none if no row has the key
 abbrev pub FindsLast : List StoredRow → List ℕ → Option Found → Type 0
 FindsLast rows key None = HasNoRow rows key
 FindsLast rows key (Some found) = (row : StoredRow) × IsLastRow rows key found.place row × (kind_byte found.kind ≡ row.kind)

@@ -1,12 +1,12 @@
--- The law of the entries of a table, for the layers above.
+-- The law of the entries of a table, for the crates above.
 use Rattle.std.specs.Prelude.{◌≡◌, ℕ, ◌/◌, List, [], get_or, Some}
 use Rattle.silt_cuckoo.specs.Slots.{Slots, IsBucketCount, entry_at, place_at}
 use Rattle.silt_cuckoo.specs.Pairs.{pair_of}
 use Rattle.silt_cuckoo.specs.Keys.{key_pair}
 use Rattle.silt_cuckoo.specs.Index.{IsNewest, index_of_keys}
 
--- the slots of a table of some keys: each entry has the newest place of a key and stands under the key's two buckets, and each
--- newest place stands in one slot
+-- the slots of a table of some keys: each entry has the newest place of a key and lies under the key's two buckets, and each
+-- newest place lies in one slot
 pub record HasEntries (slots : Slots) (buckets : ℕ) (keys : List (List ℕ)) : Type 0 where
   pub newest : (slot tag place : ℕ) → entry_at slots slot ≡ Some (tag, place) → IsNewest keys place
   pub buckets_of : (slot tag place : ℕ) → entry_at slots slot ≡ Some (tag, place) → pair_of (slot / 4) tag ≡ key_pair buckets (get_or keys place [])

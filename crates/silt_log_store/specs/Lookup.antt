@@ -1,4 +1,4 @@
--- What a look-up among candidates finds.
+-- The result of a look-up among candidates.
 use Rattle.std.specs.Prelude.{◌≡◌, ℕ, List, [], if◌then◌else◌, find, get_or, slice_get, Option, Some, None, IfSome, option_map, option_and_then}
 use Rattle.std.specs.Str.{bytes_eq}
 use Rattle.silt_frame.specs.Frame.{kind_byte, kind_of}
@@ -8,11 +8,11 @@ use Rattle.silt_cuckoo.specs.declared.lookup.Candidate.{Candidate}
 use Rattle.silt_frame.specs.Rows.{StoredRow, keys_of}
 use Rattle.silt_log_store.specs.declared.lookup.Match.{Match}
 
--- the kind of a head, where it has the key
+-- the kind of a head, if the head has the key
 abbrev pub kind_with_key : Option (Kind × Key) → List ℕ → Option Kind
 kind_with_key head key = option_and_then (λ (h : Kind × Key). if bytes_eq h.1.0 key then Some h.0 else None) head
 
--- the kind of a row, where it is known and the row has the key
+-- the kind of a row, if it is known and the row has the key
 abbrev pub kind_for : StoredRow → List ℕ → Option Kind
 kind_for row key = option_and_then (λ (kind : Kind). if bytes_eq row.key key then Some kind else None) (kind_of row.kind)
 
@@ -28,7 +28,7 @@ candidate_of match = record { slot = match.slot; place = match.found.place }
 abbrev pub HasItsKind : List StoredRow → Match → Type 0
 HasItsKind rows match = (row : StoredRow) × (slice_get rows match.found.place ≡ Some row) × (kind_byte match.found.kind ≡ row.kind)
 
--- the first of these candidates whose row has the key was found, with the kind of that row
+-- the result is the first of these candidates whose row has the key, with the kind of that row
 pub record IsFirstMatch (rows : List StoredRow) (candidates : List Candidate) (key : List ℕ) (found : Option Match) : Type 0 where
   pub first : option_map candidate_of found ≡ first_with_key rows candidates key
   pub kind : IfSome found (HasItsKind rows)

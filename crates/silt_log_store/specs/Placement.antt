@@ -5,12 +5,12 @@ use Rattle.silt_cuckoo.specs.Placing.{IsPlanFor, placed, replaced}
 use Rattle.silt_log_store.specs.declared.placement.Placing.{Placing}
 use Rattle.silt_log_store.specs.declared.placement.Placing.TheVariants.{Standing, New}
 
--- a placing was made for this table as it stands: its slot has an entry, or its path was planned there
+-- a placing was made for this very table: its slot has an entry, or its path was planned there
 abbrev pub HoldsIn : Slots → Placing → Type 0
 HoldsIn table (Standing slot) = IsSome (entry_at table slot)
 HoldsIn table (New path) = IsPlanFor table path
 
--- the table with an entry that went in by a placing
+-- the table after an entry went in by a placing
 abbrev pub entered : Slots → Placing → ℕ → Option Slots
 entered table (Standing slot) place = Some (replaced table slot place)
 entered table (New path) place = placed table path.first path.second place

@@ -1,4 +1,4 @@
--- A log with the table of its keys, and how it stands on a disk.
+-- A log with the table of its keys, and what the disk has of it.
 use Rattle.std.specs.Prelude.{◌≡◌, ℕ, ◌≤◌, true, IsTrue, Some}
 use Rattle.std.specs.List.{list_all}
 use Rattle.silt_disk.specs.Disk.{Content, LeavesOnly}
@@ -8,13 +8,13 @@ use Rattle.silt_log.specs.State.{LogState, InBounds, IsLog, all_rows}
 use Rattle.silt_cuckoo.specs.Slots.{Slots, IsTable, PlacesBelow, bucket_count}
 use Rattle.silt_cuckoo.specs.Index.{index_of_keys}
 
--- a log, the table of its keys, and how many of the rows are puts, those that wait included
+-- a log, the table of its keys, and how many of the rows are puts, with the waiting ones
 pub record LogStoreState : Type 0 where
   pub log : LogState
   pub table : Slots
   pub puts : ℕ
 
--- what holds of every log store, on any disk: its table has the buckets of its geometry, and places of its rows alone, and it
+-- the invariant of every log store, on any disk: its table has the buckets of its geometry, and places of its rows alone, and it
 -- counts at most its rows as puts
 pub record IsHeldStore (store : LogStoreState) : Type 0 where
   pub bounds : InBounds store.log
@@ -29,12 +29,12 @@ pub record IsIndexed (content : Content) (store : LogStoreState) : Type 0 where
   pub indexed : IsTrue content.honest → index_of_keys store.log.shape.buckets (keys_of (all_rows content store.log)) ≡ Some store.table
   pub counted : IsTrue content.honest → store.puts ≡ put_count (all_rows content store.log)
 
--- a log store that takes rows, as it stands on a disk: its log stands there, and its table is that of the log's keys
+-- a log store that takes rows and matches the disk: its log does, and its table is that of the log's keys
 pub record IsLogStore (content : Content) (store : LogStoreState) : Type 0 where
   pub log : IsLog content store.log
   pub index : IsIndexed content store
 
--- a log store that is only read, as it stands on a disk: whatever a stop leaves has its rows, with loose gates or without
+-- a log store that is only read and matches the disk: each possible crash image has its rows, with or without stale open gates
 pub record IsFrozenStore (content : Content) (store : LogStoreState) : Type 0 where
   pub images : LeavesOnly content (λ image. log_rows store.log.shape store.log.region image ≡ all_rows content store.log)
   pub index : IsIndexed content store

@@ -1,4 +1,4 @@
-// The table of a log's keys as it grows in a rebuild, with the keys themselves, so that no key is read twice.
+// The table of a log's keys as it grows in a rebuild. It keeps the keys themselves, so that no key is read twice.
 ghost use Rattle.std.specs.Prelude.{◌≡◌, ◌+◌, ◌<◌, ◌≤◌, ◌^◌, [], IfOk, IfSome, IsSome, All, length, vec_capacity, get_or, find, option_map};
 ghost use Rattle.std.specs.Str.{bytes_eq};
 ghost use Rattle.silt_cuckoo.specs.declared.lookup.Candidate.{Candidate};
@@ -11,7 +11,7 @@ use silt_cuckoo::{Candidate, Table, key_buckets};
 use silt_frame::{KEY_LEN, Key, Kind};
 use std::alloc::{AllocError, Global};
 
-/// The keys of some rows, the oldest first, their table, and how many of the rows are puts.
+/// The keys of some rows in order from the oldest, their table, and how many of the rows are puts.
 #[derive(Drop)]
 pub struct KeyIndex {
     pub table: Table,
@@ -22,11 +22,11 @@ pub struct KeyIndex {
 impl KeyIndex {
     ghost use Rattle.silt_log_store.specs.Growth.{AddsOrGivesUp, IsKeyIndex, IsOfRows};
 
-    /// No keys, and a table of so many buckets. So many keys can be added with no more memory.
+    /// No keys, and a table of this many buckets. This many keys can be added without allocating more memory.
     ///
     /// # Errors
     ///
-    /// Where the table or the list of keys finds no memory.
+    /// Out of memory: the table or the list of keys could not be allocated.
     pub fn new(alloc: Global, buckets: u32, capacity: u32) -> Result<Self, AllocError>
         requires { IsBucketCount buckets }
         ensures index { IfOk result IsKeyIndex }
@@ -41,7 +41,7 @@ impl KeyIndex {
         })
     }
 
-    /// The slot of the older row of a key with these two buckets, none where there is none.
+    /// The slot of the older row of a key with these two buckets, if there is one.
     fn slot_of(&self, key: &Key, buckets: (u32, u32)) -> Option<usize>
         requires index { IsKeyIndex self.now }
         requires table { IsTable self.now.table }
@@ -57,11 +57,11 @@ impl KeyIndex {
         first_slot(self.keys.as_slice(), candidates.as_slice(), &key.0)
     }
 
-    /// Adds the key of a further row: whether it found a place.
+    /// Adds the key of the next row. Returns whether it found a place.
     ///
     /// # Errors
     ///
-    /// Where the list of keys finds no memory.
+    /// Out of memory: the list of keys could not grow.
     pub fn add(&mut self, kind: Kind, key: &Key) -> Result<bool, AllocError>
         requires index { IsKeyIndex self.old }
         requires room { length self.old.keys.items + 1 < 2 ^ 32 }
@@ -80,7 +80,7 @@ impl KeyIndex {
     }
 }
 
-// The slot of the first of some candidates whose place is that of the key.
+// The slot of the first of some candidates whose place belongs to the key.
 fn first_slot(
     keys: &[[u8; KEY_LEN]],
     candidates: &[Candidate],

@@ -1,14 +1,14 @@
 //! One log region of a flash store, with the table of its keys in memory.
 //!
-//! A `LogStore` is a log and a partial-key table: the table holds the place of the last row of each key under the key's two
-//! buckets, and knows nothing else of the key. So a look-up reads the head of each candidate's row on the device and compares
-//! the keys, at most one read of 21 bytes a candidate. The table is exactly what the placing rule makes of the log's keys, the
-//! oldest first: a store that is rebuilt from the device has the table that it had before. Beside the table it counts the puts
-//! among its rows.
+//! A `LogStore` is a log and a partial-key table. The table holds the place of the last row of each key under the key's two
+//! buckets, and nothing else of the key. So a look-up reads the head of each candidate's row on the device and compares the keys:
+//! at most one read of 21 bytes a candidate. The table is exactly what the placing rule makes of the log's keys, from the oldest
+//! on. So a store that is rebuilt from the device has the same table as before. The store also counts the puts among its rows.
 //!
-//! A store takes a row while its log has room and the rule finds a place for the key. `take` does it all: it reads the candidates,
-//! plans where the key goes, writes the row and enters the key as planned. Its error says whether the store is full for the key, a read
-//! failed, or a write did. What a stop may leave is said in the log's words: the rows before the first closed gate.
+//! A store takes a row if its log has room and the rule finds a place for the key. `take` does all of this: it reads the
+//! candidates, plans where the key goes, writes the row and enters the key as planned. Its error says whether the store is full
+//! for the key, a read failed, or a write did. After a crash the store's rows are those of its log: the rows before the first
+//! closed gate.
 #![tactic(auto)]
 
 mod index;

@@ -24,24 +24,24 @@ use silt_log::{Found, Log};
 use std::alloc::{AllocError, Global};
 use std::marker::Model;
 
-/// How many bytes a row has at most that is read whole for its value.
+/// The greatest length of a row, in bytes, that is read whole for its value.
 const WHOLE_LEN: usize = 512;
 
 /// Why a row was not taken.
 #[derive(Debug, Drop)]
 pub enum TakeError<F> {
-    /// The log has no room, or the placing rule has no place for the key. Nothing is changed.
+    /// The log has no room, or the placing rule has no place for the key. Nothing has changed.
     Full,
-    /// A read failed with this fault. Nothing is changed.
+    /// A read failed with this fault. Nothing has changed.
     Read(F),
-    /// A write failed with this fault. What is shown behind the last row is then open.
+    /// A write failed with this fault. The device may then show any bytes after the last row.
     Write(F),
 }
 
 /// A log region with the table of its keys, and how many of its rows are puts.
 ///
-/// On a disk that is not honest its calls are safe and end, but say nothing of rows: a look-up passes over a row of an unknown
-/// kind. Only `new` and `rebuild` take memory.
+/// An honest disk is one that obeys the crash model. On another disk the calls are safe and end, but promise nothing about rows: a
+/// look-up skips a row of an unknown kind. Only `new` and `rebuild` allocate memory.
 #[derive(Drop)]
 pub struct LogStore {
     log: Log,
@@ -68,11 +68,11 @@ impl LogStore {
     ghost use Rattle.silt_log_store.specs.Calls.{CanTake, EmptiesStore, FailsTake, IsFailedWrite, IsFullFor, IsPlacingFor, KeepsStore, OpensSomeOfStore, OpensStore, SealsStore, TakesRow};
     ghost use Rattle.silt_log_store.specs.Rebuild.{IsRebuilt, IsFirstDamaged, IsFirstCrowded, IsRefusedRebuild};
 
-    /// A store of this region with no rows and an empty table. It is `prepare`d before it is used.
+    /// A store of this region with no rows and an empty table. `prepare` it before use.
     ///
     /// # Errors
     ///
-    /// Where the bytes for the gates or the table find no memory.
+    /// Out of memory: the bytes for the gates or the table could not be allocated.
     pub fn new(alloc: Global, geometry: Geometry, region: u32) -> Result<Self, AllocError>
         requires { region < geometry.logs }
         ensures { IfOk result (λ store. store ≡ record { log = record { shape = geometry; region = region; settled = 0; used = 0; loose = false }; table = empty_slots geometry.buckets; puts = 0 }) }
@@ -86,7 +86,7 @@ impl LogStore {
         })
     }
 
-    /// How many rows there are, those that wait included.
+    /// The number of rows, with the waiting ones.
     pub fn len(&self) -> u32
         ensures value { result ≡ self.now.log.used }
         ensures held { IsHeldStore self.now }
@@ -94,7 +94,7 @@ impl LogStore {
         self.log.len()
     }
 
-    /// How many of the rows are puts, those that wait included.
+    /// The number of puts among the rows, with the waiting ones.
     pub fn puts(&self) -> u32
         ensures value { result ≡ self.now.puts }
         ensures held { IsHeldStore self.now }
@@ -102,7 +102,7 @@ impl LogStore {
         self.puts
     }
 
-    /// Whether there is no row, not even one that waits.
+    /// Whether there is no row, not even a waiting one.
     pub fn is_empty(&self) -> bool
         ensures { result ≡ (self.now.log.used == 0) }
     {
@@ -124,7 +124,7 @@ impl LogStore {
         self.log.geometry()
     }
 
-    /// The tag and the place in a slot of the table, none where the slot is free or past the last.
+    /// The tag and the place in a slot of the table. `None` if the slot is free or past the last one.
     pub fn slot(&self, slot: u32) -> Option<(u32, u32)>
         ensures value { result ≡ entry_at self.now.table slot }
         ensures held { IsHeldStore self.now }
@@ -132,12 +132,12 @@ impl LogStore {
         self.table.slot(slot as usize)
     }
 
-    /// Closes all gates of the region, and syncs. The table is to be empty and no put counted, as it is in a new store. Then the
-    /// store has no rows.
+    /// Closes all gates of the region, and syncs. Then the store has no rows. The table must be empty and no put counted, as in a new
+    /// store.
     ///
     /// # Errors
     ///
-    /// The fault of the write or of the sync. The store is then as it was.
+    /// The fault of the write or of the sync. The store has not changed.
     pub fn prepare<D: Disk>(&mut self, disk: &mut D) -> Result<(), D::Fault>
         requires empty { self.old.table ≡ empty_slots self.old.log.shape.buckets }
         requires puts { self.old.puts ≡ 0 }
@@ -154,11 +154,11 @@ impl LogStore {
         Ok(())
     }
 
-    /// Opens the gates of the rows that wait: a sync, one write over these gates, a sync.
+    /// Opens the gates of the waiting rows: a sync, one write over these gates, a sync.
     ///
     /// # Errors
     ///
-    /// The fault of a sync or of the write. A stop then leaves the settled rows and a beginning of those that wait.
+    /// The fault of a sync or of the write. A crash then leaves the settled rows and a prefix of the waiting ones.
     pub fn open_gates<D: Disk>(&mut self, disk: &mut D) -> Result<(), D::Fault>
         requires waiting { self.old.log.settled < self.old.log.used }
         requires size { device_size self.old.log.shape ≤ size (D.content disk.old) }
@@ -176,8 +176,8 @@ impl LogStore {
         Ok(())
     }
 
-    /// Closes all gates past the first closed one, which is not touched, and syncs. Where they are closed already it makes
-    /// no device call.
+    /// Closes all gates past the first closed one, and syncs. It does not touch that one. If they are closed already, it makes no
+    /// device call.
     ///
     /// # Errors
     ///
@@ -202,8 +202,8 @@ impl LogStore {
         Ok(())
     }
 
-    /// The last row of a key among the rows of the log, those that wait included: its kind and its place. The head of each
-    /// candidate is read, at most one read of 21 bytes for each.
+    /// The kind and the place of the last row of a key, among all rows of the log and the waiting ones. It reads the head of each
+    /// candidate: at most one read of 21 bytes for each.
     ///
     /// # Errors
     ///
@@ -222,13 +222,13 @@ impl LogStore {
         }
     }
 
-    /// The last row of a key, as `find` tells it, and its value in `out` where it is a put. Where no put is found `out` stays as it
-    /// was. A row of at most 512 bytes is read whole, so that each candidate takes at most one read; of a longer one the head is read,
-    /// and then the value of the put that is found. It takes no memory.
+    /// The last row of a key, as `find` returns it, and its value in `out` if the row is a put. If there is no put, `out` does not
+    /// change. A row of at most 512 bytes is read whole, so each candidate takes at most one read. Of a longer row it reads the head,
+    /// and then the value of the put that it found. It allocates no memory.
     ///
     /// # Errors
     ///
-    /// The fault of a read. The bytes of `out` are then open.
+    /// The fault of a read. `out` may then hold any bytes.
     pub fn get<D: Disk>(
         &self,
         disk: &D,
@@ -254,7 +254,7 @@ impl LogStore {
         }
     }
 
-    // As `get`, by reads of whole rows into a buffer of their length.
+    // Like `get`, with reads of whole rows into a buffer of their length.
     fn get_whole<D: Disk>(
         &self,
         disk: &D,
@@ -284,7 +284,7 @@ impl LogStore {
         }
     }
 
-    // As `get`, by reads of heads and one of the value.
+    // Like `get`, with reads of heads and one read of the value.
     fn get_by_parts<D: Disk>(
         &self,
         disk: &D,
@@ -312,9 +312,8 @@ impl LogStore {
         }
     }
 
-    /// Whether a row of this key can be taken: the log has room, and the placing rule has a place for the key. The head of each
-    /// candidate is read. It is the question alone, for callers that write no row: no layer above asks it, since `take` decides it
-    /// on its way.
+    /// Whether the store can take a row of this key: the log has room, and the placing rule has a place for the key. It reads the head
+    /// of each candidate. It is for callers that write no row. No crate above calls it, since `take` decides the same on its way.
     ///
     /// # Errors
     ///
@@ -330,15 +329,14 @@ impl LogStore {
         Ok(self.placing(disk, key)?.is_some())
     }
 
-    /// Takes a row behind the others: reads the head of each candidate of its key, writes the row with its gate closed, enters the
-    /// key into the table, and counts a put. A delete's value is zeros. It takes no memory. A store with no rows takes a row of any
+    /// Takes a row after the others: reads the head of each candidate of its key, writes the row with its gate closed, enters the key
+    /// into the table, and counts a put. A delete's value is zeros. It allocates no memory. A store with no rows takes a row of any
     /// key, and reads nothing for it.
     ///
     /// # Errors
     ///
-    /// `Full` exactly if the log has no room, or the placing rule has no place for the key; `Read` with the fault of a read. Either
-    /// way nothing is written. `Write` with the fault of a write. The store then has the same rows, the same table and the same number
-    /// of puts as before.
+    /// `Full` exactly if the log has no room, or the placing rule has no place for the key; `Read` with the fault of a read. With
+    /// both, nothing is written. `Write` with the fault of a write. The store has the same rows, table and number of puts as before.
     pub fn take<D: Disk>(
         &mut self,
         disk: &mut D,
@@ -372,8 +370,8 @@ impl LogStore {
         }
     }
 
-    // Where the entry of a key goes that the store can take: none exactly if the log has no room, or the placing rule gives up. A
-    // store with no rows has a place for any key, and reads nothing.
+    // Where the entry of a key goes, if the store can take the key. `None` exactly if the log has no room or the placing rule gives up.
+    // A store with no rows has a place for any key, and reads nothing.
     fn placing<D: Disk>(&self, disk: &D, key: &Key) -> Result<Option<Placing>, D::Fault>
         requires size { device_size self.now.log.shape ≤ size (D.content disk.now) }
         ensures none { IsTrue (D.content disk.now).honest → IsIndexed (D.content disk.now) self.now
@@ -392,7 +390,7 @@ impl LogStore {
         Ok(plan_entry(&self.table, buckets, slot_of(older)))
     }
 
-    // Takes a row at a placing that was made for its key and this store as it stands, with no read.
+    // Takes a row at a placing that was made for its key and for this very state of the store, without a read.
     fn take_at<D: Disk>(
         &mut self,
         disk: &mut D,
@@ -423,11 +421,11 @@ impl LogStore {
         Ok(())
     }
 
-    /// Reads the bytes of the row at a place, behind whatever gate: the kind, the key and the value.
+    /// Reads the bytes of the row at a place, whether its gate is open or not: the kind, the key and the value.
     ///
     /// # Errors
     ///
-    /// The fault of the read. The bytes of `out` are then open.
+    /// The fault of the read. `out` may then hold any bytes.
     pub fn read_row<D: Disk>(&self, disk: &D, place: u32, out: &mut [u8]) -> Result<(), D::Fault>
         requires place { place < self.now.log.shape.log_capacity }
         requires out { length out.old ≡ row_len self.now.log.shape }
@@ -438,13 +436,13 @@ impl LogStore {
         self.log.read_row(disk, place, out)
     }
 
-    /// A store of what is on the device: the gates are read, then the heads of the rows before the first closed gate, one after
-    /// the other, and each key is placed once. Beside the store it takes 20 bytes a row for as long as it runs.
+    /// Rebuilds a store from the device. It reads the gates, then the heads of the rows before the first closed gate, one after the
+    /// other, and places each key once. While it runs it takes 20 bytes a row beside the store.
     ///
     /// # Errors
     ///
-    /// `Damaged` with the number of a row of an unknown kind, or `Crowded` where the placing rule gives up at a row: the first
-    /// row with either decides. `Device` with the fault of a read, and `NoMemory`.
+    /// `Damaged` with the number of a row of an unknown kind, or `Crowded` if the placing rule gives up at a row: the first row with
+    /// either decides. `Device` with the fault of a read, and `NoMemory`.
     pub fn rebuild<D: Disk>(
         alloc: Global,
         disk: &D,

@@ -33,7 +33,7 @@ pub fn slot_of(found: Option<Match>) -> Option<usize>
     Some(found.slot)
 }
 
-// The kind of a head, where it has the key.
+// The kind of a head, if the head has the key.
 fn kind_with_key(head: Option<(Kind, Key)>, key: &Key) -> Option<Kind>
     ensures { result ≡ kind_with_key head key.now.0 }
 {
@@ -41,7 +41,7 @@ fn kind_with_key(head: Option<(Kind, Key)>, key: &Key) -> Option<Kind>
     if its_key == *key { Some(kind) } else { None }
 }
 
-// Reads the front of the row at a place, as many bytes as `front` has: the row's kind, where that is known and the row has the key.
+// Reads the front of the row at a place, as many bytes as `front` is long. The row's kind, if it is known and the row has the key.
 fn kind_at<D: Disk>(
     log: &Log,
     disk: &D,
@@ -62,8 +62,8 @@ fn kind_at<D: Disk>(
     Ok(kind_with_key(head, key))
 }
 
-// The first of some candidates whose row is of a known kind and has the key: the front of the row is read for each up to it, one
-// after the other into the same bytes.
+// The first of some candidates whose row is of a known kind and has the key. It reads the front of the row of each candidate up to
+// that one, into the same bytes.
 fn first_match<D: Disk>(
     log: &Log,
     disk: &D,
@@ -98,8 +98,8 @@ fn first_match<D: Disk>(
     Ok(None)
 }
 
-// The row of a key in a log with this table of its keys: for each candidate of the key's buckets at most the front of its row is
-// read, as many bytes as `front` has. Where that is room for a whole row, the value of the row that has the key then stands in it.
+// The row of a key in a log with this table of its keys. For each candidate of the key's buckets it reads at most the front of the
+// row, as many bytes as `front` is long. If `front` has room for a whole row, it then holds the value of the row with the key.
 pub fn look_up<D: Disk>(
     log: &Log,
     table: &Table,
@@ -124,7 +124,7 @@ pub fn look_up<D: Disk>(
     look_up_under(log, table, disk, key, buckets, front)
 }
 
-// As `look_up`, where the key's two buckets are known.
+// Like `look_up`, with the key's two buckets given.
 pub fn look_up_under<D: Disk>(
     log: &Log,
     table: &Table,

@@ -1,4 +1,4 @@
-// The placing rule at a key of a log: its entry takes the slot of the key's older row, or goes where the table finds a place.
+// The placing rule for a key of a log: its entry takes the slot of the key's older row, or goes where the table finds a place.
 ghost use Rattle.std.specs.Prelude.{◌≡◌, ℕ, ◌+◌, ◌<◌, IsSome, IfSome, Some};
 ghost use Rattle.std.specs.Option.{option_and_then};
 ghost use Rattle.silt_cuckoo.specs.Slots.{IsTable, PlacesBelow, bucket_count, entry_at};
@@ -7,8 +7,8 @@ ghost use Rattle.silt_log_store.specs.declared.placement.Placing.{Placing};
 
 use silt_cuckoo::{Path, Table};
 
-/// Where the entry of a key goes in the table of a log store, for a row that the store can take. It holds for the table as it
-/// stood when the placing was made.
+/// Where the entry of a key goes in the table of a log store, for a row that the store can take. It is valid only for the table as
+/// it was when the placing was made.
 #[derive(Drop)]
 pub enum Placing {
     /// Into the slot of the key's older row.
@@ -17,7 +17,7 @@ pub enum Placing {
     New(Path),
 }
 
-// Where an entry of these two buckets goes, whose key's older row has this slot: none where the placing rule gives up.
+// Where an entry of these two buckets goes, if its key's older row has this slot. `None` if the placing rule gives up.
 pub fn plan_entry(table: &Table, buckets: (u32, u32), standing: Option<usize>) -> Option<Placing>
     requires first_there { buckets.0 < bucket_count table.now }
     requires second_there { buckets.1 < bucket_count table.now }
@@ -32,7 +32,7 @@ pub fn plan_entry(table: &Table, buckets: (u32, u32), standing: Option<usize>) -
     Some(Placing::New(path))
 }
 
-// Enters a new place into the table at a placing that was made for the table as it stands.
+// Enters a new place into the table, at a placing that was made for this very state of the table.
 pub fn enter(table: &mut Table, placing: &Placing, place: u32)
     requires holds { HoldsIn table.old placing.now }
     requires below { PlacesBelow table.old place }

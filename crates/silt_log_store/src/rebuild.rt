@@ -1,4 +1,4 @@
-// A log store from what is on the device.
+// A log store rebuilt from the device.
 ghost use Rattle.std.specs.Prelude.{◌≡◌, ◌+◌, ◌<◌, ◌≤◌, ◌^◌, ℕ, IsTrue, IfOk, IfErr, OnOk, length};
 ghost use Rattle.silt_cuckoo.specs.Slots.{bucket_count};
 ghost use Rattle.silt_disk.specs.Disk.{GaveAny, size};
@@ -14,16 +14,16 @@ use silt_disk::Disk;
 use silt_log::Log;
 use std::alloc::Global;
 
-/// Why a log store was not rebuilt. What is wrong with the first row at which something is wrong decides.
+/// Why a log store could not be rebuilt. The first bad row decides.
 #[derive(Debug, Drop)]
 pub enum RebuildError<F> {
     /// The row of this number has a kind byte other than 1 and 2.
     Damaged(u32),
-    /// The placing rule gave up at a row.
+    /// The placing rule found no place for the key of a row.
     Crowded,
     /// A read failed with this fault.
     Device(F),
-    /// The table, the gates or the list of the keys found no memory.
+    /// Out of memory: the table, the gates or the list of the keys could not be allocated.
     NoMemory,
 }
 

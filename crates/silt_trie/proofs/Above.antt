@@ -1,4 +1,4 @@
--- Lemmas on keys that are given one above the other.
+-- Lemmas on keys in rising order.
 use Rattle.std.proofs.Common.{◌≡◌, ℕ, ◌+◌, ◌-◌, ◌^◌, ◌<◌, ◌≤◌, true, List, [], ◌∷◌, ◌++◌, length, take, get_or, inl, inr, ◌*◌, Option, Some, None, refl, sym, ap, ◌∙◌, subst, arith}
 use Rattle.std.proofs.lemmas.List.{append_assoc, get_or_push, length_push, map-append}
 use Rattle.std.proofs.lemmas.List.Elements.{All-push}
@@ -62,7 +62,7 @@ pub group_later : (o : Option Key) (key : List ℕ) → ((before : Key) → o �
 group_later None key next = omega arith
 group_later (Some last) key next = (next last refl).later
 
--- the group under way with one more key
+-- the present group with one more key
 pub group_push : (n : ℕ) (keys : List (List ℕ)) (key : Key) (old new : Building) → HasGroups n keys old → group_of key.0 ≡ n → new.code ≡ old.code → new.marks ≡ old.marks → new.levels ≡ old.levels → new.group ≡ old.group ++ key ∷ [] → new.count ≡ old.count + 1 → HasGroups n (keys ++ key.0 ∷ []) new
 group_push n keys key old new has here code marks levels group count =
     let more : bytes_of new.group ≡ bytes_of old.group ++ key.0 ∷ [] = ap bytes_of group ∙ bytes_push old.group key in
@@ -78,7 +78,7 @@ group_push n keys key old new has here code marks levels group count =
       marks_are = marks ∙ has.marks_are ∙ ap (λ (m : ℕ). take (n * 2 ^ (m - 8)) (marks_of m 8 has.done 0 0 0)) (sym levels);
     }
 
--- the keys of the group under way with one more can be coded
+-- the keys of the present group with one more can be coded
 pub waiting_push : (old now : Building) (key : Key) (new : List Key) → IsHeldBuilding now → now.count + 2 < 2 ^ 32 → (group_under_way old.last < group_of key.0 → now.group ≡ []) → (group_of key.0 ≤ group_under_way old.last → now ≡ old) → now.last ≡ old.last
     → ((before : Key) → old.last ≡ Some before → MayFollow before.0 key.0) → new ≡ now.group ++ key ∷ [] → IsCodable (bytes_of new) 8
 waiting_push old now key new held few empty same last next new_is =
@@ -100,7 +100,7 @@ waiting_push old now key new held few empty same last next new_is =
     let codable = codable_push 8 (bytes_of now.group) key.0 held.codable (omega arith) first in
     subst (λ (ks : List (List ℕ)). IsCodable ks 8) (sym (ap bytes_of new_is ∙ bytes_push now.group key)) codable
 
--- what is held stays so with one more key
+-- what holds stays true with one more key
 pub held_push : (old seen now new : Building) (key : Key) (n : ℕ) → now ≡ seen → IsHeldBuilding now → old.count + 2 < 2 ^ 32 → n ≡ group_of key.0 → (group_under_way old.last < n → seen.group ≡ []) → (n ≤ group_under_way old.last → seen ≡ old) → (seen.count ≡ old.count) × (seen.last ≡ old.last)
     → ((before : Key) → old.last ≡ Some before → MayFollow before.0 key.0) → new.group ≡ now.group ++ key ∷ [] → new.count ≡ now.count + 1 → new.last ≡ Some key → new.levels ≡ now.levels → IsHeldBuilding new
 held_push old seen now new key n view held few group empty same stays next group_is count last levels =
@@ -117,7 +117,7 @@ held_push old seen now new key n view held few group empty same stays next group
       last_is = λ other some. last ∙ ap (λ (k : Key). Some k) (sym (ap (λ (ks : List Key). get_or ks (length new.group - 1) other) group_is ∙ get_or_push now.group key other (length new.group - 1) (omega arith)));
     }
 
--- and what is built is built with it
+-- and the trie is built with it
 pub built_push : (old seen now new : Building) (key : Key) (n : ℕ) (keys : List (List ℕ)) → now ≡ seen → IsBuildingOf keys old → old.count + 2 < 2 ^ 32 → n ≡ group_of key.0 → ((keys : List (List ℕ)) → HasGroups (group_under_way old.last) keys old → group_under_way old.last ≤ n → HasGroups n keys seen) → (seen.count ≡ old.count) × (seen.last ≡ old.last)
     → ((before : Key) → old.last ≡ Some before → MayFollow before.0 key.0) → new.group ≡ now.group ++ key ∷ [] → new.count ≡ now.count + 1 → new.last ≡ Some key → new.levels ≡ now.levels → new.code ≡ now.code → new.marks ≡ now.marks → IsBuildingOf (keys ++ key.0 ∷ []) new
 built_push old seen now new key n keys view building few group coded stays next group_is count last levels code marks =

@@ -1,4 +1,4 @@
--- Lemmas on a trie that is built from keys given one after the other.
+-- Lemmas on a trie that is built from keys one after the other.
 use Rattle.std.proofs.Common.{◌≡◌, ℕ, ◌+◌, ◌-◌, ◌*◌, ◌^◌, ◌<◌, ◌≤◌, List, [], ◌∷◌, ◌++◌, length, take, Option, Some, None, Result, IfOk, refl, sym, ap, ◌∙◌, subst, arith}
 use Rattle.std.proofs.lemmas.List.{append-nil, length-append, take_all}
 use Rattle.std.proofs.lemmas.List.Elements.{All-append}
@@ -37,7 +37,7 @@ built_none b code marks group count last =
       };
     }
 
--- the group under way is coded
+-- the present group is coded
 pub coded_group : (n : ℕ) (keys : List (List ℕ)) (old new : Building) (place : ℕ) → n < 256 → HasGroups n keys old → 8 ≤ old.levels → old.levels ≡ new.levels → old.count ≡ new.count → new.group ≡ [] → place ≡ old.count - length old.group
     → new.code ≡ old.code ++ trie_code (bytes_of old.group) 8 → new.marks ≡ old.marks ++ marks_of (old.levels - 8) 0 (bytes_of old.group) 8 (length old.code) place → HasGroups (n + 1) keys new
 coded_group n keys old new place small has most levels count none place_is code marks =
@@ -65,7 +65,7 @@ coded_group n keys old new place small has most levels count none place_is code 
           ∙ ap (λ (m : ℕ). take ((n + 1) * 2 ^ (m - 8)) (marks_of m 8 (done ++ waiting) 0 0 0)) levels;
     }
 
--- where all groups are coded it is made of all keys
+-- once all groups are coded, it is made of all keys
 pub made_of : (keys : List (List ℕ)) (b : Building) (made : MarkedCode) → IsCodable keys 0 → HasGroups 256 keys b → 8 ≤ b.levels → made ≡ record { code = b.code; marks = b.marks ++ mark_behind b.code b.count ∷ []; count = b.count; depth = 0; groups = 8; levels = b.levels } → IsMadeOf keys made
 made_of keys b made codable has most made_is =
     let done = has.done in
@@ -82,7 +82,7 @@ made_of keys b made codable has most made_is =
       count_is = has.count_is;
     })
 
--- what is known where groups from `first` up to `at` are coded
+-- what is known once groups from `first` up to `at` are coded
 pub record CodesGroups (first at : ℕ) (old new : Building) : Type 0 where
   pub from : first ≤ at
   pub coded : (keys : List (List ℕ)) → HasGroups first keys old → HasGroups at keys new

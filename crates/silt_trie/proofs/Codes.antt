@@ -67,7 +67,7 @@ length_rights d keys codable = let split = divides d keys codable in ap length s
 pub left_within : (d : ℕ) (keys : List (List ℕ)) → IsCodable keys d → length (with_bit 0 d keys) ≤ length keys
 left_within d keys codable = (divides d keys codable).within
 
--- a key with bit 0 stands at its place on the left, one with bit 1 behind these on the right
+-- a key with bit 0 has its place on the left; one with bit 1 comes after these, on the right
 pub stands_left : (d i : ℕ) (key : List ℕ) (keys : List (List ℕ)) → IsCodable keys d → StandsAt keys i key → bit_of d key ≡ 0 → StandsAt (with_bit 0 d keys) i key
 stands_left d i key keys codable stands low =
     let m = length (with_bit 0 d keys) in
@@ -76,7 +76,7 @@ stands_left d i key keys codable stands low =
     let before : i < m = elim (cases_lt i m) [ inl below ↦ below | inr past ↦ let one_bit = split.ones i past stands.0 in absurd (omega arith) ] in
     (before, ap (λ (ks : List (List ℕ)). get_or ks i []) split.lefts ∙ get_or-take m keys i [] before ∙ stands.1)
 
--- a key with bit 1 stands on the right, behind those on the left
+-- a key with bit 1 is on the right, after those on the left
 pub stands_right : (d i : ℕ) (key : List ℕ) (keys : List (List ℕ)) → IsCodable keys d → StandsAt keys i key → (bit_of d key ≡ 0 → ⊥)
     → (length (with_bit 0 d keys) ≤ i) × StandsAt (with_bit 1 d keys) (i - length (with_bit 0 d keys)) key
 stands_right d i key keys codable stands high =
@@ -137,7 +137,7 @@ pub after_none : (keys : List (List ℕ)) (d : ℕ) (bits rest : List ℕ) → I
 after_none keys d bits rest codable (inl few) is = is ∙ ap (λ (xs : List ℕ). xs ++ rest) (short_code keys d few)
 after_none keys d bits rest codable (inr deep) is = is ∙ ap (λ (xs : List ℕ). xs ++ rest) (deep_code keys d deep)
 
--- the only key stands first
+-- the only key is the first
 pub only_place : (keys : List (List ℕ)) (d i : ℕ) (key : List ℕ) → IsCodable keys d → (length keys < 2) ⊎ (160 ≤ d) → StandsAt keys i key → 0 ≡ i
 only_place keys d i key codable (inl few) stands = let within = stands.0 in omega arith
 only_place keys d i key codable (inr deep) stands = let few = deep_few d keys codable deep in let within = stands.0 in omega arith

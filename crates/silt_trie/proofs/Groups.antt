@@ -63,7 +63,7 @@ none_kept bit other d (key ∷ keys) differ all =
     let here : bit_of d key ≡ other = All-head (λ key. bit_of d key ≡ other) key keys all in
     left_out bit d key keys (λ e. differ (sym here ∙ e)) ∙ none_kept bit other d keys differ (All-tail (λ key. bit_of d key ≡ other) key keys all)
 
--- where no key can have this, there is none
+-- if no key can have this bit, there is none
 pub none_below : (P : List ℕ → Type 0) (keys : List (List ℕ)) → ((key : List ℕ) → P key → ⊥) → All P keys → keys ≡ []
 none_below P [] never all = refl
 none_below P (key ∷ keys) never all = absurd (never key (All-head P key keys all))
@@ -96,7 +96,7 @@ highs_lower g n d keys high all k other h =
 lefts_stay : (d : ℕ) (xs ys : List (List ℕ)) → All (λ key. bit_of d key ≡ 1) ys → with_bit 0 d (xs ++ ys) ≡ with_bit 0 d xs
 lefts_stay d xs ys high = filter-append (λ key. bit_of d key == 0) xs ys ∙ ap (λ (ks : List (List ℕ)). with_bit 0 d xs ++ ks) (none_kept 0 1 d ys (λ e. absurd (omega arith)) high) ∙ append-nil (with_bit 0 d xs)
 
--- and stand last on the right
+-- and come last on the right
 rights_grow : (d : ℕ) (xs ys : List (List ℕ)) → All (λ key. bit_of d key ≡ 1) ys → with_bit 1 d (xs ++ ys) ≡ with_bit 1 d xs ++ ys
 rights_grow d xs ys high = filter-append (λ key. bit_of d key == 1) xs ys ∙ ap (λ (ks : List (List ℕ)). with_bit 1 d xs ++ ks) (all_kept 1 d ys high)
 
@@ -121,7 +121,7 @@ length_sides d (key ∷ keys) =
 pub powers : (m g k : ℕ) → m ≡ g + k → 2 ^ m ≡ 2 ^ g * 2 ^ k
 powers m g k e = ap (λ (x : ℕ). 2 ^ x) e ∙ pow-add 2 g k
 
--- a group behind lower ones: its code stands behind theirs
+-- a group after lower ones: its code comes after theirs
 pub code_grows : (g n d e : ℕ) (xs ys : List (List ℕ)) → d + g ≡ e → All (λ key. number_at g d key < n) xs → All (λ key. number_at g d key ≡ n) ys → n < 2 ^ g
     → grouped_code g (xs ++ ys) d ≡ grouped_code g xs d ++ trie_code ys e
 code_grows zero n d e xs ys deep lower alike small =
@@ -187,7 +187,7 @@ back_marks m g k j d start place keys deep =
     let count : (2 ^ g + j) * 2 ^ k ≡ length lefts + j * 2 ^ k = omega arith in
     ap (take ((2 ^ g + j) * 2 ^ k)) (halves m g d start place keys) ∙ ap (λ (n : ℕ). take n (lefts ++ rights)) count ∙ take-append-add lefts rights (j * 2 ^ k)
 
--- and its marks stand behind theirs
+-- and its marks come after theirs
 pub marks_grow : (g n m k d e start place : ℕ) (xs ys : List (List ℕ)) → d + g ≡ e → m ≡ g + k → All (λ key. number_at g d key < n) xs → All (λ key. number_at g d key ≡ n) ys → n < 2 ^ g
     → take ((n + 1) * 2 ^ k) (marks_of m g (xs ++ ys) d start place) ≡ take (n * 2 ^ k) (marks_of m g xs d start place) ++ marks_of k 0 ys e (start + length (grouped_code g xs d)) (place + length xs)
 marks_grow zero n m k d e start place xs ys deep more lower alike small =

@@ -20,7 +20,7 @@ use Rattle.silt_trie.specs.declared.marks.Mark.{Mark}
 use Rattle.silt_trie.proofs.Codes.{short_code, split_code, left_within, length_rights, stands_left, stands_right, bytes_lefts, bytes_rights}
 use Rattle.silt_trie.proofs.Sides.{divides, lefts_codable, rights_codable}
 
--- the code of a group is its number and the codes of both sides, where it has none too
+-- the code of a group is its number and the codes of both sides, also if it has none
 head_split : (keys : List (List ℕ)) (d : ℕ) → IsCodable keys d → d < 160
     → trie_code keys d ≡ head_code 0 keys d ++ trie_code (with_bit 0 d keys) (d + 1) ++ trie_code (with_bit 1 d keys) (d + 1)
 head_split keys d codable within = elim (cases_lt (length keys) 2) [
@@ -81,8 +81,8 @@ first_start (suc m) g keys d start place more other =
     let from = first_start m (g - 1) lefts (d + 1) behind place (rights ++ more) other in
     omega arith
 
--- What a mark says of the keys with a prefix, where the code of all keys begins at `start`, `place` keys stand before
--- them, and e is the depth behind the prefix
+-- What a mark means for the keys with a prefix, if the code of all keys begins at `start`, `place` keys come before them, and e is
+-- the depth behind the prefix
 pub record Marked (p : List ℕ) (d e start place : ℕ) (bits : List ℕ) (keys : List (List ℕ)) (mark next : Mark) : Type 0 where
   pub codable : IsCodable (sub_keys keys d p) e
   pub front : List ℕ
@@ -95,7 +95,7 @@ pub record Marked (p : List ℕ) (d e start place : ℕ) (bits : List ℕ) (keys
   pub skips : mark.skips ≡ skips_of skip_levels (sub_keys keys d p) e
   pub from : (i : ℕ) → i < length (sub_keys keys d p) → (place ≤ mark.place + i) × StandsAt keys (mark.place + i - place) (get_or (sub_keys keys d p) i []) × (prefix_of (length p) d (get_or (sub_keys keys d p) i []) ≡ p)
 
--- what stands on the left stands among all keys
+-- a key on the left is one of all keys
 from_left : (d i : ℕ) (key : List ℕ) (keys : List (List ℕ)) → IsCodable keys d → StandsAt (with_bit 0 d keys) i key → StandsAt keys i key × (bit_of d key ≡ 0)
 from_left d i key keys codable stands =
     let split = divides d keys codable in
@@ -104,7 +104,7 @@ from_left d i key keys codable stands =
     let same : get_or keys i [] ≡ key = sym (get_or-take (length (with_bit 0 d keys)) keys i [] inside) ∙ sym (ap (λ (ks : List (List ℕ)). get_or ks i []) split.lefts) ∙ stands.1 in
     ((omega arith, same), sym (ap (bit_of d) same) ∙ split.zeros i inside)
 
--- and so does what stands on the right, behind those on the left
+-- and so is a key on the right, after those on the left
 from_right : (d i : ℕ) (key : List ℕ) (keys : List (List ℕ)) → IsCodable keys d → StandsAt (with_bit 1 d keys) i key → StandsAt keys (length (with_bit 0 d keys) + i) key × (bit_of d key ≡ 1)
 from_right d i key keys codable stands =
     let m = length (with_bit 0 d keys) in
@@ -176,7 +176,7 @@ marked_right p d e start place bits head lefts rights keys mark next codable par
           (omega arith, subst (λ (j : ℕ). StandsAt keys j key) place_is here.0, ap (λ (bit : ℕ). bit ∷ prefix_of (length p) (d + 1) key) here.1 ∙ ap (λ (xs : List ℕ). 1 ∷ xs) found.2);
     }
 
--- each mark is one, where the marks that follow begin behind all keys
+-- each mark is one, if the marks that follow begin behind all keys
 pub marked : (p : List ℕ) (g d e start place : ℕ) (keys : List (List ℕ)) (more : List Mark) (other : Mark) → AreBits p → IsCodable keys d → g ≤ length p → d + length p ≡ e → e ≤ 160
     → (get_or more 0 other).place ≡ place + length keys
     → start + length (grouped_code g keys d) ≤ (get_or more 0 other).start → Marked p d e start place (grouped_code g keys d) keys (get_or (marks_of (length p) g keys d start place ++ more) (number_of_bits p) other) (get_or (marks_of (length p) g keys d start place ++ more) (number_of_bits p + 1) other)
@@ -369,7 +369,7 @@ number_step n rest less at bit key all bit_is e is =
 pub number_grows : (n before after bit : ℕ) → n < 2 ^ before → bit < 2 → after ≡ suc before → 2 * n + bit < 2 ^ after
 number_grows n before after bit small one e = let double = ap (λ (k : ℕ). 2 ^ k) e ∙ pow-succ' 2 before in omega arith
 
--- the code in groups, where e is the depth behind them
+-- the code in groups, with e as the depth behind them
 groups_at : (g d e : ℕ) (keys : List (List ℕ)) → d + g ≡ e → grouped_code g keys d ≡ flat_map (λ prefix. trie_code (sub_keys keys d prefix) e) (prefixes g)
 groups_at zero d e keys deep = let same : d ≡ e = omega arith in ap (λ (x : ℕ). trie_code keys x) same ∙ sym (append-nil (trie_code keys e))
 groups_at (suc g) d e keys deep =

@@ -14,7 +14,7 @@ use Rattle.silt_gamma.proofs.BitLists.{length-bits_of, length-low_bits, low_bits
 use Rattle.silt_trie.specs.Code.{bit_of, AgreeIn, Follows, OrderLaw, GroupLaw}
 use Rattle.silt_trie.proofs.KeyBits.{bit_small}
 
--- what `nat_cmp` says of two numbers: the first is lower
+-- what `nat_cmp` means for two numbers: the first is lower
 lower : (x y : ℕ) → x < y → nat_cmp x y ≡ Less
 lower x y h = ap (λ (b : Bool). cond b Less (cond (eqb x y) Equal Greater)) (lt-ltb x y h)
 
@@ -24,11 +24,11 @@ higher x y h =
     let no : (x ≡ y → ⊥) = omega arith in
     ap (λ (b : Bool). cond b Less (cond (eqb x y) Equal Greater)) (le-ltb x y (omega arith)) ∙ ap (λ (b : Bool). cond b Equal Greater) (ne_eqb x y no)
 
--- both are one
+-- both are equal
 tied : (x y : ℕ) → x ≡ y → nat_cmp x y ≡ Equal
 tied x y e = ap (λ (z : ℕ). nat_cmp x z) (sym e) ∙ tied_itself nat_cmp_total x
 
--- the order of two lists is that of their first numbers, where these differ
+-- the order of two lists is that of their first numbers, if these differ
 first_not_above : (x y : ℕ) (o : Ordering) → ordering_then (nat_cmp x y) o ≡ Less → x ≤ y
 first_not_above x y o less = elim (cases_lt y x) [
   | inl above ↦ let same : ordering_then (nat_cmp x y) o ≡ Greater = ap (λ (c : Ordering). ordering_then c o) (higher x y above) in absurd (cc)

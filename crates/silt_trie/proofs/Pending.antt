@@ -9,7 +9,7 @@ use Rattle.silt_trie.specs.Code.{trie_code, with_bit, IsCodable}
 use Rattle.silt_trie.proofs.Codes.{short_code, deep_few, node, left_within, length_rights}
 use Rattle.silt_trie.proofs.Sides.{lefts_codable, rights_codable}
 
--- keys whose number stands at place t, with codes to come below depth d + t
+-- keys whose number is at place t, with codes to come below depth d + t
 pub record Waits (d t : ℕ) (counts : List ℕ) (keys : List (List ℕ)) (e : ℕ) : Type 0 where
   pub codable : IsCodable keys e
   pub many : 2 ≤ length keys
@@ -35,7 +35,7 @@ same_below d (suc t) counts others bits rest same pending =
       same_below d t counts others pending.2 rest (λ j h. same j (omega arith)) pending.5,
     )
 
--- one more number, which stays where its keys have a code
+-- one more number, if its keys have a code
 pub push_one : (d t e n top : ℕ) (counts bits more rest : List ℕ) (keys : List (List ℕ)) → IsCodable keys e → n ≡ length keys → d + t ≤ e → t < length counts → bits ≡ trie_code keys e ++ more
     → (2 ≤ n → top ≡ suc t) → (n < 2 → top ≡ t) → Pending d counts t more rest → Pending d (set counts t n) top bits rest
 push_one d t e n top counts bits more rest keys codable count deep within is long short pending =

@@ -87,7 +87,7 @@ divides_by d (key ∷ keys) up =
     let rest = divides_by d keys (λ i h. let rises = up (i + 1) (omega arith) in let here = ap (bit_of d) (after i) in let next = ap (bit_of d) (after (i + 1)) in omega arith) in
     one_more d key keys (λ some. let rises = up 0 (omega arith) in rises) rest.0 rest.1
 
--- keys that can be coded stand in two parts, by their bit at d
+-- keys that can be coded are in two parts, by their bit at d
 pub divides : (d : ℕ) (keys : List (List ℕ)) → IsCodable keys d → Divides d keys (length (with_bit 0 d keys))
 divides d keys codable =
     let found = divides_by d keys (mounting d keys codable) in
@@ -175,7 +175,7 @@ bounds_down d low high middle keys codable bounds from below high_bit =
     let past : m ≤ middle = elim (cases_lt middle m) [ inl inside ↦ absurd (high_bit (split.zeros middle inside)) | inr past ↦ past ] in
     record { ordered = from; within = omega arith; zeros = bounds.zeros; ones = λ i h l z. let one_bit = split.ones i (omega arith) l in absurd (omega arith) }
 
--- where the bounds meet, that many keys are on the left
+-- once the bounds meet, that many keys are on the left
 pub bounds_end : (d low high : ℕ) (keys : List (List ℕ)) → IsCodable keys d → Bounds d keys low high → high ≤ low → low ≡ length (with_bit 0 d keys)
 bounds_end d low high keys codable bounds done =
     let ordered = bounds.ordered in

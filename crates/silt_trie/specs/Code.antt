@@ -15,8 +15,8 @@ bit_of d key = slice_index (bits_of key) d
 abbrev pub with_bit : ℕ → ℕ → List (List ℕ) → List (List ℕ)
 with_bit bit d keys = filter (λ key. bit_of d key == bit) keys
 
--- The code of keys that agree in their first d bits and have `rest` further bits: empty for fewer than two
--- keys, else how many have bit 0 at d, and one, and then the codes of these and of the others at d + 1.
+-- The code of keys that agree in their first d bits and have `rest` further bits: empty for fewer than two keys, else the code of
+-- how many have bit 0 at d, plus one, and then the codes of these keys and of the others at d + 1.
 unfoldable pub code_within : ℕ → List (List ℕ) → ℕ → List ℕ
 code_within zero keys d = []
 code_within (suc rest) [] d = []
@@ -31,7 +31,7 @@ code_within (suc rest) (first ∷ second ∷ more) d =
 abbrev pub trie_code : List (List ℕ) → ℕ → List ℕ
 trie_code keys d = code_within (160 - d) keys d
 
--- a key lies below another: at the first bit that differs it has 0
+-- a key is less than another: it has 0 at the first bit that differs
 abbrev pub IsBelow : List ℕ → List ℕ → Type 0
 IsBelow a b = slice_cmp nat_cmp (bits_of a) (bits_of b) ≡ Less
 
@@ -39,22 +39,22 @@ IsBelow a b = slice_cmp nat_cmp (bits_of a) (bits_of b) ≡ Less
 abbrev pub AgreeIn : ℕ → List ℕ → List ℕ → Type 0
 AgreeIn d a b = (k : ℕ) → k < d → bit_of k a ≡ bit_of k b
 
--- of two keys of 20 bytes the second lies above the first, and they agree in their first d bits
+-- of two keys of 20 bytes the second is greater, and they agree in their first d bits
 pub record Follows (d : ℕ) (a b : List ℕ) : Type 0 where
   pub sized : (length a ≡ key_len) × (length b ≡ key_len)
   pub below : IsBelow a b
   pub alike : AgreeIn d a b
 
--- keys rise strictly and agree in their first d bits, and are few enough for the code
+-- keys rise strictly, agree in their first d bits, and are few enough for the code
 pub record IsCodable (keys : List (List ℕ)) (d : ℕ) : Type 0 where
   pub few : length keys + 1 < 2 ^ 32
   pub rising : (i : ℕ) → i + 1 < length keys → Follows d (slice_index_or keys i []) (slice_index_or keys (i + 1) [])
 
--- a key stands at this place
+-- a key is at this place
 abbrev pub StandsAt : List (List ℕ) → ℕ → List ℕ → Type 0
 StandsAt keys i key = (i < length keys) × (slice_index_or keys i [] ≡ key)
 
--- the order of keys by their bits is that by their bytes
+-- the order of keys by their bits is their order by bytes
 abbrev pub OrderLaw : Type 0
 OrderLaw =
     (a b : List ℕ) → ((i : ℕ) → slice_index a i < 256) → ((i : ℕ) → slice_index b i < 256)

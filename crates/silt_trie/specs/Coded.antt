@@ -1,4 +1,4 @@
--- What contracts see of keys and of a coded trie.
+-- Keys and coded tries as contracts see them.
 use Rattle.std.specs.Prelude.{◌≡◌, ℕ, List, ◌++◌, length, map}
 use Rattle.silt_frame.specs.declared.key.Key.{Key}
 use Rattle.silt_trie.specs.Code.{IsCodable, StandsAt, trie_code}
@@ -13,13 +13,13 @@ pub record Coded : Type 0 where
   pub count : ℕ
   pub depth : ℕ
 
--- where bits begin with the code of so many keys, this is the place of a key that is one of them
+-- if bits begin with the code of so many keys, this is the place of a key that is one of them
 abbrev pub IsPlaceIn : List ℕ → ℕ → ℕ → List ℕ → ℕ → Type 0
 IsPlaceIn bits count depth key place =
     (keys : List (List ℕ)) (i : ℕ) (rest : List ℕ)
     → IsCodable keys depth → length keys ≡ count → bits ≡ trie_code keys depth ++ rest → StandsAt keys i key → place ≡ i
 
--- where bits begin with the code of so many keys, these are the bits behind it
+-- if bits begin with the code of so many keys, these are the bits after it
 abbrev pub ArePast : List ℕ → ℕ → ℕ → List ℕ → Type 0
 ArePast bits count depth after =
     (keys : List (List ℕ)) (rest : List ℕ)

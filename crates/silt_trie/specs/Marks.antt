@@ -1,4 +1,4 @@
--- Marks into the codes of groups of keys: where in them the codes of parts of the keys begin.
+-- Marks into the codes of groups of keys: they give where the codes of parts of the keys begin.
 use Rattle.std.specs.Prelude.{◌≡◌, ℕ, zero, suc, ◌+◌, ◌-◌, ◌*◌, ◌^◌, ◌<◌, ◌≤◌, nat_le, min, if◌then◌else◌, List, [], ◌∷◌, ◌++◌, length, map, drop, replicate, slice_index, slice_index_or, Option, Some, IfSome}
 use Rattle.std.specs.List.{flat_map}
 use Rattle.silt_gamma.specs.Gamma.{gamma_code}
@@ -10,7 +10,7 @@ abbrev pub prefix_of : ℕ → ℕ → List ℕ → List ℕ
 prefix_of zero d key = []
 prefix_of (suc m) d key = bit_of d key ∷ prefix_of m (d + 1) key
 
--- the number that these bits write, the highest first
+-- the number that these bits make, the highest first
 abbrev pub number_of_bits : List ℕ → ℕ
 number_of_bits [] = 0
 number_of_bits (bit ∷ bits) = bit * 2 ^ length bits + number_of_bits bits
@@ -29,16 +29,16 @@ abbrev pub grouped_code : ℕ → List (List ℕ) → ℕ → List ℕ
 grouped_code zero keys d = trie_code keys d
 grouped_code (suc g) keys d = grouped_code g (with_bit 0 d keys) (d + 1) ++ grouped_code g (with_bit 1 d keys) (d + 1)
 
--- what stands in front of the codes of both sides: in a group of two keys or more how many are on the left, and one
+-- what comes before the codes of both sides: in a group of two keys or more, the code of the number on the left plus one
 abbrev pub head_code : ℕ → List (List ℕ) → ℕ → List ℕ
 head_code zero keys d = if nat_le 2 (length keys) then gamma_code (length (with_bit 0 d keys) + 1) else []
 head_code (suc g) keys d = []
 
--- into how many bits behind its prefix a mark goes
+-- how many bits after its prefix a mark covers
 abbrev pub skip_levels : ℕ
 skip_levels = 5
 
--- how many bits the code of keys takes, where it takes fewer than 65,535
+-- how many bits the code of keys takes, if fewer than 65,535
 abbrev pub skip_over : List (List ℕ) → ℕ → ℕ
 skip_over keys d = min (length (trie_code keys d)) 65535
 
@@ -58,14 +58,14 @@ pub record AreSkipsInto (m : ℕ) (keys : List (List ℕ)) (d : ℕ) (skip : Opt
   pub left : lefts ≡ skips_of (m - 1) (with_bit 0 d keys) (d + 1)
   pub right : rights ≡ skips_of (m - 1) (with_bit 1 d keys) (d + 1)
 
--- where bits begin with the code of so many keys, and the skips are those of these keys, this is the place of a key that is one of them
+-- if bits begin with the code of so many keys, and the skips are theirs, this is the place of a key that is one of them
 abbrev pub IsPlaceBySkips : List ℕ → ℕ → ℕ → List ℕ → List ℕ → ℕ → Type 0
 IsPlaceBySkips bits count depth skips key place =
     (m : ℕ) (keys : List (List ℕ)) (i : ℕ) (rest : List ℕ)
     → IsCodable keys depth → length keys ≡ count → bits ≡ trie_code keys depth ++ rest → skips ≡ skips_of m keys depth → StandsAt keys i key → place ≡ i
 
 -- the marks of all prefixes of m bits from d on, by their numbers: the code of the keys, grouped by g bits, begins at `start`,
--- and `place` keys stand before them
+-- and `place` keys come before them
 abbrev pub marks_of : ℕ → ℕ → List (List ℕ) → ℕ → ℕ → ℕ → List Mark
 marks_of zero g keys d start place = record { start = start; place = place; skips = skips_of skip_levels keys d } ∷ []
 marks_of (suc m) g keys d start place =
@@ -74,13 +74,13 @@ marks_of (suc m) g keys d start place =
     let behind = start + length (head_code g keys d) in
     marks_of m (g - 1) lefts (d + 1) behind place ++ marks_of m (g - 1) rights (d + 1) (behind + length (grouped_code (g - 1) lefts (d + 1))) (place + length lefts)
 
--- the mark behind all keys, where there are so many, and this is their code
+-- the mark behind all keys, if there are so many, and this is their code
 abbrev pub mark_behind : List ℕ → ℕ → Mark
 mark_behind code count = record { start = length code; place = count; skips = replicate (2 ^ skip_levels - 1) 0 }
 
--- What a mark into bits says of the keys with a prefix, where `next` is the mark that follows: there are as many as
--- `next` has more, they are those that stand among all keys from `place` on, and from bit `start` on the bits begin
--- with their code, which ends before that of `next` begins; and the skips are those of these keys.
+-- What a mark into bits means for the keys with a prefix, if `next` is the mark that follows: the difference in `next` is their
+-- number, they are the keys from `place` on, and from bit `start` on the bits begin with their code. That code ends before that
+-- of `next` begins. The skips are those of these keys.
 pub record IsMark (bits : List ℕ) (keys : List (List ℕ)) (d : ℕ) (prefix : List ℕ) (mark next : Mark) : Type 0 where
   pub codable : IsCodable (sub_keys keys d prefix) (d + length prefix)
   pub count : next.place ≡ mark.place + length (sub_keys keys d prefix)
@@ -104,7 +104,7 @@ abbrev pub prefixes : ℕ → List (List ℕ)
 prefixes zero = [] ∷ []
 prefixes (suc g) = map (λ prefix. 0 ∷ prefix) (prefixes g) ++ map (λ prefix. 1 ∷ prefix) (prefixes g)
 
--- the code in groups is that of the keys of each prefix, one behind the other
+-- the code in groups is the code of the keys of each prefix in turn
 abbrev pub GroupsLaw : Type 0
 GroupsLaw = (g d : ℕ) (keys : List (List ℕ)) → grouped_code g keys d ≡ flat_map (λ prefix. trie_code (sub_keys keys d prefix) (d + g)) (prefixes g)
 
@@ -117,18 +117,18 @@ pub record MarkedCode : Type 0 where
   pub groups : ℕ
   pub levels : ℕ
 
--- this is made of the keys: it is their code, and it has their marks and one behind all keys
+-- the trie is made of the keys: it has their code, their marks and one mark behind all keys
 pub record IsMadeOf (keys : List (List ℕ)) (made : MarkedCode) : Type 0 where
   pub codable : IsCodable keys made.depth
   pub code_is : made.code ≡ grouped_code made.groups keys made.depth
   pub marks_are : made.marks ≡ marks_of made.levels made.groups keys made.depth 0 0 ++ mark_behind made.code (length keys) ∷ []
   pub count_is : made.count ≡ length keys
 
--- this is the place of a key that is one of the keys that it was made of
+-- this is the place of a key, if it is one of the keys of the trie
 abbrev pub IsMarkedPlace : MarkedCode → List ℕ → Option ℕ → Type 0
 IsMarkedPlace made key found = (keys : List (List ℕ)) (i : ℕ) → IsMadeOf keys made → StandsAt keys i key → found ≡ Some i
 
--- where between two marks the bits have keys at this depth, and the first mark's skips are theirs, this is the place of one of these
+-- if the bits between two marks code keys at this depth, and the first mark's skips are theirs, this is the place of one of these keys
 abbrev pub IsPlaceBetween : List ℕ → Mark → Mark → ℕ → List ℕ → Option ℕ → Type 0
 IsPlaceBetween bits mark next depth key found =
     (keys : List (List ℕ)) (i : ℕ) (rest : List ℕ)

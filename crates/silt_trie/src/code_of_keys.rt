@@ -8,8 +8,8 @@ use silt_frame::Key;
 use silt_gamma::BitWriter;
 use std::alloc::AllocError;
 
-/// Appends the code of keys that rise strictly and agree in their first `depth` bits. Codes of many
-/// tries may stand one behind the other. After an error some of the code may be there.
+/// Appends the code of keys that rise strictly and agree in their first `depth` bits. The codes of
+/// many tries may follow one another. After an error part of the code may have been appended.
 pub fn write_code(bits: &mut BitWriter, keys: &[Key], depth: usize) -> Result<(), AllocError>
     requires { IsCodable (bytes_of keys.now) depth }
     ensures ok { OnOk result (bits.new ≡ bits.old ++ trie_code (bytes_of keys.now) depth) }
@@ -25,7 +25,7 @@ pub fn write_code(bits: &mut BitWriter, keys: &[Key], depth: usize) -> Result<()
     write_code(bits, rights, depth + 1)
 }
 
-/// How many of the keys have bit 0 at `depth`; these stand in front.
+/// How many of the keys have bit 0 at `depth`. They come first.
 pub(crate) fn count_left(keys: &[Key], depth: usize) -> usize
     requires within { depth < 160 }
     requires codable { IsCodable (bytes_of keys.now) depth }

@@ -1,11 +1,11 @@
-//! The keys that can be coded.
+//! Keys that can be coded.
 ghost use Rattle.std.specs.Prelude.{◌≢◌, ◌<◌, ◌≤◌, ◌↔◌, IsTrue};
 ghost use Rattle.silt_trie.specs.Code.{AgreeIn, Follows, bit_of};
 
 use super::key::{KEY_BITS, key_bit};
 use silt_frame::Key;
 
-/// Whether the second key lies above the first, and they agree in their first `depth` bits.
+/// Whether the second key is greater than the first, and they agree in their first `depth` bits.
 pub fn follows(a: &Key, b: &Key, depth: usize) -> bool
     ensures { IsTrue result ↔ Follows depth a.now.0 b.now.0 }
 {
@@ -16,7 +16,7 @@ pub fn follows(a: &Key, b: &Key, depth: usize) -> bool
     key_bit(a, common) < key_bit(b, common)
 }
 
-/// In how many bits two keys agree before the first that differs.
+/// The number of bits before the first one in which two keys differ.
 fn common_bits(a: &Key, b: &Key) -> usize
     ensures within { result ≤ 160 }
     ensures alike { AgreeIn result a.now.0 b.now.0 }

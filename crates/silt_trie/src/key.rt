@@ -5,7 +5,7 @@ ghost use Rattle.silt_frame.specs.Frame.{key_len};
 
 use silt_frame::Key;
 
-/// How many bits a key has.
+/// The length of a key, in bits.
 pub(crate) const KEY_BITS: usize = 160;
 
 /// Bit `depth` of a key; bit 0 is the highest bit of the first byte.

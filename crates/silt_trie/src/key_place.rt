@@ -9,12 +9,12 @@ use super::skips::{divide_skips, pass_code};
 use silt_frame::Key;
 use silt_gamma::BitReader;
 
-/// How many codes can be pending while a code is skipped: one at each depth but the last, which may
-/// have two.
+/// The greatest number of codes that can be pending while a code is skipped: one at each depth but
+/// the last, which may have two.
 const MOST_PENDING: usize = 161;
 
-/// The only place at which the key can stand among the `count` keys whose code the bits begin with
-/// and which agree in their first `depth` bits. Other bits give some place below `count`.
+/// The only possible place of the key among the `count` keys whose code the bits begin with. The
+/// keys agree in their first `depth` bits. With other bits it is some place below `count`.
 pub fn locate_in(mut bits: BitReader<'_>, count: usize, depth: usize, key: &Key) -> usize
     requires some { 0 < count }
     requires counted { count < 2 ^ 32 }
@@ -24,8 +24,8 @@ pub fn locate_in(mut bits: BitReader<'_>, count: usize, depth: usize, key: &Key)
     locate_from(&mut bits, count as u32, depth, key, &[]) as usize
 }
 
-/// The same, which takes codes off the front of the bits, and passes over code on the left by the
-/// skips.
+/// The same. It takes codes off the front of the bits, and skips code on the left with the help of
+/// the skips.
 pub(crate) fn locate_from(
     bits: &mut BitReader<'_>,
     count: u32,
@@ -56,8 +56,8 @@ pub(crate) fn locate_from(
 }
 
 /// Takes the code of `count` keys off the front, in one pass. The numbers of keys whose codes are
-/// still to come are pending, the next one last; each has at least two keys, so that each turn of
-/// the loop takes one code.
+/// still to come are pending, the next one last. Each has at least two keys, so each turn of the
+/// loop takes one code.
 pub(crate) fn skip_code(bits: &mut BitReader<'_>, count: u32, depth: usize)
     ensures { ArePast bits.old count depth bits.new }
 {
@@ -82,7 +82,7 @@ pub(crate) fn skip_code(bits: &mut BitReader<'_>, count: u32, depth: usize)
     }
 }
 
-/// Takes one number of keys on the left, which is at most `count`, off the front.
+/// Takes a number of keys on the left, at most `count`, off the front.
 fn read_left(bits: &mut BitReader<'_>, count: u32) -> u32
     ensures within { result ≤ count }
     ensures read { (n : ℕ) (rest : List ℕ) → BeginsWithCode bits.old (n + 1) rest → n ≤ count

@@ -1,7 +1,7 @@
-//! Laws of keys. Their calls do nothing: what they ensure is proved of all keys.
+//! Laws of keys. Their calls do nothing: what they ensure is proved for all keys.
 ghost use Rattle.silt_trie.specs.Code.{GroupLaw, OrderLaw};
 
-/// The order of keys by their bits is that by their bytes.
+/// The order of keys by their bits is their order by bytes.
 pub fn order_law()
     ensures { OrderLaw }
 {}

@@ -1,21 +1,21 @@
-//! Keys as a trie in few bits, in which a key's place among them is found without the keys.
+//! Keys as a trie in few bits. It gives the place of a key among them without reading the keys.
 //!
-//! The code of fewer than two keys is empty. That of more keys, which agree in their first `depth`
-//! bits, is the gamma code of the number of keys with bit 0 at `depth`, and one; then the code of
-//! these keys, and then that of the others, both one bit deeper. Bit 0 is the highest bit of a
-//! key's first byte.
+//! The code of fewer than two keys is empty. The code of more keys, which agree in their first
+//! `depth` bits, has three parts. First comes the gamma code of the number of keys with bit 0 at
+//! `depth`, plus one. Then come the code of these keys and the code of the others, both one bit
+//! deeper. Bit 0 is the highest bit of a key's first byte.
 //!
-//! A [`Trie`] has bits of its own. Where there are many, `write_code` puts their codes one behind
-//! the other into one `BitWriter`, and `locate_in` takes a reader from the place of one of them on.
+//! A [`Trie`] has its own bits. For many tries `write_code` appends their codes to one `BitWriter`,
+//! and `locate_in` takes a reader that begins at one of them.
 //!
-//! A look walks half of a code, so a [`MarkedTrie`] keeps marks: for each prefix of some bits where
-//! the code of the keys with that prefix begins, and how many keys stand before them. A look then
-//! walks the code of these keys alone. A mark divides its keys into 32 parts, and says how many bits
-//! of code lie on the left, so that a look walks the code of one part.
+//! A look-up in a `Trie` reads half of the code. So a [`MarkedTrie`] keeps marks: for each prefix of
+//! some bits, where the code of the keys with that prefix begins, and how many keys come before
+//! them. A look-up then reads only the code of these keys. A mark divides its keys into 32 parts,
+//! and holds how many bits of code lie on the left. So a look-up reads the code of one part.
 //!
-//! The keys of a `MarkedTrie` are in groups, whose codes stand one behind the other; marks of the
-//! groups' own bits are a table of the groups. A [`MarkedTrieBuilder`] makes one of keys that come
-//! one by one, and holds the keys of one group at a time.
+//! The keys of a `MarkedTrie` are in groups, whose codes follow one another. The marks of the
+//! groups' own bits are a table of the groups. A [`MarkedTrieBuilder`] builds one from keys that
+//! come one by one, and holds the keys of one group at a time.
 #![tactic(auto)]
 
 mod code_of_keys;

@@ -11,9 +11,9 @@ use silt_frame::Key;
 use silt_gamma::BitWriter;
 use std::alloc::AllocError;
 
-/// Appends the codes of the groups that the next `groups` bits make of keys, one behind the other,
-/// and a mark of each prefix of `levels` bits; `place` keys stand before these keys. After an
-/// error some of both may be there.
+/// Appends the codes of the groups of keys, by the next `groups` bits, one behind the other, and a
+/// mark of each prefix of `levels` bits. `place` keys come before these keys. After an error part
+/// of both may have been appended.
 pub fn write_marked(
     bits: &mut BitWriter,
     marks: &mut Vec<Mark>,
@@ -52,7 +52,7 @@ pub fn write_marked(
     )
 }
 
-/// Appends a mark. A place in the code that a `u32` can't count is want of memory too.
+/// Appends a mark. If a `u32` cannot count its place in the code, that is out of memory too.
 pub fn push_mark(
     marks: &mut Vec<Mark>,
     start: usize,
@@ -71,7 +71,7 @@ pub fn push_mark(
     Ok(())
 }
 
-/// Appends what stands in front of the codes of both sides, and says how many keys are on the
+/// Appends what comes before the codes of both sides, and returns the number of keys on the
 /// left.
 fn write_head(
     bits: &mut BitWriter,

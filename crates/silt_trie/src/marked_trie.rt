@@ -13,12 +13,11 @@ use std::alloc::{AllocError, Global};
 use std::marker::Model;
 use std::mem::size_of;
 
-/// How many keys a mark is for, at most, where keys are spread evenly: 16 for each of its parts.
+/// The greatest number of keys of a mark, if keys are spread evenly: 16 for each of its parts.
 const KEYS_A_MARK: usize = 512;
 
-/// The codes of groups of keys, with marks of all prefixes of some bits, so that a look walks no
-/// more than the code of the keys with one prefix, and passes over the parts of it that lie on the
-/// left.
+/// The codes of groups of keys, with marks of all prefixes of some bits. A look-up reads only the
+/// code of the keys with one prefix, and skips the parts of it that lie on the left.
 #[derive(Drop)]
 pub struct MarkedTrie {
     bits: BitWriter,
@@ -69,8 +68,8 @@ impl MarkedTrie {
         MarkedTrie::complete(bits, marks, keys.len(), depth, groups, levels)
     }
 
-    /// Code and marks of all keys as a trie: puts the mark behind all keys, and gives back the memory
-    /// that they don't need.
+    /// Code and marks of all keys as a trie. Puts the mark behind all keys, and frees the memory that
+    /// they do not need.
     pub(crate) fn complete(
         mut bits: BitWriter,
         mut marks: Vec<Mark>,
@@ -105,14 +104,14 @@ impl MarkedTrie {
         })
     }
 
-    /// How many keys there are.
+    /// The number of keys.
     pub fn len(&self) -> usize
         ensures { result ≡ self.now.count }
     {
         self.count
     }
 
-    /// How many bytes of memory code and marks take, or the most that a `usize` can count.
+    /// The memory of code and marks, in bytes, or the greatest `usize`.
     pub fn memory(&self) -> usize
         ensures { result ≡ min ((length self.now.code + 7) / 8 + 72 * length self.now.marks) (2 ^ 64 - 1) }
     {
@@ -120,8 +119,8 @@ impl MarkedTrie {
         code.saturating_add(self.marks.len().saturating_mul(size_of::<Mark>()))
     }
 
-    /// The only place at which the key can stand; None where it is none of the keys for sure. This
-    /// reads the code of the keys that have the key's prefix, and no other.
+    /// The only possible place of the key. `None` if the key is certainly not one of them. It reads
+    /// the code of the keys that have the key's prefix, and no other.
     pub fn locate_marked(&self, key: &Key) -> Option<usize>
         ensures below { IfSome result (λ place. place < self.now.count) }
         ensures place { IsMarkedPlace self.now key.now.0 result }
@@ -139,8 +138,8 @@ impl MarkedTrie {
     }
 }
 
-/// The only place at which a key can stand among the keys from one mark up to the next, whose code
-/// begins at the first mark and which agree in their first `depth` bits.
+/// The only possible place of a key among the keys from one mark up to the next. Their code begins
+/// at the first mark, and they agree in their first `depth` bits.
 pub fn locate_between(
     bits: &BitWriter,
     mark: &Mark,
@@ -162,8 +161,8 @@ pub fn locate_between(
     Some(mark.place as usize + found as usize)
 }
 
-/// By how many bits to mark so many keys in groups: by 8, which are the groups, and by as many
-/// more as leave at most 512 keys a mark, where they are spread evenly, up to 16.
+/// How many bits to mark so many keys in groups by: 8, which are the groups, and as many more, up
+/// to 16, as leave at most 512 keys a mark if they are spread evenly.
 pub fn levels_for(count: usize) -> usize
     ensures groups { 8 ≤ result }
     ensures most { result ≤ 24 }

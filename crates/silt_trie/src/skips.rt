@@ -1,4 +1,4 @@
-//! How many bits of code lie on the left, so that a look passes over them.
+//! How many bits of code lie on the left, so that a look-up skips them.
 ghost use Rattle.std.specs.Prelude.{◌≡◌, ℕ, ◌+◌, ◌-◌, ◌^◌, ◌<◌, ◌++◌, List, Option, length, min, replicate, OnOk};
 ghost use Rattle.silt_trie.specs.Code.{IsCodable, trie_code};
 ghost use Rattle.silt_trie.specs.Coded.{ArePast, bytes_of};
@@ -11,12 +11,12 @@ use silt_frame::Key;
 use silt_gamma::{BitReader, BitWriter};
 use std::alloc::AllocError;
 
-/// A skip that says nothing: so many bits or more.
+/// A skip of this many bits or more, whose exact number is unknown.
 const MOST_SKIPPED: u16 = u16::MAX;
 
-/// Appends the code of keys, and says in `skips`, which are zeros, how many bits the code of the
-/// keys on the left takes: of all keys, and then of both parts that the next bit makes of them, and
-/// so on, the left part with all its parts first.
+/// Appends the code of keys. Writes into `skips`, which are zeros, how many bits the code of the
+/// keys on the left takes: of all keys, then of both parts that the next bit makes of them, and so
+/// on, the left part with all its parts first.
 pub(crate) fn write_skipped(
     bits: &mut BitWriter,
     skips: &mut [u16],
@@ -45,14 +45,14 @@ pub(crate) fn write_skipped(
     write_skipped(bits, right_skips, rights, depth + 1)
 }
 
-/// So many bits as a skip.
+/// This many bits as a skip.
 fn skip_of(len: usize) -> u16
     ensures { result ≡ min len 65535 }
 {
     len.min(usize::from(MOST_SKIPPED)) as u16
 }
 
-/// The skip over the left side, where there is one, and those of the left and of the right side.
+/// The skip over the left side, if there is one, and the skips of the left and of the right side.
 pub(crate) fn divide_skips(skips: &[u16]) -> (Option<u16>, &[u16], &[u16])
     ensures { (m : ℕ) (keys : List (List ℕ)) (d : ℕ) → skips.now ≡ skips_of m keys d
         → AreSkipsInto m keys d result.0 result.1.now result.2.now }
@@ -64,8 +64,8 @@ pub(crate) fn divide_skips(skips: &[u16]) -> (Option<u16>, &[u16], &[u16])
     (Some(*skip), lefts, rights)
 }
 
-/// Takes the code of `count` keys off the front: at once where the skip over it is there and says
-/// how long it is, else code by code.
+/// Takes the code of `count` keys off the front: at once if there is a skip over it that knows its
+/// length, else code by code.
 pub(crate) fn pass_code(bits: &mut BitReader<'_>, count: u32, depth: usize, skip: Option<u16>)
     ensures { (keys : List (List ℕ)) (rest : List ℕ)
         → IsCodable keys depth → length keys ≡ count → bits.old ≡ trie_code keys depth ++ rest

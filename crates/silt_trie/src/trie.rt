@@ -1,4 +1,4 @@
-//! A coded trie with bits of its own.
+//! A coded trie with its own bits.
 ghost use Rattle.std.specs.Prelude.{◌≡◌, ◌+◌, ◌^◌, ◌<◌, length, IfOk};
 ghost use Rattle.silt_gamma.specs.Bits.{HoldsBits};
 ghost use Rattle.silt_trie.specs.Code.{IsCodable, trie_code};
@@ -44,28 +44,28 @@ impl Trie {
         })
     }
 
-    /// How many keys there are.
+    /// The number of keys.
     pub fn len(&self) -> usize
         ensures { result ≡ self.now.count }
     {
         self.count
     }
 
-    /// How many bits their code takes: with `as_bytes` it is the code itself, for whoever looks at it.
+    /// The length of their code, in bits: with `as_bytes` it gives the code itself.
     pub fn code_len(&self) -> usize
         ensures { result ≡ length self.now.code }
     {
         self.bits.len()
     }
 
-    /// The bytes that the code fills; the last one ends in zeros.
+    /// The bytes that hold the code. Zeros fill up the last one.
     pub fn as_bytes(&self) -> &[u8]
         ensures { HoldsBits result.now self.now.code }
     {
         self.bits.as_bytes()
     }
 
-    /// The only place at which the key can stand.
+    /// The only possible place of the key.
     pub fn locate(&self, key: &Key) -> usize
         requires { 0 < self.now.count }
         ensures below { result < self.now.count }

@@ -1,4 +1,4 @@
-//! Builds a trie with marks from keys that are given one after the other.
+//! Builds a trie with marks from keys that come one after the other.
 ghost use Rattle.std.specs.Prelude.{◌≡◌, ℕ, true, false, None, ◌+◌, ◌-◌, ◌^◌, ◌<◌, ◌≤◌, List, [], ◌∷◌, ◌++◌, Some, Ok, length, IsTrue, IfOk, OnOk};
 ghost use Rattle.std.specs.Ordering.{nat_cmp, is_lt};
 ghost use Rattle.std.specs.Cmp.Lexicographic.{slice_cmp};
@@ -13,14 +13,14 @@ use silt_gamma::BitWriter;
 use std::alloc::{AllocError, Global};
 use std::marker::Model;
 
-/// By how many bits keys are in groups: by their first byte.
+/// The number of bits by which keys are grouped: the first byte.
 const GROUP_BITS: usize = 8;
 
-/// How many groups there are.
+/// The number of groups.
 const GROUPS: usize = 1 << GROUP_BITS;
 
-/// A [`MarkedTrie`] on its way, of keys in groups by their first byte. It holds the keys of one
-/// group at a time: a group is coded when a key of a later one comes.
+/// A [`MarkedTrie`] that is being built, of keys in groups by their first byte. It holds the keys
+/// of one group at a time, and codes a group when a key of a later one comes.
 #[derive(Drop)]
 pub struct MarkedTrieBuilder {
     bits: BitWriter,
@@ -54,7 +54,7 @@ impl Model for MarkedTrieBuilder {
 }
 
 impl MarkedTrieBuilder {
-    /// A trie of no keys yet, with marks for about so many.
+    /// A trie of no keys yet, with marks for about this many.
     pub fn new(alloc: Global, count: usize) -> MarkedTrieBuilder
         ensures empty { IsBuildingOf [] result }
         ensures none { result.last ≡ None }
@@ -71,15 +71,15 @@ impl MarkedTrieBuilder {
         }
     }
 
-    /// How many keys were taken up.
+    /// How many keys were taken.
     pub fn len(&self) -> usize
         ensures { result ≡ self.now.count }
     {
         self.count
     }
 
-    /// Takes up one more key where it lies above the last one, and else changes nothing. Whether it
-    /// was taken. After an error the keys are lost.
+    /// Takes one more key if it is greater than the last one, and else changes nothing. Returns
+    /// whether it took the key. After an error the keys are lost.
     pub fn push(&mut self, key: Key) -> Result<bool, AllocError>
         requires few { self.old.count + 2 < 2 ^ 32 }
         ensures taken { IfOk result (λ taken. taken ≡ is_above self.old.last key.0) }
@@ -100,7 +100,7 @@ impl MarkedTrieBuilder {
         Ok(true)
     }
 
-    /// The trie of the keys that were taken up.
+    /// The trie of the keys that were taken.
     pub fn finish(mut self) -> Result<MarkedTrie, AllocError>
         ensures made { IfOk result (λ made. (keys : List (List ℕ)) → IsBuildingOf keys self
             → IsMadeOf keys made) }
@@ -119,7 +119,7 @@ impl MarkedTrieBuilder {
         )
     }
 
-    /// Codes the group under way and the empty ones behind it, up to this one.
+    /// Codes the present group, and the empty ones behind it, up to this one.
     fn code_groups(&mut self, next: usize) -> Result<(), AllocError>
         requires { next ≤ 256 }
         ensures coded { OnOk result ((keys : List (List ℕ)) → HasGroups (group_under_way self.old.last) keys self.old
@@ -135,7 +135,7 @@ impl MarkedTrieBuilder {
         Ok(())
     }
 
-    /// Codes the group under way, which may be empty.
+    /// Codes the present group, which may be empty.
     fn code_group(&mut self) -> Result<(), AllocError>
         ensures coded { OnOk result ((n : ℕ) (keys : List (List ℕ)) → n < 256 → HasGroups n keys self.old
             → HasGroups (n + 1) keys self.new) }
@@ -167,7 +167,7 @@ fn group_of(key: &Key) -> usize
     usize::from(key.0[0])
 }
 
-/// The group under way: that of the last key.
+/// The present group: that of the last key.
 fn group_under_way(last: Option<Key>) -> usize
     ensures group { result ≡ group_under_way last }
     ensures within { result < 256 }
@@ -178,7 +178,7 @@ fn group_under_way(last: Option<Key>) -> usize
     }
 }
 
-/// Whether a key lies above the last one.
+/// Whether a key is greater than the last one.
 fn is_above(last: Option<Key>, key: &Key) -> bool
     ensures above { result ≡ is_above last key.now.0 }
     ensures next { IsTrue result → (before : Key) → last ≡ Some before → MayFollow before.0 key.now.0 }
@@ -189,7 +189,7 @@ fn is_above(last: Option<Key>, key: &Key) -> bool
     }
 }
 
-/// Whether the bytes of the first key lie below those of the second.
+/// Whether the bytes of the first key are less than those of the second.
 fn is_below(low: &[u8; KEY_LEN], high: &[u8; KEY_LEN]) -> bool
     ensures below { result ≡ is_lt (slice_cmp nat_cmp low.now high.now) }
     ensures next { IsTrue result → MayFollow low.now high.now }

@@ -1,4 +1,4 @@
--- A table stays a table, and the new place stands under its pair.
+-- A table stays a table, and the new place has its pair.
 use Rattle.std.proofs.Common.{◌≡◌, ◌/◌, length, Some, sym, ap, ◌∙◌, arith}
 use Rattle.std.specs.Vec.{with_items}
 use Rattle.std.proofs.lemmas.List.{with_items_is}
