@@ -1,4 +1,4 @@
--- The rows that a conversion writes make of a map what the log's rows make.
+-- Applied to a map, the rows that a conversion writes and the log's rows give the same map.
 use Rattle.std.proofs.Common.{◌≡◌, ℕ, zero, suc, ◌*◌, ◌<◌, ◌⊎◌, Bool, true, false, cond, List, [], ◌∷◌, length, map, filter, get_or, slice_get, Option, Some, None, inl, inr, refl, sym, ap, ◌∙◌, arith}
 use Rattle.std.specs.FinMap.{get, same_map, slice_cmp-IsAntisymmetric, nat_cmp-IsAntisymmetric}
 use Rattle.std.specs.List.{range_with_len}
@@ -26,7 +26,7 @@ use Rattle.silt_hash_store.specs.Slots.{is_row_of}
 use Rattle.silt_hash_store.proofs.Slotting.{empty_not_known}
 use Rattle.silt_conversion.proofs.Soundness.{empty_kind, entry_known, place_inside, row_of_entry, row_of_none}
 
--- a row of the key sets its value, and another row leaves what there is
+-- a row of the key sets its value, and another row changes nothing for the key
 set_by : (m : Map) (row : StoredRow) (key : List ℕ) → bytes_eq row.key key ≡ true → get (changed m (command_of row)) key ≡ value_given row
 set_by m row key same = changed_get m row key ∙ ap (λ (b : Bool). cond b (value_given row) (get m key)) same
 
@@ -51,7 +51,7 @@ kept_first row rows known = rw known refl
 dropped_first : (row : StoredRow) (rows : List StoredRow) → has_known_kind row ≡ false → filter has_known_kind (row ∷ rows) ≡ filter has_known_kind rows
 dropped_first row rows unknown = rw unknown refl
 
--- a row of the key, where the first is not one
+-- a row of the key, if the first is not one
 later_row : (key : List ℕ) (row : StoredRow) (rows : List StoredRow) → is_row_of key row ≡ false → HasRow key (row ∷ rows) → HasRow key rows
 later_row key row rows lacks (zero, other, there, passes) =
     let same : row ≡ other = cc in
@@ -83,14 +83,14 @@ settled_more v key m row rows all some rest = go (has_known_kind row) refl (byte
         ap (λ (l : List StoredRow). get (map_after m (map command_of l)) key) (dropped_first row rows unknown)
         ∙ rest m (further lacks m refl)
 
--- Where all rows of a key have one value, and the map has it before or some row has the key, the map has it after the rows of known
+-- If all rows of a key have one value, and the map has it before or some row has the key, the map has it after the rows of known
 -- kinds.
 settled : (v : Option (List ℕ)) (key : List ℕ) (m : Map) (rows : List StoredRow) → AllHave v key rows → ((get m key ≡ v) ⊎ HasRow key rows) → get (after_known m rows) key ≡ v
 settled v key m [] all (inl has) = has
 settled v key m [] all (inr (i, row, there, passes)) = absurd (cc)
 settled v key m (row ∷ rows) all some = settled_more v key m row rows all some (λ n rest. settled v key n rows (λ i other there passes. all (suc i) other there passes) rest)
 
--- a map below rows of other keys
+-- a map before rows of other keys
 untouched : (key : List ℕ) (m : Map) (rows : List StoredRow) → ((i : ℕ) (other : StoredRow) → slice_get rows i ≡ Some other → bytes_eq other.key key ≡ false) → get (map_after m (map command_of rows)) key ≡ get m key
 untouched key m [] none = refl
 untouched key m (other ∷ rows) none = untouched key (changed m (command_of other)) rows (λ i next at. none (suc i) next at) ∙ left_by m other key (none 0 other refl)
@@ -109,7 +109,7 @@ last_more first rows key last row is = record { there = is.there; has_key = is.h
     go zero other above at = absurd (omega arith)
     go (suc later) other above at = is.none later other (omega arith) at
 
--- or the first row, where no other has the key
+-- or the first row, if no other has the key
 last_first : (first : StoredRow) (rows : List StoredRow) (key : List ℕ) → bytes_eq first.key key ≡ true → ((i : ℕ) (other : StoredRow) → slice_get rows i ≡ Some other → bytes_eq other.key key ≡ false) → IsLast (first ∷ rows) key 0 first
 last_first first rows key has none = record { there = refl; has_key = has; none = go }
   where
@@ -117,7 +117,7 @@ last_first first rows key has none = record { there = refl; has_key = has; none 
     go zero other above at = absurd (omega arith)
     go (suc later) other above at = none later other at
 
--- no row has the key, where the first has not and no other
+-- no row has the key, if the first has not and no other
 none_more : (first : StoredRow) (rows : List StoredRow) (key : List ℕ) → bytes_eq first.key key ≡ false → ((i : ℕ) (other : StoredRow) → slice_get rows i ≡ Some other → bytes_eq other.key key ≡ false)
     → (i : ℕ) (other : StoredRow) → slice_get (first ∷ rows) i ≡ Some other → bytes_eq other.key key ≡ false
 none_more first rows key has none zero other at = let same : first ≡ other = cc in ap (λ (r : StoredRow). bytes_eq r.key key) (sym same) ∙ has
@@ -144,13 +144,13 @@ decided key m (first ∷ rows) zero row there same none =
     ∙ set_by m first key (ap (λ (r : StoredRow). bytes_eq r.key key) is_first ∙ same) ∙ ap value_given is_first
 decided key m (first ∷ rows) (suc last) row there same none = decided key (changed m (command_of first)) rows last row there same (λ later other above at. none (suc later) other (omega arith) at)
 
--- ---- the rows that are due
+-- ---- the rows that belong in the slots
 
 module _ (s : Shape) (rows : List StoredRow) (table : Slots) (is : IsTableOf s rows table) where
   abbrev empty : StoredRow
   empty = empty_row s
 
-  -- a row that is due in a slot
+  -- the row that belongs in a slot
   due_there : (slot : ℕ) → slot < 4 * s.buckets → slice_get (converted_rows s table rows) slot ≡ Some (converted_row s table rows slot)
   unfolding converted_before converted_rows
   due_there slot below =
@@ -162,7 +162,7 @@ module _ (s : Shape) (rows : List StoredRow) (table : Slots) (is : IsTableOf s r
   unfolding converted_before converted_rows
   due_within slot row there = omega (arith, slice_get_within (map (converted_row s table rows) (range_with_len 0 (4 * s.buckets))) slot row there, length-map-range_with_len (converted_row s table rows) 0 (4 * s.buckets))
 
-  -- a row of a key that is due is the log's row at a newest place
+  -- a row of a key that belongs in a slot is the log's row at a newest place
   due_newest : (key : List ℕ) (slot : ℕ) (row : StoredRow) → slice_get (converted_rows s table rows) slot ≡ Some row → is_row_of key row ≡ true → (place : ℕ) × IsNewest (keys_of rows) place × (slice_get rows place ≡ Some row)
   due_newest key slot row there passes = go (entry_at table slot) refl
     where
@@ -194,7 +194,7 @@ module _ (s : Shape) (rows : List StoredRow) (table : Slots) (is : IsTableOf s r
         absurd (cc),
   )
 
-  -- and is due in some slot
+  -- and belongs in some slot
   last_due : (key : List ℕ) (last : ℕ) (row : StoredRow) → IsLast rows key last row → HasRow key (converted_rows s table rows)
   last_due key last row it =
       let held = (entry_law s.buckets (keys_of rows) table is.count is.indexed).held last (last_newest key last row it) in
@@ -232,7 +232,7 @@ module _ (s : Shape) (rows : List StoredRow) (table : Slots) (is : IsTableOf s r
         ∙ sym (untouched key m rows none)
   ]
 
--- the rows that are due make of each map what the log's rows make
+-- applied to any map, these rows and the log's rows give the same map
 pub converted_map : ConvertedMapLaw
 converted_map s rows table m is =
     same_map nat_list_cmp_total (slice_cmp-IsAntisymmetric nat_cmp-IsAntisymmetric) (after_known m (converted_rows s table rows)) (map_after m (map command_of rows)) (same_get s rows table is m)

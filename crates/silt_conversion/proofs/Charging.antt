@@ -1,4 +1,4 @@
--- The rows that a conversion writes have no more puts than the log's rows.
+-- The rows that a conversion writes have at most as many puts as the log's rows.
 use Rattle.std.proofs.Common.{◌≡◌, ◌≢◌, ℕ, zero, suc, ◌+◌, ◌*◌, ◌≤◌, ◌<◌, ◌==◌, eqb, nat_lt, true, false, cond, List, [], ◌∷◌, filter, length, map, take, get_or, Option, Some, None, inl, inr, option_map, refl, sym, ap, ◌∙◌, arith}
 use Rattle.std.specs.List.{range_with_len}
 use Rattle.std.specs.Option.{is_some}
@@ -103,11 +103,11 @@ module _ (rows : List StoredRow) (d : StoredRow) where
         go None at = ap (reach (n + 1)) at ∙ ap (reach n) (sym at)
         go (Some place) at = ap (reach (n + 1)) at ∙ reach_other n place (λ same. other (at ∙ ap Some same)) ∙ ap (reach n) (sym at)
 
-    -- where no slot has the place of the next row, that row adds nothing
+    -- if no slot has the place of the next row, that row adds nothing
     nowhere : (n count : ℕ) → ((slot : ℕ) → slot < count → place_of slot ≢ Some n) → reached (n + 1) count ≡ reached n count
     nowhere n count none = total_same (λ slot. reach (n + 1) (place_of slot)) (λ slot. reach n (place_of slot)) count (λ slot below. same_reach n slot (none slot below))
 
-    -- in one slot more it adds at most its own puts, where it did so before
+    -- in one more slot it adds at most its own puts, if it did so before
     one_slot_more : (n count : ℕ) → reached (n + 1) count ≤ reached n count + weight (get_or rows n d) → (e : Option ℕ) → place_of count ≡ e
         → reached (n + 1) (suc count) ≤ reached n (suc count) + weight (get_or rows n d)
     one_slot_more n count so_far None at = omega (arith, so_far, same_reach n count (λ some. let clash : None ≡ Some n = sym at ∙ some in absurd (cc)))
@@ -133,7 +133,7 @@ module _ (rows : List StoredRow) (d : StoredRow) where
         let rest : put_count (take (n + 1) rows) ≡ put_count (take n rows) + weight (get_or rows n d) = sum_by_more weight rows n d (omega arith) in
         rw more (omega (arith, one_more n count, at_most n count (omega arith), rest))
 
--- the rows that are due have no more puts than the log's rows
+-- the rows that belong in the slots have at most as many puts as the log's rows
 pub converted_charge : ConvertedChargeLaw
 unfolding converted_before converted_rows
 converted_charge s rows table is =

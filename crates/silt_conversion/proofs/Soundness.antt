@@ -85,7 +85,7 @@ module _ (s : Shape) (rows : List StoredRow) (table : Slots) (is : IsTableOf s r
   entry_key : (slot tag place : ℕ) → entry_at table slot ≡ Some (tag, place) → (converted_row s table rows slot).key ≡ get_or (keys_of rows) place []
   entry_key slot tag place at = ap (λ (r : StoredRow). r.key) (row_of_entry slot tag place at) ∙ sym (key_at place (place_inside slot tag place at))
 
-  -- it stands in one of its key's buckets, and the entry's tag is the other
+  -- it lies in one of its key's buckets, and the entry's tag is the other
   entry_buckets : (slot tag place : ℕ) → entry_at table slot ≡ Some (tag, place)
       → (is_in_bucket s slot (converted_row s table rows slot).key ≡ true) × (tag ≡ other_bucket (first_bucket s.buckets (converted_row s table rows slot).key) (second_bucket s.buckets (converted_row s table rows slot).key) slot)
   entry_buckets slot tag place at =
@@ -93,7 +93,7 @@ module _ (s : Shape) (rows : List StoredRow) (table : Slots) (is : IsTableOf s r
       let pair : pair_of (slot / 4) tag ≡ pair_of (first_bucket s.buckets key) (second_bucket s.buckets key) = entries.buckets_of slot tag place at ∙ ap (key_pair s.buckets) (sym (entry_key slot tag place at)) in
       other_of (slot / 4) tag (first_bucket s.buckets key) (second_bucket s.buckets key) pair
 
-  -- the tag of what is due in a slot is that of the entry there
+  -- the tag of the row that belongs in a slot is that of the entry there
   pub converted_tag : (slot : ℕ) → tag_of s.buckets slot (converted_row s table rows slot) ≡ tag_of_entry (entry_at table slot)
   converted_tag slot = go (entry_at table slot) refl
     where
@@ -101,7 +101,7 @@ module _ (s : Shape) (rows : List StoredRow) (table : Slots) (is : IsTableOf s r
       go None at = tag_empty s.buckets slot (converted_row s table rows slot) (ap (λ (r : StoredRow). r.kind) (row_of_none slot at) ∙ empty_kind s)
       go (Some (tag, place)) at = tag_known s.buckets slot (converted_row s table rows slot) (entry_known slot tag place at) ∙ ap Some (sym (entry_buckets slot tag place at).1)
 
-  -- an entry's place, where a row of the key is due in another slot
+  -- an entry's place, if a row of the key belongs in another slot
   pub same_slot : (slot tag place other other_tag other_place : ℕ) → entry_at table slot ≡ Some (tag, place) → entry_at table other ≡ Some (other_tag, other_place)
       → get_or (keys_of rows) place [] ≡ get_or (keys_of rows) other_place [] → other ≡ slot
   same_slot slot tag place other other_tag other_place at other_at same =
@@ -110,7 +110,7 @@ module _ (s : Shape) (rows : List StoredRow) (table : Slots) (is : IsTableOf s r
       let also : place_at table other ≡ Some place = ap (option_map (λ (e : Entry). e.1)) other_at ∙ ap Some (sym one) in
       entries.once place slot other here also
 
-  -- no other slot has a row of the key that is due in a slot
+  -- no other slot has a row of the same key
   pub due_once : (slot tag place other : ℕ) → entry_at table slot ≡ Some (tag, place) → other ≢ slot → is_row_of (converted_row s table rows slot).key (converted_row s table rows other) ≡ false
   due_once slot tag place other at apart = go (entry_at table other) refl
     where
@@ -147,7 +147,7 @@ module _ (s : Shape) (rows : List StoredRow) (table : Slots) (is : IsTableOf s r
           sound_known s (map (converted_row s table rows) (range_with_len 0 (4 * s.buckets))) slot (converted_row s table rows slot) (entry_known slot tag place at) ((entry_buckets slot tag place at).0)
           (ap (holds_key (converted_row s table rows slot).key) taken ∙ alone)
 
--- nothing is found in the rows that are due
+-- there is no finding in the rows that belong in the slots
 pub converted_sound : ConvertedSoundLaw
 unfolding hash_findings converted_before converted_rows
 converted_sound s rows table region is =

@@ -1,4 +1,4 @@
--- What a step of a conversion leaves, and the store of a conversion that is done.
+-- The state after a step of a conversion, and the store of a finished conversion.
 use Rattle.std.proofs.Common.{◌≡◌, ◌≢◌, ℕ, ◌+◌, ◌*◌, ◌≤◌, ◌<◌, true, IsTrue, List, [], ◌∷◌, ◌++◌, filter, length, Option, Some, None, inl, inr, option_map, refl, sym, subst, ap, ◌∙◌, arith, length-set, get_or-set_other, get_or-set_same}
 use Rattle.std.proofs.lemmas.Bool.{cases_eq}
 use Rattle.std.proofs.lemmas.List.Elements.{filter-append}
@@ -40,7 +40,7 @@ pub due_known : (content : Content) (log : LogStoreState) (place : ℕ) → IsIn
     → has_known_kind (row_at log.log.shape log.log.region content.shown place) ≡ true
 due_known content log place index honest below = known_there content log.log place (index.known honest) below
 
--- the puts that are due in one slot more
+-- the puts of one more slot
 due_more : (s : Shape) (table : Slots) (rows : List StoredRow) (n : ℕ)
     → put_count (filter has_known_kind (converted_before s table rows (n + 1))) ≡ put_count (filter has_known_kind (converted_before s table rows n)) + put_count (filter has_known_kind (converted_row s table rows n ∷ []))
 unfolding converted_before
@@ -50,7 +50,7 @@ due_more s table rows n =
     ∙ ap put_count (filter-append has_known_kind before (converted_row s table rows n ∷ []))
     ∙ count_law (filter has_known_kind before) (filter has_known_kind (converted_row s table rows n ∷ []))
 
--- the bytes that are due in one slot more
+-- the bytes of one more slot
 bytes_more : (s : Shape) (table : Slots) (rows : List StoredRow) (n : ℕ) → rows_bytes (converted_before s table rows (n + 1)) ≡ rows_bytes (converted_before s table rows n) ++ row_bytes (converted_row s table rows n)
 unfolding converted_before
 bytes_more s table rows n =
@@ -85,7 +85,7 @@ pub entry_elsewhere : (tags : List (Option ℕ)) (slot other : ℕ) (entry : Opt
 entry_elsewhere tags slot other None apart = refl
 entry_elsewhere tags slot other (Some entry) apart = get_or-set_other tags slot other (Some entry.0) None apart
 
--- a conversion with one slot more, and at most one put more
+-- a conversion with one more slot, and at most one more put
 pub held_step : (conversion : ConversionState) (len puts : ℕ) (hasher : Sha1) (entry : Option Entry) → IsHeldConversion conversion len → conversion.next < 4 * conversion.shape.buckets → puts ≤ 1
     → IsHeldConversion (record conversion { next = conversion.next + 1; tags = with_entry conversion.tags conversion.next entry; puts = conversion.puts + puts; hasher = hasher }) len
 held_step conversion len puts hasher entry held below few = record {
@@ -97,7 +97,7 @@ held_step conversion len puts hasher entry held below few = record {
   buffer = held.buffer;
 }
 
--- with the tags named in another way
+-- with the tags under another name
 pub held_as : (conversion : ConversionState) (tags : List (Option ℕ)) (len puts : ℕ) (hasher : Sha1) (entry : Option Entry) → IsHeldConversion conversion len → conversion.next < 4 * conversion.shape.buckets → puts ≤ 1
     → tags ≡ with_entry conversion.tags conversion.next entry → IsHeldConversion (record conversion { next = conversion.next + 1; tags = tags; puts = conversion.puts + puts; hasher = hasher }) len
 held_as conversion tags len puts hasher entry held below few same =
@@ -118,7 +118,7 @@ module _ (old new : Content) (log : LogStoreState) (conversion : ConversionState
   rows_kept : IsTrue old.honest → all_rows new log.log ≡ all_rows old log.log
   rows_kept honest = rows_outside old new log.log (hash_slot_at conversion.shape conversion.region conversion.next) (row_len conversion.shape) bounds log_fits outside changes honest
 
-  -- and stands
+  -- and matches the disk
   pub frozen_kept : IsFrozenStore old log → IsFrozenStore new log
   frozen_kept frozen = frozen_elsewhere old new log (hash_slot_at conversion.shape conversion.region conversion.next) (row_len conversion.shape) frozen bounds log_fits outside changes
 
@@ -139,7 +139,7 @@ module _ (old new : Content) (log : LogStoreState) (conversion : ConversionState
         subst (λ (rows : List StoredRow). Holds conversion.hasher (rows_bytes (converted_before conversion.shape log.table rows conversion.next))) (sym (rows_kept was)) (is.hashed was);
   }
 
-  -- and the next one what is due
+  -- and the next one its row
   pub written_step : (after : ConversionState) → conversion.region < conversion.shape.hashes → conversion.next < 4 * conversion.shape.buckets → length conversion.tags ≡ 4 * conversion.shape.buckets
       → slot_tag conversion.tags conversion.next ≡ None → Steps log old new conversion after → IsFrozenStore old log → HasWritten old log conversion → HasWritten new log after
   written_step after there below long none steps frozen is =
@@ -172,7 +172,7 @@ module _ (old new : Content) (log : LogStoreState) (conversion : ConversionState
             subst (λ (rows : List StoredRow). Holds after.hasher (rows_bytes (converted_before conversion.shape log.table rows (conversion.next + 1)))) (sym (rows_kept was)) more;
       })
 
--- a step that wrote and fed the bytes of the row that is due
+-- a step that wrote the bytes of the row and fed them to the hasher
 pub step_made : (log : LogStoreState) (old new : Content) (before : ConversionState) (tags : List (Option ℕ)) (puts : ℕ) (hasher : Sha1) (row written fed : List ℕ) → tags ≡ with_entry before.tags before.next (entry_at log.table before.next)
     → (IsTrue old.honest → IsFrozenStore old log → row_of row ≡ converted_row before.shape log.table (all_rows old log.log) before.next) → puts ≡ put_count (filter has_known_kind (row_of row ∷ []))
     → (IsTrue old.honest → slot_row before.shape before.region new.shown before.next ≡ row_of written) → written ≡ row
@@ -187,7 +187,7 @@ step_made log old new before tags puts hasher row written fed is_tags due is_put
 
 -- ---- all slots
 
--- the slots of a conversion that is done show all rows that are due
+-- the slots of a finished conversion show all rows that belong there
 pub all_due : (content : Content) (log : LogStoreState) (conversion : ConversionState) → conversion.next ≡ 4 * conversion.shape.buckets → HasWritten content log conversion → IsTrue content.honest
     → hash_rows conversion.shape conversion.region content.shown ≡ converted_rows conversion.shape log.table (all_rows content log.log)
 unfolding rows_before converted_before converted_rows
@@ -196,7 +196,7 @@ all_due content log conversion done is honest =
     ∙ map_range_same (slot_row conversion.shape conversion.region content.shown) (converted_row conversion.shape log.table (all_rows content log.log)) 0 (4 * conversion.shape.buckets)
     (λ slot low high. is.due honest slot (omega arith))
 
--- and its puts are those of all rows that are due
+-- and its puts are those of all these rows
 pub all_charged : (content : Content) (log : LogStoreState) (conversion : ConversionState) → conversion.next ≡ 4 * conversion.shape.buckets → HasWritten content log conversion → IsTrue content.honest
     → conversion.puts ≡ put_count (filter has_known_kind (converted_rows conversion.shape log.table (all_rows content log.log)))
 unfolding converted_rows
@@ -217,7 +217,7 @@ all_digested content log conversion digest done is honest finalizes =
 pub table_of : (content : Content) (log : LogStoreState) → IsBucketCount log.log.shape.buckets → IsFrozenStore content log → IsTrue content.honest → IsTableOf log.log.shape (all_rows content log.log) log.table
 table_of content log count frozen honest = record { count = count; known = frozen.index.known honest; indexed = frozen.index.indexed honest }
 
--- the store of a conversion that is done stands
+-- the store of a finished conversion matches the disk
 pub store_stands : (content : Content) (log : LogStoreState) (conversion : ConversionState) (digest : List ℕ) → IsBucketCount conversion.shape.buckets → conversion.next ≡ 4 * conversion.shape.buckets
     → IsDigestOf conversion.hasher digest → IsFrozenStore content log → HasWritten content log conversion
     → IsHashStore content (record { shape = conversion.shape; region = conversion.region; tags = conversion.tags; puts = conversion.puts; digest = digest })

@@ -1,4 +1,4 @@
--- Laws of conversions, for the layers above.
+-- Laws of conversions, for the crates above.
 use Rattle.std.specs.Prelude.{◌≡◌, ℕ, ◌*◌, ◌≤◌, ◌<◌, true, List, [], Some, map, filter}
 use Rattle.std.specs.List.{list_all}
 use Rattle.silt_cuckoo.specs.Slots.{Slots, IsBucketCount}
@@ -19,25 +19,25 @@ pub record IsTableOf (shape : Shape) (rows : List StoredRow) (table : Slots) : T
   pub known : list_all has_known_kind rows ≡ true
   pub indexed : index_of_keys shape.buckets (keys_of rows) ≡ Some table
 
--- nothing is found in the rows that are due
+-- there is no finding in the rows that belong in the slots
 abbrev pub ConvertedSoundLaw : Type 0
 ConvertedSoundLaw =
     (shape : Shape) (rows : List StoredRow) (table : Slots) (region : ℕ) → IsTableOf shape rows table
     → hash_findings shape (record { region = region; rows = converted_rows shape table rows }) ≡ []
 
--- whatever map stands below, the rows that are due make of it what the log's rows make
+-- applied to any map, these rows and the log's rows give the same map
 abbrev pub ConvertedMapLaw : Type 0
 ConvertedMapLaw =
     (shape : Shape) (rows : List StoredRow) (table : Slots) (map_below : Map) → IsTableOf shape rows table
     → map_after map_below (map command_of (filter has_known_kind (converted_rows shape table rows))) ≡ map_after map_below (map command_of rows)
 
--- the rows that are due have no more puts than the log's rows
+-- these rows have at most as many puts as the log's rows
 abbrev pub ConvertedChargeLaw : Type 0
 ConvertedChargeLaw =
     (shape : Shape) (rows : List StoredRow) (table : Slots) → IsTableOf shape rows table
     → put_count (filter has_known_kind (converted_rows shape table rows)) ≤ put_count rows
 
--- a conversion has written what it had, after a change outside its slots and its log
+-- a change outside a conversion's slots and its log leaves what the conversion has written
 abbrev pub WrittenElsewhereLaw : Type 0
 WrittenElsewhereLaw =
     (log : LogStoreState) (conversion : ConversionState) (old new : Content) (at count : ℕ) → InBounds log.log → conversion.region < conversion.shape.hashes

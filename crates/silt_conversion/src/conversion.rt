@@ -20,16 +20,16 @@ use std::marker::Model;
 /// Why a step of a conversion failed.
 #[derive(Debug, Drop)]
 pub enum StepError<F> {
-    /// The read of a row failed with this fault. Nothing is changed.
+    /// The read of a row failed with this fault. Nothing has changed.
     Read(F),
-    /// The write of a slot failed with this fault. What the slot then shows is open.
+    /// The write of a slot failed with this fault. The slot may then show any bytes.
     Write(F),
 }
 
-/// A log on its way to become a hash store: the region, the tags of the slots that were written, the next slot, how many puts were
+/// A log that is being converted to a hash store: the region, the tags of the written slots, the next slot, how many puts were
 /// written, and a hasher that was fed the bytes of the slots.
 ///
-/// It holds the bytes of one row, so that no step takes memory.
+/// It holds the bytes of one row, so that no step allocates memory.
 #[derive(Drop)]
 pub struct Conversion {
     region: HashRegion,
@@ -51,7 +51,7 @@ impl Model for Conversion {
     ghost invariant = { λ a. IsHeldConversion (record { shape = a.region.geometry; region = a.region.number; tags = a.tags; next = a.next; puts = a.puts; hasher = a.hasher }) (vec_len a.row) };
 }
 
-// Fills the bytes of a row with zeros where its kind is unknown, and says how many puts the row then is.
+// Fills the bytes of a row with zeros if its kind is unknown. Returns how many puts the row then is.
 fn settle_row(row: &mut [u8]) -> u32
     requires some { 0 < length row.old }
     ensures known { has_known_kind (row_of row.old) ≡ true → row.new ≡ row.old }
@@ -69,8 +69,8 @@ fn settle_row(row: &mut [u8]) -> u32
     }
 }
 
-// Puts the bytes that are due in a slot into a buffer, and says how many puts they are: the bytes of the row of the log's entry
-// there, zeros where it has none or the row's kind is unknown.
+// Puts the bytes of a slot into a buffer: the row of the log's entry there, or zeros if there is no entry or the row's kind is
+// unknown. Returns how many puts they are.
 fn read_due<D: Disk>(log: &LogStore, disk: &D, slot: u32, out: &mut [u8]) -> Result<u32, D::Fault>
     requires out { length out.old ≡ row_len log.now.log.shape }
     requires size { device_size log.now.log.shape ≤ size (D.content disk.now) }
@@ -93,7 +93,7 @@ fn read_due<D: Disk>(log: &LogStore, disk: &D, slot: u32, out: &mut [u8]) -> Res
     }
 }
 
-// The tag of the log's entry in a slot, where it has one.
+// The tag of the log's entry in a slot, if it has one.
 fn note_entry(tags: &mut Tags, slot: u32, entry: Option<(u32, u32)>)
     requires slot { slot < length tags.old }
     requires tag { IfSome entry (λ e. e.0 < 2 ^ 15) }
@@ -110,12 +110,12 @@ impl Conversion {
     ghost use Rattle.silt_hash_store.specs.Slots.{hash_slot_at};
     ghost use Rattle.silt_hash_store.specs.State.{IsHashStore, IsHeldHash};
 
-    /// A conversion of a log into this region, with no slot written. It takes all memory that the conversion needs: two bytes a
+    /// A conversion of a log into this region, with no slot written. It allocates all memory that the conversion needs: two bytes a
     /// slot, and those of one row.
     ///
     /// # Errors
     ///
-    /// Where the tags or the row find no memory.
+    /// Out of memory: the tags or the row could not be allocated.
     pub fn start(alloc: Global, log: &LogStore, region: u32) -> Result<Self, AllocError>
         requires { region < log.now.log.shape.hashes }
         ensures start { IfOk result (λ conversion. conversion ≡ record {
@@ -152,7 +152,7 @@ impl Conversion {
         self.next == self.region.slot_count()
     }
 
-    /// The number of the region that is written.
+    /// The number of the region that the conversion writes.
     pub fn region(&self) -> u32
         ensures value { result ≡ self.now.region }
         ensures there { self.now.region < self.now.shape.hashes }
@@ -160,7 +160,7 @@ impl Conversion {
         self.region.number
     }
 
-    /// How many of the rows that were written are puts.
+    /// The number of puts among the written rows.
     pub fn puts(&self) -> u32
         ensures value { result ≡ self.now.puts }
         ensures most { self.now.puts ≤ self.now.next }
@@ -168,8 +168,7 @@ impl Conversion {
         self.puts
     }
 
-    /// The digest of what the hasher was fed so far: the bytes of the slots that were written. It is the digest of the hash store once
-    /// all slots are written.
+    /// The digest of the slots written so far. It is the digest of the hash store once all slots are written.
     pub fn digest(&self) -> Digest
         ensures { IsDigestOf self.now.hasher result.0 }
     {
@@ -178,12 +177,12 @@ impl Conversion {
         Digest(copy.finalize())
     }
 
-    /// Writes the next slot: reads the row that is due there, where one is, and writes its bytes, or zeros. Zeros are also written
-    /// for a row of an unknown kind, which only a disk that is not honest can show. It takes no memory.
+    /// Writes the next slot: reads the row that belongs there, if there is one, and writes its bytes, or zeros. It also writes zeros
+    /// for a row of an unknown kind. Only a disk that is not honest (does not obey the crash model) shows one. It allocates no memory.
     ///
     /// # Errors
     ///
-    /// `Read` where the read failed: nothing is changed. `Write` where the write failed: the conversion is as it was.
+    /// `Read` if the read failed: nothing has changed. `Write` if the write failed: the conversion has not changed.
     pub fn step<D: Disk>(&mut self, log: &LogStore, disk: &mut D) -> Result<(), StepError<D::Fault>>
         requires more { self.old.next < 4 * self.old.shape.buckets }
         requires shape { self.old.shape ≡ log.now.log.shape }
@@ -211,7 +210,7 @@ impl Conversion {
         Ok(())
     }
 
-    /// The hash store of a conversion that is done.
+    /// The hash store of a finished conversion.
     pub fn into_store(self) -> HashStore
         requires done { self.next ≡ 4 * self.shape.buckets }
         ensures store { result ≡ record { shape = self.shape; region = self.region; tags = self.tags; puts = self.puts; digest = result.digest } }

@@ -1,8 +1,8 @@
 //! A frozen log's rows, rewritten into a hash region in the order of the log's table.
 //!
-//! A `Conversion` writes the region slot by slot: the slot that an entry has in the log's table is the slot of its row. It counts
-//! the puts that it writes and hashes the bytes. When it is done, the hash store may stand in the place of the log: the map is
-//! the same.
+//! A `Conversion` writes the region slot by slot: the row of an entry goes into the slot that the entry has in the log's table. It
+//! counts the puts that it writes and hashes the bytes. When it is finished, the hash store can replace the log: the map is the
+//! same.
 #![tactic(auto)]
 
 mod conversion;

@@ -94,7 +94,7 @@ pub fed_same : (hasher : Sha1) (a b : HashState) (image : List ℕ) (count : ℕ
 fed_same hasher a b image count shape number fed =
     subst (λ (n : ℕ). Holds hasher (rows_bytes (rows_before b.shape n image count))) number (subst (λ (s : Shape). Holds hasher (rows_bytes (rows_before s a.region image count))) shape fed)
 
--- what holds anyway holds where a call ends well
+-- what holds anyway holds if a call succeeds
 pub ends_well : {X E : Type 0} (result : Result X E) (P : Type 0) → P → OnOk result P
 ends_well (Ok x) P holds = holds
 ends_well (Err e) P holds = tt

@@ -19,7 +19,7 @@ slots_inside s region there =
     let apart = regions_apart s in
     omega (arith, apart.hashes region s.hashes there, apart.hash_end 2, apart.device)
 
--- and behind every log
+-- and after every log
 pub behind_logs : (s : Shape) (log_region region slot : ℕ) → log_region < s.logs → LiesOutside (gates_at s log_region) (log_len s) (hash_slot_at s region slot) (row_len s)
 behind_logs s log_region region slot there =
     let apart = regions_apart s in
@@ -47,7 +47,7 @@ rows_same s region at count old new fits outside torn =
     ∙ map_range_same (slot_row s region new) (slot_row s region old) 0 (4 * s.buckets) (λ slot low high. slot_outside s region slot at count old new fits (omega arith) outside torn)
     ∙ sym (all_before s region old)
 
--- a hash store stands on
+-- a hash store still matches the disk
 pub hash_elsewhere : HashElsewhereLaw
 hash_elsewhere store old new at count held fits outside changes is =
     let inside : hash_at store.shape store.region + 4 * store.shape.buckets * row_len store.shape ≤ size old = omega (arith, slots_inside store.shape store.region held.there, fits) in record {

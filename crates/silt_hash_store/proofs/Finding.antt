@@ -1,4 +1,4 @@
--- What is found among the slots of the two buckets of a key.
+-- The row of a key among the slots of its two buckets.
 use Rattle.std.proofs.Common.{◌≡◌, ℕ, ◌/◌, ◌<◌, eqb, true, false, List, length, get_or, Option, Some, None, Result, Ok, Err, IfOk, inl, inr, sym, subst, ap, ◌∙◌, arith}
 use Rattle.std.specs.Str.{bytes_eq}
 use Rattle.std.proofs.lemmas.Bool.{cases_Bool, cases_lt, and_parts, cond-true, cond-false, eqb-true, or_cases}
@@ -67,7 +67,7 @@ module _ (store : HashState) (image : List ℕ) (count : ℕ) (is : IsTagged sto
         ]
   ]
 
-  -- where neither bucket has a row of the key, no row before has it
+  -- if neither bucket has a row of the key, no row before has it
   pub none_found : FindsIn store.shape store.region store.tags image (first_bucket store.shape.buckets key) (second_bucket store.shape.buckets key) key None
       → FindsIn store.shape store.region store.tags image (second_bucket store.shape.buckets key) (first_bucket store.shape.buckets key) key None
       → FindsRow (rows_before store.shape store.region image count) key None
@@ -78,14 +78,14 @@ module _ (store : HashState) (image : List ℕ) (count : ℕ) (is : IsTagged sto
       let under : i < count = omega (arith, below, before_count store.shape store.region image count) in
       ap (is_row_of key) (before_at store.shape store.region image count i d under) ∙ slot_lacks i under first_none second_none)
 
-  -- what the second bucket gives, where the first has no row of the key
+  -- the result of the second bucket, if the first has no row of the key
   pub second_decides : (found : Option Found) → FindsIn store.shape store.region store.tags image (first_bucket store.shape.buckets key) (second_bucket store.shape.buckets key) key None
       → FindsIn store.shape store.region store.tags image (second_bucket store.shape.buckets key) (first_bucket store.shape.buckets key) key found
       → FindsRow (rows_before store.shape store.region image count) key found
   second_decides None first_none finds = none_found first_none finds
   second_decides (Some found) first_none finds = row_found (second_bucket store.shape.buckets key) (first_bucket store.shape.buckets key) found finds
 
-  -- the same for buckets that are named in another way
+  -- the same for buckets under other names
   pub both_decide : (buckets first second : ℕ) (found : Option Found) → buckets ≡ store.shape.buckets → first ≡ first_bucket buckets key → second ≡ second_bucket buckets key
       → FindsIn store.shape store.region store.tags image first second key None → FindsIn store.shape store.region store.tags image second first key found → FindsRow (rows_before store.shape store.region image count) key found
   both_decide buckets first second found same first_is second_is first_none finds =
@@ -95,14 +95,14 @@ module _ (store : HashState) (image : List ℕ) (count : ℕ) (is : IsTagged sto
       (subst (λ (n : ℕ). FindsIn store.shape store.region store.tags image (first_bucket store.shape.buckets key) n key None) two (subst (λ (n : ℕ). FindsIn store.shape store.region store.tags image n second key None) one first_none))
       (subst (λ (n : ℕ). FindsIn store.shape store.region store.tags image (second_bucket store.shape.buckets key) n key found) one (subst (λ (n : ℕ). FindsIn store.shape store.region store.tags image n first key found) two finds))
 
-  -- one bucket decides where both are the same
+  -- one bucket decides if both are the same
   pub one_decides : (buckets first second : ℕ) → buckets ≡ store.shape.buckets → first ≡ first_bucket buckets key → second ≡ second_bucket buckets key → first ≡ second
       → FindsIn store.shape store.region store.tags image first second key None → FindsRow (rows_before store.shape store.region image count) key None
   one_decides buckets first second same first_is second_is one first_none =
       let turned : FindsIn store.shape store.region store.tags image second second key None = subst (λ (n : ℕ). FindsIn store.shape store.region store.tags image n second key None) one first_none in
       both_decide buckets first second None same first_is second_is first_none (subst (λ (n : ℕ). FindsIn store.shape store.region store.tags image second n key None) (sym one) turned)
 
--- what holds of an answer holds in another way
+-- a result with an equal one
 pub weaker_ok : {T E : Type 0} (r : Result T E) (P Q : T → Type 0) → ((x : T) → P x → Q x) → IfOk r P → IfOk r Q
 weaker_ok (Ok x) P Q step holds = step x holds
 weaker_ok (Err e) P Q step holds = tt

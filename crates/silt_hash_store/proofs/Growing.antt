@@ -1,4 +1,4 @@
--- A rebuild, slot by slot, and what is found in a hash region.
+-- A rebuild, slot by slot, and the findings in a hash region.
 use Rattle.std.proofs.Common.{◌≡◌, ◌≢◌, ℕ, zero, suc, ◌+◌, ◌*◌, ◌<◌, ◌==◌, eqb, Bool, true, false, not, cond, IsTrue, List, [], ◌∷◌, ◌++◌, length, filter, flat_map, take, get_or, slice_get, slice_set, replicate, Option, Some, None, inl, inr, refl, sym, subst, ap, ◌∙◌, arith, length-append, append-nil, get_or-set_other, get_or-set_same}
 use Rattle.std.specs.List.{enumerate_from}
 use Rattle.std.specs.Option.{is_some}
@@ -39,7 +39,7 @@ use Rattle.silt_hash_store.proofs.Slotting.{all_before, before_count, before_mor
 
 -- ---- findings
 
--- of sound slots from a number on comes nothing
+-- sound slots from a number on give no finding
 pub nothing_from : (s : Shape) (part : Part) (k : ℕ) (rows : List StoredRow) → ((i : ℕ) (row : StoredRow) → slice_get rows i ≡ Some row → is_sound_hash_slot s part.rows (k + i) row ≡ true)
     → flat_map (slot_findings s part) (enumerate_from k rows) ≡ []
 nothing_from s part k [] sound = refl
@@ -52,7 +52,7 @@ nothing_from s part k (row ∷ rows) sound =
     let further : k + 1 + i ≡ k + suc i = omega arith in
     ap (λ n. is_sound_hash_slot s part.rows n other) further ∙ sound (suc i) other there))
 
--- where nothing comes, all are sound
+-- if there is no finding, all are sound
 pub sound_from : (s : Shape) (part : Part) (k : ℕ) (rows : List StoredRow) → flat_map (slot_findings s part) (enumerate_from k rows) ≡ []
     → (i : ℕ) (row : StoredRow) → slice_get rows i ≡ Some row → is_sound_hash_slot s part.rows (k + i) row ≡ true
 sound_from s part k [] none i row there = absurd (cc)
@@ -110,7 +110,7 @@ module _ (s : Shape) (region : ℕ) (image : List ℕ) where
       let inside = slice_get_within (hash_rows s region image) slot row there in
       omega (arith, inside, ap length (all_before s region image), before_count s region image (4 * s.buckets))
 
-  -- nothing is found where all slots are sound
+  -- there is no finding if all slots are sound
   pub nothing_found : ((slot : ℕ) → slot < 4 * s.buckets → is_sound_slot s region image slot ≡ true) → hash_findings s (hash_part s image region) ≡ []
   unfolding hash_findings
   nothing_found sound = nothing_from s (hash_part s image region) 0 (hash_rows s region image)
@@ -144,7 +144,7 @@ module _ (s : Shape) (region : ℕ) (image : List ℕ) where
       (ap (λ n. is_sound_hash_slot s (hash_rows s region image) n (slot_row s region image slot)) number ∙ unsound)
       ∙ ap (λ n. Some (finding.Damaged (Hash region n))) number
 
--- a store that stands has the tags of all slots
+-- a store that matches the disk has the tags of all slots
 pub tagged_all : (content : Content) (store : HashState) → IsHeldHash store → IsTrue content.honest → IsHashStore content store → IsTagged store content.shown (4 * store.shape.buckets)
 tagged_all content store held honest is = record {
   most = omega arith;

@@ -1,4 +1,4 @@
--- Stored tags and what they stand for.
+-- Stored tags and their meaning.
 use Rattle.std.proofs.Common.{◌≡◌, ℕ, zero, suc, ◌<◌, List, ◌∷◌, map, replicate, slice_set, Some, None, refl, ap, ◌∙◌, arith}
 use Rattle.std.proofs.lemmas.Bool.{cond-false, ne_eqb}
 use Rattle.std.proofs.lemmas.List.{map-set}
@@ -9,7 +9,7 @@ pub none_seen : (n : ℕ) → map tag_seen (replicate n 65535) ≡ replicate n N
 none_seen zero = refl
 none_seen (suc n) = ap (λ xs. None ∷ xs) (none_seen n)
 
--- a tag below the number that stands for none
+-- a tag is less than the number that means none
 pub tag_stored : (tag : ℕ) → tag < 65535 → tag_seen tag ≡ Some tag
 tag_stored tag below = cond-false _ _ _ (ne_eqb tag 65535 (λ same. absurd (omega arith)))
 

@@ -38,7 +38,7 @@ front_read s region slot at count image bytes head said same fits least most rea
     let part : slice_range image at (at + 21) ≡ take 21 (slice_range image at (at + count)) = ap (λ n. slice_range image n (n + 21)) (omega arith) ∙ slice_of_slice image at count 0 21 least (omega (arith, most, fits)) in
     head_read s region slot at image head said same fits (front ∙ ap (take 21) read ∙ sym part) says
 
--- and behind the head of a whole row stands the value
+-- and the value follows the head of a whole row
 pub front_value : (s : Shape) (region slot at count : ℕ) (image bytes : List ℕ) → at ≡ hash_slot_at s region slot → count ≡ row_len s → bytes ≡ slice_range image at (at + count) → drop 21 bytes ≡ (slot_row s region image slot).value
 unfolding slot_row
 front_value s region slot at count image bytes same whole read =
@@ -68,7 +68,7 @@ slots_read s region slot count at n image bytes here long fits read = λ i below
     slice_of_slice image at n (i * len) len (omega (arith, inside, long)) fits ∙ ap (λ b. slice_range b (i * len) (i * len + len)) (sym read) in
     ap (λ k. row_of (slice_range image k (k + len))) (sym there) ∙ ap row_of part
 
--- a write of a slot changes nothing but the slot
+-- a write of a slot changes only that slot
 pub slot_changes : (s : Shape) (region slot at count : ℕ) (old new : Content) → at ≡ hash_slot_at s region slot → count ≡ row_len s → Tears at count old new → ChangesWithin (hash_slot_at s region slot) (row_len s) old new
 slot_changes s region slot at count old new same long tears =
     subst (λ (n : ℕ). ChangesWithin n (row_len s) old new) same (subst (λ (n : ℕ). ChangesWithin at n old new) long (write_within tears))

@@ -1,4 +1,4 @@
--- What is found in the slots of a hash region.
+-- The findings in the slots of a hash region.
 use Rattle.std.specs.Prelude.{ℕ, ◌==◌, ◌&&◌, not, List, take, ◌/◌, Bool, ◌||◌, flat_map}
 use Rattle.std.specs.List.{enumerate_from, list_any}
 use Rattle.silt_disk.specs.Layout.{Shape}
@@ -15,19 +15,19 @@ use Rattle.silt_event.specs.Findings.{finding_if}
 abbrev pub is_in_bucket : Shape → ℕ → List ℕ → Bool
 is_in_bucket shape slot key = (slot / 4 == first_bucket shape.buckets key) || (slot / 4 == second_bucket shape.buckets key)
 
--- a row of a known kind among these has the key
+-- one of these rows is of a known kind and has the key
 abbrev pub holds_key : List ℕ → List StoredRow → Bool
 holds_key key rows = list_any (λ row. has_known_kind row && bytes_eq row.key key) rows
 
--- a slot of a hash region is empty, or has a row of a known kind in one of its key's buckets whose key no earlier slot has
+-- a good slot of a hash region is empty, or has a row of a known kind in one of its key's buckets whose key no earlier slot has
 abbrev pub is_sound_hash_slot : Shape → List StoredRow → ℕ → StoredRow → Bool
 is_sound_hash_slot shape rows slot row =
     (row.kind == 0) || (has_known_kind row && is_in_bucket shape slot row.key && not (holds_key row.key (take slot rows)))
 
--- a slot of a hash store, with its number
+-- the finding at a slot of a hash store, with the slot's number
 abbrev pub slot_findings : Shape → Part → ℕ × StoredRow → List Finding
 slot_findings shape part (slot, row) = finding_if (not (is_sound_hash_slot shape part.rows slot row)) (Damaged (Hash part.region slot))
 
--- a hash store, slot by slot
+-- the findings in a hash store, slot by slot
 unfoldable pub hash_findings : Shape → Part → List Finding
 hash_findings shape part = flat_map (slot_findings shape part) (enumerate_from 0 part.rows)

@@ -1,4 +1,4 @@
--- Laws of hash stores, for the layers above.
+-- Laws of hash stores, for the crates above.
 use Rattle.std.specs.Prelude.{◌≡◌, ℕ, ◌+◌, ◌≤◌, List, length, slice_range}
 use Rattle.silt_disk.specs.Disk.{ChangesWithin, Content, LiesOutside, size}
 use Rattle.silt_disk.specs.Layout.{Shape, device_size, hash_at, slots_len}
@@ -6,7 +6,7 @@ use Rattle.silt_frame.specs.Rows.{rows_bytes}
 use Rattle.silt_hash_store.specs.Slots.{hash_rows}
 use Rattle.silt_hash_store.specs.State.{HashState, IsHashStore, IsHeldHash}
 
--- a hash store stands on after a change outside its slots
+-- a hash store still matches the disk after a change outside its slots
 abbrev pub HashElsewhereLaw : Type 0
 HashElsewhereLaw =
     (store : HashState) (old new : Content) (at count : ℕ) → IsHeldHash store → device_size store.shape ≤ size old → LiesOutside (hash_at store.shape store.region) (slots_len store.shape) at count

@@ -1,4 +1,4 @@
--- What a rebuild finds in the slots of a hash region.
+-- What a rebuild returns for the slots of a hash region.
 use Rattle.std.specs.Prelude.{◌≡◌, ℕ, ◌+◌, true, false, List, filter, length, slice_get, slice_set, Option, Some, None}
 use Rattle.sha1.specs.Sha1.{Holds}
 use Rattle.sha1.specs.declared.Sha1.{Sha1}
@@ -27,17 +27,17 @@ pub record IsRebuiltHash (content : Content) (rebuilt : Rebuilt) : Type 0 where
 pub record IsFirstUnsound (content : Content) (shape : Shape) (region slot : ℕ) : Type 0 where
   pub first : slice_get (hash_findings shape (hash_part shape content.shown region)) 0 ≡ Some (finding.Damaged (Hash region slot))
 
--- the tag of a key in a slot, none where the slot lies in neither of the key's buckets
+-- the tag of a key in a slot; none if the slot lies in neither of the key's buckets
 abbrev pub TagsKey : Shape → ℕ → List ℕ → Option ℕ → Type 0
 TagsKey shape slot key None = is_in_bucket shape slot key ≡ false
 TagsKey shape slot key (Some tag) = (is_in_bucket shape slot key ≡ true) × (tag ≡ other_bucket (first_bucket shape.buckets key) (second_bucket shape.buckets key) slot)
 
--- what a slot adds to a store: nothing where it is empty, else the kind and the tag of its row
+-- what a slot adds to a store: nothing if it is empty, else the kind and the tag of its row
 abbrev pub AddsSlot : ℕ → ℕ → StoredRow → Option (Kind × ℕ) → Type 0
 AddsSlot buckets slot row None = row.kind ≡ 0
 AddsSlot buckets slot row (Some (kind, tag)) = (kind_of row.kind ≡ Some kind) × (tag_of buckets slot row ≡ Some tag)
 
--- this is what the head of a slot says
+-- this is the content of a slot's head
 abbrev pub HasHead : HashState → List ℕ → ℕ → Head → Type 0
 HasHead store image slot head = HeadSays (slot_row store.shape store.region image slot).kind (slot_row store.shape store.region image slot).key head
 
@@ -46,7 +46,7 @@ pub record AddsSound (store : HashState) (image : List ℕ) (slot : ℕ) (added 
   pub sound : is_sound_slot store.shape store.region image slot ≡ true
   pub adds : AddsSlot store.shape.buckets slot (slot_row store.shape store.region image slot) added
 
--- what a slot adds is taken: its tag and its puts, and its row is counted
+-- the store after a slot was added: with its tag, its puts and its row counted
 abbrev pub TakesAdded : ℕ → Option (Kind × ℕ) → Rebuilt → Rebuilt → Type 0
 TakesAdded slot None old new = new ≡ old
 TakesAdded slot (Some (kind, tag)) old new =
@@ -58,6 +58,6 @@ pub record IsGrown (rebuilt : Rebuilt) (image : List ℕ) (count : ℕ) : Type 0
   pub charged : rebuilt.store.puts ≡ put_count (filter has_known_kind (rows_before rebuilt.store.shape rebuilt.store.region image count))
   pub counted : rebuilt.rows ≡ length (filter has_known_kind (rows_before rebuilt.store.shape rebuilt.store.region image count))
 
--- a hasher was fed the bytes of the first slots of an image, this many
+-- a hasher that was fed the bytes of the first slots of an image, this many
 abbrev pub IsFed : Sha1 → HashState → List ℕ → ℕ → Type 0
 IsFed hasher store image count = Holds hasher (rows_bytes (rows_before store.shape store.region image count))

@@ -33,7 +33,7 @@ slot_row shape region image slot = body_row (hash_at shape region) (row_len shap
 unfoldable pub rows_before : Shape → ℕ → List ℕ → ℕ → List StoredRow
 rows_before shape region image slot = map (slot_row shape region image) (range_with_len 0 slot)
 
--- nothing is found at a slot
+-- there is no finding at a slot
 abbrev pub is_sound_slot : Shape → ℕ → List ℕ → ℕ → Bool
 is_sound_slot shape region image slot = is_sound_hash_slot shape (hash_rows shape region image) slot (slot_row shape region image slot)
 
@@ -41,7 +41,7 @@ is_sound_slot shape region image slot = is_sound_hash_slot shape (hash_rows shap
 abbrev pub is_row_of : List ℕ → StoredRow → Bool
 is_row_of key row = has_known_kind row && bytes_eq row.key key
 
--- what a head says, of a row with this kind byte and this key
+-- the content of a head, from a row with this kind byte and this key
 abbrev pub HeadSays : ℕ → List ℕ → Head → Type 0
 HeadSays byte key Empty = byte ≡ 0
 HeadSays byte key Unknown = (kind_of byte ≡ None) × (byte ≢ 0)
@@ -51,15 +51,15 @@ HeadSays byte key (Row kind its_key) = (kind_of byte ≡ Some kind) × (its_key.
 abbrev pub slot_tag : List (Option ℕ) → ℕ → Option ℕ
 slot_tag tags slot = get_or tags slot None
 
--- what a tag of 16 bits stands for: none for the greatest number
+-- the tag that a number of 16 bits means: none for the greatest number
 abbrev pub tag_seen : ℕ → Option ℕ
 tag_seen number = if number == 65535 then None else Some number
 
--- the tag that a row has in a slot: none where it is empty, else that bucket of its key's two in which the slot does not lie
+-- the tag of a row in a slot: none if it is empty, else the one of its key's two buckets in which the slot does not lie
 abbrev pub tag_of : ℕ → ℕ → StoredRow → Option ℕ
 tag_of buckets slot row = if row.kind == 0 then None else Some (other_bucket (first_bucket buckets row.key) (second_bucket buckets row.key) slot)
 
--- so many slots from a slot on hold the rows that these bytes stand for, one after the other
+-- this many slots from a slot on have the rows that these bytes encode, one after the other
 abbrev pub HoldsSlots : Shape → ℕ → List ℕ → ℕ → ℕ → List ℕ → Type 0
 HoldsSlots shape region image slot count bytes =
     (i : ℕ) → i < count → slot_row shape region image (slot + i) ≡ row_of (slice_range bytes (i * row_len shape) (i * row_len shape + row_len shape))

@@ -1,4 +1,4 @@
--- A hash store, and how it stands on a disk.
+-- A hash store in memory, and what the disk has of it.
 use Rattle.std.specs.Prelude.{◌≡◌, ℕ, ◌*◌, ◌<◌, ◌≤◌, true, IsTrue, List, [], length, Option, None}
 use Rattle.sha1.specs.Sha1.{sha1}
 use Rattle.silt_disk.specs.Disk.{Content}
@@ -8,7 +8,7 @@ use Rattle.silt_hash_store.specs.Findings.{hash_findings}
 use Rattle.silt_log.specs.Parts.{known_rows}
 use Rattle.silt_hash_store.specs.Slots.{hash_part, hash_rows, is_sound_slot, slot_row, slot_tag, tag_of}
 
--- a hash store: its region, the tag of each slot, how many of its rows are puts, and its digest
+-- a hash store: its region, the tag of each slot, the number of puts among its rows, and its digest
 pub record HashState : Type 0 where
   pub shape : Shape
   pub region : ℕ
@@ -16,7 +16,7 @@ pub record HashState : Type 0 where
   pub puts : ℕ
   pub digest : List ℕ
 
--- what holds of every hash store, on any disk
+-- the invariant of every hash store, on any disk
 pub record IsHeldHash (store : HashState) : Type 0 where
   pub there : store.region < store.shape.hashes
   pub long : length store.tags ≡ 4 * store.shape.buckets
@@ -29,7 +29,7 @@ pub record IsTagged (store : HashState) (image : List ℕ) (count : ℕ) : Type 
   pub tagged : (slot : ℕ) → slot < count → slot_tag store.tags slot ≡ tag_of store.shape.buckets slot (slot_row store.shape store.region image slot)
   pub later : (slot : ℕ) → count ≤ slot → slot_tag store.tags slot ≡ None
 
--- a hash store as it stands on a disk: on an honest disk nothing is found in its slots, each slot has the tag of its row, its puts are counted, and its digest is that of its rows
+-- a hash store that matches an honest disk: its slots have no finding, each slot has the tag of its row, and puts and digest are its rows'
 pub record IsHashStore (content : Content) (store : HashState) : Type 0 where
   pub sound : IsTrue content.honest → hash_findings store.shape (hash_part store.shape content.shown store.region) ≡ []
   pub tagged : IsTrue content.honest → (slot : ℕ) → slot < 4 * store.shape.buckets

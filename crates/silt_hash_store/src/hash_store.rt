@@ -16,12 +16,13 @@ use silt_log::{Found, ScanError};
 use std::alloc::Global;
 use std::marker::Model;
 
-/// How many bytes a row has at most that is read whole for its value.
+/// The greatest length of a row, in bytes, that is read whole for its value.
 const WHOLE_LEN: usize = 512;
 
 /// A hash region with the tag of each of its slots, the number of its puts and the digest of its slots.
 ///
-/// On a disk that is not honest its calls are safe and end, but say nothing of rows. Only `rebuild` takes memory.
+/// An honest disk is one that obeys the crash model. On another disk the calls are safe and end, but promise nothing about rows.
+/// Only `rebuild` allocates memory.
 #[derive(Drop)]
 pub struct HashStore {
     pub(crate) region: HashRegion,
@@ -48,7 +49,7 @@ impl HashStore {
     ghost use Rattle.silt_hash_store.specs.Slots.{rows_before, slot_row};
     ghost use Rattle.silt_frame.specs.Frame.{head_len};
 
-    /// The store of a region whose slots have these tags and this digest, and whose rows have so many puts.
+    /// The store of a region whose slots have these tags and this digest, and whose rows have this many puts.
     pub fn new(region: HashRegion, tags: Tags, puts: u32, digest: Digest) -> Self
         requires held { IsHeldHash (record { shape = region.geometry; region = region.number; tags = tags; puts = puts; digest = digest.0 }) }
         ensures { result ≡ record { shape = region.geometry; region = region.number; tags = tags; puts = puts; digest = digest.0 } }
@@ -77,7 +78,7 @@ impl HashStore {
         self.region.number
     }
 
-    /// How many of its rows are puts.
+    /// The number of puts among its rows.
     pub fn puts(&self) -> u32
         ensures value { result ≡ self.now.puts }
         ensures held { IsHeldHash self.now }
@@ -92,9 +93,9 @@ impl HashStore {
         &self.digest
     }
 
-    // The row of a key among the slots that have tags: first those of its first bucket, then, where it differs, of its second. Of each
-    // slot with a tag that fits the front is read, as many bytes as `front` has. Where that is room for a whole row, the value of the
-    // row that has the key then stands in it.
+    // The row of a key among the slots that have tags: first those of its first bucket, then, if it is another, of its second. Of each
+    // slot whose tag matches it reads the front, as many bytes as `front` is long. If `front` has room for a whole row, it then holds
+    // the value of the row with the key.
     pub(crate) fn look_up<D: Disk>(
         &self,
         disk: &D,
@@ -121,8 +122,8 @@ impl HashStore {
         find_in(&self.region, &self.tags, disk, second, first, key, front)
     }
 
-    /// The row of a key: its kind and its slot. The head of each slot of the key's buckets with a tag that fits is read, at most
-    /// eight of 21 bytes. It takes no memory.
+    /// The row of a key: its kind and its slot. It reads the head of each slot of the key's buckets whose tag matches: at most eight
+    /// heads of 21 bytes. It allocates no memory.
     ///
     /// # Errors
     ///
@@ -139,13 +140,13 @@ impl HashStore {
         self.look_up(disk, key, &mut head)
     }
 
-    /// The row of a key, as `find` tells it, and its value in `out` where it is a put. Where no put is found `out` stays as it was. A
-    /// row of at most 512 bytes is read whole, so that each slot with a tag that fits takes at most one read; of a longer one the head
-    /// is read, and then the value of the put that is found. It takes no memory.
+    /// The row of a key, as `find` returns it, and its value in `out` if the row is a put. If there is no put, `out` does not change.
+    /// A row of at most 512 bytes is read whole, so each slot whose tag matches takes at most one read. Of a longer row it reads the
+    /// head, and then the value of the put that it found. It allocates no memory.
     ///
     /// # Errors
     ///
-    /// The fault of a read. The bytes of `out` are then open.
+    /// The fault of a read. `out` may then hold any bytes.
     pub fn get<D: Disk>(
         &self,
         disk: &D,
@@ -171,7 +172,7 @@ impl HashStore {
         }
     }
 
-    // As `get`, by reads of whole rows into a buffer of their length.
+    // Like `get`, with reads of whole rows into a buffer of their length.
     fn get_whole<D: Disk>(
         &self,
         disk: &D,
@@ -203,7 +204,7 @@ impl HashStore {
         }
     }
 
-    // As `get`, by reads of heads and one of the value.
+    // Like `get`, with reads of heads and one read of the value.
     fn get_by_parts<D: Disk>(
         &self,
         disk: &D,
@@ -236,7 +237,7 @@ impl HashStore {
     ///
     /// # Errors
     ///
-    /// The fault of the read. The bytes of `out` are then open.
+    /// The fault of the read. `out` may then hold any bytes.
     pub fn read_value<D: Disk>(&self, disk: &D, slot: u32, out: &mut [u8]) -> Result<(), D::Fault>
         requires slot { slot < 4 * self.now.shape.buckets }
         requires out { length out.old ≡ self.now.shape.value_len }
@@ -247,11 +248,11 @@ impl HashStore {
         self.region.read_value(disk, slot, out)
     }
 
-    /// Reads the bytes of so many slots from a slot on, in one read.
+    /// Reads the bytes of this many slots from a slot on, in one read.
     ///
     /// # Errors
     ///
-    /// The fault of the read. The bytes of `out` are then open.
+    /// The fault of the read. `out` may then hold any bytes.
     pub fn read_slots<D: Disk>(
         &self,
         disk: &D,
@@ -269,7 +270,7 @@ impl HashStore {
         self.region.read_slots(disk, slot, count, out)
     }
 
-    /// The kind and the key of the row in a slot, none where the slot is empty or its kind is unknown. Its head is read. It takes
+    /// The kind and the key of the row in a slot. `None` if the slot is empty or its kind is unknown. It reads the head, and allocates
     /// no memory.
     ///
     /// # Errors
@@ -291,14 +292,14 @@ impl HashStore {
         }
     }
 
-    /// A store of what is on the device, in one pass over the slots: they are read once, in reads of at most 64 KiB, and for each row
-    /// the heads of the earlier slots of its buckets whose tags fit, at most eight. It takes two bytes a slot, and what one read has
-    /// for as long as it runs.
+    /// Rebuilds a store from the device, in one pass over the slots. It reads them once, in reads of at most 64 KiB. For each row it
+    /// also reads the heads of the earlier slots of the row's buckets whose tags match, at most eight. It takes two bytes a slot, and,
+    /// while it runs, the bytes of one read.
     ///
     /// # Errors
     ///
-    /// `Damaged` with the first slot that has an unknown kind, a row that belongs into other buckets, or a row of a key that an
-    /// earlier slot has. `Device` with the fault of a read, and `NoMemory`.
+    /// `Damaged` with the first slot that has an unknown kind, a row that belongs in other buckets, or a row of a key that an earlier
+    /// slot has. `Device` with the fault of a read, and `NoMemory`.
     pub fn rebuild<D: Disk>(
         alloc: Global,
         disk: &D,

@@ -13,7 +13,7 @@ use silt_disk::Disk;
 use silt_frame::{Key, Kind};
 use silt_log::Found;
 
-// The kind of a head, where it is that of a row with the key.
+// The kind of a head, if the head is that of a row with the key.
 fn kind_with_key(head: Head, key: &Key) -> Option<Kind>
     ensures { (row : StoredRow) → HeadSays row.kind row.key head → MatchesKey row key.now.0 result }
 {
@@ -23,8 +23,8 @@ fn kind_with_key(head: Head, key: &Key) -> Option<Kind>
     }
 }
 
-// The kind of the row in a slot, where the slot has this tag and the row has the key. A slot with another tag is not read, and of one
-// with the tag the front, as many bytes as `front` has.
+// The kind of the row in a slot, if the slot has this tag and the row has the key. A slot with another tag is not read. Of one with
+// the tag it reads the front, as many bytes as `front` is long.
 fn match_at<D: Disk>(
     region: &HashRegion,
     tags: &Tags,
@@ -51,8 +51,8 @@ fn match_at<D: Disk>(
     Ok(kind_with_key(head, key))
 }
 
-/// The row of a key among the slots of a bucket that have this tag: the front is read of each up to it, as many bytes as `front` has.
-/// Where that is room for a whole row, the value of the row that has the key then stands in it.
+/// The row of a key among the slots of a bucket that have this tag. It reads the front of each up to that one, as many bytes as
+/// `front` is long. If `front` has room for a whole row, it then holds the value of the row with the key.
 pub fn find_in<D: Disk>(
     region: &HashRegion,
     tags: &Tags,

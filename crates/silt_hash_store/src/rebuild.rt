@@ -1,4 +1,4 @@
-// A hash store from what is on the device.
+// A hash store rebuilt from the device.
 ghost use Rattle.std.specs.Prelude.{◌≡◌, ◌+◌, ◌*◌, ◌<◌, ◌≤◌, ◌^◌, false, IsTrue, IfOk, IfErr, IfSome, OnOk, length};
 ghost use Rattle.sha1.specs.Sha1.{sha1};
 ghost use Rattle.silt_disk.specs.Disk.{GaveAny, size};
@@ -20,7 +20,7 @@ use silt_frame::{Digest, HEAD_LEN, Key, Kind};
 use silt_log::ScanError;
 use std::alloc::Global;
 
-/// How many bytes one read of a rebuild has at most.
+/// The greatest length of one read of a rebuild, in bytes.
 const READ_LEN: usize = 65_536;
 
 /// A hash store that was rebuilt, and how many rows of known kinds it has.
@@ -30,7 +30,7 @@ pub struct Rebuilt {
     pub rows: u32,
 }
 
-// The tag of a key in a slot, none where the slot lies in neither of the key's buckets.
+// The tag of a key in a slot. `None` if the slot lies in neither of the key's buckets.
 fn tag_for(region: &HashRegion, slot: u32, key: &Key) -> Option<u32>
     ensures tag { TagsKey region.now.geometry slot key.now.0 result }
     ensures below { IfSome result (λ tag. tag < region.now.geometry.buckets) }
@@ -77,7 +77,7 @@ impl HashStore {
         }
     }
 
-    // What a slot with this head adds to a store of the slots before it: nothing where it is empty, else the kind and the tag of its row.
+    // What a slot with this head adds to a store of the slots before it: nothing if it is empty, else the kind and the tag of its row.
     fn examine<D: Disk>(
         &self,
         disk: &D,
@@ -104,7 +104,7 @@ impl HashStore {
 }
 
 impl Rebuilt {
-    // Takes what a slot adds.
+    // Adds what a slot adds.
     fn take(&mut self, slot: u32, added: Option<(Kind, u32)>)
         requires slot { slot < 4 * self.old.store.shape.buckets }
         requires tag { IfSome added (λ a. a.1 < 2 ^ 15) }
@@ -119,7 +119,7 @@ impl Rebuilt {
         }
     }
 
-    // Takes what the next slot adds, which has this head.
+    // Adds the next slot, which has this head.
     fn add_slot<D: Disk>(
         &mut self,
         disk: &D,
@@ -143,7 +143,7 @@ impl Rebuilt {
         Ok(())
     }
 
-    // Takes what so many slots from a slot on add, whose bytes these are, `len` bytes each.
+    // Adds this many slots from a slot on, from their bytes, `len` bytes each.
     fn add_slots<D: Disk>(
         &mut self,
         disk: &D,
@@ -174,8 +174,8 @@ impl Rebuilt {
         Ok(())
     }
 
-    // Reads so many slots from a slot on into a buffer of just their length, `len` bytes each, feeds the hasher what was read, and takes
-    // what the slots add.
+    // Reads this many slots from a slot on into a buffer of exactly their length, `len` bytes each. Feeds the bytes to the hasher, and
+    // adds the slots.
     fn add_read<D: Disk>(
         &mut self,
         disk: &D,
@@ -207,7 +207,7 @@ impl Rebuilt {
         self.add_slots(disk, first, count, len, buffer)
     }
 
-    // Takes what all slots add, read into a buffer that has room for `most` of them, `len` bytes each. The digest of all of them.
+    // Adds all slots, read into a buffer with room for `most` of them, `len` bytes each. Returns the digest of all of them.
     fn add_all<D: Disk>(
         &mut self,
         disk: &D,

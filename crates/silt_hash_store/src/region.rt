@@ -1,4 +1,4 @@
-// A hash region on a device: where its slots lie, and how one is read or written.
+// A hash region on a device: the offsets of its slots, and how to read or write one.
 ghost use Rattle.std.specs.Prelude.{◌≡◌, ◌+◌, ◌*◌, ◌<◌, ◌≤◌, ◌^◌, length, drop, slice_index, IsTrue, IfOk, IfErr, OnOk, MatchResult};
 ghost use Rattle.silt_disk.specs.Disk.{ChangesWithin, CountsFault, GaveAny, size};
 ghost use Rattle.silt_disk.specs.Layout.{device_size, row_len};
@@ -10,7 +10,7 @@ ghost use Rattle.silt_frame.specs.Frame.{head_len};
 use silt_disk::{Disk, Geometry};
 use silt_frame::{HEAD_LEN, Key, Kind, Row, head_of};
 
-/// What the head of a slot says.
+/// The content of a slot's head.
 #[derive(Clone, Copy)]
 pub enum Head {
     /// The slot is empty: its kind byte is 0.
@@ -29,7 +29,7 @@ pub struct HashRegion {
     ghost there: { number < geometry.hashes },
 }
 
-// What the bytes of a head say.
+// Decodes the bytes of a head.
 fn head_said(bytes: &[u8; HEAD_LEN]) -> Head
     ensures { HeadSays (slice_index bytes.now 0) (drop 1 bytes.now) result }
 {
@@ -42,7 +42,7 @@ fn head_said(bytes: &[u8; HEAD_LEN]) -> Head
     }
 }
 
-/// What the head of the slot with these bytes says.
+/// Decodes the head of a slot from the slot's bytes.
 pub fn head_in(bytes: &[u8]) -> Head
     requires { head_len ≤ length bytes.now }
     ensures { HeadSays (row_of bytes.now).kind (row_of bytes.now).key result }
@@ -52,7 +52,7 @@ pub fn head_in(bytes: &[u8]) -> Head
     head_said(&head)
 }
 
-/// The kind and the key of the row that the bytes of a slot of this number hold, none where the slot is empty or its kind is unknown.
+/// The kind and the key of the row in the bytes of the slot of this number. `None` if the slot is empty or its kind is unknown.
 pub fn row_in(bytes: &[u8], slot: u32) -> Option<Row>
     requires { head_len ≤ length bytes.now }
     ensures { IsRowAt (row_of bytes.now) slot result }
@@ -68,7 +68,7 @@ pub fn row_in(bytes: &[u8], slot: u32) -> Option<Row>
 }
 
 impl HashRegion {
-    /// How many slots there are.
+    /// The number of slots.
     pub fn slot_count(&self) -> u32
         ensures count { result ≡ 4 * self.now.geometry.buckets }
         ensures most { result ≤ 2 ^ 17 }
@@ -104,12 +104,12 @@ impl HashRegion {
         Ok(head_said(&head))
     }
 
-    /// Reads the first bytes of a slot, as many as `out` has: what the head that stands there says. Where `out` has room for a whole
-    /// row, the value of the row stands behind the head.
+    /// Reads the first bytes of a slot, as many as `out` is long, and decodes the head. If `out` has room for a whole row, the value of
+    /// the row follows the head.
     ///
     /// # Errors
     ///
-    /// The fault of the read. The bytes of `out` are then open.
+    /// The fault of the read. `out` may then hold any bytes.
     pub fn read_front<D: Disk>(&self, disk: &D, slot: u32, out: &mut [u8]) -> Result<Head, D::Fault>
         requires slot { slot < 4 * self.now.geometry.buckets }
         requires least { head_len ≤ length out.old }
@@ -132,7 +132,7 @@ impl HashRegion {
     ///
     /// # Errors
     ///
-    /// The fault of the read. The bytes of `out` are then open.
+    /// The fault of the read. `out` may then hold any bytes.
     pub fn read_value<D: Disk>(&self, disk: &D, slot: u32, out: &mut [u8]) -> Result<(), D::Fault>
         requires slot { slot < 4 * self.now.geometry.buckets }
         requires out { length out.old ≡ self.now.geometry.value_len }
@@ -144,11 +144,11 @@ impl HashRegion {
         Ok(())
     }
 
-    /// Reads the bytes of so many slots from a slot on, in one read.
+    /// Reads the bytes of this many slots from a slot on, in one read.
     ///
     /// # Errors
     ///
-    /// The fault of the read. The bytes of `rows` are then open.
+    /// The fault of the read. `rows` may then hold any bytes.
     pub fn read_slots<D: Disk>(
         &self,
         disk: &D,
@@ -171,7 +171,7 @@ impl HashRegion {
     ///
     /// # Errors
     ///
-    /// The fault of the write. What the slot then shows is open.
+    /// The fault of the write. The slot may then show any bytes.
     pub fn write_slot<D: Disk>(&self, disk: &mut D, slot: u32, row: &[u8]) -> Result<(), D::Fault>
         requires slot { slot < 4 * self.now.geometry.buckets }
         requires row { length row.now ≡ row_len self.now.geometry }

@@ -5,7 +5,7 @@ ghost use Rattle.silt_hash_store.specs.Slots.{slot_tag};
 use std::alloc::{AllocError, Global};
 use std::marker::Model;
 
-// The number that stands for no tag. Every tag is the number of a bucket, and so below it.
+// The number that means no tag. Every tag is the number of a bucket, and so less than it.
 const NO_TAG: u16 = 0xFFFF;
 
 /// The tag of each slot, or none.
@@ -24,11 +24,11 @@ impl Model for Tags {
 }
 
 impl Tags {
-    /// So many slots without a tag.
+    /// This many slots without a tag.
     ///
     /// # Errors
     ///
-    /// Where the tags find no memory.
+    /// Out of memory: the tags could not be allocated.
     pub fn new(alloc: Global, slots: u32) -> Result<Self, AllocError>
         ensures { IfOk result (λ tags. tags ≡ replicate slots None) }
     {
@@ -36,7 +36,7 @@ impl Tags {
         Ok(Tags { numbers })
     }
 
-    /// The tag of a slot, none where it has none or is past the last.
+    /// The tag of a slot. `None` if it has none or is past the last one.
     pub fn get(&self, slot: u32) -> Option<u32>
         ensures { result ≡ slot_tag self.now slot }
     {
@@ -46,7 +46,7 @@ impl Tags {
         }
     }
 
-    /// A slot gets this tag.
+    /// Gives a slot this tag.
     pub fn set(&mut self, slot: u32, tag: u32)
         requires slot { slot < length self.old }
         requires tag { tag < 2 ^ 15 }

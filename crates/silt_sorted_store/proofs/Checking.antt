@@ -1,4 +1,4 @@
--- A walk over the keys of entries: what is found in the entries so far, and which keys the index has.
+-- A walk over the keys of entries: the findings so far, and which keys the index has.
 use Rattle.std.proofs.Common.{◌≡◌, ℕ, ◌+◌, ◌-◌, ◌<◌, Bool, true, false, not, List, [], ◌∷◌, ◌++◌, length, take, slice_get, Option, Some, None, inl, inr, refl, sym, subst, ap, ◌∙◌, arith}
 use Rattle.std.proofs.lemmas.Bool.{cases_lt}
 use Rattle.std.proofs.lemmas.List.{length-map, take_all, take_more}
@@ -26,7 +26,7 @@ module _ (rows : List StoredRow) (place : ℕ) where
   last_decides : (last key : List ℕ) (test : Bool) → key_at rows (place - 1) ≡ last → key_at rows place ≡ key → is_key_below last key ≡ test → is_key_below (key_at rows (place - 1)) (key_at rows place) ≡ test
   last_decides last key test before is decides = ap (λ k. is_key_below k (key_at rows place)) before ∙ ap (is_key_below last) is ∙ decides
 
-  -- nothing is found in an entry whose key is above the last one
+  -- there is no finding at an entry whose key is greater than the last one
   fine_here : (last : Option Key) (key : List ℕ) → IsKeyBefore rows place last → 0 < place → key_at rows place ≡ key → is_above last key ≡ true → entry_findings rows place ≡ []
   fine_here None key before least is above = absurd (omega (arith, before))
   fine_here (Some last) key before least is above = nothing_where_passes _ (Damaged (Sorted place)) (last_decides last.0 key true before.1 is above)
@@ -41,7 +41,7 @@ module _ (rows : List StoredRow) (place : ℕ) where
       (found_where_fails (is_key_below (key_at rows (place - 1)) (key_at rows place)) (Damaged (Sorted place)) (last_decides last.0 key false before.1 is fails))
 
 module _ (rows : List StoredRow) where
-  -- no key was taken up yet
+  -- no key was taken yet
   pub indexing_none : (builder : Building) → IsBuildingOf [] builder → builder.last ≡ None → IsIndexing rows 0 builder
   indexing_none builder empty none = record {
     built = empty;
@@ -49,7 +49,7 @@ module _ (rows : List StoredRow) where
     fine = λ earlier least below. absurd (omega arith);
   }
 
-  -- a key more was taken up
+  -- one more key was taken
   pub indexing_more : (place : ℕ) (old new : Building) (key : Key) → place < length rows → IsIndexing rows place old → key_at rows place ≡ key.0 → is_above old.last key.0 ≡ true
       → ((keys : List (List ℕ)) → IsBuildingOf keys old → IsBuildingOf (keys ++ key.0 ∷ []) new) → new.last ≡ Some key → IsIndexing rows (place + 1) new
   indexing_more place old new key inside so_far is above builds last =
@@ -72,7 +72,7 @@ module _ (rows : List StoredRow) where
   pub indexing_refused : (place : ℕ) (builder : Building) (key : List ℕ) → place < length rows → IsIndexing rows place builder → key_at rows place ≡ key → is_above builder.last key ≡ false → IsFirstOutOfOrder rows place
   indexing_refused place builder key inside so_far is fails = damaged_here rows place builder.last key inside so_far.fine so_far.last is fails
 
-  -- nothing is found in entries whose keys were all taken up
+  -- there is no finding in entries whose keys were all taken
   pub indexing_fine : (place : ℕ) (builder : Building) → length rows ≡ place → IsIndexing rows place builder → sorted_findings rows ≡ []
   unfolding sorted_findings
   indexing_fine place builder long all = none_of_all (entry_findings rows) 1 (length rows - 1) (λ other low high. all.fine other low (omega (arith, low, high, long)))

@@ -51,7 +51,7 @@ module _ (rows : List StoredRow) (place count len : ℕ) (bytes : List ℕ) (hol
   pub bytes_of_chunk : length bytes ≡ count * len → entries_bytes (take (place + count) rows) ≡ entries_bytes (take place rows) ++ bytes
   bytes_of_chunk long = bytes_upto count (omega arith) ∙ ap (λ l. entries_bytes (take place rows) ++ l) (take_all (count * len) bytes (omega (arith, long)))
 
--- the bytes of the entries of a region are what stands there
+-- the bytes of the entries of a region are the device's bytes there
 pub entries_bytes_law : EntriesBytesLaw
 entries_bytes_law shape region count image fits =
     let at : ℕ = sorted_at shape region in

@@ -1,4 +1,4 @@
--- What a change of the disk leaves of the entries of a sorted region.
+-- The entries of a sorted region after a change of the disk.
 use Rattle.std.proofs.Common.{◌≡◌, ℕ, ◌+◌, ◌*◌, ◌<◌, ◌≤◌, IsTrue, List, [], ◌∷◌, ◌++◌, length, slice_range, inl, inr, sym, subst, ap, ◌∙◌, arith}
 use Rattle.std.proofs.lemmas.List.FromFn.{map-range_with_len_more}
 use Rattle.silt_disk.specs.Disk.{LiesOutside, Torn}
@@ -57,12 +57,12 @@ entries_elsewhere store old new at count held fits outside changes honest =
     let ends = entries_inside store.shape store.region held.region in
     entries_outside store.shape store.region store.count at count old.shown new.shown (omega (arith, ends)) held.room outside (changes.shown was)
 
--- what is the index of entries is so after a change outside them
+-- an index of entries is still theirs after a change outside them
 pub indexed_elsewhere : IndexedElsewhereLaw
 indexed_elsewhere store index old new at count held fits outside changes indexed = λ honest.
     subst (λ rows. IsIndexOf rows index) (sym (entries_elsewhere store old new at count held fits outside changes honest)) (indexed (sym changes.honest ∙ honest))
 
--- what is the digest of entries is so after a change outside them
+-- a digest of entries is still theirs after a change outside them
 pub digest_elsewhere : DigestElsewhereLaw
 digest_elsewhere store digest old new at count held fits outside changes digested = λ honest.
     digested (sym changes.honest ∙ honest) ∙ ap (λ rows. sha1 (entries_bytes rows)) (sym (entries_elsewhere store old new at count held fits outside changes honest))

@@ -1,4 +1,4 @@
--- The place that an index names for a key, and what a look at the row there tells.
+-- The place that an index names for a key, and what the row there means for the look-up.
 use Rattle.std.proofs.Common.{◌≡◌, ◌≢◌, ℕ, ◌<◌, ◌≤◌, Bool, true, false, not, inl, inr, List, [], length, take, drop, slice_get, Option, Some, None, sym, ap, ◌∙◌, arith}
 use Rattle.std.specs.Str.{bytes_eq}
 use Rattle.std.proofs.lemmas.Bool.{cases_Bool}
@@ -27,11 +27,11 @@ module _ (rows : List StoredRow) (key : List ℕ) where
       let same : place ≡ other = cc in
       absurd (omega (arith, same, inside, outside))
 
-  -- where no place is named no row has the key
+  -- if no place is named, no row has the key
   pub none_named : IsPlaceOfKey rows key None → HasNoEntry rows key
   none_named named = λ place inside at. let is = named place inside at in absurd (cc)
 
-  -- nor where the row at the place that is named has another
+  -- nor if the row at the named place has another
   pub other_named : (place : ℕ) → IsPlaceOfKey rows key (Some place) → key_at rows place ≢ key → HasNoEntry rows key
   other_named place named other = λ standing inside at.
       let is = named standing inside at in
@@ -56,7 +56,7 @@ module _ (rows : List StoredRow) (key : List ℕ) where
   pub value_here : (place : ℕ) (value : List ℕ) → sorted_findings rows ≡ [] → HasKeyAndValue rows place key value → HasOnlyValue rows key value
   value_here place value none has = (place, has.0, only_row place has.0 none has.1 has.2, has.3)
 
--- ---- what a test of two keys tells
+-- ---- what a comparison of two keys means
 
 module _ (a b : List ℕ) (test : Bool) (tests : test ≡ not (bytes_eq a b)) where
   -- they differ
@@ -70,7 +70,7 @@ module _ (a b : List ℕ) (test : Bool) (tests : test ≡ not (bytes_eq a b)) wh
     | inr other ↦ absurd (cc)
   ]
 
--- ---- what reads of an entry tell
+-- ---- what reads of an entry mean
 
 module _ (rows : List StoredRow) (place : ℕ) where
   -- the key of the entry that has these bytes

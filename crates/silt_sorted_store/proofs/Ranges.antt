@@ -1,4 +1,4 @@
--- What comes of the numbers of a range.
+-- Lists made of the numbers of a range.
 use Rattle.std.proofs.Common.{◌≡◌, ℕ, zero, suc, ◌+◌, ◌<◌, ◌≤◌, List, [], ◌∷◌, ◌++◌, flat_map, slice_get, Some, inl, inr, refl, sym, ap, ◌∙◌, arith}
 use Rattle.std.specs.List.{range_with_len}
 use Rattle.std.proofs.lemmas.Bool.{cases_eq}
@@ -9,7 +9,7 @@ first_of_front : {X : Type 0} (xs ys : List X) (x : X) → slice_get xs 0 ≡ So
 first_of_front [] ys x first = absurd (cc)
 first_of_front (y ∷ xs) ys x first = first
 
--- where nothing comes of all, nothing comes of each
+-- if the whole list is empty, each part is
 pub none_of_each : {X : Type 0} (f : ℕ → List X) (from n : ℕ) → flat_map f (range_with_len from n) ≡ [] → (place : ℕ) → from ≤ place → place < from + n → f place ≡ []
 none_of_each f from zero none place low high = absurd (omega arith)
 none_of_each f from (suc n) none place low high =

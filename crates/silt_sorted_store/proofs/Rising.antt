@@ -18,19 +18,19 @@ use Rattle.silt_sorted_store.proofs.Ranges.{none_of_each}
 abbrev pub key_at : List StoredRow → ℕ → List ℕ
 key_at rows place = get_or (keys_of rows) place []
 
--- what the test of an order says
+-- what the test of an order means
 pub is_less : (o : Ordering) → is_lt o ≡ true → o ≡ Less
 is_less Less is = refl
 is_less Equal is = absurd (cc)
 is_less Greater is = absurd (cc)
 
--- a key does not lie below itself
+-- a key is not less than itself
 pub not_below_itself : (a b : List ℕ) → a ≡ b → slice_cmp nat_cmp a b ≡ Less → ⊥
 not_below_itself a b same below =
     let tied : slice_cmp nat_cmp a b ≡ Equal = ap (slice_cmp nat_cmp a) (sym same) ∙ tied_itself nat_list_cmp_total a in
     absurd (cc)
 
--- where nothing is found each key is above the one before it
+-- if there is no finding, each key is greater than the one before it
 pub next_above : (rows : List StoredRow) (place : ℕ) → sorted_findings rows ≡ [] → place + 1 < length rows → slice_cmp nat_cmp (key_at rows place) (key_at rows (place + 1)) ≡ Less
 unfolding sorted_findings
 next_above rows place none inside =
@@ -56,7 +56,7 @@ lower_below rows low high none lower inside =
     let here : low + (high - low - 1) + 1 ≡ high = omega arith in
     ap (λ (p : ℕ). slice_cmp nat_cmp (key_at rows low) (key_at rows p)) (sym here) ∙ rising rows low (high - low - 1) none (omega arith)
 
--- a key stands at one place
+-- a key has one place
 pub one_place : (rows : List StoredRow) (place other : ℕ) → sorted_findings rows ≡ [] → place < length rows → other < length rows → key_at rows place ≡ key_at rows other → place ≡ other
 one_place rows place other none inside_place inside_other same = elim (cases_order place other) [
   | inl one ↦ one
@@ -64,7 +64,7 @@ one_place rows place other none inside_place inside_other same = elim (cases_ord
   | inr (inr higher) ↦ absurd (not_below_itself _ _ (sym same) (lower_below rows other place none higher inside_place))
 ]
 
--- rows in which nothing is found rise
+-- rows without a finding rise
 pub rising_law : RisingLaw
 rising_law rows none = record {
   below = λ low high lower inside. ap is_lt (lower_below rows low high none lower inside);

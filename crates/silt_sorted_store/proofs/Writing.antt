@@ -1,4 +1,4 @@
--- What the write of an entry leaves.
+-- The disk after the write of an entry.
 use Rattle.std.proofs.Common.{◌≡◌, ℕ, ◌+◌, ◌*◌, ◌<◌, ◌≤◌, Bool, true, false, IsTrue, List, [], ◌∷◌, ◌++◌, length, take, slice_range, sym, subst, ap, ◌∙◌, arith, append-nil}
 use Rattle.std.proofs.lemmas.List.{length-append, take-append-le, take_all}
 use Rattle.silt_disk.specs.Disk.{ChangesWithin, Content, Tears, Writes, size, splice}
@@ -11,14 +11,14 @@ use Rattle.silt_sorted_store.proofs.Elsewhere.{entries_before, entries_inside, e
 use Rattle.silt_sorted_store.proofs.Entries.{entry_count, part_inside}
 
 module _ (s : Shape) (region place : ℕ) where
-  -- where nothing is due, nothing is written
+  -- if there is no entry to write, nothing is written
   pub none_due : (image bytes : List ℕ) (due : Bool) → place ≤ s.sorted_capacity → due ≡ false → sorted_rows s region place image ≡ take s.sorted_capacity (sorted_rows s region place image ++ due_rows due bytes)
   none_due image bytes due most none =
       let rows : List StoredRow = sorted_rows s region place image in
       let long = entry_count s region place image in
       sym (ap (λ d. take s.sorted_capacity (rows ++ due_rows d bytes)) none ∙ ap (take s.sorted_capacity) (append-nil rows) ∙ take_all s.sorted_capacity rows (omega (arith, long)))
 
-  -- nor where the region is full
+  -- nor if the region is full
   pub none_more : (image bytes : List ℕ) (due : Bool) → place ≡ s.sorted_capacity → sorted_rows s region place image ≡ take s.sorted_capacity (sorted_rows s region place image ++ due_rows due bytes)
   none_more image bytes due full =
       let rows : List StoredRow = sorted_rows s region place image in

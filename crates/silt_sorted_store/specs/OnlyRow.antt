@@ -12,7 +12,7 @@ pub record IsOnlyRow (rows : List StoredRow) (key : List ℕ) (place : ℕ) (row
 abbrev pub HasNoEntry : List StoredRow → List ℕ → Type 0
 HasNoEntry rows key = (place : ℕ) → place < length rows → get_or (keys_of rows) place [] ≢ key
 
--- what is found is the place of the key's one row, and nothing where no row has the key
+-- the result is the place of the key's one row, or none if no row has the key
 abbrev pub FindsEntry : List StoredRow → List ℕ → Option ℕ → Type 0
 FindsEntry rows key None = HasNoEntry rows key
 FindsEntry rows key (Some place) = (row : StoredRow) × IsOnlyRow rows key place row
@@ -29,6 +29,6 @@ HasKeyAndValue rows place key value = (row : StoredRow) × (slice_get rows place
 abbrev pub HasValue : List StoredRow → ℕ → List ℕ → Type 0
 HasValue rows place value = (row : StoredRow) × (slice_get rows place ≡ Some row) × (row.value ≡ value)
 
--- the row at this place is what these bytes stand for
+-- these bytes encode the row at this place
 abbrev pub HasEntry : List StoredRow → ℕ → List ℕ → Type 0
 HasEntry rows place bytes = slice_get rows place ≡ Some (entry_row bytes)

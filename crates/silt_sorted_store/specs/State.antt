@@ -12,13 +12,13 @@ sorted_rows shape region count image =
     map (λ place. entry_row (slice_range image (sorted_at shape region + place * entry_len shape) (sorted_at shape region + place * entry_len shape + entry_len shape)))
     (range_with_len 0 count)
 
--- so many entries of a sorted region
+-- this many entries of a sorted region
 pub record SortedState : Type 0 where
   pub shape : Shape
   pub region : ℕ
   pub count : ℕ
 
--- what holds of every sorted store, on any disk: its entries lie in one of the two regions
+-- the invariant of every sorted store, on any disk: its entries lie in one of the two regions
 pub record IsHeldSorted (store : SortedState) : Type 0 where
   pub region : store.region < 2
   pub room : store.count ≤ store.shape.sorted_capacity
@@ -31,6 +31,6 @@ sorted_entry_at shape region place = sorted_at shape region + place * entry_len 
 abbrev pub entries_of : Content → SortedState → List StoredRow
 entries_of content store = sorted_rows store.shape store.region store.count content.shown
 
--- on an honest disk the digest is that of the bytes of the entries
+-- if the disk is honest, the digest is that of the bytes of the entries
 abbrev pub HasDigest : Content → SortedState → List ℕ → Type 0
 HasDigest content store digest = IsTrue content.honest → digest ≡ sha1 (entries_bytes (entries_of content store))

@@ -1,10 +1,10 @@
 //! The sorted store of a device: entries of a key and a value in a sorted region, whose keys rise strictly, and their index.
 //!
-//! [`SortedEntries`] are the entries on the device: a region and how many there are. A [`SortedStore`] has them with an index in
-//! memory, the coded tries of their keys, which names the one place at which a key can stand: a look-up reads one key, and a get
-//! reads one entry. `rebuild` reads the entries once, in large reads, and refuses those that do not rise.
+//! [`SortedEntries`] are the entries on the device: a region and their number. A [`SortedStore`] adds an index in memory, the
+//! coded tries of their keys. The index names the only place where a key can be. So a look-up reads one key, and a get reads one
+//! entry. `rebuild` reads the entries once, in large reads, and refuses entries that do not rise.
 //!
-//! A store also has the SHA-1 digest of its entries' bytes. `rebuild` makes it of what it reads.
+//! A store also has the SHA-1 digest of its entries' bytes. `rebuild` computes it from what it reads.
 #![tactic(auto)]
 
 mod laws;

@@ -1,4 +1,4 @@
-// A rebuild of a sorted store's index and digest: a walk over the entries in large reads, which takes up each key where it rises.
+// A rebuild of a sorted store's index and digest. It reads the entries in large reads, and takes each key if it rises.
 ghost use Rattle.std.specs.Prelude.{◌≡◌, ◌+◌, ◌*◌, ◌<◌, ◌≤◌, ◌^◌, [], None, Ok, List, length, IsTrue, IfSome, IfOk, IfErr, OnOk};
 ghost use Rattle.silt_disk.specs.Disk.{GaveAny, size};
 ghost use Rattle.silt_disk.specs.Layout.{device_size, entry_len};
@@ -21,11 +21,11 @@ use silt_log::ScanError;
 use silt_trie::{MarkedTrie, MarkedTrieBuilder};
 use std::alloc::{AllocError, Global};
 
-/// How many bytes one read of a rebuild has at most.
+/// The greatest length of one read of a rebuild, in bytes.
 const READ_LEN: usize = 65_536;
 
-// Gives a builder the keys of some entries that stand from a place on, each `len` bytes long. The place of the first that is not
-// above the one before it: those before it were taken up.
+// Gives a builder the keys of some entries, from a place on, each entry `len` bytes long. Returns the place of the first key that
+// is not greater than the one before it. The builder has taken those before it.
 fn take_keys(
     builder: &mut MarkedTrieBuilder,
     bytes: &[u8],
@@ -52,7 +52,7 @@ fn take_keys(
     Ok(None)
 }
 
-// Gives a builder the keys of all entries, and a hasher their bytes, read into a buffer that has room for `most` entries.
+// Gives a builder the keys of all entries, and a hasher their bytes. It reads into a buffer with room for `most` entries.
 fn take_entries<D: Disk>(
     builder: &mut MarkedTrieBuilder,
     hasher: &mut Sha1,
@@ -93,7 +93,7 @@ fn take_entries<D: Disk>(
     Ok(())
 }
 
-// The index of entries, where they rise strictly. It gives a hasher their bytes.
+// The index of entries, if they rise strictly. Gives a hasher their bytes.
 pub fn index_entries<D: Disk>(
     alloc: Global,
     disk: &D,

@@ -1,4 +1,4 @@
-// A sorted region on a device: where its entries lie, and how one is written.
+// A sorted region on a device: the offsets of its entries, and how to write one.
 ghost use Rattle.std.specs.Prelude.{◌≡◌, ◌+◌, ◌*◌, ◌<◌, ◌≤◌, ◌^◌, ◌++◌, length, take, IsTrue, IfOk, MatchResult};
 ghost use Rattle.silt_disk.specs.Disk.{ChangesWithin, CountsFault, size};
 ghost use Rattle.silt_disk.specs.Layout.{device_size, entry_len, sorted_at};
@@ -26,11 +26,11 @@ impl SortedRegion {
         self.geometry.sorted_at(self.number) + u64::from(place) * self.geometry.entry_len() as u64
     }
 
-    /// Writes the bytes of an entry at a place where they are due and the region has the place. How many entries there are then.
+    /// Writes the bytes of an entry at a place, if there are any to write and the region has the place. Returns the new number of entries.
     ///
     /// # Errors
     ///
-    /// The fault of the write. What the entry at the place then shows is open.
+    /// The fault of the write. The entry at the place may then show any bytes.
     pub fn write_due<D: Disk>(
         &self,
         disk: &mut D,

@@ -9,12 +9,12 @@ use silt_disk::{Disk, Geometry};
 use silt_frame::{KEY_LEN, Key, entry_of};
 use std::marker::Model;
 
-/// How many bytes an entry has at most that is read whole for its value.
+/// The greatest length of an entry, in bytes, that is read whole for its value.
 const WHOLE_LEN: usize = 512;
 
-/// The entries of a sorted region: so many, strictly rising by key.
+/// The entries of a sorted region: their number, and keys that rise strictly.
 ///
-/// On a disk that is not honest, and where the entries do not rise, its calls are safe and end.
+/// Its calls are safe and end even if the disk is not honest (does not obey the crash model) or the entries do not rise.
 #[derive(Drop)]
 pub struct SortedEntries {
     region: SortedRegion,
@@ -37,7 +37,7 @@ impl SortedEntries {
     ghost use Rattle.silt_sorted_store.specs.Indexing.{HoldsEntries, HoldsKeys};
     ghost use Rattle.silt_frame.specs.Frame.{key_len};
 
-    /// The first `count` entries of this region, with no look at the device.
+    /// The first `count` entries of this region. It does not read the device.
     pub fn new(geometry: Geometry, region: u32, count: u32) -> Self
         requires region { region < 2 }
         requires count { count ≤ geometry.sorted_capacity }
@@ -67,7 +67,7 @@ impl SortedEntries {
         self.region.number
     }
 
-    /// How many entries there are.
+    /// The number of entries.
     pub fn len(&self) -> u32
         ensures value { result ≡ self.now.count }
         ensures held { IsHeldSorted self.now }
@@ -75,7 +75,7 @@ impl SortedEntries {
         self.count
     }
 
-    /// Whether there is no entry.
+    /// Whether there are no entries.
     pub fn is_empty(&self) -> bool
         ensures { result ≡ (self.now.count == 0) }
     {
@@ -108,7 +108,7 @@ impl SortedEntries {
     ///
     /// # Errors
     ///
-    /// The fault of the read. The bytes of `out` are then open.
+    /// The fault of the read. `out` may then hold any bytes.
     pub fn read_value<D: Disk>(&self, disk: &D, place: u32, out: &mut [u8]) -> Result<(), D::Fault>
         requires place { place < self.now.count }
         requires out { length out.old ≡ self.now.shape.value_len }
@@ -120,11 +120,11 @@ impl SortedEntries {
         Ok(())
     }
 
-    /// Reads the entry at a place in one read: its key, and into `out` the bytes of the key and of the value.
+    /// Reads the entry at a place in one read. Returns its key, and puts the bytes of key and value into `out`.
     ///
     /// # Errors
     ///
-    /// The fault of the read. The bytes of `out` are then open.
+    /// The fault of the read. `out` may then hold any bytes.
     pub fn entry<D: Disk>(&self, disk: &D, place: u32, out: &mut [u8]) -> Result<Key, D::Fault>
         requires place { place < self.now.count }
         requires out { length out.old ≡ entry_len self.now.shape }
@@ -139,11 +139,11 @@ impl SortedEntries {
         Ok(Key(key))
     }
 
-    /// Reads so many entries from a place on, in one read.
+    /// Reads this many entries from a place on, in one read.
     ///
     /// # Errors
     ///
-    /// The fault of the read. The bytes of `out` are then open.
+    /// The fault of the read. `out` may then hold any bytes.
     pub fn read_entries<D: Disk>(
         &self,
         disk: &D,
@@ -164,8 +164,8 @@ impl SortedEntries {
         Ok(())
     }
 
-    // Reads the value of the entry at a place into `out` where the entry has this key, and else leaves `out` as it is. Whether
-    // it has. It makes one read where an entry has at most 512 bytes, and else one of the key and one of the value.
+    // Reads the value of the entry at a place into `out` if the entry has this key, and else does not change `out`. Returns whether it
+    // has the key. It makes one read for an entry of at most 512 bytes, and else one of the key and one of the value.
     pub(crate) fn value_of<D: Disk>(
         &self,
         disk: &D,
@@ -190,7 +190,7 @@ impl SortedEntries {
         }
     }
 
-    // As `value_of`, by one read of the entry into a buffer of its length.
+    // Like `value_of`, with one read of the entry into a buffer of its length.
     fn value_by_entry<D: Disk>(
         &self,
         disk: &D,
@@ -216,7 +216,7 @@ impl SortedEntries {
         Ok(true)
     }
 
-    // As `value_of`, by a read of the key and one of the value.
+    // Like `value_of`, with a read of the key and one of the value.
     fn value_by_parts<D: Disk>(
         &self,
         disk: &D,

@@ -19,14 +19,14 @@ use silt_trie::{MarkedTrie, levels_for};
 use std::alloc::{AllocError, Global};
 use std::marker::Model;
 
-/// By how many of a key's first bits an index is in groups.
+/// The number of a key's first bits by which the index groups keys.
 const GROUP_BITS: usize = 8;
 
-/// The sorted store of a device: so many entries of a sorted region, strictly rising by key, the index of their keys, and the digest of
+/// The sorted store of a device: entries of a sorted region whose keys rise strictly, the index of their keys, and the digest of
 /// their bytes.
 ///
-/// On a disk that is not honest, where the entries do not rise, and where the index is not that of the entries, its calls are safe
-/// and end.
+/// Its calls are safe and end even if the disk is not honest (does not obey the crash model), the entries do not rise, or the index
+/// is not theirs.
 #[derive(Drop)]
 pub struct SortedStore {
     entries: SortedEntries,
@@ -49,7 +49,7 @@ impl SortedStore {
     ghost use Rattle.silt_sorted_store.specs.Rebuild.{IsFirstOutOfOrder};
     ghost use Rattle.silt_log.specs.Scans.{IsScanRefused};
 
-    /// The store of these entries, whose keys and digest these are, with no look at the device.
+    /// The store of these entries with these keys and this digest. It does not read the device.
     pub fn encode(
         alloc: Global,
         entries: SortedEntries,
@@ -98,7 +98,7 @@ impl SortedStore {
         self.entries.region()
     }
 
-    /// How many entries there are.
+    /// The number of entries.
     pub fn len(&self) -> u32
         ensures value { result ≡ self.now.sorted.count }
         ensures held { IsHeldSorted self.now.sorted }
@@ -106,14 +106,14 @@ impl SortedStore {
         self.entries.len()
     }
 
-    /// Whether there is no entry.
+    /// Whether there are no entries.
     pub fn is_empty(&self) -> bool
         ensures { result ≡ (self.now.sorted.count == 0) }
     {
         self.entries.is_empty()
     }
 
-    // The one place at which the index says that an entry can have this key.
+    // The only place at which an entry can have this key, by the index.
     fn locate(&self, key: &Key) -> Option<u32>
         ensures below { IfSome result (λ place. place < self.now.sorted.count) }
         ensures place { (rows : List StoredRow) → length rows ≡ self.now.sorted.count → IsIndexOf rows self.now.index → IsPlaceOfKey rows key.now.0 result }
@@ -124,7 +124,7 @@ impl SortedStore {
         if place < count { Some(place) } else { None }
     }
 
-    /// The place of the entry with this key, none where no entry has it. It reads one key, or none where the index has no place.
+    /// The place of the entry with this key. `None` if no entry has it. It reads one key, or none if the index has no place.
     ///
     /// # Errors
     ///
@@ -148,12 +148,12 @@ impl SortedStore {
         Ok(Some(place))
     }
 
-    /// Reads the value of the entry with this key into `out`, which stays where no entry has it. Whether one has. It makes one read
-    /// of an entry of at most 512 bytes, and else two; none where the index has no place.
+    /// Reads the value of the entry with this key into `out`. If no entry has the key, `out` does not change. Returns whether one has
+    /// it. It makes one read for an entry of at most 512 bytes, else two, and none if the index has no place.
     ///
     /// # Errors
     ///
-    /// The fault of a read. The bytes of `out` are then open.
+    /// The fault of a read. `out` may then hold any bytes.
     pub fn get<D: Disk>(&self, disk: &D, key: &Key, out: &mut [u8]) -> Result<bool, D::Fault>
         requires out { length out.old ≡ self.now.sorted.shape.value_len }
         requires size { device_size self.now.sorted.shape ≤ size (D.content disk.now) }
@@ -177,7 +177,7 @@ impl SortedStore {
     ///
     /// # Errors
     ///
-    /// The fault of the read. The bytes of `out` are then open.
+    /// The fault of the read. `out` may then hold any bytes.
     pub fn read_value<D: Disk>(&self, disk: &D, place: u32, out: &mut [u8]) -> Result<(), D::Fault>
         requires place { place < self.now.sorted.count }
         requires out { length out.old ≡ self.now.sorted.shape.value_len }
@@ -188,13 +188,13 @@ impl SortedStore {
         self.entries.read_value(disk, place, out)
     }
 
-    /// The first `count` entries of this region with their index and their digest, where they rise strictly: the entries are read once,
-    /// in reads of at most 64 KiB, up to the one that is not above the one before it.
+    /// The first `count` entries of this region with their index and their digest, if they rise strictly. It reads the entries once, in
+    /// reads of at most 64 KiB, up to the first one that is not greater than the one before it.
     ///
     /// # Errors
     ///
-    /// `Damaged` with the place of that entry, `Device` with the fault of a read, `NoMemory` where the index or what is read finds
-    /// no memory.
+    /// `Damaged` with the place of that entry, `Device` with the fault of a read, `NoMemory` if the index or the read buffer could not
+    /// be allocated.
     pub fn rebuild<D: Disk>(
         alloc: Global,
         disk: &D,

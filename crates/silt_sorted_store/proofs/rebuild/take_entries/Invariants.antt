@@ -5,7 +5,7 @@ use Rattle.silt_sorted_store.specs.Indexing.{IsIndexing}
 use Rattle.silt_sorted_store.specs.State.{entries_of}
 use Rattle.silt_sorted_store.proofs.rebuild.take_entries.Given as goal
 
--- the entries so far were taken up, and their bytes were digested
+-- the entries so far were taken, and their bytes were digested
 abbrev pub invariant-loop-place : goal.invariant-loop-place
 invariant-loop-place g l = record {
   upto : l.place ≤ l.entries.count;

@@ -3,7 +3,7 @@ use Rattle.silt_frame.specs.Rows.{StoredRow}
 use Rattle.silt_sorted_store.specs.Indexing.{HoldsKeys, IsIndexing}
 use Rattle.silt_sorted_store.proofs.rebuild.take_keys.Given as goal
 
--- the keys so far were taken up
+-- the keys so far were taken
 abbrev pub invariant-loop-i : goal.invariant-loop-i
 invariant-loop-i l = record {
   counted : l.builder.count ≡ l.first + l.i;
