@@ -102,7 +102,7 @@ module _ (store : HashState) (image : List ℕ) (count : ℕ) (is : IsTagged sto
       let turned : FindsIn store.shape store.region store.tags image second second key None = subst (λ (n : ℕ). FindsIn store.shape store.region store.tags image n second key None) one first_none in
       both_decide buckets first second None same first_is second_is first_none (subst (λ (n : ℕ). FindsIn store.shape store.region store.tags image second n key None) (sym one) turned)
 
--- a result with an equal one
+-- a weaker promise of a result that is Ok
 pub weaker_ok : {T E : Type 0} (r : Result T E) (P Q : T → Type 0) → ((x : T) → P x → Q x) → IfOk r P → IfOk r Q
 weaker_ok (Ok x) P Q step holds = step x holds
 weaker_ok (Err e) P Q step holds = tt

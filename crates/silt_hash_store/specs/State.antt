@@ -29,7 +29,7 @@ pub record IsTagged (store : HashState) (image : List ℕ) (count : ℕ) : Type 
   pub tagged : (slot : ℕ) → slot < count → slot_tag store.tags slot ≡ tag_of store.shape.buckets slot (slot_row store.shape store.region image slot)
   pub later : (slot : ℕ) → count ≤ slot → slot_tag store.tags slot ≡ None
 
--- a hash store that matches an honest disk: its slots have no finding, each slot has the tag of its row, and puts and digest are its rows'
+-- a hash store on a disk: if the disk is honest, no slot has a finding, each has its row's tag, and puts and digest are the rows'
 pub record IsHashStore (content : Content) (store : HashState) : Type 0 where
   pub sound : IsTrue content.honest → hash_findings store.shape (hash_part store.shape content.shown store.region) ≡ []
   pub tagged : IsTrue content.honest → (slot : ℕ) → slot < 4 * store.shape.buckets

@@ -62,7 +62,7 @@ pieces_apart base i j size different = elim (cases_order i j) [
   | inr (inr above) ↦ let h = next_region j i size above in inr (omega (arith, h))
 ]
 
--- where the regions end, over plain numbers
+-- the end of the regions, over plain numbers
 module _ (logs hashes log_len hash_len sorted_len : ℕ) where
   log_end : (region : ℕ) → region < logs → 12288 + region * log_len + log_len ≤ 12288 + logs * log_len
   log_end region below = omega (arith, next_region region logs log_len below)
@@ -217,14 +217,14 @@ stores_named_same s b before after there size fits same =
 
 -- ---- the manifest
 
--- one header and two slots that say the same
+-- one header, and two slots with the same records
 same_manifest : (s : Shape) (before after : List ℕ) → header_of after ≡ header_of before → open_record after 0 ≡ open_record before 0 → open_record after 1 ≡ open_record before 1 → manifest_found s after ≡ manifest_found s before
 same_manifest s before after header first second =
     ap (λ (bytes : List ℕ). record_found s (version_of bytes) (open_record after 0) (open_record after 1)) header
     ∙ ap (λ (held : Option SlotRecord). record_found s (version_of (header_of before)) held (open_record after 1)) first
     ∙ ap (λ (held : Option SlotRecord). record_found s (version_of (header_of before)) (open_record before 0) held) second
 
--- a change behind the slots leaves what they say
+-- a change after the slots leaves their records
 manifest_before : (s : Shape) (at count : ℕ) (before after : List ℕ) → 12288 ≤ at → 12288 ≤ length before → header_of after ≡ header_of before → Torn at count before after → manifest_found s after ≡ manifest_found s before
 manifest_before s at count before after low long header torn =
     same_manifest s before after header
@@ -265,7 +265,7 @@ frame_stores before after agree =
     ∙ ap (λ (header : List ℕ). stores_shaped after (shape_found (length before) header)) agree.header
     ∙ frame_shaped before after agree (shape_found (length before) (header_of before)) refl
 
--- and say the same digests of them
+-- and have the same digests in their manifests
 frame_digests : (before after : List ℕ) → Agree before after → image_digests after ≡ image_digests before
 unfolding image_digests
 frame_digests before after agree =
@@ -275,7 +275,7 @@ frame_digests before after agree =
 pub frame_law : FrameLaw
 frame_law before after agree = (frame_stores before after agree, frame_digests before after agree)
 
--- images with the same stores, that say the same digests of them, mean the same
+-- images with the same stores and the same digests in their manifests have the same meaning
 pub meaning_law : MeaningLaw
 unfolding image_verdict image_stands image_fits image_rows image_map image_charge
 meaning_law before after same said = record {
@@ -289,7 +289,7 @@ meaning_law before after same said = record {
 
 -- ---- changes
 
--- behind the manifest slots: the header and the body that rules stay
+-- after the manifest slots: the header and the current body stay
 pub stores_after : (at count : ℕ) (before after : List ℕ) (s other : Stores) → HasStores s before → 12288 ≤ at → Torn at count before after → other.shape ≡ s.shape → other.body ≡ s.body → other ≡ stores_named s.shape s.body after → image_stores after ≡ Ok other
 stores_after at count before after s other has low torn shape body named =
     let shaped = shape_parts (length before) (header_of before) s.shape has.shape in
@@ -411,7 +411,7 @@ free_sorted_law before after s region e below other torn =
           (pieces_apart (12288 + sh.logs * log_size sh + sh.hashes * hash_size sh) s.body.sorted region (sorted_size sh) (λ is. other (sym is)));
     })
 
--- after a change in a manifest slot the stores are those that the body then ruling names
+-- after a change in a manifest slot the stores are those that the new current body names
 pub manifest_law : ManifestLaw
 unfolding stores_named
 manifest_law before after s slot found e below torn rules =

@@ -37,7 +37,7 @@ out_of_limits len header long formatted out =
     second_fails (nat_le 37 len && is_formatted header) (is_in_limits (header_shape header)) (len == device_size (header_shape header)) (header_shape header)
     (and_from (nat_le 37 len) (is_formatted header) (test_at_most 37 len long) formatted) (false_from_ne_true (is_in_limits (header_shape header)) (λ is. out ((limits_law (header_shape header)).0 is)))
 
--- another length than the numbers say
+-- a length that is not the one of the numbers
 pub another_length : (len size : ℕ) (header : List ℕ) (shape : Shape) → 37 ≤ len → is_formatted header ≡ true → (shape ≡ header_shape header) × InLimits (header_shape header) → size ≡ device_size shape → len ≢ size → shape_found len header ≡ Err (Damaged Length)
 unfolding shape_found
 another_length len size header shape long formatted (same, limits) is other =

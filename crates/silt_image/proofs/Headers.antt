@@ -53,7 +53,7 @@ all_tests true true false shape p q r = absurd (cc)
 long_device : (shape : Shape) → 37 ≤ device_size shape
 long_device shape = omega arith
 
--- a device of the length that its header says has the header's shape
+-- a device of the length that its header gives has the header's shape
 pub formatted_law : FormattedLaw
 unfolding shape_found
 formatted_law shape limits =

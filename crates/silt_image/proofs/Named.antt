@@ -89,7 +89,7 @@ limits_law shape = (limits_of shape, in_limits shape)
 abbrev pub tested : Bool → Bool → Bool → Shape → Result Shape Finding
 tested formatted limited long shape = if not formatted then Err NotFormatted else if not limited then Err (Damaged Header) else if not long then Err (Damaged Length) else Ok shape
 
--- they all succeed where a shape is found
+-- they all succeed if a shape is found
 all_passed : (a b c : Bool) (found shape : Shape) → tested a b c found ≡ Ok shape → (a ≡ true) × (b ≡ true) × (c ≡ true) × (found ≡ shape)
 all_passed false b c found shape e = absurd (cc)
 all_passed true false c found shape e = absurd (cc)
@@ -161,13 +161,13 @@ greater_sound s version (Some a) (Some b) found s0 s1 e = go (nat_lt a.body.gene
 abbrev pub ruled : Bool → Bool → Result SlotRecord Damage → Result SlotRecord Damage
 ruled first second found = if not first then Err (damage.Slot 0) else if not second then Err (damage.Slot 1) else found
 
--- they succeed where a record is found
+-- they succeed if a record is found
 both_sound : (a b : Bool) (r : Result SlotRecord Damage) (found : SlotRecord) → ruled a b r ≡ Ok found → (a ≡ true) × (b ≡ true) × (r ≡ Ok found)
 both_sound false b r found e = absurd (cc)
 both_sound true false r found e = absurd (cc)
 both_sound true true r found e = (refl, refl, e)
 
--- the body that rules is well formed
+-- the current body is well formed
 pub ruling_sound : (s : Shape) (image : List ℕ) (found : SlotRecord) → manifest_found s image ≡ Ok found → is_well_formed s (found.body.generation % 2) found.body ≡ true
 unfolding record_found
 ruling_sound s image found e =
@@ -211,7 +211,7 @@ from_shaped : (image : List ℕ) (s : Stores) (r : Result Shape Finding) → sha
 from_shaped image s (Err finding) has e = absurd (cc)
 from_shaped image s (Ok shape) has e = from_ruled image s shape has (manifest_found shape image) refl e
 
--- an image has stores exactly where its shape, its ruling body and what that names are theirs
+-- an image has these stores exactly if its shape and its current body are theirs, and the regions that the body names have their rows
 pub stores_law : StoresLaw
 unfolding image_stores
 stores_law image s = (
@@ -261,7 +261,7 @@ whole_law image s e =
       names = λ region. ap (list_any (λ (part : Part). part.region == region)) logs ∙ any_part s.shape image region (s.body.active ∷ s.body.frozen);
     }
 
--- the digests of an image with stores are those behind the ruling body
+-- the digests of an image with stores are those after the current body
 pub digests_law : DigestsLaw
 unfolding image_digests
 digests_law image s found e rules = ap (λ (t : Shape). digests_found (manifest_found t image)) (whole_law image s e).has_shape ∙ ap digests_found rules

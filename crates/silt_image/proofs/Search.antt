@@ -24,7 +24,7 @@ first_of_front : {X : Type 0} (xs ys : List X) (x : X) → slice_get xs 0 ≡ So
 first_of_front [] ys x e = absurd (cc)
 first_of_front (y ∷ xs) ys x e = e
 
--- behind nothing too
+-- after nothing too
 first_behind : {X : Type 0} (xs ys : List X) (x : X) → xs ≡ [] → slice_get ys 0 ≡ Some x → slice_get (xs ++ ys) 0 ≡ Some x
 first_behind xs ys x none e = ap (λ l. slice_get (l ++ ys) 0) none ∙ e
 
@@ -123,7 +123,7 @@ first_entry_law image s finding e logs hashes found =
     (first_behind (flat_map (log_findings s.shape) s.logs ++ all) entries finding
     (nothing_both (flat_map (log_findings s.shape) s.logs) all logs hashes) found)
 
--- where nothing else is found, and there are more puts than the store may hold, that is the verdict
+-- if there is no other finding, and there are more puts than the store may hold, that is the verdict
 pub charge_found_law : ChargeFoundLaw
 unfolding store_findings
 charge_found_law image s e logs hashes entries many =

@@ -1,4 +1,4 @@
--- When nothing is found in stores.
+-- When stores have no finding.
 use Rattle.std.proofs.Common.{◌≡◌, ℕ, zero, suc, ◌+◌, ◌≤◌, ◌==◌, Bool, true, false, nat_lt, List, [], ◌∷◌, ◌++◌, map, take, drop, flat_map, slice_get, Option, Some, None, refl, sym, ap, ◌∙◌, subst, arith, append_assoc, take-append-drop}
 use Rattle.std.specs.List.{enumerate_from}
 use Rattle.std.specs.Option.{ForSome}
@@ -28,14 +28,14 @@ use Rattle.silt_log_store.proofs.Findings.{AreFine, fine_of, of_fine, fine_front
 
 -- ---- the digests
 
--- a digest that is said, where nothing is found, is this one
+-- if there is no finding, the manifest's digest is this one
 pub digest_is : (place : Place) (said : Option (List ℕ)) (digest : List ℕ) → digest_findings place said digest ≡ [] → ForSome said (λ other. other ≡ digest)
 digest_is place None digest none = λ other is. absurd (cc)
 digest_is place (Some first) digest none = λ other is.
     let same : first ≡ other = cc in
     sym same ∙ (bytes_eq-Decides first digest).0 (passes_where_nothing (bytes_eq first digest) (Damaged place) none)
 
--- and where it is this one, nothing is found
+-- and if it is this one, there is no finding
 pub nothing_of_digest : (place : Place) (said : Option (List ℕ)) (digest : List ℕ) → ForSome said (λ other. other ≡ digest) → digest_findings place said digest ≡ []
 nothing_of_digest place None digest is = refl
 nothing_of_digest place (Some first) digest is = nothing_where_passes (bytes_eq first digest) (Damaged place) ((bytes_eq-Decides first digest).1 (is first refl))
@@ -44,7 +44,7 @@ nothing_of_digest place (Some first) digest is = nothing_where_passes (bytes_eq 
 AreHashDigests : Option Digests → ℕ → List Part → Type 0
 AreHashDigests said k parts = (n : ℕ) (part : Part) → slice_get parts n ≡ Some part → ForSome (said_hash said (k + n)) (λ digest. digest ≡ part_digest part)
 
--- some hash stores with nothing found in them and in their digests, taken apart
+-- some hash stores without a finding in them or in their digests, taken apart
 hashes_are : (shape : Shape) (said : Option Digests) (k : ℕ) (parts : List Part) → flat_map (said_hash_findings shape said) (enumerate_from k parts) ≡ [] → (flat_map (hash_findings shape) parts ≡ []) × AreHashDigests said k parts
 unfolding AreHashDigests
 hashes_are shape said k [] none = (refl, λ n part there. absurd (cc))
@@ -96,7 +96,7 @@ to_first said parts digests n part there =
     let same : n ≡ 0 + n = omega arith in
     subst (λ (j : ℕ). ForSome (said_hash said j) (λ d. d ≡ part_digest part)) same (digests n part there)
 
--- where no digest is said, none is wrong
+-- if the manifest has no digests, none is wrong
 pub none_said : (s : Stores) → AreDigestsOf None s
 none_said s = record {
   hashed = λ place part there digest is. absurd (cc);
@@ -123,7 +123,7 @@ pub record FindsNone (said : Option Digests) (s : Stores) : Type 0 where
   pub entries : said_entry_findings said s.entries ≡ []
   pub charge : charge_findings s ≡ []
 
--- all that is found is nothing
+-- the list of all findings is empty
 pub finds_none : (said : Option Digests) (s : Stores) → store_findings said s ≡ [] → FindsNone said s
 unfolding store_findings
 finds_none said s none =
@@ -149,7 +149,7 @@ none_found said s none =
     nothing_both (logs ++ hashes ++ entries) (charge_findings s)
     (nothing_both (logs ++ hashes) entries (nothing_both logs hashes none.logs none.hashes) none.entries) none.charge
 
--- nothing is found in the stores, and the digests that are said are theirs
+-- the stores have no finding, and the digests in the manifest are theirs
 said_nothing : (said : Option Digests) (s : Stores) → store_findings said s ≡ [] → FindsNothing s × AreDigestsOf said s
 said_nothing said s none =
     let parts = finds_none said s none in
@@ -166,7 +166,7 @@ said_nothing said s none =
       },
     )
 
--- and where it is so, nothing is found
+-- and if so, there is no finding
 nothing_said : (said : Option Digests) (s : Stores) → FindsNothing s → AreDigestsOf said s → store_findings said s ≡ []
 nothing_said said s nothing digests =
     none_found said s (record {
@@ -176,25 +176,25 @@ nothing_said said s nothing digests =
       charge = charge_nothing (charge_of s) s.shape.sorted_capacity nothing.charge;
     })
 
--- all that is found in sound stores is nothing
+-- sound stores have no finding
 pub finds_nothing : (s : Stores) → IsSound s → FindsNothing s
 finds_nothing s sound = (said_nothing None s sound).0
 
 pub is_sound : (s : Stores) → FindsNothing s → IsSound s
 is_sound s nothing = nothing_said None s nothing (none_said s)
 
--- nothing is found in stores of which digests are said exactly where they are sound and the digests are theirs
+-- stores whose digests the manifest gives have no finding exactly if they are sound and the digests are theirs
 pub said_law : SaidLaw
 said_law said s = (
   λ none. let both = said_nothing said s none in (is_sound s both.0, both.1),
   λ both. nothing_said said s (finds_nothing s both.0) both.1,
 )
 
--- nothing is found exactly where nothing is in each part
+-- there is no finding exactly if no part has one
 pub parts_law : PartsLaw
 parts_law s = (finds_nothing s, is_sound s)
 
--- where nothing is found, the puts are no more than the store may hold
+-- if there is no finding, there are at most as many puts as the store may hold
 pub charge_law : ChargeLaw
 charge_law s sound = (finds_nothing s sound).charge
 
@@ -231,7 +231,7 @@ sound_with s region old new fine most sound =
 
 -- ---- fewer rows
 
--- one log's rows have no more puts where they are fewer
+-- fewer rows of one log have no more puts
 part_charge : (region : ℕ) (rows more : List StoredRow) (part : Part) → put_count (part_rows (with_part_rows region rows part)) ≤ put_count (part_rows (with_part_rows region (rows ++ more) part))
 part_charge region rows more part = go (part.region == region) refl
   where
@@ -259,7 +259,7 @@ parts_charge region rows more (part ∷ parts) =
       count_law many (part_rows (with_part_rows region (rows ++ more) part)),
     )
 
--- all rows have no more puts where those of a log are fewer
+-- with fewer rows of a log, all rows have no more puts
 fewer_puts : (s : Stores) (region : ℕ) (rows more : List StoredRow) → charge_of (with_log_rows region rows s) ≤ charge_of (with_log_rows region (rows ++ more) s)
 unfolding rows_of with_log_rows
 fewer_puts s region rows more =
@@ -273,13 +273,13 @@ charge_with : (s : Stores) (region : ℕ) (rows : List StoredRow) → IsSound (w
 unfolding with_log_rows
 charge_with s region rows sound = (finds_nothing (with_log_rows region rows s) sound).charge
 
--- where nothing is found, nothing is with the first rows of a log alone
+-- if there is no finding, there is none with the first rows of a log alone
 pub sound_front : (s : Stores) (region : ℕ) (rows more : List StoredRow) → IsSound (with_log_rows region (rows ++ more) s) → IsSound (with_log_rows region rows s)
 sound_front s region rows more sound =
     let capacity : charge_of (with_log_rows region (rows ++ more) s) ≤ s.shape.sorted_capacity = charge_with s region (rows ++ more) sound in
     sound_with s region (rows ++ more) rows (fine_front s.shape rows more) (omega (arith, capacity, fewer_puts s region rows more)) sound
 
--- where nothing is found, nothing is with fewer of the last rows of a log
+-- if there is no finding, there is none after the last rows of a log are dropped
 pub beginning_law : BeginningLaw
 beginning_law s region n rows more sound =
     let split : rows ++ more ≡ (rows ++ take n more) ++ drop n more = ap (λ l. rows ++ l) (sym (take-append-drop n more)) ∙ sym (append_assoc rows (take n more) (drop n more)) in
@@ -287,7 +287,7 @@ beginning_law s region n rows more sound =
 
 -- ---- one row more
 
--- where nothing is found, nothing is with one row more of a known kind, that the table and the capacity take
+-- if there is no finding, there is none with one more row of a known kind that fits into the table and the capacity
 pub taken_law : TakenLaw
 taken_law s region rows row sound known fits most =
     sound_with s region rows (rows ++ row ∷ [])
@@ -301,7 +301,7 @@ empty_log : (shape : Shape) (region : ℕ) → log_findings shape (record { regi
 unfolding log_findings
 empty_log shape region = refl
 
--- where nothing is found, nothing is with a new log
+-- if there is no finding, there is none with a new log
 pub frozen_law : FrozenLaw
 unfolding with_new_log
 frozen_law s next sound =
@@ -316,16 +316,16 @@ frozen_law s next sound =
 
 -- ---- stores with logs alone
 
--- no hash stores, nothing found in them
+-- no hash stores: no finding in them
 pub no_hashes : (s : Stores) → s.hashes ≡ [] → flat_map (hash_findings s.shape) s.hashes ≡ []
 no_hashes s none = ap (flat_map (hash_findings s.shape)) none
 
--- no entries, nothing found in them
+-- no entries: no finding in them
 pub no_entries : (s : Stores) → s.entries ≡ [] → sorted_findings s.entries ≡ []
 unfolding sorted_findings
 no_entries s none = ap sorted_findings none
 
--- of stores with logs alone, nothing found in these, nothing is found exactly where the puts are not too many
+-- stores with logs alone, which have no finding, have none exactly if the puts are not too many
 pub logs_sound_law : LogsSoundLaw
 logs_sound_law s logs hashes entries = (
   charge_law s,

@@ -1,4 +1,4 @@
--- When an image is good, and what it then stands for.
+-- When an image is good, and what it then represents.
 use Rattle.std.proofs.Common.{◌≡◌, ◌↔◌, ℕ, ◌+◌, ◌-◌, Bool, true, false, not, nat_lt, if◌then◌else◌, List, [], ◌∷◌, ◌++◌, length, take, flat_map, get_or, slice_get, Option, Some, None, is_some, IsSome, IsTrue, Result, Ok, Err, refl, sym, ap, ◌∙◌, arith}
 use Rattle.std.specs.List.{list_all, enumerate_from, range_with_len}
 use Rattle.std.specs.Str.{bytes_eq}
@@ -71,7 +71,7 @@ crowded_if : (test : Bool) → test ≡ true → list_all is_damage (finding_if 
 crowded_if true e = refl
 crowded_if false e = absurd (cc)
 
--- in a log whose keys have places nothing is crowded
+-- a log whose keys have places is not crowded
 log_damage : (shape : Shape) (part : Part) → fits_table shape part.rows ≡ true → list_all is_damage (log_findings shape part) ≡ true
 unfolding is_damage log_findings
 log_damage shape part fit =
@@ -108,7 +108,7 @@ said_entry_damage said entries =
     all_append is_damage (sorted_findings entries) (digest_findings SortedDigest (said_sorted said) (entries_digest entries))
     (sorted_damage entries) (digest_damage SortedDigest (said_sorted said) (entries_digest entries))
 
--- where the keys of all logs have places, nothing is crowded
+-- if the keys of all logs have places, no log is crowded
 store_damage : (said : Option Digests) (s : Stores) → list_all (λ (part : Part). fits_table s.shape part.rows) s.logs ≡ true → list_all is_damage (store_findings said s) ≡ true
 unfolding is_damage store_findings
 store_damage said s fit =
@@ -123,7 +123,7 @@ store_damage said s fit =
     (said_entry_damage said s.entries))
     (damage_if (nat_lt s.shape.sorted_capacity (charge_of s)) (Damaged Charge) refl)
 
--- where nothing is found in the logs, their keys have places
+-- if the logs have no finding, their keys have places
 all_logs : (shape : Shape) (logs : List Part) → flat_map (log_findings shape) logs ≡ [] → list_all (λ (part : Part). fits_table shape part.rows) logs ≡ true
 all_logs shape [] none = refl
 all_logs shape (part ∷ logs) none =
@@ -141,7 +141,7 @@ some_if false x e = absurd (cc)
 
 -- ---- the verdict
 
--- an image is good exactly where it stands for a map and the keys of its logs have places
+-- an image is good exactly if it represents a map and the keys of its logs have places
 pub verdict_law : VerdictLaw
 unfolding image_verdict image_stands image_fits
 verdict_law image = go (image_digests image) (image_stores image)
@@ -162,7 +162,7 @@ pub verdict_of : (image : List ℕ) (s : Stores) → image_stores image ≡ Ok s
 unfolding image_verdict
 verdict_of image s e = ap (λ r. slice_get (findings_of (image_digests image) r) 0) e
 
--- an image with stores is good exactly where nothing is found in them and the digests that it says are theirs
+-- an image with stores is good exactly if they have no finding and the digests in its manifest are theirs
 pub sound_law : SoundLaw
 sound_law image s e = (
   λ good. (said_law (image_digests image) s).0 (first_none (store_findings (image_digests image) s) (sym (verdict_of image s e) ∙ good)),
@@ -174,7 +174,7 @@ pub rows_law : RowsLaw
 unfolding image_rows
 rows_law image s e = ap rows_found e
 
--- an image with sound stores, and with their digests, stands for the map of their rows
+-- an image with sound stores, and with their digests, represents the map of their rows
 pub stands_law : StandsLaw
 unfolding image_map
 stands_law image s e sound digests = record {
@@ -212,7 +212,7 @@ no_rows : (s : Stores) (region : ℕ) → s.logs ≡ record { region = region; r
 unfolding rows_of
 no_rows s region logs hashes entries = rw (logs, hashes, entries) refl
 
--- and nothing is found in them
+-- and no finding
 nothing_found : (s : Stores) (region : ℕ) → s.logs ≡ record { region = region; rows = [] } ∷ [] → s.hashes ≡ [] → s.entries ≡ [] → IsSound s
 nothing_found s region logs hashes entries =
     let none : flat_map (log_findings s.shape) s.logs ≡ [] = ap (flat_map (log_findings s.shape)) logs ∙ nothing_both (log_findings s.shape (record { region = region; rows = [] })) [] (of_fine s.shape (record { region = region; rows = [] }) (record { known = refl; fits = fits_none s.shape })) refl in
@@ -229,7 +229,7 @@ first_digests said digests s is digest hashes entries = record {
       sym is_other ∙ digest ∙ ap entries_digest (sym entries);
 }
 
--- it stands for the empty map
+-- it represents the empty map
 pub empty_law : EmptyLaw
 unfolding image_stores
 empty_law image shape digests has_shape has_record digest none =

@@ -181,7 +181,7 @@ frozen_rows : image_rows (frozen_device 2 (1 ∷ 2 ∷ []) (1 ∷ [])) ≡ row 1
 unfolding image_rows image_stores shape_found record_found record_behind stores_named log_rows rows_from row_at open_count hash_rows sorted_rows rows_of lib.Count.ones frozen_device one_frozen wide sector bodies body row old_header short_bytes
 frozen_rows = refl
 
--- what is told of an image
+-- the numbers of an image
 reported : Result Stores Finding → Option Report
 reported (Ok s) = Some (report_of None s)
 reported (Err finding) = None
@@ -203,7 +203,7 @@ crowded_log = refl
 digest : ℕ → Digest
 digest first = record { 0 = first ∷ replicate 19 0 }
 
--- what a slot of version 2 says of one hash store and of the sorted store
+-- the digests in a slot of version 2, of one hash store and of the sorted store
 said : Digests
 said = record { hashed = digest 5 ∷ replicate 15 (digest 0); sorted = digest 6 }
 
@@ -221,7 +221,7 @@ long_record_row : open_record (new_device (0xA7 ∷ record_bytes first_body said
 unfolding record_behind lib.Count.ones new_device said digest sector small
 long_record_row = refl
 
--- the digests that are said are those of the slot that rules
+-- the digests in the manifest are those of the current slot
 said_row : image_digests (new_device (0xA7 ∷ record_bytes first_body said)) ≡ Some said
 unfolding image_digests record_found record_behind lib.Count.ones new_device said digest sector small
 said_row = refl

@@ -16,7 +16,7 @@ use Rattle.silt_log.specs.Parts.{Part, log_part}
 use Rattle.silt_hash_store.specs.Slots.{hash_part}
 use Rattle.silt_sorted_store.specs.State.{sorted_rows}
 
--- All that an image names: the active log and then the frozen ones, the newest first; the hash stores, the newest first; and the
+-- All that an image names: the active log and then the frozen ones, from the newest; the hash stores, from the newest; and the
 -- entries of the sorted store, as puts.
 pub record Stores : Type 0 where
   pub shape : Shape
@@ -35,7 +35,7 @@ stores_named shape body image = record {
   entries = sorted_rows shape body.sorted body.sorted_count image;
 }
 
--- the six numbers of a device of this length with this header, or what is found in their place
+-- the six numbers of a device of this length with this header, or the finding
 unfoldable pub shape_found : ℕ → List ℕ → Result Shape Finding
 shape_found len header =
     if not (nat_le header_len len && is_formatted header) then Err NotFormatted
@@ -43,30 +43,30 @@ shape_found len header =
     else if not (len == device_size (header_shape header)) then Err (Damaged Length)
     else Ok (header_shape header)
 
--- what is found where the manifest is damaged
+-- the finding of a damaged manifest
 abbrev pub damage_finding : Damage → Finding
 damage_finding (damage.Slot slot) = Damaged (Slot slot)
 damage_finding damage.NoSlot = Damaged NoSlot
 
--- the stores that the ruling body names, or what is found in its place
+-- the stores that the current body names, or the finding
 abbrev pub stores_ruled : Shape → List ℕ → Result SlotRecord Damage → Result Stores Finding
 stores_ruled shape image (Ok found) = Ok (stores_named shape found.body image)
 stores_ruled shape image (Err damaged) = Err (damage_finding damaged)
 
--- the stores of an image of this shape, or what is found in place of its shape or its manifest
+-- the stores of an image of this shape, or the finding in its shape or its manifest
 abbrev pub stores_shaped : List ℕ → Result Shape Finding → Result Stores Finding
 stores_shaped image (Ok shape) = stores_ruled shape image (manifest_found shape image)
 stores_shaped image (Err finding) = Err finding
 
--- The stores of an image, or the first finding in its header or its manifest. What an image means is all said of this.
+-- The stores of an image, or the first finding in its header or its manifest. All meaning of an image is defined by this.
 unfoldable pub image_stores : List ℕ → Result Stores Finding
 image_stores image = stores_shaped image (shape_found (length image) (header_of image))
 
--- the digests of a record that was found
+-- the digests of a record, if one was found
 abbrev pub digests_found : Result SlotRecord Damage → Option Digests
 digests_found (Ok found) = found.digests
 digests_found (Err damaged) = None
 
--- The digests that the ruling slot of an image says of its stores; none where it says none.
+-- The digests in the current slot of an image, if it has any.
 unfoldable pub image_digests : List ℕ → Option Digests
 image_digests image = digests_found (manifest_found (shape_of image) image)

@@ -1,11 +1,11 @@
-// What is found where a manifest is damaged.
+// The finding of a damaged manifest.
 ghost use Rattle.std.specs.Prelude.{◌≡◌};
 ghost use Rattle.silt_image.specs.Stores.{damage_finding};
 
 use silt_event::{Finding, Place};
 use silt_manifest::Damage;
 
-/// The finding that a damaged manifest is.
+/// The finding of a damaged manifest.
 pub fn finding_of(damage: Damage) -> Finding
     ensures { result ≡ damage_finding damage }
 {

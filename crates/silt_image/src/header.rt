@@ -1,4 +1,4 @@
-// What is found in the header of a device.
+// The findings in the header of a device.
 ghost use Rattle.std.specs.Prelude.{◌≡◌, Ok, Err, IfOk, IfErr};
 ghost use Rattle.silt_disk.specs.Layout.{device_size};
 ghost use Rattle.silt_image.specs.Stores.{shape_found};
@@ -6,8 +6,8 @@ ghost use Rattle.silt_image.specs.Stores.{shape_found};
 use silt_disk::{Geometry, HEADER_LEN, geometry_of, is_formatted};
 use silt_event::{Finding, Place};
 
-/// The geometry of a device of this many bytes with this header, or what is found in its place: no header, a number out of its
-/// limits, or another length than the numbers say.
+/// The geometry of a device of this many bytes with this header. Otherwise the finding: no header, a number out of its limits, or
+/// a length that is not the one of these numbers.
 #[tactic(auto, using(crate::proofs::HeaderExits::too_short, crate::proofs::HeaderExits::not_formatted, crate::proofs::HeaderExits::out_of_limits, crate::proofs::HeaderExits::has_shape))]
 pub fn read_header(len: u64, header: &[u8; HEADER_LEN]) -> Result<Geometry, Finding>
     ensures geometry { IfOk result (λ geometry. shape_found len header.now ≡ Ok geometry) }

@@ -1,9 +1,9 @@
-// Laws of images, for the layers above.
+// Laws of images, for the crates above.
 ghost use Rattle.silt_image.specs.Laws.{AgainLaw, AppendLaw, BeginningLaw, ChargeFoundLaw, ChargeLaw, DigestsLaw, EmptyLaw, FirstEntryLaw, FirstFindingLaw, FirstSlotLaw, FormattedLaw, FrameLaw, FreeHashLaw};
 ghost use Rattle.silt_image.specs.Laws.{FreeSortedLaw, FreezeLaw, FrozenLaw, HeaderLaw, LimitsLaw, LogRegionLaw, ManifestLaw, MeaningLaw, NewActiveLaw, NewLogLaw, NoStoresLaw};
 ghost use Rattle.silt_image.specs.Laws.{OwnRowsLaw, PartsLaw, RowsLaw, SaidLaw, SoundLaw, StandsLaw, StoresLaw, TakenLaw, UnnamedLaw, VerdictLaw, WholeLaw};
 
-/// A header reads back, behind whatever gate.
+/// A header reads back as it was written, whether its gate is open or not.
 pub fn header_law()
     ensures { HeaderLaw }
 {}
@@ -13,27 +13,27 @@ pub fn limits_law()
     ensures { LimitsLaw }
 {}
 
-/// A device of the length that its header says has the header's shape.
+/// A device of the length that its header gives has the header's shape.
 pub fn formatted_law()
     ensures { FormattedLaw }
 {}
 
-/// An image has stores exactly where its shape, its ruling body and what that names are theirs.
+/// An image has these stores exactly if its shape and its current body are theirs, and the regions that the body names have their rows.
 pub fn stores_law()
     ensures { StoresLaw }
 {}
 
-/// The digests of an image with stores are those behind the ruling body.
+/// The digests of an image with stores are those after the current body.
 pub fn digests_law()
     ensures { DigestsLaw }
 {}
 
-/// What every image with stores has.
+/// The properties of every image with stores.
 pub fn whole_law()
     ensures { WholeLaw }
 {}
 
-/// Images that agree on all that counts have the same stores.
+/// Images that agree on all meaningful bytes have the same stores.
 pub fn frame_law()
     ensures { FrameLaw }
 {}
@@ -43,12 +43,12 @@ pub fn meaning_law()
     ensures { MeaningLaw }
 {}
 
-/// A change in a log region changes the rows of that log alone.
+/// A change in a log region changes only the rows of that log.
 pub fn log_region_law()
     ensures { LogRegionLaw }
 {}
 
-/// Rows of a log that is not named do not count.
+/// The rows of a log that is not named do not matter.
 pub fn unnamed_law()
     ensures { UnnamedLaw }
 {}
@@ -63,7 +63,7 @@ pub fn free_sorted_law()
     ensures { FreeSortedLaw }
 {}
 
-/// After a change in a manifest slot the stores are those that the body then ruling names.
+/// After a change in a manifest slot the stores are those that the new current body names.
 pub fn manifest_law()
     ensures { ManifestLaw }
 {}
@@ -73,22 +73,22 @@ pub fn freeze_law()
     ensures { FreezeLaw }
 {}
 
-/// Where nothing is found, nothing is with fewer of the last rows of a log.
+/// If there is no finding, there is none after the last rows of a log are dropped.
 pub fn beginning_law()
     ensures { BeginningLaw }
 {}
 
-/// Where nothing is found, nothing is with one row more that the table and the capacity take.
+/// If there is no finding, there is none with one more row that fits into the table and the capacity.
 pub fn taken_law()
     ensures { TakenLaw }
 {}
 
-/// Where nothing is found, nothing is with a new log.
+/// If there is no finding, there is none with a new log.
 pub fn frozen_law()
     ensures { FrozenLaw }
 {}
 
-/// Where nothing is found, the puts are no more than the store may hold.
+/// If there is no finding, there are at most as many puts as the store may hold.
 pub fn charge_law()
     ensures { ChargeLaw }
 {}
@@ -103,12 +103,12 @@ pub fn new_log_law()
     ensures { NewLogLaw }
 {}
 
-/// A log with its own rows is as it was.
+/// A log whose rows are replaced by its own is unchanged.
 pub fn own_rows_law()
     ensures { OwnRowsLaw }
 {}
 
-/// Of the rows in place of a log's own the last ones count.
+/// If the rows of a log are replaced twice, the last ones stay.
 pub fn again_law()
     ensures { AgainLaw }
 {}
@@ -118,22 +118,22 @@ pub fn new_active_law()
     ensures { NewActiveLaw }
 {}
 
-/// An image is good exactly where it stands for a map and the keys of its logs have places.
+/// An image is good exactly if it represents a map and the keys of its logs have places.
 pub fn verdict_law()
     ensures { VerdictLaw }
 {}
 
-/// Nothing is found in stores of which digests are said exactly where they are sound and the digests are theirs.
+/// Stores whose digests the manifest gives have no finding exactly if they are sound and the digests are theirs.
 pub fn said_law()
     ensures { SaidLaw }
 {}
 
-/// An image with stores is good exactly where nothing is found in them, and the digests that it says are theirs.
+/// An image with stores is good exactly if they have no finding and the digests in its manifest are theirs.
 pub fn sound_law()
     ensures { SoundLaw }
 {}
 
-/// An image with sound stores stands for the map of their rows.
+/// An image with sound stores represents the map of their rows.
 pub fn stands_law()
     ensures { StandsLaw }
 {}
@@ -143,7 +143,7 @@ pub fn rows_law()
     ensures { RowsLaw }
 {}
 
-/// A device that was just formatted stands for the empty map.
+/// A newly formatted device represents the empty map.
 pub fn empty_law()
     ensures { EmptyLaw }
 {}
@@ -153,27 +153,27 @@ pub fn first_finding_law()
     ensures { FirstFindingLaw }
 {}
 
-/// An image without stores has the finding in their place as its verdict.
+/// If an image has no stores because of a finding, that finding is its verdict.
 pub fn no_stores_law()
     ensures { NoStoresLaw }
 {}
 
-/// Nothing is found exactly where nothing is in each part.
+/// There is no finding exactly if no part has one.
 pub fn parts_law()
     ensures { PartsLaw }
 {}
 
-/// The first finding in the first hash store that has one is the verdict, where the logs have none.
+/// The first finding in the first hash store that has one is the verdict, if the logs have none.
 pub fn first_slot_law()
     ensures { FirstSlotLaw }
 {}
 
-/// The first finding in the entries is the verdict, where the logs and the hash stores have none.
+/// The first finding in the entries is the verdict, if the logs and the hash stores have none.
 pub fn first_entry_law()
     ensures { FirstEntryLaw }
 {}
 
-/// Where nothing else is found, too many puts are the verdict.
+/// If there is no other finding, too many puts are the verdict.
 pub fn charge_found_law()
     ensures { ChargeFoundLaw }
 {}

@@ -1,13 +1,13 @@
-//! What an image, the bytes of a whole device, stands for.
+//! The meaning of an image, which is the bytes of a whole device.
 //!
-//! An image is read in one order: the header, the manifest slots, then the stores that the ruling manifest body names: the active
-//! log, the frozen logs, the hash stores and the sorted store. Where the manifest says the digest of a store, it is compared behind
-//! the rows of this store. Where nothing is found wrong in it, an image *stands for* a map from keys to values: that of all its rows,
-//! done one after the other from the oldest.
+//! An image is read in one order: the header, the manifest slots, then the stores that the current manifest body names: the active
+//! log, the frozen logs, the hash stores and the sorted store. If the manifest has the digest of a store, it is compared after the
+//! rows of this store. If nothing is wrong, the image *represents* a map from keys to values: apply all its rows, one after the
+//! other, from the oldest on.
 //!
-//! Here are the definitions, in `specs/`, and the laws that the layers above stand on, each as a function whose contract it is:
-//! which bytes count, what a write in a region leaves, when one row more is fine. What the rows of one region are, and what is found in them,
-//! its own crate says: here they are folded. The header's bytes stand beside the layout, in silt_disk: here is what is found in them.
+//! The definitions are in `specs/`. The laws for the crates above are functions whose contracts they are: which bytes matter, what a
+//! write in a region changes, when one more row is fine. The rows of one region and their findings are defined in that region's
+//! crate. Here they are put together. The header's bytes are in silt_disk, beside the layout. Here are the findings in them.
 #![tactic(auto)]
 
 mod damage;

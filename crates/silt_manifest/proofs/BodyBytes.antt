@@ -7,7 +7,7 @@ use Rattle.silt_disk.specs.Numbers.{number_at}
 use Rattle.silt_manifest.specs.Numbers.{id_bytes, ids_bytes, ids_at}
 use Rattle.silt_manifest.specs.IdList.{IsIdList, count_back, numbers_back}
 
--- as many ids as their count says
+-- as many ids as their count
 pub length_ids_at : (i : ℕ) (bytes : List ℕ) → length (ids_at i bytes) ≡ number_at 4 i bytes
 length_ids_at i bytes = length-map-range_with_len (λ k. number_at 4 (i + 4 + 4 * k) bytes) 0 (number_at 4 i bytes)
 
@@ -20,7 +20,7 @@ id_bytes-append : (xs ys : List ℕ) → id_bytes (xs ++ ys) ≡ id_bytes xs ++ 
 id_bytes-append [] ys = refl
 id_bytes-append (x ∷ xs) ys = ap (λ rest. big_bytes 4 x ++ rest) (id_bytes-append xs ys) ∙ sym (append_assoc (big_bytes 4 x) (id_bytes xs) (id_bytes ys))
 
--- one more id stands there
+-- one more id is in its place
 pub more_ids : (bytes new front ids : List ℕ) (at k x : ℕ) → take (at + 4 + 4 * k) bytes ≡ front ++ id_bytes (take k ids) → take (at + 4 + 4 * k + 4) new ≡ take (at + 4 + 4 * k) bytes ++ big_bytes 4 x → x ≡ get_or ids k 0 → k < length ids → take (at + 4 + 4 * (k + 1)) new ≡ front ++ id_bytes (take (k + 1) ids)
 more_ids bytes new front ids at k x so_far put is inside =
     let place : at + 4 + 4 * (k + 1) ≡ at + 4 + 4 * k + 4 = omega arith in
@@ -30,7 +30,7 @@ more_ids bytes new front ids at k x so_far put is inside =
     ap (λ (n : ℕ). take n new) place ∙ put ∙ ap (λ s. s ++ big_bytes 4 x) so_far
     ∙ append_assoc front (id_bytes (take k ids)) (big_bytes 4 x) ∙ ap (λ rest. front ++ rest) (sym more)
 
--- the zeros stand behind the ids
+-- the zeros follow the ids
 pub all_ids : (bytes new front ids : List ℕ) (at room : ℕ) → length ids ≤ room → take (at + 4 + 4 * length ids) bytes ≡ (front ++ big_bytes 4 (length ids)) ++ id_bytes (take (length ids) ids) → take (at + 4 + 4 * length ids + 4 * (room - length ids)) new ≡ take (at + 4 + 4 * length ids) bytes ++ replicate (4 * (room - length ids)) 0 → take (at + (4 + 4 * room)) new ≡ front ++ ids_bytes room ids
 all_ids bytes new front ids at room fits so_far put =
     let place : at + (4 + 4 * room) ≡ at + 4 + 4 * length ids + 4 * (room - length ids) = omega arith in

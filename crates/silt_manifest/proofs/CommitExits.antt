@@ -1,4 +1,4 @@
--- What stands at each exit of the opening of a next record's gate.
+-- The state at each exit of the call that opens a next record's gate.
 use Rattle.std.proofs.Common.{◌≡◌, ℕ, ◌+◌, ◌%◌, ◌≤◌, inl, inr, true, false, List, [], ◌∷◌, length, get_or, slice_range, slice_index, Some, None, refl, sym, ap, ◌∙◌, arith}
 use Rattle.std.proofs.lemmas.Bool.{cases_Bool}
 use Rattle.silt_disk.specs.Disk.{Content, LeavesOnly, Torn, ChangesWithin, Writes, Rests, size, splice}
@@ -35,7 +35,7 @@ holds_open bytes b holds =
     ]
 
 module _ (m : ManifestState) (next : Body) (digests : Digests) (n : ℕ) (fits : slot_at 1 + 4096 ≤ n) (follows : IsNext m next) (held : FitsSlot next) (held_digests : FitsDigests digests) where
-  -- the slot that rules stays when the gate is written
+  -- the current slot stays when the gate is written
   ruling_stays : (before after : List ℕ) → (length before ≡ n) × IsReady m next digests before → Torn (slot_at (spare_slot m)) 1 before after → open_record after (ruling_slot m) ≡ open_record before (ruling_slot m)
   ruling_stays before after (size, ready) torn =
       let slots = two_slots m in
@@ -45,7 +45,7 @@ module _ (m : ManifestState) (next : Body) (digests : Digests) (n : ℕ) (fits :
   same_version : (before after : List ℕ) → (length before ≡ n) × IsReady m next digests before → Torn (slot_at (spare_slot m)) 1 before after → version_of (header_of after) ≡ version_of (header_of before)
   same_version before after (size, ready) torn = version_stays (slot_at (spare_slot m)) 1 before after (omega arith) (omega arith) torn
 
-  -- with an open gate the next record rules
+  -- with an open gate the next record is current
   new_rules : (before after : List ℕ) → (length before ≡ n) × IsReady m next digests before → Torn (slot_at (spare_slot m)) 1 before after → is_slot_open after (spare_slot m) ≡ true → (open_record after (spare_slot m) ≡ Some (long_record next digests)) × (ruling_manifest m.shape after ≡ Some (long_record next digests))
   new_rules before after was torn opened =
       let slots = two_slots m in

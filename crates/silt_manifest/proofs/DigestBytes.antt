@@ -7,7 +7,7 @@ use Rattle.silt_frame.specs.declared.digest.Digest.{Digest}
 use Rattle.silt_manifest.specs.Digests.{digest_at, digest_bytes, digests_bytes, digests_of}
 use Rattle.silt_manifest.specs.declared.digests.Digests.{Digests}
 
--- one more digest stands there
+-- one more digest is in its place
 pub more_digests : (bytes new : List ℕ) (digests : List Digest) (none : Digest) (k : ℕ) (digest : List ℕ) → take (20 * k) bytes ≡ digest_bytes (take k digests) → take (20 * k + 20) new ≡ take (20 * k) bytes ++ digest → digest ≡ (get_or digests k none).0 → k < length digests → take (20 * (k + 1)) new ≡ digest_bytes (take (k + 1) digests)
 more_digests bytes new digests none k digest so_far put is inside =
     let place : 20 * (k + 1) ≡ 20 * k + 20 = omega arith in
@@ -22,7 +22,7 @@ more_long digests none k digest so_far is long j inside =
       | inr other ↦ so_far j (omega arith)
     ]
 
--- all stand there
+-- all are in their places
 pub all_digests : (bytes new : List ℕ) (d : Digests) (digest : List ℕ) → length d.hashed ≡ 16 → length new ≡ 340 → take (20 * 16) bytes ≡ digest_bytes (take 16 d.hashed) → take (20 * 16 + 20) new ≡ take (20 * 16) bytes ++ digest → digest ≡ d.sorted.0 → new ≡ digests_bytes d
 all_digests bytes new d digest count long so_far put is =
     let all : take (20 * 16 + 20) new ≡ new = take_all 340 new (omega arith) in

@@ -1,4 +1,4 @@
--- What stands after the first write of a manifest.
+-- The state after the first write of a manifest.
 use Rattle.std.proofs.Common.{◌≡◌, ℕ, ◌+◌, ◌≤◌, true, false, List, [], ◌∷◌, length, slice_range, slice_index, refl, sym, ap, ◌∙◌, arith}
 use Rattle.std.proofs.lemmas.Bool.Decides.{nat_tests}
 use Rattle.silt_disk.specs.Disk.{Content, LeavesOnly, Torn, Writes, Rests, size, splice}
@@ -39,7 +39,7 @@ pub record IsAlone (n : ℕ) (image : List ℕ) : Type 0 where
   pub size : length image ≡ n
   pub closed : is_slot_open image 1 ≡ false
 
--- and the first record's bytes stand in the slot 0
+-- and slot 0 has the first record's bytes
 pub record HasBytes (digests : Digests) (n : ℕ) (image : List ℕ) : Type 0 where
   pub size : length image ≡ n
   pub closed : is_slot_open image 1 ≡ false
@@ -95,7 +95,7 @@ all_first digests bytes a b c d held fits closed are first second third rests =
     let zeroed = write_shows {Q = IsAlone (size a)} first alone (λ before had. after_zero digests held (size a) fits before (record { size = had.0; closed = had.1 })) in
     rests_leaves rests (write_shows third (write_shows second zeroed (after_bytes digests held (size a) fits bytes long are)) (after_gate digests held (size a) fits))
 
--- a first record rules
+-- a first record is current
 pub first_rules : FirstRulesLaw
 first_rules s digests image limits first second =
     let v = version_of (header_of image) in

@@ -1,4 +1,4 @@
--- What keeps the record that rules, for a crate above to cite.
+-- What keeps a record current, for a crate above to cite.
 use Rattle.std.proofs.Common.{◌≡◌, ℕ, ◌+◌, ◌<◌, ◌≤◌, false, List, Option, [], ◌∷◌, length, refl, sym, ap, ◌∙◌, inl, inr, arith}
 use Rattle.std.proofs.lemmas.Bool.{cases_eq}
 use Rattle.silt_disk.specs.Disk.{ChangesWithin, Content, LeavesOnly, LiesOutside, Restarts, Rests, Shows, Torn, Writes, size}
@@ -40,11 +40,11 @@ slot_elsewhere at count slot before after below fits apart torn =
       | inr high ↦ slot_same at count slot before after torn (omega arith) (inr (omega arith))
     ]
 
--- and so what it says
+-- and so its record
 pub other_records : OtherRecordsLaw
 other_records slot at count before after below fits apart torn = ap record_behind (slot_elsewhere at count slot before after below fits apart torn)
 
--- and what is found, where the header has the same version
+-- and the finding, if the header has the same version
 pub other_regions : OtherRegionsLaw
 other_regions s at count before after fits apart torn version =
     same_found s before after version (other_records 0 at count before after (omega arith) fits apart torn) (other_records 1 at count before after (omega arith) fits apart torn)
@@ -65,7 +65,7 @@ header_elsewhere at count before after fits apart torn =
 found_elsewhere : (s : Shape) (at count : ℕ) (before after : List ℕ) → slot_at 1 + 4096 ≤ length before → LiesOutside 0 12288 at count → Torn at count before after → manifest_found s after ≡ manifest_found s before
 found_elsewhere s at count before after fits apart torn = other_regions s at count before after fits (outside_slots at count apart) torn (header_elsewhere at count before after (omega arith) apart torn)
 
--- an image stays ruled under a change outside the header and the slots
+-- the record of an image stays current under a change outside the header and the slots
 ruled_elsewhere : (m : ManifestState) (n at count : ℕ) → slot_at 1 + 4096 ≤ n → LiesOutside 0 12288 at count → (before after : List ℕ) → (length before ≡ n) × IsRuled m before → Torn at count before after → IsRuled m after
 ruled_elsewhere m n at count fits apart before after (size, ruled) torn =
     let room : slot_at 1 + 4096 ≤ length before = omega arith in
@@ -76,15 +76,15 @@ ruled_elsewhere m n at count fits apart before after (size, ruled) torn =
       spare = ap (λ bytes. is_open (slice_index bytes 0)) (slot_elsewhere at count (spare_slot m) before after (omega arith) room apart_too torn) ∙ ruled.spare;
     }
 
--- whatever a stop leaves stays ruled under changes outside the header and the slots
+-- and in each possible crash image, under changes outside the header and the slots
 pub rules_elsewhere : (m : ManifestState) (at count : ℕ) (old new : Content) → slot_at 1 + 4096 ≤ size old → LiesOutside 0 12288 at count → ChangesWithin at count old new → Rules m old → Rules m new
 rules_elsewhere m at count old new fits apart changes rules = within_leaves changes (sized_leaves rules) (ruled_elsewhere m (size old) at count fits apart)
 
--- and after a stop
+-- and after a crash
 pub rules_restart : (m : ManifestState) (old new : Content) → Restarts old new → Rules m old → Rules m new
 rules_restart m old new restarts rules = restart_leaves restarts rules
 
--- what is shown is ruled too
+-- it is current in what is shown too
 pub rules_shown : (m : ManifestState) (content : Content) → Rules m content → Shows content (IsRuled m)
 rules_shown m content rules = leaves_shows rules
 
@@ -92,7 +92,7 @@ rules_shown m content rules = leaves_shows rules
 pub closed_shown : (slot : ℕ) (old new : Content) → slot_at slot + 461 ≤ size old → Writes (slot_at slot) (0 ∷ []) old new → Shows new (λ image. is_slot_open image slot ≡ false)
 closed_shown slot old new fits writes = write_shows writes (record { holds = λ honest. refl }) (λ before (long : length before ≡ size old). ap is_open (gate_written 0 slot before (omega arith)))
 
--- and in whatever a stop leaves, once nothing is pending
+-- and in each possible crash image, once nothing is pending
 pub closed_leaves : (slot : ℕ) (old new : Content) → slot_at slot + 461 ≤ size old → Writes (slot_at slot) (0 ∷ []) old new → Rests new → LeavesOnly new (λ image. is_slot_open image slot ≡ false)
 closed_leaves slot old new fits writes rests = rests_leaves rests (closed_shown slot old new fits writes)
 
@@ -102,7 +102,7 @@ closed_elsewhere slot at count old new below fits apart changes shown =
     within_shows changes (sized_shows shown) (λ before after (had : (length before ≡ size old) × (is_slot_open before slot ≡ false)) torn.
     ap (λ bytes. is_open (slice_index bytes 0)) (slot_elsewhere at count slot before after below (let long = had.0 in omega arith) apart torn) ∙ had.1)
 
--- so does the record that rules whatever a stop leaves, under changes outside the header and the slots
+-- so is the current record of each possible crash image, under changes outside the header and the slots
 pub ruling_elsewhere : (s : Shape) (held : Option SlotRecord) (at count : ℕ) (old new : Content) → slot_at 1 + 4096 ≤ size old → LiesOutside 0 12288 at count → ChangesWithin at count old new → LeavesOnly old (λ image. ruling_manifest s image ≡ held) → LeavesOnly new (λ image. ruling_manifest s image ≡ held)
 ruling_elsewhere s held at count old new fits apart changes leaves =
     within_leaves changes (sized_leaves leaves) (λ before after (had : (length before ≡ size old) × (ruling_manifest s before ≡ held)) torn.

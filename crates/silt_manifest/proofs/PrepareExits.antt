@@ -1,4 +1,4 @@
--- What stands at each exit of the write of a next body.
+-- The state at each exit of the write of a next body.
 use Rattle.std.proofs.Common.{◌≡◌, ℕ, ◌+◌, ◌≤◌, inl, inr, true, false, not, List, [], ◌∷◌, length, slice_range, slice_index, Option, Some, refl, sym, ap, subst, ◌∙◌, arith}
 use Rattle.std.proofs.lemmas.Bool.{cases_Bool}
 use Rattle.silt_disk.specs.Disk.{Content, LeavesOnly, Torn, ChangesWithin, Writes, Rests, size, splice}
@@ -18,7 +18,7 @@ use Rattle.silt_manifest.proofs.RulingLemmas.{still_rules}
 pub two_slots : (m : ManifestState) → ruling_slot m + spare_slot m ≡ 1
 two_slots m = omega arith
 
--- where the zero goes to a closed slot
+-- the place of the zero in a closed slot
 place_closed : (m : ManifestState) → m.spare_closed ≡ true → closing_place m ≡ slot_at (spare_slot m) + 4095
 place_closed m closed = rw closed refl
 
@@ -26,7 +26,7 @@ place_closed m closed = rw closed refl
 place_open : (m : ManifestState) → m.spare_closed ≡ false → closing_place m ≡ slot_at (spare_slot m)
 place_open m opened = rw opened refl
 
--- in an image of this length: the record rules as before, and the other slot is closed
+-- in an image of this length: the record is current as before, and the other slot is closed
 pub record IsShut (m : ManifestState) (n : ℕ) (image : List ℕ) : Type 0 where
   pub size : length image ≡ n
   pub rules : RulesAsHeld m image
@@ -139,7 +139,7 @@ next_written m place at bytes next digests old between new is is_at are first se
       ∙ ap (λ (b : List ℕ). splice (slot_at (spare_slot m) + 1) b (splice (closing_place m) (0 ∷ []) old.shown)) are;
 }
 
--- the manifest that holds the next record, of this shape and with this record that rules, is prepared
+-- the manifest with the next record, of this shape and with this current record, is prepared
 pub prepared_state : (m : ManifestState) (shape : Shape) (ruling next : Body) (held : Option Digests) (digests : Digests) (content : Content) → m.shape ≡ shape → m.ruling ≡ ruling → m.digests ≡ held → IsNext m next → FitsSlot next → FitsDigests digests → LeavesOnly content (IsReady m next digests)
     → IsPrepared (record { shape = shape; ruling = ruling; digests = held; spare_closed = true; prepared = Some (long_record next digests) }) next digests content
 prepared_state m shape ruling next held digests content same_shape same_ruling same_digests follows fits fits_digests leaves =

@@ -1,4 +1,4 @@
--- What a read of the slots says of what is shown.
+-- What a read of the slots means for the shown bytes.
 use Rattle.std.proofs.Common.{◌≡◌, ℕ, ◌+◌, ◌%◌, Bool, true, false, not, nat_lt, if◌then◌else◌, List, slice_index, IsTrue, Option, Some, None, Err, refl, sym, ap, subst, ◌∙◌, inl, inr, arith}
 use Rattle.std.specs.Option.{ok_or}
 use Rattle.std.specs.Result.{IfOk, IfErr}
@@ -87,7 +87,7 @@ holds_closed bytes holds =
       | inr closed ↦ closed
     ]
 
--- a record rules that stands in the one slot, where the gate of the other is so
+-- the record of the one slot is current, if the gate of the other is as given
 ruled_so : (s : Shape) (v : Version) (r o : ℕ) (b : SlotRecord) (spare_closed : Bool) (image : List ℕ) → r + o ≡ 1 → HasSlot s v r (Some b) image → ruling_manifest s image ≡ Some b → is_slot_open image o ≡ not spare_closed → IsRuled (ruled_by s b spare_closed) image
 ruled_so s v r o b spare_closed image slots has rules spare =
     let own : b.body.generation % 2 ≡ r = (sound_parts s r b.body (sound_body s v r b has.sound)).slot_is in
@@ -119,11 +119,11 @@ ruled_image s v (Some a) (Some b) m image version one two is =
           subst (λ state. IsRuled state image) same (ruled_so s v 0 1 a false image refl one (ap where_found (found_at s v image (Some a) (Some b) version one.held two.held ∙ newer_first s v a b one.sound two.sound older)) (holds_open (slot_of image 1) b two.held))
     ]
 
--- what is shown is ruled by the manifest that its slots make
+-- the manifest of the slots is current in what is shown
 pub slots_rule : (content : Content) (s : Shape) (v : Version) (first second : Option SlotRecord) (made : Option ManifestState) (m : ManifestState) → HasVersion content v → Shows content (HasSlot s v 0 first) → Shows content (HasSlot s v 1 second) → made ≡ manifest_of s first second → made ≡ Some m → Shows content (IsRuled m)
 slots_rule content s v first second made m version one two is some = record { holds = λ honest. ruled_image s v first second m content.shown (sym (version honest)) (one.holds honest) (two.holds honest) (sym is ∙ some) }
 
--- where nothing is pending, so is whatever a stop leaves
+-- if nothing is pending, also in each possible crash image
 pub rest_rules : (content : Content) (m : ManifestState) → Shows content (IsRuled m) → Rests content → LeavesOnly content (IsRuled m)
 rest_rules content m shows rests = rests_leaves rests shows
 
@@ -132,7 +132,7 @@ pub where_some : {X E : Type 0} (o : Option X) (e : E) (P : X → Type 0) → ((
 where_some None e P step = tt
 where_some (Some x) e P step = step x refl
 
--- the refusal, where nothing was found
+-- the refusal, if nothing was found
 pub where_none : {X E : Type 0} (o : Option X) (e : E) (Q : E → Type 0) → (o ≡ None → Q e) → IfErr (ok_or o e) Q
 where_none None e Q step = step refl
 where_none (Some x) e Q step = tt

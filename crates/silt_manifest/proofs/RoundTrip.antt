@@ -50,7 +50,7 @@ ids_behind (n ∷ ns) i pre post e small =
     ∙ rest in
     cc
 
--- as many as the count says
+-- as many as the count
 pub ids_at_behind : (room : ℕ) (ns : List ℕ) (i : ℕ) (pre post : List ℕ) → length pre ≡ i → length ns < 256 ^ 4 → list_all (λ n. nat_lt n (256 ^ 4)) ns ≡ true → ids_at i (pre ++ (ids_bytes room ns ++ post)) ≡ ns
 ids_at_behind room ns i pre post e short small =
     let pad = replicate (4 * (room - length ns)) 0 in
@@ -144,6 +144,6 @@ length_body_bytes b frozen hashed =
     let four = length-append (((first ++ F) ++ H) ++ big_bytes 4 b.sorted) (big_bytes 4 b.sorted_count) in
     omega (arith, one, two, three, four, length_ids_bytes 7 b.frozen frozen, length_ids_bytes 16 b.hashed hashed)
 
--- the same where its numbers fit
+-- the same if its numbers fit
 pub fitting_length : (b : Body) → FitsSlot b → length (body_bytes b) ≡ 120
 fitting_length b fits = length_body_bytes b fits.frozen_count fits.hashed_count

@@ -1,4 +1,4 @@
--- Which record rules, from what the two slots hold.
+-- The current record, from what the two slots hold.
 use Rattle.std.proofs.Common.{◌≡◌, ℕ, ◌+◌, ◌⊎◌, inl, inr, true, false, nat_lt, List, Option, Some, None, Ok, Err, refl, sym, ap, ◌∙◌, arith}
 use Rattle.std.proofs.lemmas.Bool.{cases_Bool, cases_eq}
 use Rattle.std.proofs.lemmas.Bool.Decides.{nat_tests}
@@ -35,11 +35,11 @@ found_at s v image first second is is_first is_second =
     ap (λ (version : Version). record_found s version (open_record image 0) (open_record image 1)) is
     ∙ ap (λ held. record_found s v held (open_record image 1)) is_first ∙ ap (λ held. record_found s v first held) is_second
 
--- nothing rules where a slot is damaged
+-- no record is current if a slot is damaged
 none_rules : (s : Shape) (v : Version) (first second : Option SlotRecord) (slot : ℕ) (b : SlotRecord) → record_found s v first second ≡ Err (Slot slot) → where_found (record_found s v first second) ≡ Some b → ⊥
 none_rules s v first second slot b refused rules = let none : where_found (record_found s v first second) ≡ None = ap where_found refused in absurd (cc)
 
--- of slots of which one rules the first is sound
+-- if there is a current record, the first slot is sound
 first_is_sound : (s : Shape) (v : Version) (first second : Option SlotRecord) (b : SlotRecord) → where_found (record_found s v first second) ≡ Some b → is_sound_record s v 0 first ≡ true
 unfolding record_found
 first_is_sound s v first second b rules =
@@ -58,7 +58,7 @@ second_is_sound s v first second b rules =
       | inr unsound ↦ let refused : record_found s v first second ≡ Err (Slot 1) = rw (sound, unsound) refl in absurd (none_rules s v first second 1 b refused rules)
     ]
 
--- a record that rules in an image is sound in its slot
+-- the current record of an image is sound in its slot
 pub rules_sound : (s : Shape) (r o : ℕ) (b : SlotRecord) (image : List ℕ) → r + o ≡ 1 → open_record image r ≡ Some b → ruling_manifest s image ≡ Some b → is_sound_record s (version_of (header_of image)) r (Some b) ≡ true
 rules_sound s r o b image slots stands rules =
     let v = version_of (header_of image) in
@@ -89,7 +89,7 @@ alone_found s v r o b image is slots sound stands closed =
           ∙ alone_second s v b (ap (λ (slot : ℕ). is_sound_record s v slot (Some b)) (sym one_r) ∙ sound)
     ]
 
--- a record rules that is newer than the other
+-- a record is current if it is newer than the other
 pub newer_rules : (s : Shape) (v : Version) (r o : ℕ) (a b : SlotRecord) (image : List ℕ) → version_of (header_of image) ≡ v → r + o ≡ 1 → is_sound_record s v r (Some a) ≡ true → is_sound_record s v o (Some b) ≡ true → b.body.generation ≡ a.body.generation + 1 → open_record image r ≡ Some a → open_record image o ≡ Some b → ruling_manifest s image ≡ Some b
 newer_rules s v r o a b image is slots sound_a sound_b next stands_a stands_b =
     elim (cases_eq r 0) [
@@ -106,7 +106,7 @@ newer_rules s v r o a b image is slots sound_a sound_b next stands_a stands_b =
           ∙ newer_first s v b a (ap (λ (slot : ℕ). is_sound_record s v slot (Some b)) (sym zero_o) ∙ sound_b) (ap (λ (slot : ℕ). is_sound_record s v slot (Some a)) (sym one_r) ∙ sound_a) older)
     ]
 
--- images of one version whose slots hold the same are ruled alike
+-- images of one version whose slots hold the same have the same current record
 pub same_rules : (s : Shape) (r o : ℕ) (before after : List ℕ) → version_of (header_of after) ≡ version_of (header_of before) → r + o ≡ 1 → open_record after r ≡ open_record before r → open_record after o ≡ open_record before o → ruling_manifest s after ≡ ruling_manifest s before
 same_rules s r o before after is slots same_r same_o =
     elim (cases_eq r 0) [
@@ -121,7 +121,7 @@ same_rules s r o before after is slots same_r same_o =
           (ap (open_record after) (sym zero_o) ∙ same_o ∙ ap (open_record before) zero_o) (ap (open_record after) (sym one_r) ∙ same_r ∙ ap (open_record before) one_r))
     ]
 
--- a record rules on where its slot stays, and the other one is closed or stays too
+-- a record stays current if its slot stays, and the other one is closed or stays too
 pub still_rules : (s : Shape) (r o : ℕ) (b : SlotRecord) (before after : List ℕ) → version_of (header_of after) ≡ version_of (header_of before) → r + o ≡ 1 → open_record before r ≡ Some b → ruling_manifest s before ≡ Some b → open_record after r ≡ open_record before r → (open_record after o ≡ None) ⊎ (open_record after o ≡ open_record before o) → ruling_manifest s after ≡ Some b
 still_rules s r o b before after is slots stands rules same_r other =
     elim other [

@@ -93,7 +93,7 @@ fits_slot s slot b limits sound =
       sorted_count = omega (arith, parts.sorted_count, limits.sorted_capacity_most);
     }
 
--- a body stands in the slot of its generation
+-- a body lies in the slot of its generation
 pub own_slot : (s : Shape) (slot : ℕ) (b : Body) → is_well_formed s slot b ≡ true → is_well_formed s (b.generation % 2) b ≡ true
 own_slot s slot b sound = ap (λ (at : ℕ). is_well_formed s at b) (sound_parts s slot b sound).slot_is ∙ sound
 
@@ -101,7 +101,7 @@ own_slot s slot b sound = ap (λ (at : ℕ). is_well_formed s at b) (sound_parts
 pub sound_body : (s : Shape) (version : Version) (slot : ℕ) (found : SlotRecord) → is_sound_record s version slot (Some found) ≡ true → is_well_formed s slot found.body ≡ true
 sound_body s version slot found sound = (and_parts _ _ sound).1
 
--- a record that lacks the digests that are due is not sound
+-- a record without the required digests is not sound
 pub without_digests : (s : Shape) (version : Version) (slot : ℕ) (found : SlotRecord) → has_due_digests version found.digests ≡ false → is_sound_record s version slot (Some found) ≡ false
 without_digests s version slot found lacks = rw lacks refl
 
@@ -117,7 +117,7 @@ without_body s version slot found unsound =
 pub with_both : (s : Shape) (version : Version) (slot : ℕ) (found : SlotRecord) → has_due_digests version found.digests ≡ true → is_well_formed s slot found.body ≡ true → is_sound_record s version slot (Some found) ≡ true
 with_both s version slot found due sound = rw (due, sound) refl
 
--- a record with digests may stand on a device of any version
+-- a record with digests is allowed on a device of any version
 pub long_sound : (s : Shape) (version : Version) (slot : ℕ) (found : SlotRecord) → is_some found.digests ≡ true → is_well_formed s slot found.body ≡ true → is_sound_record s version slot (Some found) ≡ true
 long_sound s One slot found has sound = sound
 long_sound s Two slot found has sound = rw has sound

@@ -7,15 +7,15 @@ use Rattle.silt_disk.specs.Numbers.{number_at}
 use Rattle.silt_manifest.specs.Numbers.{ids_bytes, ids_at}
 use Rattle.silt_manifest.specs.declared.body.Body.{Body}
 
--- the body of a store that was just formatted
+-- the body of a newly formatted store
 abbrev pub first_body : Body
 first_body = record { generation = 0; active = 0; frozen = []; hashed = []; sorted = 0; sorted_count = 0 }
 
--- the highest bit of the field of a generation: it says that digests follow the body
+-- the highest bit of a generation's field: if set, digests follow the body
 abbrev pub long_bit : ℕ
 long_bit = 2 ^ 63
 
--- what is written behind the gate of a slot first, 120 bytes
+-- the bytes right after the gate of a slot, 120 bytes
 abbrev pub body_bytes : Body → List ℕ
 body_bytes b =
     big_bytes 8 (b.generation + long_bit) ++ big_bytes 4 b.active ++ ids_bytes 7 b.frozen ++ ids_bytes 16 b.hashed
@@ -32,7 +32,7 @@ body_of slot = record {
   sorted_count = number_at 4 117 slot;
 }
 
--- no number stands twice
+-- no number occurs twice
 abbrev pub is_distinct : List ℕ → Bool
 is_distinct [] = true
 is_distinct (id ∷ ids) = not (list_any (λ other. other == id) ids) && is_distinct ids
@@ -41,23 +41,23 @@ is_distinct (id ∷ ids) = not (list_any (λ other. other == id) ids) && is_dist
 abbrev pub all_below : ℕ → List ℕ → Bool
 all_below n ids = list_all (λ id. nat_lt id n) ids
 
--- of so many logs one is free of the frozen ones, and these and the active one exist and differ from each other
+-- fewer logs are frozen than there are, and these and the active one exist and are distinct
 abbrev pub has_sound_logs : ℕ → Body → Bool
 has_sound_logs logs b =
     nat_lt (length b.frozen) logs && nat_lt b.active logs && all_below logs b.frozen
     && not (list_any (λ id. id == b.active) b.frozen) && is_distinct b.frozen
 
--- the hash stores exist, of so many, and differ from each other
+-- the hash stores are distinct, and exist if there are this many regions
 abbrev pub has_sound_hashes : ℕ → Body → Bool
 has_sound_hashes hashes b = nat_le (length b.hashed) hashes && all_below hashes b.hashed && is_distinct b.hashed
 
--- a body may stand in the slot of this number
+-- a body may lie in the slot of this number
 abbrev pub is_well_formed : Shape → ℕ → Body → Bool
 is_well_formed s slot b =
     nat_lt b.generation (2 ^ 63) && (b.generation % 2 == slot) && has_sound_logs s.logs b && has_sound_hashes s.hashes b
     && nat_lt b.sorted 2 && nat_le b.sorted_count s.sorted_capacity
 
--- numbers that the fields of a slot hold
+-- the numbers fit into the fields of a slot
 pub record FitsSlot (b : Body) : Type 0 where
   pub generation : b.generation < long_bit
   pub active : b.active < 256 ^ 4
@@ -68,6 +68,6 @@ pub record FitsSlot (b : Body) : Type 0 where
   pub sorted : b.sorted < 256 ^ 4
   pub sorted_count : b.sorted_count < 256 ^ 4
 
--- a body reads back
+-- a body reads back as it was written
 abbrev pub BodyLaw : Type 0
 BodyLaw = (b : Body) (gate : ℕ) (rest : List ℕ) → FitsSlot b → body_of (gate ∷ body_bytes b ++ rest) ≡ b

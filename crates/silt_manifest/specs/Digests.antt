@@ -1,4 +1,4 @@
--- The digests behind a body: their bytes, and when a slot has them.
+-- The digests after a body: their bytes, and when a slot has them.
 use Rattle.std.specs.Prelude.{◌≡◌, ℕ, ◌+◌, ◌*◌, ◌<◌, nat_le, Bool, if◌then◌else◌, List, ◌∷◌, ◌++◌, length, map, flat_map, get_or, slice_range, Some, None}
 use Rattle.std.specs.List.{range_with_len}
 use Rattle.silt_disk.specs.Numbers.{number_at}
@@ -12,11 +12,11 @@ use Rattle.silt_manifest.specs.declared.slot.SlotRecord.{SlotRecord}
 abbrev pub digest_bytes : List Digest → List ℕ
 digest_bytes digests = flat_map (λ digest. digest.0) digests
 
--- what is written behind a body, 340 bytes: the digests of 16 hash stores, and that of the sorted entries
+-- the bytes after a body, 340 bytes: the digests of 16 hash stores, and that of the sorted entries
 abbrev pub digests_bytes : Digests → List ℕ
 digests_bytes d = digest_bytes d.hashed ++ d.sorted.0
 
--- all that is written behind the gate of a slot, 460 bytes
+-- all bytes that are written after the gate of a slot, 460 bytes
 abbrev pub record_bytes : Body → Digests → List ℕ
 record_bytes body digests = body_bytes body ++ digests_bytes digests
 
@@ -35,7 +35,7 @@ digests_of slot = record {
 abbrev pub is_long : List ℕ → Bool
 is_long slot = nat_le long_bit (number_at 8 1 slot)
 
--- what a slot says behind its gate: a body, and the digests behind it, if there are any
+-- the record of a slot, after its gate: a body, and the digests after it, if there are any
 abbrev pub record_of : List ℕ → SlotRecord
 record_of slot = record { body = body_of slot; digests = if is_long slot then Some (digests_of slot) else None }
 
@@ -43,12 +43,12 @@ record_of slot = record { body = body_of slot; digests = if is_long slot then So
 abbrev pub long_record : Body → Digests → SlotRecord
 long_record body digests = record { body = body; digests = Some digests }
 
--- digests that a slot has room for: those of 16 hash stores, each of 20 bytes, and that of the sorted entries
+-- digests that fit into a slot: those of 16 hash stores, each of 20 bytes, and that of the sorted entries
 pub record FitsDigests (d : Digests) : Type 0 where
   pub count : length d.hashed ≡ 16
   pub hashed : (k : ℕ) → k < 16 → length (get_or d.hashed k d.sorted).0 ≡ 20
   pub sorted : length d.sorted.0 ≡ 20
 
--- a body and its digests read back
+-- a body and its digests read back as they were written
 abbrev pub RecordLaw : Type 0
 RecordLaw = (body : Body) (digests : Digests) (gate : ℕ) → FitsSlot body → FitsDigests digests → record_of (gate ∷ record_bytes body digests) ≡ long_record body digests

@@ -1,4 +1,4 @@
--- Why a slot or a manifest was not read, and what a failed write or sync gave.
+-- Why a slot or a manifest could not be read, and the fault of a failed write or sync.
 use Rattle.std.specs.Prelude.{◌≡◌, ℕ, false, List, Err}
 use Rattle.silt_disk.specs.Disk.{Content, Shows}
 use Rattle.silt_disk.specs.Layout.{Shape}
@@ -14,7 +14,7 @@ pub record IsUnsound (s : Shape) (version : Version) (slot : ℕ) (damage : Dama
   pub place : damage ≡ Slot slot
   pub unsound : is_sound_record s version slot (open_record image slot) ≡ false
 
--- a slot was refused: for what it shows, or by a fault of a read
+-- why a slot was refused: its content, or a fault of a read
 abbrev pub IsSlotRefused : {F : Type 0} → Content → Shape → Version → (F → Type 0) → ℕ → ReadFault F → Type 0
 IsSlotRefused content s version WasGiven slot (Damaged damage) = Shows content (IsUnsound s version slot damage)
 IsSlotRefused content s version WasGiven slot (Device fault) = WasGiven fault
@@ -23,7 +23,7 @@ IsSlotRefused content s version WasGiven slot (Device fault) = WasGiven fault
 pub record IsDamaged (s : Shape) (damage : Damage) (image : List ℕ) : Type 0 where
   pub found : manifest_found s image ≡ Err damage
 
--- no manifest was read: for what is shown, or by a fault of a read
+-- why no manifest was read: the content, or a fault of a read
 abbrev pub IsNotRead : {F : Type 0} → Content → Shape → (F → Type 0) → ReadFault F → Type 0
 IsNotRead content s WasGiven (Damaged damage) = Shows content (IsDamaged s damage)
 IsNotRead content s WasGiven (Device fault) = WasGiven fault

@@ -1,19 +1,19 @@
--- The numbers of a list of ids, in an array with zeros behind them.
+-- The numbers of a list of ids, in an array with zeros after them.
 use Rattle.std.proofs.Common.{◌≡◌, ℕ, ◌+◌, ◌-◌, ◌≤◌, List, ◌++◌, length, take, drop, replicate, get_or, sym, ◌∙◌, ap, arith}
 use Rattle.std.proofs.Common.{take-append-drop, length-take-le, length-drop}
 use Rattle.std.proofs.lemmas.List.{ext_get_or, get_or-drop, get_or-replicate, length-replicate}
 
--- at most 16 numbers, and zeros in the places behind them
+-- at most 16 numbers, and zeros in the places after them
 pub record IsIdList (numbers : List ℕ) (count : ℕ) : Type 0 where
   pub most : count ≤ 16
   pub room : length numbers ≡ 16
   pub zeros : (k : ℕ) → count ≤ k → get_or numbers k 0 ≡ 0
 
--- the count is that of the numbers
+-- the count is the number of the ids
 pub count_back : (numbers : List ℕ) (count : ℕ) → IsIdList numbers count → length (take count numbers) ≡ count
 count_back numbers count filled = length-take-le count numbers (omega arith)
 
--- the numbers with zeros behind them are the whole array
+-- the numbers with zeros after them are the whole array
 pub numbers_back : (numbers : List ℕ) (count : ℕ) → IsIdList numbers count → take count numbers ++ replicate (16 - length (take count numbers)) 0 ≡ numbers
 numbers_back numbers count filled =
     let counted = count_back numbers count filled in

@@ -4,15 +4,15 @@ use Rattle.std.specs.List.{range_with_len}
 use Rattle.byteorder.specs.Endian.{big_bytes}
 use Rattle.silt_disk.specs.Numbers.{number_at}
 
--- numbers of four bytes, one after the other
+-- numbers of four bytes each, one after the other
 abbrev pub id_bytes : List ℕ → List ℕ
 id_bytes [] = []
 id_bytes (id ∷ ids) = big_bytes 4 id ++ id_bytes ids
 
--- how many, and then room for this many numbers, with zeros where there are fewer
+-- the count, and then room for this many numbers, with zeros if there are fewer
 abbrev pub ids_bytes : ℕ → List ℕ → List ℕ
 ids_bytes room ids = big_bytes 4 (length ids) ++ id_bytes ids ++ replicate (4 * (room - length ids)) 0
 
--- as many numbers as the count at place i says, from the four bytes behind it on
+-- as many numbers as the count at place i gives, from the four bytes after it on
 abbrev pub ids_at : ℕ → List ℕ → List ℕ
 ids_at i bytes = map (λ k. number_at 4 (i + 4 + 4 * k) bytes) (range_with_len 0 (number_at 4 i bytes))

@@ -1,4 +1,4 @@
--- What a manifest in memory says of the images of a disk.
+-- A manifest in memory, and what the images of a disk have of it.
 use Rattle.std.specs.Prelude.{◌≡◌, ◌⊎◌, ℕ, ◌+◌, ◌%◌, Bool, true, false, not, nat_lt, if◌then◌else◌, IsTrue, List, [], ◌∷◌, Option, Some, None, Ok, slice_range}
 use Rattle.std.specs.Option.{ForSome, is_some}
 use Rattle.silt_disk.specs.Disk.{Content, LeavesOnly, splice}
@@ -11,7 +11,7 @@ use Rattle.silt_manifest.specs.declared.body.Body.{Body}
 use Rattle.silt_manifest.specs.declared.digests.Digests.{Digests}
 use Rattle.silt_manifest.specs.declared.slot.SlotRecord.{SlotRecord}
 
--- The manifest: the six numbers, the body that rules and the digests behind it, if there are any; whether the gate of the other slot is
+-- The manifest: the six numbers, the current body and the digests after it, if there are any; whether the gate of the other slot is
 -- closed, and the next record once it is written behind that gate.
 pub record ManifestState : Type 0 where
   pub shape : Shape
@@ -20,15 +20,15 @@ pub record ManifestState : Type 0 where
   pub spare_closed : Bool
   pub prepared : Option SlotRecord
 
--- the record of the slot that rules
+-- the record of the current slot
 abbrev pub ruling_record : ManifestState → SlotRecord
 ruling_record m = record { body = m.ruling; digests = m.digests }
 
--- the manifest of a record that rules
+-- the manifest with this current record
 abbrev pub ruled_by : Shape → SlotRecord → Bool → ManifestState
 ruled_by s found spare_closed = record { shape = s; ruling = found.body; digests = found.digests; spare_closed = spare_closed; prepared = None }
 
--- the manifest that two slots make, of which each may hold a record that is sound
+-- the manifest of two slots, each with a sound record or none
 abbrev pub manifest_of : Shape → Option SlotRecord → Option SlotRecord → Option ManifestState
 manifest_of s None None = None
 manifest_of s None (Some second) = Some (ruled_by s second true)
@@ -36,7 +36,7 @@ manifest_of s (Some first) None = Some (ruled_by s first true)
 manifest_of s (Some first) (Some second) =
     Some (if nat_lt first.body.generation second.body.generation then ruled_by s second false else ruled_by s first false)
 
--- the slot of the body that rules
+-- the slot of the current body
 abbrev pub ruling_slot : ManifestState → ℕ
 ruling_slot m = m.ruling.generation % 2
 
@@ -44,26 +44,26 @@ ruling_slot m = m.ruling.generation % 2
 abbrev pub spare_slot : ManifestState → ℕ
 spare_slot m = (m.ruling.generation + 1) % 2
 
--- Where the zero goes with which a write of the next body begins: to the gate, and where that is closed already to the last place
--- of the slot, which nothing looks at.
+-- The place of the zero that begins a write of the next body: the gate, or, if that is closed already, the last place of the slot,
+-- which nothing reads.
 abbrev pub closing_place : ManifestState → ℕ
 closing_place m = if m.spare_closed then slot_at (spare_slot m) + 4095 else slot_at (spare_slot m)
 
--- what is shown once the next record is written: a zero at the closing place, and the record's bytes behind the gate
+-- what is shown once the next record is written: a zero at the closing place, and the record's bytes after the gate
 abbrev pub with_next : ManifestState → Body → Digests → List ℕ → List ℕ
 with_next m next digests image = splice (slot_at (spare_slot m) + 1) (record_bytes next digests) (splice (closing_place m) (0 ∷ []) image)
 
--- just the next record is written, with the zero before it
+-- exactly the next record is written, with the zero before it
 pub record WritesNext (m : ManifestState) (next : Body) (digests : Digests) (old new : Content) : Type 0 where
   pub honest : new.honest ≡ old.honest
   pub shown : IsTrue old.honest → new.shown ≡ with_next m next digests old.shown
 
--- a body may follow the one that rules: it has the next generation and is well formed
+-- a body may follow the current one: it has the next generation and is well formed
 pub record IsNext (m : ManifestState) (next : Body) : Type 0 where
   pub generation : next.generation ≡ m.ruling.generation + 1
   pub sound : is_well_formed m.shape (spare_slot m) next ≡ true
 
--- a record may follow the one that rules: its body may, and it has digests
+-- a record may follow the current one: its body may, and it has digests
 pub record IsNextRecord (m : ManifestState) (next : SlotRecord) : Type 0 where
   pub body : IsNext m next.body
   pub digests : is_some next.digests ≡ true
@@ -73,28 +73,28 @@ pub record HasSoundBodies (m : ManifestState) : Type 0 where
   pub ruling : is_well_formed m.shape (ruling_slot m) m.ruling ≡ true
   pub prepared : ForSome m.prepared (IsNextRecord m)
 
--- in an image the record of the manifest rules
+-- in an image the record of the manifest is current
 abbrev pub RulesAsHeld : ManifestState → List ℕ → Type 0
 RulesAsHeld m image = ruling_manifest m.shape image ≡ Some (ruling_record m)
 
--- in an image: the record rules, it stands in its slot, and the other slot's gate is as the manifest has it
+-- in an image the record is current and lies in its slot, and the other slot's gate is as the manifest has it
 pub record IsRuled (m : ManifestState) (image : List ℕ) : Type 0 where
   pub rules : RulesAsHeld m image
   pub stands : open_record image (ruling_slot m) ≡ Some (ruling_record m)
   pub spare : is_slot_open image (spare_slot m) ≡ not m.spare_closed
 
--- whatever a stop leaves is ruled so
+-- the same in each possible crash image
 abbrev pub Rules : ManifestState → Content → Type 0
 Rules m content = LeavesOnly content (IsRuled m)
 
--- in an image: the record rules as before, and the next one's bytes stand in the other slot behind a closed gate
+-- in an image the record is current as before, and the other slot has the next one's bytes after a closed gate
 pub record IsReady (m : ManifestState) (next : Body) (digests : Digests) (image : List ℕ) : Type 0 where
   pub rules : RulesAsHeld m image
   pub stands : open_record image (ruling_slot m) ≡ Some (ruling_record m)
   pub spare : is_slot_open image (spare_slot m) ≡ false
   pub bytes : slice_range image (slot_at (spare_slot m) + 1) (slot_at (spare_slot m) + 461) ≡ record_bytes next digests
 
--- the next record is written, and whatever a stop leaves is ready for its gate to be opened
+-- the next record is written, and in each possible crash image its gate can be opened
 pub record IsPrepared (m : ManifestState) (next : Body) (digests : Digests) (content : Content) : Type 0 where
   pub is : m.prepared ≡ Some (long_record next digests)
   pub closed : m.spare_closed ≡ true
@@ -103,23 +103,23 @@ pub record IsPrepared (m : ManifestState) (next : Body) (digests : Digests) (con
   pub fits_digests : FitsDigests digests
   pub leaves : LeavesOnly content (IsReady m next digests)
 
--- some next record is written so
+-- the same for some next record
 pub record CanCommit (m : ManifestState) (content : Content) : Type 0 where
   pub next : Body
   pub digests : Digests
   pub prepared : IsPrepared m next digests content
 
--- an image is ruled by the old record or by the prepared one
+-- in an image the old record or the prepared one is current
 abbrev pub RulesOldOrNew : ManifestState → List ℕ → Type 0
 RulesOldOrNew m image = RulesAsHeld m image ⊎ (ruling_manifest m.shape image ≡ m.prepared)
 
--- in an image: the body of generation 0 with these digests stands in slot 0 behind an open gate, and slot 1 is closed
+-- in an image slot 0 has the body of generation 0 with these digests and an open gate, and slot 1 is closed
 pub record IsFirst (digests : Digests) (image : List ℕ) : Type 0 where
   pub first : open_record image 0 ≡ Some (long_record first_body digests)
   pub second : open_record image 1 ≡ None
   pub bytes : slot_of image 0 ≡ gate_open ∷ record_bytes first_body digests
 
--- such a record rules, in any store's geometry, whatever the header
+-- such a record is current, in any store's geometry, whatever the header
 abbrev pub FirstRulesLaw : Type 0
 FirstRulesLaw =
     (s : Shape) (digests : Digests) (image : List ℕ) → InLimits s → open_record image 0 ≡ Some (long_record first_body digests) → open_record image 1 ≡ None

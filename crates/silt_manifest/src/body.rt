@@ -1,4 +1,4 @@
-// What a manifest slot says behind its gate.
+// The manifest record of a slot: its body, which follows the gate.
 ghost use Rattle.std.specs.Prelude.{◌≡◌, ◌+◌, ◌*◌, ◌<◌, ◌≤◌, ◌++◌, ◌⊎◌, true, false, length, replicate, take, IfSome, IfNone};
 ghost use Rattle.silt_manifest.specs.Numbers.{ids_bytes};
 ghost use Rattle.silt_manifest.specs.Body.{FitsSlot, all_below, body_bytes, body_of, first_body, has_sound_hashes, has_sound_logs, is_distinct, is_well_formed};
@@ -9,46 +9,46 @@ use crate::ids::Ids;
 use byteorder::{BigEndian, ByteOrder};
 use silt_disk::Geometry;
 
-/// The bytes of a body.
+/// The length of a body, in bytes.
 pub(crate) const BODY_LEN: usize = 120;
 
-/// The bytes of a slot that count: the gate, the body, and the digests behind it.
+/// The length of a slot's meaningful bytes: the gate, the body, and the digests after it.
 pub(crate) const SLOT_LEN: usize = 461;
 
-// The highest bit of the field of a generation: it says that digests follow the body.
+// The highest bit of a generation's field: if set, digests follow the body.
 const LONG_BIT: u64 = 1 << 63;
 
-// The room for frozen logs: one fewer than the most log regions.
+// The room for frozen logs: one less than the greatest number of log regions.
 const FROZEN_ROOM: usize = 7;
 
 // The room for hash stores.
 const HASHED_ROOM: usize = 16;
 
-/// Which regions are the store.
+/// The regions that make up the store.
 #[derive(Clone, Copy, Debug, PartialEq, Eq)]
 pub struct Body {
-    /// Of two open slots the body of greater generation rules. A generation stands in the slot of its remainder by 2.
+    /// If both slots are open, the body of greater generation is current. Even generations lie in slot 0, odd ones in slot 1.
     pub generation: u64,
     /// The region of the log that takes writes.
     pub active: u32,
-    /// The regions of the full logs, the newest first.
+    /// The regions of the full logs, from the newest.
     pub frozen: Ids,
-    /// The hash regions that are in use, the newest first.
+    /// The hash regions in use, from the newest.
     pub hashed: Ids,
-    /// The sorted region that is in use, 0 or 1.
+    /// The sorted region in use, 0 or 1.
     pub sorted: u32,
-    /// How many entries it has.
+    /// The number of its entries.
     pub sorted_count: u32,
 }
 
-// Whether each of these regions exists, where there are this many.
+// Whether each of these regions exists, if there are this many.
 fn are_below(ids: &[u32], count: u32) -> bool
     ensures { result ≡ all_below count ids.now }
 {
     ids.iter().all(|id| *id < count)
 }
 
-// Whether no number stands twice.
+// Whether no number occurs twice.
 fn are_distinct(ids: &[u32]) -> bool
     ensures { result ≡ is_distinct ids.now }
 {
@@ -74,7 +74,7 @@ fn put_long(bytes: &mut [u8], at: usize, number: u64)
     BigEndian::write_u64(&mut bytes[at..at + 8], number);
 }
 
-// Writes so many zeros.
+// Writes this many zeros.
 fn put_zeros(bytes: &mut [u8], at: usize, count: usize)
     requires there { at + count ≤ length bytes.old }
     requires short { length bytes.old < 4096 }
@@ -83,7 +83,7 @@ fn put_zeros(bytes: &mut [u8], at: usize, count: usize)
     bytes[at..at + count].fill(0);
 }
 
-// Writes how many ids there are and then the ids, with zeros in the room that is left.
+// Writes the number of ids and then the ids, with zeros in the room that is left.
 fn put_ids(bytes: &mut [u8], at: usize, room: usize, ids: &[u32])
     requires fits { length ids.now ≤ room }
     requires small { room ≤ 16 }
@@ -98,7 +98,7 @@ fn put_ids(bytes: &mut [u8], at: usize, room: usize, ids: &[u32])
     put_zeros(bytes, at + 4 + 4 * ids.len(), 4 * (room - ids.len()));
 }
 
-// Whether digests follow the body of a slot, gate and all.
+// Whether digests follow the body of a slot. The slot begins with its gate.
 pub(crate) fn is_long(slot: &[u8; SLOT_LEN]) -> bool
     ensures { result ≡ is_long slot.now }
 {
@@ -106,7 +106,7 @@ pub(crate) fn is_long(slot: &[u8; SLOT_LEN]) -> bool
 }
 
 impl Body {
-    /// The body of a store that was just formatted: generation 0, and all else 0 or none.
+    /// The body of a newly formatted store: generation 0, and all else 0 or none.
     pub fn first() -> Self
         ensures { result ≡ first_body }
     {
@@ -120,7 +120,7 @@ impl Body {
         }
     }
 
-    // Whether the logs exist and differ.
+    // Whether the logs exist and are distinct.
     fn has_sound_logs(&self, logs: u32) -> bool
         ensures { result ≡ has_sound_logs logs self.now }
     {
@@ -132,7 +132,7 @@ impl Body {
             && are_distinct(frozen)
     }
 
-    // Whether the hash stores exist and differ.
+    // Whether the hash stores exist and are distinct.
     fn has_sound_hashes(&self, hashes: u32) -> bool
         ensures { result ≡ has_sound_hashes hashes self.now }
     {
@@ -140,9 +140,9 @@ impl Body {
         hashed.len() <= hashes as usize && are_below(hashed, hashes) && are_distinct(hashed)
     }
 
-    /// Whether the body may stand in this slot: the generation is at most 2^63 - 1 and its remainder by 2 is the slot's number; the
-    /// active log and the frozen ones exist and differ from each other, and so do the hash stores; the sorted region is 0 or 1, and
-    /// its count is within its capacity.
+    /// Whether the body may lie in this slot. The generation is at most 2^63 - 1, and its remainder by 2 is the slot's number. The
+    /// active log and the frozen ones exist and are distinct, and so are the hash stores. The sorted region is 0 or 1, and its count
+    /// is within its capacity.
     pub fn is_well_formed(&self, geometry: &Geometry, slot: u32) -> bool
         ensures { result ≡ is_well_formed geometry.now slot self.now }
     {
@@ -154,7 +154,7 @@ impl Body {
             && self.sorted_count <= geometry.sorted_capacity()
     }
 
-    // What follows the gate first.
+    // The bytes right after the gate.
     pub(crate) fn to_bytes(&self) -> [u8; BODY_LEN]
         requires { FitsSlot self.now }
         ensures { result ≡ body_bytes self.now }
@@ -169,7 +169,7 @@ impl Body {
         bytes
     }
 
-    // The body of a slot, gate and all. None: it counts more ids than a store of this geometry has.
+    // Decodes the body of a slot, which begins with its gate. `None` if it counts more ids than a store of this geometry has.
     fn decode(slot: &[u8; SLOT_LEN], geometry: &Geometry) -> Option<Self>
         ensures read { IfSome result (λ body. body ≡ body_of slot.now) }
         ensures too_many { IfNone result ((geometry.now.logs ≤ length (body_of slot.now).frozen) ⊎ (geometry.now.hashes < length (body_of slot.now).hashed)) }
@@ -184,7 +184,7 @@ impl Body {
         })
     }
 
-    // The body of a slot, gate and all, where it is well formed.
+    // Decodes the body of a slot, which begins with its gate, if the body is well formed.
     #[tactic(auto, using(crate::proofs::SoundBodies::too_many_ids))]
     pub(crate) fn from_slot(bytes: &[u8; SLOT_LEN], geometry: &Geometry, slot: u32) -> Option<Self>
         ensures sound { IfSome result (λ body. (body ≡ body_of bytes.now) × (is_well_formed geometry.now slot body ≡ true)) }

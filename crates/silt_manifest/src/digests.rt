@@ -1,20 +1,20 @@
-// The digests that a manifest says of the stores that its body names.
+// The digests in a manifest, of the stores that its body names.
 ghost use Rattle.std.specs.Prelude.{◌≡◌, ◌+◌, ◌≤◌, ◌++◌, length, take};
 ghost use Rattle.silt_manifest.specs.Digests.{FitsDigests, digest_at, digests_bytes, digests_of};
 
 use crate::body::SLOT_LEN;
 use silt_frame::Digest;
 
-/// The bytes of the digests.
+/// The length of the digests, in bytes.
 pub(crate) const DIGESTS_LEN: usize = 340;
 
-// As many hash stores as a device can have.
+// The greatest number of hash stores of a device.
 const ROOM: usize = 16;
 
-// The bytes of a digest.
+// The length of a digest, in bytes.
 const DIGEST_LEN: usize = 20;
 
-// Where a slot has them: those of the hash stores, and that of the sorted entries.
+// Offsets in a slot: of the hash stores' digests, and of the sorted entries' digest.
 const HASHED_AT: usize = 121;
 
 const SORTED_AT: usize = 441;
@@ -22,9 +22,9 @@ const SORTED_AT: usize = 441;
 /// The digests of the stores that a manifest names.
 #[derive(Clone, Copy, Debug, PartialEq, Eq)]
 pub struct Digests {
-    /// Those of the hash stores, the newest first. What is behind them is written as zeros, and not looked at.
+    /// Those of the hash stores, from the newest. The rest of the room is written as zeros and never read.
     pub hashed: [Digest; ROOM],
-    /// That of the sorted entries.
+    /// The digest of the sorted entries.
     pub sorted: Digest,
 }
 
@@ -38,7 +38,7 @@ fn put_digest(bytes: &mut [u8], at: usize, digest: &Digest)
 }
 
 impl Digests {
-    // What follows the body.
+    // The bytes after the body.
     pub(crate) fn to_bytes(&self) -> [u8; DIGESTS_LEN]
         ensures value { result ≡ digests_bytes self.now }
         ensures fits { FitsDigests self.now }
@@ -51,7 +51,7 @@ impl Digests {
         bytes
     }
 
-    // Those of a slot, gate and all.
+    // The digests of a slot, which begins with its gate.
     pub(crate) fn of_slot(slot: &[u8; SLOT_LEN]) -> Self
         ensures { result ≡ digests_of slot.now }
     {
@@ -64,7 +64,7 @@ impl Digests {
     }
 }
 
-// The digest at a place of a slot.
+// The digest at an offset of a slot.
 fn digest_at(slot: &[u8; SLOT_LEN], at: usize) -> Digest
     requires { at + 20 ≤ 461 }
     ensures { result ≡ digest_at at slot.now }

@@ -1,4 +1,4 @@
-// A short list of region numbers that takes no memory.
+// A short list of region numbers without an allocation.
 ghost use Rattle.std.specs.Prelude.{◌≡◌, ◌==◌, ◌+◌, ◌*◌, ◌<◌, ◌≤◌, [], ◌∷◌, length, take, IfSome, IfNone};
 ghost use Rattle.silt_disk.specs.Numbers.{number_at};
 ghost use Rattle.silt_manifest.specs.Numbers.{ids_at};
@@ -6,10 +6,10 @@ ghost use Rattle.silt_manifest.specs.Numbers.{ids_at};
 use byteorder::{BigEndian, ByteOrder};
 use std::marker::Model;
 
-// As many hash regions as a device can have.
+// The greatest number of hash regions of a device.
 const ROOM: usize = 16;
 
-/// The numbers of up to 16 regions, the newest first.
+/// The numbers of up to 16 regions, from the newest.
 #[derive(Clone, Copy, Debug, PartialEq, Eq)]
 pub struct Ids {
     numbers: [u32; ROOM],
@@ -49,7 +49,7 @@ impl Ids {
         }
     }
 
-    /// How many there are.
+    /// The number of regions.
     pub fn len(&self) -> usize
         ensures value { result ≡ length self.now }
         ensures most { length self.now ≤ 16 }
@@ -57,14 +57,14 @@ impl Ids {
         self.count
     }
 
-    /// Whether there is none.
+    /// Whether there are none.
     pub fn is_empty(&self) -> bool
         ensures { result ≡ (length self.now == 0) }
     {
         self.count == 0
     }
 
-    /// The numbers, the newest first.
+    /// The numbers, from the newest.
     pub fn as_slice(&self) -> &[u32]
         ensures value { result.now ≡ self.now }
         ensures most { length self.now ≤ 16 }
@@ -84,7 +84,7 @@ impl Ids {
         self.count += 1;
     }
 
-    /// Keeps this many, the newest, and drops the older ones. With fewer there all stay.
+    /// Keeps this many of the newest, and drops the older ones. If there are fewer, all stay.
     pub fn truncate(&mut self, len: usize)
         ensures { self.new ≡ take len self.old }
     {
@@ -94,7 +94,7 @@ impl Ids {
         }
     }
 
-    // As many numbers as the four bytes at this place say, from the bytes behind them. None: these would be more than `most`.
+    // Decodes a list: its count in the four bytes at this place, and then the numbers. `None` if there are more than `most`.
     pub(crate) fn read(slot: &[u8], at: usize, most: usize) -> Option<Self>
         requires room { most ≤ 16 }
         requires there { at + (4 + 4 * most) ≤ length slot.now }

@@ -1,27 +1,28 @@
-//! The manifest: which regions of a device are the store.
+//! The manifest: which regions of a device make up the store.
 //!
-//! A device has two manifest slots. Each has a gate and, behind it, a body of 120 bytes that names regions. A gate is open exactly
-//! where it is 0xA7. Of the open slots the body of greater generation rules.
+//! A device has two manifest slots. Each has a gate (a commit byte) and then a body of 120 bytes that names regions. A gate is open
+//! if and only if it is 0xA7. Of the open slots, the one of greater generation holds the current body.
 //!
-//! **Digests** may follow a body, 340 bytes: those of 16 hash stores, the newest first, and that of the sorted entries. The highest
-//! bit of the field of the generation says that they follow, and the generation is that field modulo 2^63. What is written always
-//! has digests. On a device of version 1 a body may stand without them, on one of version 2 it may not.
+//! **Digests** may follow a body, 340 bytes: those of 16 hash stores, from the newest, and that of the sorted entries. The highest
+//! bit of the generation's field says that they follow. The generation is that field modulo 2^63. Every write includes digests. A
+//! device of version 1 may have a body without them, one of version 2 may not.
 //!
-//! **Damage** is an open slot whose body is not well formed, or which lacks the digests that the version asks for. It is not passed
-//! over.
+//! **Damage** is an open slot whose body is not well formed, or whose digests are missing although the version requires them. A
+//! reader does not skip such a slot.
 //!
-//! **A manifest write** changes only the slot that does not rule, the *spare* slot, so that the old body rules until the gate
+//! **A manifest write** changes only the slot that is not current, the *spare* slot. So the old body stays current until the gate
 //! before the new one is written:
 //!
-//! 1. `prepare_next` closes the spare slot and syncs, then writes the new body and its digests and syncs. At each of its exits each
-//!    image that a stop may leave has the old body as its ruling one.
-//! 2. `commit_next` opens the gate and syncs. At each of its exits each image has the old body or the new one, and after Ok the new.
+//! 1. `prepare_next` closes the spare slot and syncs, then writes the new body and its digests and syncs. At each of its exits the
+//!    old body is current in each possible crash image.
+//! 2. `commit_next` opens the gate and syncs. At each of its exits the old body or the new one is current in each image, and after
+//!    Ok the new one.
 //!
-//! **The first write of `prepare_next`** is the zero that closes the gate. Where the gate is closed already, the zero goes to
-//! offset 4,095 of the slot, which nothing looks at: a write on the closed gate would make it pending before a body that nobody
-//! vouches for, and a stop could leave it open. `Manifest` knows which case it is, from `read_current` and its own writes.
+//! **The first write of `prepare_next`** is the zero that closes the gate. If the gate is closed already, the zero goes to offset
+//! 4,095 of the slot, which nothing reads. A write on the closed gate would make it pending before a body that nothing has checked,
+//! and a crash could leave it open. `Manifest` knows which case it is, from `read_current` and its own writes.
 //!
-//! No call takes memory.
+//! No call allocates memory.
 #![tactic(auto)]
 
 mod body;

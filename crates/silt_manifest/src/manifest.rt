@@ -18,17 +18,17 @@ use silt_disk::{Disk, Geometry, Version, slot_start, write_synced};
 use silt_frame::{GATE_CLOSED, GATE_OPEN};
 use std::marker::Model;
 
-// The last place of a slot, which nothing looks at.
+// The last place of a slot, which nothing reads.
 const UNUSED_PLACE: u64 = 4095;
 
-/// The body that rules a device, the digests behind it, and what is known of its slots.
+/// The current body of a device, the digests after it, and what is known of its slots.
 #[derive(Clone, Copy)]
 pub struct Manifest {
     geometry: Geometry,
     ruling: Body,
-    // The digests behind the body that rules, if there are any.
+    // The digests after the current body, if there are any.
     digests: Option<Digests>,
-    // Whether the gate of the slot that does not rule is closed.
+    // Whether the gate of the spare slot is closed.
     spare_closed: bool,
     // The next record, once it is written behind that gate.
     prepared: Option<SlotRecord>,
@@ -46,12 +46,13 @@ impl Model for Manifest {
     ghost invariant = { λ m. HasSoundBodies (record { shape = m.geometry; ruling = m.ruling; digests = m.digests; spare_closed = m.spare_closed; prepared = m.prepared }) };
 }
 
-/// Reads the slots of a device of this version. A closed slot is passed over. An open one is damage if its body is not well formed,
-/// or if it lacks the digests that the version asks for. So is it if no slot is open. Of two open slots the greater generation rules.
+/// Reads the slots of a device of this version. A closed slot is skipped. An open one is damage if its body is not well formed, or
+/// if its digests are missing although the version requires them. It is damage too if no slot is open. If both slots are open, the
+/// greater generation is current.
 ///
 /// # Errors
 ///
-/// The first damage, of slot 0, then slot 1, then for want of an open slot; or the fault of a read.
+/// The first damage: of slot 0, then of slot 1, then that no slot is open; or the fault of a read.
 pub fn read_current<D: Disk>(
     disk: &D,
     geometry: Geometry,
@@ -77,7 +78,7 @@ impl Manifest {
         self.geometry
     }
 
-    /// The body that rules.
+    /// The current body.
     pub fn ruling(&self) -> Body
         ensures value { result ≡ self.now.ruling }
         ensures sound { is_well_formed self.now.shape (ruling_slot self.now) self.now.ruling ≡ true }
@@ -86,14 +87,14 @@ impl Manifest {
         self.ruling
     }
 
-    /// The digests behind the body that rules, if there are any.
+    /// The digests after the current body, if there are any.
     pub fn digests(&self) -> Option<Digests>
         ensures value { result ≡ self.now.digests }
     {
         self.digests
     }
 
-    // The manifest of a record that rules.
+    // The manifest with this current record.
     #[tactic(auto, using(crate::proofs::SoundBodies::own_slot))]
     fn ruled_by(geometry: Geometry, found: SlotRecord, spare_closed: bool, slot: u32) -> Self
         requires { is_well_formed geometry slot found.body ≡ true }
@@ -108,7 +109,7 @@ impl Manifest {
         }
     }
 
-    // The manifest that two slots make, of which each may hold a record that is sound.
+    // The manifest of two slots, each with a sound record or none.
     #[tactic(auto, using(crate::proofs::SoundBodies::sound_body))]
     fn of_slots(
         geometry: Geometry,
@@ -134,7 +135,7 @@ impl Manifest {
         }
     }
 
-    // The slot that does not rule.
+    // The spare slot.
     fn spare_slot(&self) -> u32
         ensures value { result ≡ spare_slot self.now }
         ensures below { result < 2 }
@@ -142,7 +143,7 @@ impl Manifest {
         ((self.ruling.generation + 1) % 2) as u32
     }
 
-    // Where the zero goes with which a write of the next record begins.
+    // The place of the zero that begins a write of the next record.
     fn closing_place(&self) -> u64
         ensures value { result ≡ closing_place self.now }
         ensures least { slot_at (spare_slot self.now) ≤ result }
@@ -156,9 +157,9 @@ impl Manifest {
         }
     }
 
-    /// Writes the next body and its digests into the slot that does not rule, behind a closed gate: closes the gate and syncs, then
-    /// writes the bytes and syncs. At each exit the old body rules in whatever a stop may leave. After Ok, `commit_next` is the next
-    /// call on the disk.
+    /// Writes the next body and its digests into the spare slot, behind a closed gate: closes the gate and syncs, then writes the
+    /// bytes and syncs. At each exit the old body is current in each possible crash image. After Ok, call `commit_next` next on this
+    /// disk.
     ///
     /// # Errors
     ///
@@ -194,8 +195,8 @@ impl Manifest {
         Ok(())
     }
 
-    /// Opens the gate of the record that `prepare_next` wrote, and syncs. At each exit the old body rules or the new one, in whatever
-    /// a stop may leave; after Ok the new one does.
+    /// Opens the gate of the record that `prepare_next` wrote, and syncs. At each exit the old body or the new one is current in each
+    /// possible crash image. After Ok it is the new one.
     ///
     /// # Errors
     ///
@@ -226,8 +227,8 @@ impl Manifest {
 }
 
 /// Writes the body of generation 0 with these digests into slot 0, with its gate: closes the gate, writes the bytes, opens the gate,
-/// each with a sync. After Ok it rules in whatever a stop may leave, since the gate of slot 1 is closed. The zero always goes to the
-/// gate: on a device that is being formatted the header's gate is closed, and no slot counts.
+/// each with a sync. After Ok it is current in each possible crash image, since the gate of slot 1 is closed. The zero always goes
+/// to the gate: while a device is formatted the header's gate is closed, and no slot matters.
 ///
 /// # Errors
 ///
@@ -247,24 +248,23 @@ pub fn write_first<D: Disk>(disk: &mut D, digests: &Digests) -> Result<(), D::Fa
     Ok(())
 }
 
-/// The law of closed slots, by which a reader knows which bytes count: a change in a slot that is closed before and after does not count.
+/// The law of closed slots, which says which bytes matter: a change in a slot that is closed before and after changes nothing.
 pub fn closed_slots_do_not_count()
     ensures { ClosedSlotLaw }
 {}
 
-/// The law of other records, by which a reader knows which bytes count: what a slot says does not depend on bytes outside the two
-/// slots.
+/// The law of other records, which says which bytes matter: the record of a slot does not depend on bytes outside the two slots.
 pub fn other_records_do_not_count()
     ensures { OtherRecordsLaw }
 {}
 
-/// The law of the other regions, by which a reader knows which bytes count: of what is outside the two slots, only the version in the
-/// header counts for what rules.
+/// The law of the other regions, which says which bytes matter: outside the two slots, the current record depends only on the
+/// version in the header.
 pub fn other_regions_do_not_count()
     ensures { OtherRegionsLaw }
 {}
 
-/// The law of the first record: it rules in any store's geometry, whatever the header's version.
+/// The law of the first record: it is current in any store's geometry, whatever the header's version.
 pub fn first_record_rules()
     ensures { FirstRulesLaw }
 {}

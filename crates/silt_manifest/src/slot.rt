@@ -13,38 +13,38 @@ use crate::digests::Digests;
 use silt_disk::{Disk, Geometry, Version, slot_start, write_synced};
 use silt_frame::is_open;
 
-// What is written behind a gate: a body, and the digests behind it.
+// What is written after a gate: a body, and the digests after it.
 const RECORD_LEN: usize = 460;
 
-/// What a slot says behind its gate.
+/// The record of a slot, after its gate.
 #[derive(Clone, Copy, Debug, PartialEq, Eq)]
 pub struct SlotRecord {
     /// The body.
     pub body: Body,
-    /// The digests behind it, if there are any.
+    /// The digests after it, if there are any.
     pub digests: Option<Digests>,
 }
 
-/// Where a manifest is damaged.
+/// The damage of a manifest.
 #[derive(Clone, Copy, Debug, PartialEq, Eq)]
 pub enum Damage {
-    /// The slot of this number, 0 or 1, is open, and its body is not well formed or lacks the digests that the device's version asks
-    /// for.
+    /// The slot of this number, 0 or 1, is open, and its body is not well formed or the digests that the device's version requires are
+    /// missing.
     Slot(u32),
     /// No slot is open.
     NoSlot,
 }
 
-/// Why no manifest was read.
+/// Why a manifest could not be read.
 #[derive(Debug, Drop)]
 pub enum ReadFault<F> {
-    /// The slots name no body that rules.
+    /// The slots have no current body.
     Damaged(Damage),
     /// A read failed with this fault.
     Device(F),
 }
 
-// Whether a record with these digests may stand on a device of this version.
+// Whether a record with these digests is allowed on a device of this version.
 fn has_due_digests(version: Version, digests: &Option<Digests>) -> bool
     ensures { result ≡ has_due_digests version digests.now }
 {
@@ -55,7 +55,7 @@ fn has_due_digests(version: Version, digests: &Option<Digests>) -> bool
 }
 
 impl SlotRecord {
-    // What an open slot says, gate and all, where it is sound.
+    // Decodes an open slot, which begins with its gate, if its record is sound.
     #[tactic(auto, using(crate::proofs::SoundBodies::without_digests, crate::proofs::SoundBodies::without_body, crate::proofs::SoundBodies::with_both))]
     fn from_slot(
         bytes: &[u8; SLOT_LEN],
@@ -74,7 +74,7 @@ impl SlotRecord {
         Some(SlotRecord { body, digests })
     }
 
-    // The digests of a slot, gate and all, if there are any.
+    // The digests of a slot, which begins with its gate, if there are any.
     fn digests_from(bytes: &[u8; SLOT_LEN]) -> Option<Digests>
         ensures { result ≡ (record_of bytes.now).digests }
     {
@@ -86,7 +86,7 @@ impl SlotRecord {
     }
 }
 
-// What the bytes of a slot say: nothing where it is closed, and else a record that is sound.
+// Decodes the bytes of a slot: nothing if it is closed, and else a sound record.
 #[tactic(auto, unfolding(crate::specs::Ruling::record_behind))]
 fn slot_held(
     bytes: &[u8; SLOT_LEN],
@@ -106,7 +106,7 @@ fn slot_held(
     }
 }
 
-// Reads a slot: nothing where it is closed, and else a record that is sound.
+// Reads a slot: nothing if it is closed, and else a sound record.
 pub(crate) fn read_slot<D: Disk>(
     disk: &D,
     geometry: &Geometry,
@@ -142,7 +142,7 @@ pub(crate) fn write_gate<D: Disk>(disk: &mut D, slot: u32, gate: u8) -> Result<(
     Ok(())
 }
 
-// What is written of a body and of the digests behind it.
+// The bytes of a body and of the digests after it.
 pub(crate) fn record_bytes(body: &Body, digests: &Digests) -> [u8; RECORD_LEN]
     requires { FitsSlot body.now }
     ensures value { result ≡ record_bytes body.now digests.now }
@@ -155,7 +155,7 @@ pub(crate) fn record_bytes(body: &Body, digests: &Digests) -> [u8; RECORD_LEN]
     bytes
 }
 
-// Writes these bytes behind the gate of a slot, and syncs.
+// Writes these bytes after the gate of a slot, and syncs.
 pub(crate) fn write_record<D: Disk>(
     disk: &mut D,
     slot: u32,

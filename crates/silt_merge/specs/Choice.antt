@@ -17,7 +17,7 @@ use Rattle.silt_merge.specs.State.{source_at}
 use Rattle.silt_merge.specs.declared.choice.Choice.{Choice}
 use Rattle.silt_merge.specs.declared.source.Source.{Source}
 
--- the row in a slot of a store, where it has this key
+-- the row in a slot of a store, if it has this key
 abbrev pub own_source : ℕ → ℕ → Row → List ℕ → Option Source
 own_source store slot row key = cond (bytes_eq row.key.0 key) (Some (record { kind = row.kind; store = store; slot = slot })) None
 
@@ -26,13 +26,13 @@ abbrev pub Gathers : ℕ → ℕ → Option Row → List (Key × Source) → Lis
 Gathers store slot None before after = (key : List ℕ) → source_at after key ≡ source_at before key
 Gathers store slot (Some row) before after = (key : List ℕ) → source_at after key ≡ option_or (source_at before key) (own_source store slot row key)
 
--- the first key for which a row waits, and the row: no row waits for a lower key
+-- the first key with a waiting row, and the row: no row waits for a lower key
 abbrev pub IsFirstWaiting : List (Key × Source) → Option (Key × Source) → Type 0
 IsFirstWaiting waiting None = waiting ≡ []
 IsFirstWaiting waiting (Some (key, source)) =
     (source_at waiting key.0 ≡ Some source) × ((other : List ℕ) (its : Source) → source_at waiting other ≡ Some its → slice_cmp nat_cmp other key.0 ≢ Less)
 
--- the key of the next entry, whose bytes are these; nothing where all are passed over
+-- the key of the next entry, whose bytes are these; none if all are skipped
 abbrev pub IsNextEntry : List StoredRow → ℕ → List ℕ → Option Key → Type 0
 IsNextEntry entries passed bytes None = Unit {0}
 IsNextEntry entries passed bytes (Some key) = (slice_get entries passed ≡ Some (entry_row bytes)) × (key.0 ≡ take key_len bytes)
@@ -45,26 +45,26 @@ lower_choice key source next =
     (record { key = key; source = Some source; passes = true })
     (record { key = next; source = None; passes = true })
 
--- the key that is decided next: the lower one of the first key for which a row waits and of the key of the next entry
+-- the next key to decide: the lower of the first key with a waiting row and the next entry's key
 abbrev pub choice_of : Option (Key × Source) → Option Key → Option Choice
 choice_of None None = None
 choice_of None (Some next) = Some (record { key = next; source = None; passes = true })
 choice_of (Some (key, source)) None = Some (record { key = key; source = Some source; passes = false })
 choice_of (Some (key, source)) (Some next) = Some (lower_choice key source next)
 
--- an entry is due for a choice: an entry decides, or a row that is a put
+-- an entry is written for a choice: an entry decides, or a row that is a put
 abbrev pub choice_puts : Option Source → Bool
 choice_puts None = true
 choice_puts (Some source) = is_put source.kind
 
--- The bytes of the entry for a choice: those that are there already where an entry decides, else the key, and the value in the slot of the row that
--- decides.
+-- The bytes of the entry for a choice: those that are there already if an entry decides, else the key and the value in the slot of
+-- the row that decides.
 abbrev pub ReadsRow : Shape → List ℕ → List ℕ → List ℕ → Option Source → List ℕ → List ℕ → Type 0
 ReadsRow shape image regions key None old new = new ≡ old
 ReadsRow shape image regions key (Some source) old new =
     is_put source.kind ≡ true → entry_row new ≡ record { kind = kind_byte Put; key = key; value = (slot_row shape (get_or regions source.store 0) image source.slot).value }
 
--- a choice is of the lowest key for which a row waits, or of the next entry; its key is above the last one that is decided
+-- a choice is the lowest key with a waiting row, or the next entry's; its key is greater than the last decided one
 pub record IsOffered (waiting : List (Key × Source)) (last : Option Key) (choice : Choice) : Type 0 where
   pub source : (source : Source) → choice.source ≡ Some source → source_at waiting choice.key.0 ≡ Some source
   pub none : choice.source ≡ None → choice.passes ≡ true

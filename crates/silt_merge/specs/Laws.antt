@@ -1,4 +1,4 @@
--- Laws of merges, for the layers above.
+-- Laws of merges, for the crates above.
 use Rattle.std.specs.Prelude.{◌≡◌, ℕ, ◌≤◌, IsTrue, List, [], ◌++◌, length}
 use Rattle.std.specs.FinMap.{len}
 use Rattle.std.specs.List.{All}
@@ -17,7 +17,7 @@ use Rattle.silt_sorted_store.specs.State.{IsHeldSorted, SortedState}
 abbrev pub MergedLaw : Type 0
 MergedLaw = (rows : List StoredRow) → IsMergeOf rows (merged_rows rows)
 
--- there are no more keys than rows, and no more entries than puts
+-- there are at most as many keys as rows, and at most as many entries as puts
 abbrev pub KeyCountLaw : Type 0
 KeyCountLaw = (rows : List StoredRow) → (key_count rows ≤ length rows) × (length (merged_rows rows) ≤ put_count rows)
 
@@ -25,13 +25,13 @@ KeyCountLaw = (rows : List StoredRow) → (key_count rows ≤ length rows) × (l
 abbrev pub MergedCountLaw : Type 0
 MergedCountLaw = (rows : List StoredRow) → length (merged_rows rows) ≡ len (map_of_rows rows)
 
--- hash stores of one shape with the sorted store that stand on an honest disk, and entries that rise, are sound
+-- hash stores of one shape and a sorted store, matching an honest disk, are sound if the entries rise
 abbrev pub SoundStoresLaw : Type 0
 SoundStoresLaw =
     (content : Content) (stores : List HashState) (sorted : SortedState) → IsTrue content.honest → All (λ store. store.shape ≡ sorted.shape) stores
     → All IsHeldHash stores → All (IsHashStore content) stores → sorted_findings (entries_in content.shown sorted) ≡ [] → AreSound content.shown stores sorted
 
--- a merge has gathered and written what it had, after a change outside its entries, the entries of the sorted store and the slots of the hash stores
+-- a merge has gathered and written the same after a change outside its entries, the sorted store's entries and the hash stores' slots
 abbrev pub MergedElsewhereLaw : Type 0
 MergedElsewhereLaw =
     (stores : List HashState) (sorted : SortedState) (merge : MergeState) (old new : Content) (at count : ℕ) → IsHeldSorted sorted → IsHeldMerge merge
@@ -40,8 +40,8 @@ MergedElsewhereLaw =
     → All (λ store. LiesOutside (hash_at sorted.shape store.region) (slots_len sorted.shape) at count) stores → ChangesWithin at count old new
     → HasMerged old stores sorted merge → HasMerged new stores sorted merge
 
--- the stores that a merge took are the oldest ones still, after others came in front of them
+-- the stores that a merge took are still the oldest ones after newer stores came
 abbrev pub OldestStoresLaw : Type 0
 OldestStoresLaw = (newer stores : List HashState) (count : ℕ) → count ≤ length stores → oldest_stores count (newer ++ stores) ≡ oldest_stores count stores
 
--- ---- a merge that is finished
+-- ---- a finished merge

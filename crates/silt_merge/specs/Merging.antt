@@ -21,27 +21,27 @@ use Rattle.silt_merge.specs.declared.source.Source.{Source}
 use Rattle.silt_trie.specs.Coded.{bytes_of}
 use Rattle.sha1.specs.Sha1.{Holds}
 
--- the stores that are merged lie in hash regions, and nothing is found in them
+-- the merged stores lie in hash regions, and there is no finding in them
 pub record AreSound (image : List ℕ) (stores : List HashState) (sorted : SortedState) : Type 0 where
   pub there : All (λ store. store.region < sorted.shape.hashes) stores
   pub hashes : flat_map (hash_findings sorted.shape) (map (hash_part sorted.shape image) (regions_of stores)) ≡ []
   pub entries : sorted_findings (entries_in image sorted) ≡ []
 
--- the row that a source stands for
+-- the row that a source names
 abbrev pub source_row : Shape → List ℕ → List ℕ → Source → StoredRow
 source_row shape image regions source = record (slot_row shape (get_or regions source.store 0) image source.slot) { kind = kind_byte source.kind }
 
--- the rows of the slots that are gathered, the oldest first: those of the stores before this one, and those of its slots before this one
+-- the rows of the gathered slots, from the oldest: those of the older stores, and those of this store's slots before this one
 unfoldable pub gathered_rows : Shape → List ℕ → List ℕ → ℕ → ℕ → List StoredRow
 gathered_rows shape image regions store slot =
     filter has_known_kind (rows_before shape (get_or regions store 0) image slot) ++ rows_of_hashes shape image (take store regions)
 
--- the newest rows of the keys that are decided
+-- the newest rows of the decided keys
 abbrev pub decided_rows : List ℕ → List HashState → SortedState → ℕ → List StoredRow
 decided_rows image stores sorted decided = take decided (newest_rows (sources image stores sorted))
 
--- so far the newest gathered row of each key waits until the key is decided, and the entries of decided keys are passed over; the last key
--- is one of those that are decided, and the slots and the entries that are ahead are the next ones
+-- So far the newest gathered row of each key waits until the key is decided, and the entries of decided keys are skipped. The last
+-- key is a decided one, and the slots and the entries that are ahead are the next ones
 pub record IsGatheredIn (image : List ℕ) (stores : List HashState) (sorted : SortedState) (merge : MergeState) : Type 0 where
   pub most : merge.decided ≤ key_count (sources image stores sorted)
   pub waits : (key : List ℕ) → option_map (source_row sorted.shape image (regions_of stores)) (source_at merge.waiting key)
@@ -52,15 +52,15 @@ pub record IsGatheredIn (image : List ℕ) (stores : List HashState) (sorted : S
   pub passes : (place : ℕ) → place < sorted.count
       → has_row_with (get_or (keys_of (entries_in image sorted)) place []) (decided_rows image stores sorted merge.decided) ≡ nat_lt place merge.passed
 
--- and what is due for decided keys is written, under the keys that are kept
+-- and the entries of decided keys are written, under the keys that are kept
 pub record IsMergedIn (image : List ℕ) (stores : List HashState) (sorted : SortedState) (merge : MergeState) : Type 0 where
   pub gathered : IsGatheredIn image stores sorted merge
   pub writes : sorted_rows merge.shape merge.region merge.written image
       ≡ take merge.shape.sorted_capacity (filter is_put_row (decided_rows image stores sorted merge.decided))
   pub keys : keys_of (sorted_rows merge.shape merge.region merge.written image) ≡ bytes_of merge.keys
 
--- So far all that is due is gathered and written: on an honest disk, where nothing is found in the stores that are merged. On any honest disk the
--- entries that are written are hashed.
+-- So far everything is gathered and written, if the disk is honest and there is no finding in the merged stores. On any honest disk
+-- the written entries are hashed.
 pub record HasMerged (content : Content) (stores : List HashState) (sorted : SortedState) (merge : MergeState) : Type 0 where
   pub shape : sorted.shape ≡ merge.shape
   pub counted : length stores ≡ merge.stores
@@ -68,26 +68,26 @@ pub record HasMerged (content : Content) (stores : List HashState) (sorted : Sor
   pub hashed : IsTrue content.honest → Holds merge.hasher (entries_bytes (sorted_rows merge.shape merge.region merge.written content.shown))
   pub merged : IsTrue content.honest → AreSound content.shown stores sorted → IsMergedIn content.shown stores sorted merge
 
--- entries are a merge of rows: they rise by key, make the map that the rows make, and are no more than the rows' puts
+-- entries are a merge of rows: they rise by key, make the map that the rows make, and are at most as many as the rows' puts
 pub record IsMergeOf (rows entries : List StoredRow) : Type 0 where
   pub rising : sorted_findings entries ≡ []
   pub same_map : map_of_rows entries ≡ map_of_rows rows
   pub charge : put_count entries ≤ put_count rows
   pub counted : length entries ≡ put_count entries
 
--- the slot that is gathered next shows a row of a known kind, and no row of its key waits
+-- the next slot to gather shows a row of a known kind, and no row of its key waits
 pub record TakesMemory (content : Content) (stores : List HashState) (merge : MergeState) : Type 0 where
   pub gathers : merge.store < merge.stores
   pub known : IsTrue content.honest → has_known_kind (slot_row merge.shape (get_or (regions_of stores) merge.store 0) content.shown merge.slot) ≡ true
   pub new_key : IsTrue content.honest → source_at merge.waiting (slot_row merge.shape (get_or (regions_of stores) merge.store 0) content.shown merge.slot).key ≡ None
 
--- why a step failed: a read, or want of memory for a row that is to wait, and nothing is changed, or the write
+-- why a step failed: a read, or out of memory for a waiting row, and nothing has changed; or the write
 abbrev pub FailsMerge : {D F : Type 0} → (D → F → Type 0) → (F → Type 0) → Type 0 → D → D → StepError F → Type 0
 FailsMerge gave_read counts takes_memory old new (Read fault) = (new ≡ old) × gave_read old fault
 FailsMerge gave_read counts takes_memory old new (Write fault) = counts fault
 FailsMerge gave_read counts takes_memory old new NoMemory = (new ≡ old) × takes_memory
 
--- the shape, the region and the number of stores of a merge stay
+-- the shape, the region and the number of stores of a merge never change
 pub record IsSameMerge (old new : MergeState) : Type 0 where
   pub shape : new.shape ≡ old.shape
   pub region : new.region ≡ old.region

@@ -5,27 +5,27 @@ use Rattle.silt_frame.specs.Rows.{StoredRow, row_of}
 use Rattle.silt_hash_store.specs.Slots.{slot_row}
 use Rattle.silt_sorted_store.specs.OnlyRow.{HasEntry}
 
--- a piece of a region: how many bytes each of its parts has, and the bytes of each that is not passed over
+-- a piece of a region: the length of each of its parts, and the bytes of each part that is not skipped
 pub record PieceState : Type 0 where
   pub len : ℕ
   pub parts : List (List ℕ)
 
--- so many parts of `len` bytes, from the part of this number on
+-- this many parts of `len` bytes, from the part of this number on
 abbrev pub parts_from : List ℕ → ℕ → ℕ → ℕ → List (List ℕ)
 parts_from bytes len at zero = []
 parts_from bytes len at (suc count) = slice_range bytes (at * len) (at * len + len) ∷ parts_from bytes len (at + 1) count
 
--- the parts after the first, where that is passed over, or all
+-- the parts after the first, if that is skipped, or all
 abbrev pub parts_after : Bool → List (List ℕ) → List (List ℕ)
 parts_after true parts = drop 1 parts
 parts_after false parts = parts
 
--- the entries from a place on are what these parts stand for
+-- these parts encode the entries from a place on
 abbrev pub AreEntries : List StoredRow → ℕ → List (List ℕ) → Type 0
 AreEntries entries place [] = Unit {0}
 AreEntries entries place (part ∷ parts) = HasEntry entries place part × AreEntries entries (place + 1) parts
 
--- the slots of a hash region from a slot on show the rows that these parts stand for
+-- these parts encode the rows in the slots of a hash region, from a slot on
 abbrev pub AreSlots : Shape → ℕ → List ℕ → ℕ → List (List ℕ) → Type 0
 AreSlots shape region image slot [] = Unit {0}
 AreSlots shape region image slot (part ∷ parts) =

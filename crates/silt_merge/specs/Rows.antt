@@ -11,21 +11,21 @@ use Rattle.silt_hash_store.specs.Slots.{hash_part}
 use Rattle.silt_sorted_store.specs.State.{sorted_rows, SortedState}
 use Rattle.silt_frame.specs.Rows.{StoredRow, is_put_row}
 
--- a row, put among rows that rise by key, unless one of them has its key
+-- a row inserted among rows that rise by key, unless one of them has its key
 abbrev pub with_older : StoredRow → List StoredRow → List StoredRow
 with_older row [] = row ∷ []
 with_older row (first ∷ rest) = match_ordering (slice_cmp nat_cmp row.key first.key) (row ∷ first ∷ rest) (first ∷ rest) (first ∷ with_older row rest)
 
--- the newest row of each key, in the order of the keys, of rows that are listed the oldest first
+-- the newest row of each key, in the order of the keys, from rows in order from the oldest
 abbrev pub newest_rows : List StoredRow → List StoredRow
 newest_rows [] = []
 newest_rows (row ∷ rows) = with_older row (newest_rows rows)
 
--- how many keys rows have
+-- the number of different keys of rows
 abbrev pub key_count : List StoredRow → ℕ
 key_count rows = length (newest_rows rows)
 
--- the entries that are made of rows: the newest row of each key, where it is a put
+-- the entries made of rows: the newest row of each key, if it is a put
 unfoldable pub merged_rows : List StoredRow → List StoredRow
 merged_rows rows = filter is_put_row (newest_rows rows)
 
@@ -37,7 +37,7 @@ has_row_with key rows = list_any (λ row. bytes_eq row.key key) rows
 abbrev pub regions_of : List HashState → List ℕ
 regions_of stores = map (λ store. store.region) stores
 
--- the rows of known kinds in hash regions that are listed the newest first, as one list from the oldest row on
+-- the rows of known kinds in hash regions, which are listed from the newest, as one list from the oldest row
 abbrev pub rows_of_hashes : Shape → List ℕ → List ℕ → List StoredRow
 rows_of_hashes shape image regions = oldest_first (map known_rows (map (hash_part shape image) regions))
 
@@ -45,6 +45,6 @@ rows_of_hashes shape image regions = oldest_first (map known_rows (map (hash_par
 abbrev pub entries_in : List ℕ → SortedState → List StoredRow
 entries_in image sorted = sorted_rows sorted.shape sorted.region sorted.count image
 
--- the rows that are merged, the oldest first: the entries, and then the rows of the hash stores, which are listed the newest first
+-- the merged rows from the oldest: the entries, and then the rows of the hash stores, which are listed from the newest
 unfoldable pub sources : List ℕ → List HashState → SortedState → List StoredRow
 sources image stores sorted = entries_in image sorted ++ rows_of_hashes sorted.shape image (regions_of stores)

@@ -15,10 +15,10 @@ use Rattle.silt_trie.specs.Coded.{bytes_of}
 use Rattle.silt_frame.specs.Frame.{key_len}
 use Rattle.sha1.specs.declared.Sha1.{Sha1}
 
--- A merge: the sorted region that is written, how many hash stores there are, the store and the slot that are gathered next, the
--- rows that wait for their keys to be decided, how many entries of the sorted store are passed over, how many entries are written,
--- and their keys, how many keys are decided, the last of them, the bytes of the next slots and of the next entries, as far as they are read, and what hashes the entries that are written. An entry that is
--- passed over since its key is not above the last one counts as a key that is decided.
+-- A merge: the sorted region that it writes, the number of hash stores, the store and the slot to gather next, the rows that wait for
+-- their keys to be decided, the number of skipped entries of the sorted store, the number of written entries and their keys, the
+-- number of decided keys and the last of them, the bytes of the next slots and entries as far as they are read, and the hasher of
+-- the written entries. An entry that is skipped because its key is not greater than the last one counts as a decided key.
 pub record MergeState : Type 0 where
   pub shape : Shape
   pub region : ℕ
@@ -35,65 +35,65 @@ pub record MergeState : Type 0 where
   pub ahead : List (List ℕ)
   pub hasher : Sha1
 
--- the next entry is not above the last key that is decided
+-- the next entry's key is at most the last decided key
 abbrev pub is_behind : Option Key → Option Key → Bool
 is_behind last None = false
 is_behind last (Some next) = not (is_above last next.0)
 
--- the last key that is decided rises, or it stays and nothing is written
+-- the last decided key rises, or it stays and nothing is written
 abbrev pub LastRises : MergeState → MergeState → Type 0
 LastRises old new = ((new.last ≡ old.last) × (new.written ≡ old.written)) ⊎ ((key : Key) × (new.last ≡ Some key) × (is_above old.last key.0 ≡ true))
 
--- the last of hash stores that are listed the newest first, which are the oldest: those that a merge took, whatever came meanwhile
+-- the last of hash stores that are listed from the newest: the oldest ones, which the merge took, whatever came since
 abbrev pub oldest_stores : ℕ → List HashState → List HashState
 oldest_stores count stores = drop (length stores - count) stores
 
--- the row that waits for a key, none where none does
+-- the waiting row of a key, if there is one
 abbrev pub source_at : List (Key × Source) → List ℕ → Option Source
 source_at waiting key = lookup (λ other. is_eq (slice_cmp nat_cmp key other.0)) waiting
 
--- the store and the slot after these, where a store has so many slots
+-- the store and the slot after these, if each store has this many slots
 abbrev pub slot_after : ℕ → ℕ → ℕ → ℕ × ℕ
 slot_after store slot slots = if slot + 1 == slots then (store + 1, 0) else (store, slot + 1)
 
--- how many entries are passed over after a key, which the next entry has or not
+-- the number of skipped entries after a key, which the next entry has or not
 abbrev pub passed_after : Bool → ℕ → ℕ
 passed_after true passed = passed + 1
 passed_after false passed = passed
 
--- what is ahead without what was read, which is all of it, or nothing where nothing was read
+-- what is ahead without what was just read: nothing after a read, and else the same
 abbrev pub ahead_without : Bool → List (List ℕ) → List (List ℕ)
 ahead_without true ahead = []
 ahead_without false ahead = ahead
 
--- how many entries are written after a key, which has an entry that is written or not
+-- the number of written entries after a key, whose entry is written or not
 abbrev pub written_after : Bool → ℕ → ℕ
 written_after true written = written + 1
 written_after false written = written
 
--- the keys of the entries that are written after this key
+-- the keys of the written entries after this key
 abbrev pub keys_after : Bool → List Key → Key → List Key
 keys_after true keys key = keys ++ key ∷ []
 keys_after false keys key = keys
 
--- the bytes that are hashed after this entry, which is written or not
+-- the hashed bytes after this entry, which is written or not
 abbrev pub hashed_after : Bool → List ℕ → List ℕ → List ℕ
 hashed_after true bytes entry = bytes ++ entry
 hashed_after false bytes entry = bytes
 
--- how many slots are gathered
+-- the number of gathered slots
 abbrev pub gathered_count : MergeState → ℕ
 gathered_count merge = merge.store * (4 * merge.shape.buckets) + merge.slot
 
--- how many steps are taken: one for each slot that is gathered, and one for each key that is decided
+-- the number of steps taken: one for each gathered slot, and one for each decided key
 abbrev pub steps_of : MergeState → ℕ
 steps_of merge = gathered_count merge + merge.decided
 
--- how many steps a merge of stores with so many keys takes
+-- the number of steps of a merge of stores with this many keys
 abbrev pub steps_for : MergeState → ℕ → ℕ
 steps_for merge keys = merge.stores * (4 * merge.shape.buckets) + keys
 
--- all slots are gathered, no row waits, and all entries are passed over
+-- all slots are gathered, no row waits, and all entries are skipped
 abbrev pub is_done : MergeState → SortedState → Bool
 is_done merge sorted = (merge.store == merge.stores) && (length merge.waiting == 0) && nat_le sorted.count merge.passed
 
@@ -106,14 +106,14 @@ pub record IsInside (merge : MergeState) (source : Source) : Type 0 where
 abbrev pub HasKeyBytes : List ℕ → Type 0
 HasKeyBytes bytes = (length bytes ≡ key_len) × ((i : ℕ) → slice_index bytes i < 256)
 
--- the keys of so many entries, which rise strictly up to the last key that is decided
+-- the keys of this many entries, which rise strictly up to the last decided key
 pub record AreKeysUpTo (last : Option Key) (count : ℕ) (keys : List Key) : Type 0 where
   pub counted : length keys ≡ count
   pub codable : IsCodable (bytes_of keys) 0
   pub bytes : All (λ (key : Key). HasKeyBytes key.0) keys
   pub decided : All (λ (key : Key). is_above last key.0 ≡ false) keys
 
--- what holds of every merge, on any disk
+-- the invariant of every merge, on any disk
 pub record IsHeldMerge (merge : MergeState) : Type 0 where
   pub there : merge.region < 2
   pub store : merge.store ≤ merge.stores

@@ -1,4 +1,4 @@
-// Which key is decided next, and by what.
+// The choice of the next key to decide, and of the row or entry that decides it.
 ghost use Rattle.std.specs.Prelude.{◌≡◌};
 ghost use Rattle.silt_merge.specs.Choice.{choice_of, choice_puts, lower_choice};
 ghost use Rattle.silt_merge.specs.State.{is_behind};
@@ -7,17 +7,17 @@ use crate::source::Source;
 use silt_frame::Key;
 use std::cmp::Ordering;
 
-/// The key that is decided next.
+/// The next key to decide.
 #[derive(Clone, Copy, Debug, PartialEq, Eq)]
 pub struct Choice {
     pub key: Key,
-    /// The gathered row that decides, none where the next entry does.
+    /// The gathered row that decides. `None` if the next entry does.
     pub source: Option<Source>,
-    /// Whether the next entry has the key, so that it is passed over.
+    /// Whether the next entry has the key, and so is skipped.
     pub passes: bool,
 }
 
-// The choice of the lower one of a gathered key and the key of the next entry. Where they are equal the row decides.
+// The choice of the lower of a gathered key and the next entry's key. If they are equal, the row decides.
 fn choose_lower(key: Key, source: Source, next: Key) -> Choice
     ensures { result ≡ lower_choice key source next }
 {
@@ -40,7 +40,7 @@ fn choose_lower(key: Key, source: Source, next: Key) -> Choice
     }
 }
 
-/// Whether the key of the next entry is not above the last one that is decided.
+/// Whether the next entry's key is at most the last decided key.
 pub fn is_behind(last: Option<Key>, next: Option<Key>) -> bool
     ensures { result ≡ is_behind last next }
 {
@@ -51,7 +51,7 @@ pub fn is_behind(last: Option<Key>, next: Option<Key>) -> bool
     }
 }
 
-/// The choice of the first gathered key with its row and the key of the next entry, none where there is neither.
+/// The choice between the first gathered key with its row and the next entry's key. `None` if there is neither.
 pub fn choose(first: Option<(Key, Source)>, next: Option<Key>) -> Option<Choice>
     ensures { result ≡ choice_of first next }
 {

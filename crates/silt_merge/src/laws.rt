@@ -1,4 +1,4 @@
-// Laws of merges, for the layers above.
+// Laws of merges, for the crates above.
 ghost use Rattle.silt_merge.specs.Laws.{KeyCountLaw, MergedCountLaw, MergedElsewhereLaw, MergedLaw, OldestStoresLaw, SoundStoresLaw};
 
 /// The newest rows that are puts are a merge of all rows.
@@ -6,7 +6,7 @@ pub fn merged_law()
     ensures { MergedLaw }
 {}
 
-/// There are no more keys than rows, and no more entries than puts.
+/// There are at most as many keys as rows, and at most as many entries as puts.
 pub fn key_count_law()
     ensures { KeyCountLaw }
 {}
@@ -16,17 +16,17 @@ pub fn merged_count_law()
     ensures { MergedCountLaw }
 {}
 
-/// Stores that stand on an honest disk are sound.
+/// Stores that match an honest disk are sound.
 pub fn sound_stores_law()
     ensures { SoundStoresLaw }
 {}
 
-/// A merge has gathered and written what it had, after a change elsewhere.
+/// A change elsewhere leaves what a merge has gathered and written.
 pub fn merged_elsewhere_law()
     ensures { MergedElsewhereLaw }
 {}
 
-/// The stores that a merge took are the oldest ones still, after others came in front of them.
+/// The stores that a merge took are still the oldest ones after newer stores came.
 pub fn oldest_stores_law()
     ensures { OldestStoresLaw }
 {}

@@ -1,17 +1,17 @@
 //! Hash stores and a sorted store, merged into a new sorted store.
 //!
-//! A `Merge` goes by steps. It first gathers: it looks at each slot of each hash store, from the newest store on, and keeps
-//! for each key where its newest row lies. Then it decides the keys one after the other, from the lowest on: the lower one of the
-//! first gathered key and the key of the next entry. A gathered row decides over the entry of its key. A put is written as the next
-//! entry of the region, and a key whose newest row is a delete is left out. Slots and entries are read in pieces of at most 64 KiB.
+//! A `Merge` goes by steps. First it gathers: it reads each slot of each hash store, from the newest store on, and keeps the place
+//! of each key's newest row. Then it decides the keys one after the other, from the lowest on: each time the lower of the first
+//! gathered key and the next entry's key. A gathered row overrides the entry of its key. A put is written as the next entry of the
+//! region. A key whose newest row is a delete is left out. Slots and entries are read in pieces of at most 64 KiB.
 //!
-//! The last key that is decided stays in memory, and an entry whose key is not above it is passed over. So what is written rises, on
-//! any disk.
+//! The last decided key stays in memory, and an entry whose key is not greater is skipped. So the written keys rise, on any disk.
 //!
-//! It keeps the keys that it writes, and in the end makes the index of them, so that the new store finds each of its entries by one
-//! read. Their places are reserved when it begins. Each entry that it writes goes into a hasher, which gives the new store's digest.
+//! The merge keeps the keys that it writes, and builds the index from them at the end. So the new store finds each of its entries
+//! by one read. It reserves room for these keys when it begins. A hasher gets each entry that is written, for the new store's
+//! digest.
 //!
-//! It writes nothing but entries of its own region. On a disk that is not honest it is safe and ends.
+//! It writes only entries of its own region. On a disk that is not honest (does not obey the crash model) it is safe and ends.
 #![tactic(auto)]
 
 mod choice;

@@ -1,4 +1,4 @@
-// A merge of hash stores and a sorted store, by steps.
+// A merge of hash stores and a sorted store, step by step.
 ghost use Rattle.std.specs.Prelude.{◌≡◌, ◌≢◌, ◌==◌, ◌+◌, ◌*◌, ◌<◌, ◌≤◌, ◌^◌, ◌↔◌, ℕ, List, [], Option, true, false, Some};
 ghost use Rattle.std.specs.Prelude.{None, cond, length, take, IsTrue, IfOk, IfErr, IfSome, IsSomeAnd, OnOk, OnErr, MatchResult, is_some, nat_lt, slice_index, vec_capacity, vec_len};
 ghost use Rattle.std.specs.List.{All};
@@ -34,19 +34,19 @@ use std::marker::Model;
 /// Why a step of a merge failed.
 #[derive(Debug, Drop)]
 pub enum StepError<F> {
-    /// A read failed with this fault. Nothing is changed.
+    /// A read failed with this fault. Nothing has changed.
     Read(F),
-    /// The write of an entry failed with this fault. What the entry then shows is open.
+    /// The write of an entry failed with this fault. The entry may then show any bytes.
     Write(F),
-    /// A row found no memory. Nothing is changed.
+    /// Out of memory for a row. Nothing has changed.
     NoMemory,
 }
 
-/// Hash stores and a sorted store on their way to become a new sorted store.
+/// Hash stores and a sorted store that are being merged into a new sorted store.
 ///
-/// It keeps the key and the place of each row that waits to be decided, the last key that was decided, the keys of all entries that it
-/// wrote, a piece of the next slots, and one of the next entries of the sorted store, each read together. A buffer of an entry serves each step.
-/// What it writes goes into a hasher, so that the new store has its digest with no further read.
+/// It holds the key and the place of each row that waits to be decided, the last decided key, and the keys of all entries that it
+/// wrote. It also holds a piece of the next slots and one of the next entries of the sorted store, each from one read. Each step
+/// uses the same buffer for an entry. A hasher gets what is written, so that the new store's digest needs no further read.
 #[derive(Drop)]
 pub struct Merge {
     target: SortedRegion,
@@ -107,7 +107,7 @@ impl Model for Merge {
         × (a.target.geometry.sorted_capacity ≤ vec_capacity a.keys) × (a.target.geometry.sorted_capacity ≤ 16777216) };
 }
 
-// Puts the bytes of the next entry of the sorted store into a buffer, where not all are passed over. Its key.
+// Puts the bytes of the next entry of the sorted store into a buffer, if not all are skipped. Returns its key.
 fn next_entry(sorted: &SortedEntries, ahead: &Piece, passed: u32, out: &mut [u8]) -> Option<Key>
     requires there { passed < sorted.now.count → 0 < length ahead.now.parts }
     requires out { length out.old ≡ ahead.now.len }
@@ -123,7 +123,7 @@ fn next_entry(sorted: &SortedEntries, ahead: &Piece, passed: u32, out: &mut [u8]
     Some(ahead.first_entry(out))
 }
 
-// Reads the value of a row that is a put and decides, behind its key, into a buffer. It leaves the bytes of an entry that decides.
+// Reads the value of a put that decides into a buffer, after its key. If an entry decides, the buffer has its bytes already.
 fn read_row<D: Disk>(
     stores: &[HashStore],
     disk: &D,
@@ -150,7 +150,7 @@ fn read_row<D: Disk>(
     stores[source.store as usize].read_value(disk, source.slot, value)
 }
 
-// The store and the slot after these, where a store has so many slots.
+// The store and the slot after these, if each store has this many slots.
 fn slot_after(store: u16, slot: u32, slots: u32) -> (u16, u32)
     requires store { store + 1 < 2 ^ 16 }
     requires slot { slot < slots }
@@ -163,7 +163,7 @@ fn slot_after(store: u16, slot: u32, slots: u32) -> (u16, u32)
     }
 }
 
-// How many entries are passed over after a key, which the next entry has or not.
+// The number of skipped entries after a key. The next entry may have the key or not.
 fn passed_after(passes: bool, passed: u32) -> u32
     requires { passes ≡ true → passed + 1 < 2 ^ 32 }
     ensures { result ≡ passed_after passes passed }
@@ -171,12 +171,12 @@ fn passed_after(passes: bool, passed: u32) -> u32
     if passes { passed + 1 } else { passed }
 }
 
-// What the type of bytes says: each is below 256.
+// What the type of bytes says: each is less than 256.
 fn known_bytes(bytes: &[u8])
     ensures { (place : ℕ) → slice_index bytes.now place < 256 }
 {}
 
-// Keeps the key of an entry that is written. There is a place for it.
+// Keeps the key of a written entry. There is room for it.
 fn keep_key(keys: &mut Vec<Key>, key: Key, is_written: bool)
     requires room { is_written ≡ true → vec_len keys.old < vec_capacity keys.old }
     ensures keys { keys.new.items ≡ keys_after is_written keys.old.items key }
@@ -191,7 +191,7 @@ fn keep_key(keys: &mut Vec<Key>, key: Key, is_written: bool)
     }
 }
 
-// Hashes the bytes of an entry that is written.
+// Hashes the bytes of a written entry.
 fn hash_written(hasher: &mut Sha1, entry: &[u8], is_written: bool)
     ensures { (bytes : List ℕ) → Holds hasher.old bytes → Holds hasher.new (hashed_after is_written bytes entry.now) }
 {
@@ -200,7 +200,7 @@ fn hash_written(hasher: &mut Sha1, entry: &[u8], is_written: bool)
     }
 }
 
-// The digest of what is hashed so far.
+// The digest of what was hashed so far.
 fn digest_so_far(hasher: &Sha1) -> Digest
     ensures { (bytes : List ℕ) → Holds hasher.now bytes → result.0 ≡ sha1 bytes }
 {
@@ -216,12 +216,12 @@ impl Merge {
     ghost use Rattle.silt_sorted_store.specs.Index.{IsIndexOf};
     ghost use Rattle.silt_sorted_store.specs.State.{sorted_entry_at};
 
-    /// A merge of these hash stores, the newest first, and the sorted store, into the sorted region of this number, with no slot
-    /// gathered. It takes the places of all keys that it may keep, as many as the region holds, so that no step takes more.
+    /// A merge of these hash stores, from the newest, and the sorted store, into the sorted region of this number, with no slot
+    /// gathered. It reserves room for as many keys as the region can hold, so that no step reserves more.
     ///
     /// # Errors
     ///
-    /// Where these places, the two pieces or the bytes of one entry find no memory.
+    /// Out of memory: this room, the two pieces or the bytes of one entry could not be allocated.
     pub fn start(
         alloc: Global,
         stores: &[HashStore],
@@ -273,7 +273,7 @@ impl Merge {
         })
     }
 
-    /// How many hash stores are merged.
+    /// The number of hash stores that are merged.
     pub fn stores(&self) -> u16
         ensures value { result ≡ self.now.stores }
         ensures held { IsHeldMerge self.now }
@@ -297,7 +297,7 @@ impl Merge {
         self.passed >= sorted.len()
     }
 
-    // Reads the next slots of a store, where none is ahead. Whether it read some.
+    // Reads the next slots of a store, if none is ahead. Returns whether it read some.
     fn read_slots<D: Disk>(&mut self, stores: &[HashStore], disk: &D) -> Result<bool, D::Fault>
         requires more { self.old.store < self.old.stores }
         requires count { length stores.now ≡ self.old.stores }
@@ -319,7 +319,7 @@ impl Merge {
         Ok(true)
     }
 
-    // Forgets the slots that are ahead, where they were read just now.
+    // Forgets the slots that are ahead, if they were read just now.
     fn forget_slots(&mut self, is_read: bool)
         ensures held { IsHeldMerge self.new }
         ensures state { self.new ≡ record self.old { slots = ahead_without is_read self.old.slots } }
@@ -361,7 +361,7 @@ impl Merge {
         Ok(())
     }
 
-    // Gathers one slot by a read of its head.
+    // Gathers one slot by reading its head.
     fn gather_head<D: Disk>(
         &mut self,
         stores: &[HashStore],
@@ -389,8 +389,8 @@ impl Merge {
         }
     }
 
-    // Gathers one slot, after a read of the next ones where none is ahead. Where its row finds no memory, that is told of the slot as the disk
-    // shows it then.
+    // Gathers one slot, and first reads the next ones if none is ahead. If there is no memory for its row, the contract speaks of the
+    // slot as the disk shows it then.
     fn gather<D: Disk>(&mut self, stores: &[HashStore], disk: &D) -> Result<(), StepError<D::Fault>>
         requires more { self.old.store < self.old.stores }
         requires count { length stores.now ≡ self.old.stores }
@@ -418,8 +418,8 @@ impl Merge {
         }
     }
 
-    // Marks a key as decided: no row waits for it any more, and the entry that has it is passed over. The key is kept where an entry
-    // was written.
+    // Marks a key as decided: no row waits for it any more, and the entry that has it is skipped. The key is kept if an entry was
+    // written.
     fn mark_decided(&mut self, choice: &Choice, is_written: bool)
         requires gathered { self.old.store ≡ self.old.stores }
         requires offered { IsOffered self.old.waiting self.old.last choice.now }
@@ -445,7 +445,7 @@ impl Merge {
         self.ahead.pass(choice.passes);
     }
 
-    // Passes over the next entry, whose key is not above the last one.
+    // Skips the next entry, whose key is not greater than the last one.
     fn pass_entry(&mut self)
         requires gathered { self.old.store ≡ self.old.stores }
         requires passed { self.old.passed + 1 < 2 ^ 32 }
@@ -457,7 +457,7 @@ impl Merge {
         self.ahead.pass(true);
     }
 
-    // Reads the next entries of the sorted store, where none is ahead and not all are passed over. Whether it read some.
+    // Reads the next entries of the sorted store, if none is ahead and not all are skipped. Returns whether it read some.
     fn read_ahead<D: Disk>(&mut self, sorted: &SortedEntries, disk: &D) -> Result<bool, D::Fault>
         requires shape { sorted.now.shape ≡ self.old.shape }
         requires size { device_size self.old.shape ≤ size (D.content disk.now) }
@@ -479,7 +479,7 @@ impl Merge {
         Ok(true)
     }
 
-    // Forgets the entries that are ahead, where they were read just now.
+    // Forgets the entries that are ahead, if they were read just now.
     fn forget_ahead(&mut self, is_read: bool)
         ensures held { IsHeldMerge self.new }
         ensures state { self.new ≡ record self.old { ahead = ahead_without is_read self.old.ahead } }
@@ -489,7 +489,7 @@ impl Merge {
         }
     }
 
-    // Decides one key, where the next entry is ahead: reads the value of the row that decides, and writes the entry that is due.
+    // Decides one key, with the next entry ahead: reads the value of the row that decides, and writes the entry if there is one to write.
     fn decide_next<D: Disk>(
         &mut self,
         stores: &[HashStore],
@@ -539,7 +539,7 @@ impl Merge {
         Ok(())
     }
 
-    // Decides one key, after a read of the next entries where none is ahead.
+    // Decides one key, and first reads the next entries if none is ahead.
     fn decide<D: Disk>(
         &mut self,
         stores: &[HashStore],
@@ -577,15 +577,15 @@ impl Merge {
     }
 
     /// Takes the next step: gathers one slot, or decides one key. It makes at most two reads and then at most one write, of one
-    /// entry, and takes memory for at most one row. Slots and entries are read once, in pieces of at most 64 KiB, and those of a piece anew
-    /// where the step failed that read it.
+    /// entry, and allocates memory for at most one row. Slots and entries are read once, in pieces of at most 64 KiB. If the step that
+    /// read a piece fails, the piece is read again.
     ///
-    /// The stores are those that stand, the newest first: the last of them are those that the merge took, whatever stands in front of
-    /// them since.
+    /// Pass the present stores, from the newest. The last of them must be those that the merge took. Newer ones may have come before
+    /// them.
     ///
     /// # Errors
     ///
-    /// `Read` where a read failed, and `NoMemory`: nothing is changed. `Write` where the write failed: the merge is as it was.
+    /// `Read` if a read failed, and `NoMemory`: nothing has changed. `Write` if the write failed: the merge has not changed.
     pub fn step<D: Disk>(
         &mut self,
         stores: &[HashStore],
@@ -617,11 +617,11 @@ impl Merge {
         self.decide(taken, sorted, disk)
     }
 
-    /// The sorted store of the entries that are written, with the index of their keys and the digest of their bytes.
+    /// The sorted store of the written entries, with the index of their keys and the digest of their bytes.
     ///
     /// # Errors
     ///
-    /// Where the index finds no memory.
+    /// Out of memory: the index could not be allocated.
     pub fn finish(&self, alloc: Global) -> Result<SortedStore, AllocError>
         ensures store { IfOk result (λ store. store.sorted ≡ record { shape = self.now.shape; region = self.now.region; count = self.now.written }) }
         ensures entries { (content : Content) (stores : List HashState) (sorted : SortedState) → is_done self.now sorted ≡ true → HasMerged content stores sorted self.now → IsTrue content.honest

@@ -17,10 +17,10 @@ use silt_sorted_store::SortedEntries;
 use std::alloc::{AllocError, Global};
 use std::marker::Model;
 
-/// How many bytes one read has at most.
+/// The greatest length of one read, in bytes.
 const READ_LEN: usize = 65_536;
 
-/// Slots or entries that were read by one read of at most 64 KiB, from the first on that is not passed over.
+/// Slots or entries from one read of at most 64 KiB, without the skipped ones.
 #[derive(Drop)]
 pub struct Piece {
     bytes: Vec<u8>,
@@ -41,7 +41,7 @@ impl Model for Piece {
     ghost invariant = { λ a. (20 ≤ a.len) × (0 < a.most) × (a.most * a.len ≤ vec_len a.bytes) × (a.at + a.left ≤ a.most) };
 }
 
-// Reads so many entries from a place on into the front of a buffer.
+// Reads this many entries from a place on into the front of a buffer.
 fn entries_into<D: Disk>(
     entries: &SortedEntries,
     disk: &D,
@@ -62,7 +62,7 @@ fn entries_into<D: Disk>(
     Ok(())
 }
 
-// Reads so many slots from a slot on into the front of a buffer.
+// Reads this many slots from a slot on into the front of a buffer.
 fn slots_into<D: Disk>(
     store: &HashStore,
     disk: &D,
@@ -86,11 +86,11 @@ fn slots_into<D: Disk>(
 impl Piece {
     ghost use Rattle.silt_merge.specs.Pieces.{PieceState};
 
-    /// No part, and room for so many of this many bytes each, or for as many as 64 KiB hold where these are fewer.
+    /// An empty piece, with room for this many parts of this many bytes each, or for as many as fit into 64 KiB if that is less.
     ///
     /// # Errors
     ///
-    /// Where that room finds no memory.
+    /// Out of memory: the room could not be allocated.
     pub fn new(alloc: Global, len: usize, count: u32) -> Result<Self, AllocError>
         requires least { 20 ≤ len }
         requires most { len ≤ 65536 }
@@ -106,7 +106,7 @@ impl Piece {
         })
     }
 
-    /// Whether all parts are passed over.
+    /// Whether all parts are skipped.
     pub fn is_empty(&self) -> bool
         ensures none { result ≡ true → self.now.parts ≡ [] }
         ensures some { result ≡ false → 0 < length self.now.parts }
@@ -114,11 +114,11 @@ impl Piece {
         self.left == 0
     }
 
-    /// Reads the entries from a place on, as many as there is room for, in place of the parts that it had.
+    /// Replaces the parts: reads the entries from a place on, as many as there is room for.
     ///
     /// # Errors
     ///
-    /// The fault of the read. It then has no part.
+    /// The fault of the read. The piece is then empty.
     pub fn read_entries<D: Disk>(
         &mut self,
         entries: &SortedEntries,
@@ -142,11 +142,11 @@ impl Piece {
         Ok(())
     }
 
-    /// Reads the slots of a store from a slot on, as many as there is room for, in place of the parts that it had.
+    /// Replaces the parts: reads the slots of a store from a slot on, as many as there is room for.
     ///
     /// # Errors
     ///
-    /// The fault of the read. It then has no part.
+    /// The fault of the read. The piece is then empty.
     pub fn read_slots<D: Disk>(
         &mut self,
         store: &HashStore,
@@ -171,7 +171,7 @@ impl Piece {
         Ok(())
     }
 
-    /// Puts the bytes of the first part, which is an entry, into a buffer of their length. Its key.
+    /// Puts the bytes of the first part, which is an entry, into a buffer of their length. Returns its key.
     pub fn first_entry(&self, out: &mut [u8]) -> Key
         requires some { 0 < length self.now.parts }
         requires out { length out.old ≡ self.now.len }
@@ -185,7 +185,7 @@ impl Piece {
         key
     }
 
-    /// The row of the first part, which is the slot of this number: none where the slot is empty or its kind is unknown.
+    /// The row of the first part, which is the slot of this number. `None` if the slot is empty or its kind is unknown.
     pub fn first_row(&self, slot: u32) -> Option<Row>
         requires some { 0 < length self.now.parts }
         requires len { 21 ≤ self.now.len }
@@ -195,7 +195,7 @@ impl Piece {
         row_in(&self.bytes[at..at + self.len], slot)
     }
 
-    /// Passes over the first part, where it is to be passed over.
+    /// Skips the first part, if asked to.
     pub fn pass(&mut self, passes: bool)
         ensures { self.new ≡ record self.old { parts = parts_after passes self.old.parts } }
     {

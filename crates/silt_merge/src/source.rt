@@ -1,4 +1,4 @@
-// Where gathered rows lie, and the map of those that wait for their keys to be decided.
+// The places of gathered rows, and the map of the rows whose keys are not decided yet.
 ghost use Rattle.std.specs.Prelude.{◌≡◌, ◌+◌, ◌≤◌, ℕ, Some, None, List, cond, length, IfSome, IsSomeAnd, OnOk, OnErr};
 ghost use Rattle.std.specs.Str.{bytes_eq};
 ghost use Rattle.silt_merge.specs.Choice.{IsFirstWaiting, Gathers};
@@ -8,7 +8,7 @@ use silt_frame::{Key, Kind, Row};
 use std::alloc::AllocError;
 use std::collections::BTreeMap;
 
-/// A row of a hash store: its kind, the number of the store among those that are merged, and the slot. It takes eight bytes.
+/// A row of a hash store: its kind, the number of the store among the merged ones, and the slot. It takes eight bytes.
 #[derive(Clone, Copy, Debug, PartialEq, Eq)]
 pub struct Source {
     pub kind: Kind,
@@ -16,7 +16,7 @@ pub struct Source {
     pub slot: u32,
 }
 
-/// Keeps the row in a slot of a store, unless a row of its key is kept, which is a newer one.
+/// Keeps the row in a slot of a store, unless a row of its key is kept already: that one is newer.
 pub fn keep(
     waiting: &mut BTreeMap<Key, Source>,
     store: u16,
@@ -43,7 +43,7 @@ pub fn keep(
     Ok(())
 }
 
-/// The first key for which a row waits, and the row.
+/// The first key with a waiting row, and the row.
 pub fn first(waiting: &BTreeMap<Key, Source>) -> Option<(Key, Source)>
     ensures { IsFirstWaiting waiting.now.entries result }
 {
@@ -51,7 +51,7 @@ pub fn first(waiting: &BTreeMap<Key, Source>) -> Option<(Key, Source)>
     Some((*key, *source))
 }
 
-/// Removes the row that waits for a key, where one does.
+/// Removes the waiting row of a key, if there is one.
 pub fn remove_waiting(waiting: &mut BTreeMap<Key, Source>, key: &Key)
     ensures gone { (other : List ℕ) → source_at waiting.new.entries other ≡ cond (bytes_eq key.now.0 other) None (source_at waiting.old.entries other) }
     ensures len { length waiting.new.entries ≤ length waiting.old.entries }
