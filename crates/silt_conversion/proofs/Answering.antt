@@ -59,7 +59,7 @@ later_row key row rows lacks (zero, other, there, passes) =
     absurd (cc)
 later_row key row rows lacks (suc i, other, there, passes) = (i, other, there, passes)
 
--- one row more in front of rows of which the value is known
+-- one more row before rows whose value is known
 settled_more : (v : Option (List ℕ)) (key : List ℕ) (m : Map) (row : StoredRow) (rows : List StoredRow) → AllHave v key (row ∷ rows) → ((get m key ≡ v) ⊎ HasRow key (row ∷ rows))
     → ((n : Map) → ((get n key ≡ v) ⊎ HasRow key rows) → get (after_known n rows) key ≡ v) → get (after_known m (row ∷ rows)) key ≡ v
 settled_more v key m row rows all some rest = go (has_known_kind row) refl (bytes_eq row.key key) refl

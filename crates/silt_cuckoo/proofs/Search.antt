@@ -20,7 +20,7 @@ found_nowhere p f a (suc n) none =
     let rest = found_nowhere p f (a + 1) n (λ j low high. none j (omega arith) (omega arith)) in
     rw (not_here, rest) refl
 
--- the same where a function gives a value or none
+-- the same if a function gives a value or none
 pub first_at : {X : Type 0} (f : ℕ → Option X) (a n k m : ℕ) (x : X) → a + k ≡ m → k < n → ((j : ℕ) → a ≤ j → j < m → f j ≡ None) → f m ≡ Some x → slice_get (filter_map f (range_with_len a n)) 0 ≡ Some x
 first_at f a zero k m x e below before here = absurd (omega arith)
 first_at f a (suc n) zero m x e below before here = let same : a ≡ m = omega arith in rw (same, here) refl

@@ -16,7 +16,7 @@ nothing_second (x ∷ xs) ys e = absurd (cc)
 pub nothing_both : {X : Type 0} (xs ys : List X) → xs ≡ [] → ys ≡ [] → xs ++ ys ≡ []
 nothing_both xs ys first second = ap (λ l. l ++ ys) first ∙ second
 
--- a test that gives a finding where it fails
+-- a test that gives a finding if it fails
 pub passes_where_nothing : (test : Bool) (f : Finding) → finding_if (not test) f ≡ [] → test ≡ true
 passes_where_nothing true f e = refl
 passes_where_nothing false f e = absurd (cc)

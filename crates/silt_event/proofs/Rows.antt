@@ -25,7 +25,7 @@ map_law rows more = ap (map_after empty) (map-append command_of rows more) ∙ m
 pub count_law : CountLaw
 count_law rows more = sum_by-append (λ (row : StoredRow). cond (row.kind == 1) 1 0) rows more
 
--- two keys are told apart as bytes
+-- two keys are compared as bytes
 pub same_key : (key other : List ℕ) → eq_by_cmp (slice_cmp nat_cmp) key other ≡ bytes_eq other key
 same_key key other = (eq_by_cmp_equiv nat_list_cmp_total).symm key other ∙ is_eq-slice_cmp other key
 

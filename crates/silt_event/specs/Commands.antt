@@ -39,6 +39,6 @@ pub record WaitsAlone (command : Command) (old_base new_base : Map) (old_waiting
   pub waiting : new_waiting ≡ command ∷ []
   pub base : new_base ≡ map_after old_base old_waiting
 
--- how a proof tells two maps apart
+-- how a proof distinguishes two maps
 abbrev pub map_code : Coded Map
 map_code = code (coded_list coded_ℕ) (coded_list coded_ℕ)

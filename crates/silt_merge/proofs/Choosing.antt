@@ -79,7 +79,7 @@ offered waiting last (Some (key, source)) (Some next) choice is chosen ahead abo
     ] in
     subst (IsOffered waiting last) it (go (slice_cmp nat_cmp key.0 next.0) refl)
 
--- an entry is passed over only where there is one
+-- an entry is skipped only if there is one
 pub passes_next : (first : Option (Key × Source)) (next : Option Key) (choice : Choice) → choice_of first next ≡ Some choice → choice.passes ≡ true → is_some next ≡ true
 passes_next None None choice chosen passes = absurd (cc)
 passes_next first (Some next) choice chosen passes = refl
@@ -107,11 +107,11 @@ module _ (entries : List StoredRow) (passed : ℕ) (bytes : List ℕ) (row_of : 
   abbrev waits : List ℕ → Option StoredRow
   waits key = option_map row_of (source_at waiting key)
 
-  -- no row waits where none does
+  -- no row waits if there is none
   none_waits : waiting ≡ [] → (key : List ℕ) → source_at waiting key ≡ None
   none_waits none key = ap (λ l. source_at l key) none
 
-  -- where the next entry stands
+  -- the place of the next entry
   next_there : (next : Key) → IsNextEntry entries passed bytes (Some next) → (passed < length entries) × (key_at entries passed ≡ next.0)
   next_there next is = (slice_get_within entries passed (entry_row bytes) is.0, key_of_row entries passed (entry_row bytes) is.0 ∙ sym is.1)
 
@@ -123,7 +123,7 @@ module _ (entries : List StoredRow) (passed : ℕ) (bytes : List ℕ) (row_of : 
   not_before : (key : Key) (source : Source) → IsFirstWaiting waiting (Some (key, source)) → (other : List ℕ) (row : StoredRow) → waits other ≡ Some row → slice_cmp nat_cmp other key.0 ≢ Less
   not_before key source is other row some = let its = map_some row_of (source_at waiting other) row some in is.1 other its.0 its.1
 
-  -- the next entry, where its key is below that of each row
+  -- the next entry, if its key is less than that of each row
   chosen_entry : (next : Key) → IsNextEntry entries passed bytes (Some next) → ((other : List ℕ) (source : Source) → source_at waiting other ≡ Some source → slice_cmp nat_cmp next.0 other ≡ Less)
       → IsChosen entries passed bytes row_of waiting (record { key = next; source = None; passes = true })
   chosen_entry next is above =
@@ -144,7 +144,7 @@ module _ (entries : List StoredRow) (passed : ℕ) (bytes : List ℕ) (row_of : 
       nothing None none = none
       nothing (Some source) some = absurd (not_below_itself next.0 next.0 refl (above next.0 source some))
 
-  -- the first row, where the next entry is not below it
+  -- the first row, if the next entry is not less than it
   chosen_row : (key : Key) (source : Source) (passes : Bool) → IsFirstWaiting waiting (Some (key, source)) → (passed < length entries → slice_cmp nat_cmp (key_at entries passed) key.0 ≢ Less)
       → (passes ≡ true → (passed < length entries) × (key_at entries passed ≡ key.0)) → (passes ≡ false → passed < length entries → slice_cmp nat_cmp key.0 (key_at entries passed) ≡ Less)
       → IsChosen entries passed bytes row_of waiting (record { key = key; source = Some source; passes = passes })

@@ -62,7 +62,7 @@ place_found key (first ∷ rest) row is =
       | inr other ↦ let later = further (sym (cond-false _ _ _ other) ∙ is) in (suc later.0, later.1, later.2)
     ]
 
--- a row is found exactly where one has the key
+-- a row is found exactly if one has the key
 pub found_where_has : (key : List ℕ) (rows : List StoredRow) → has_row_with key rows ≡ is_some (row_with key rows)
 found_where_has key [] = refl
 found_where_has key (first ∷ rest) =
@@ -115,12 +115,12 @@ pub cond_some : {A : Type 0} (b : Bool) (o : Option A) (x : A) → cond b None o
 cond_some true o x is = absurd (cc)
 cond_some false o x is = (refl, is)
 
--- a choice finds where its last part does
+-- a choice finds something if its last part does
 or_some : {A : Type 0} (o : Option A) (x : A) → (y : A) × (option_or o (Some x) ≡ Some y)
 or_some None x = (x, refl)
 or_some (Some y) x = (y, refl)
 
--- and where its first part does
+-- and if its first part does
 or_first : {A : Type 0} (o p : Option A) (x : A) → o ≡ Some x → option_or o p ≡ Some x
 or_first o p x is = ap (λ q. option_or q p) is
 
@@ -230,7 +230,7 @@ module _ (entries hashed : List StoredRow) (decided passed : ℕ) (waits : List 
       let one : Some row ≡ Some found = sym (find_at all decided row (rises_newest (entries ++ hashed)) there) ∙ newest_of row.key ∙ or_first _ _ found (waits_for row.key found is).1 in
       cc
 
-  -- or the next entry, where none waits
+  -- or the next entry, if no row waits
   pub next_enters : (row entry : StoredRow) → slice_get all decided ≡ Some row → waits row.key ≡ None → slice_get entries passed ≡ Some entry → entry.key ≡ row.key → row ≡ entry
   next_enters row entry there none at same =
       let rising = rises_newest (entries ++ hashed) in
@@ -240,7 +240,7 @@ module _ (entries hashed : List StoredRow) (decided passed : ℕ) (waits : List 
 
   -- ---- with one key more
 
-  -- the rows that wait, where those of the key are let go
+  -- the waiting rows, once those of the key are dropped
   waits_after : (row : StoredRow) (after : List ℕ → Option StoredRow) → slice_get all decided ≡ Some row → ((key : List ℕ) → after key ≡ cond (bytes_eq row.key key) None (waits key))
       → (key : List ℕ) → after key ≡ cond (has_row_with key (take (decided + 1) all)) None (newest_row hashed key)
   waits_after row after there gone key =
@@ -254,7 +254,7 @@ module _ (entries hashed : List StoredRow) (decided passed : ℕ) (waits : List 
       → has_row_with (key_at entries place) (take (decided + 1) all) ≡ (nat_lt place passed || bytes_eq row.key (key_at entries place))
   passes_at row place there inside = has_more all decided row (key_at entries place) there ∙ ap (λ b. b || bytes_eq row.key (key_at entries place)) (so_far.passing place inside)
 
-  -- so many and one entry have keys that are decided, where the next entry has the key
+  -- so many entries and one more have decided keys, if the next entry has the key
   pub decided_with : (row : StoredRow) (after : List ℕ → Option StoredRow) → slice_get all decided ≡ Some row → passed < length entries → key_at entries passed ≡ row.key
       → ((key : List ℕ) → after key ≡ cond (bytes_eq row.key key) None (waits key)) → IsDecided entries hashed (decided + 1) (passed + 1) after
   decided_with row after there below at gone = record {
@@ -272,7 +272,7 @@ module _ (entries hashed : List StoredRow) (decided passed : ℕ) (waits : List 
     ];
   }
 
-  -- as many, where it is above the key
+  -- as many, if its key is greater
   pub decided_without : (row : StoredRow) (after : List ℕ → Option StoredRow) → slice_get all decided ≡ Some row → (passed < length entries → slice_cmp nat_cmp row.key (key_at entries passed) ≡ Less)
       → ((key : List ℕ) → after key ≡ cond (bytes_eq row.key key) None (waits key)) → IsDecided entries hashed (decided + 1) passed after
   decided_without row after there above gone = record {
@@ -291,7 +291,7 @@ module _ (entries hashed : List StoredRow) (decided passed : ℕ) (waits : List 
 
   -- ---- all keys
 
-  -- where no row waits and all entries are passed over, all keys are decided
+  -- if no row waits and all entries are skipped, all keys are decided
   pub all_decided : ((key : List ℕ) → waits key ≡ None) → length entries ≤ passed → length all ≤ decided
   all_decided none past = elim (cases_lt decided (length all)) [
     | inr most ↦ most

@@ -86,7 +86,7 @@ module _ (old new : List ℕ) (stores : List HashState) (sorted : SortedState) (
       ap (λ l. l ++ rows_of_hashes sorted.shape new (regions_of stores)) same.entries
       ∙ ap (λ ps. entries_in old sorted ++ oldest_first (map known_rows ps)) (parts_same sorted.shape old new (regions_of stores) same.rows)
 
-  -- nothing was found where nothing is
+  -- there was no finding if there is none
   pub sound_before : AreSound new stores sorted → AreSound old stores sorted
   sound_before sound = record {
     there = sound.there;
@@ -212,7 +212,7 @@ merged_elsewhere stores sorted merge old new at count held_sorted held fits own 
         entries_outside merge.shape merge.region merge.written at count old.shown new.shown (subst (λ (s : Shape). sorted_at s merge.region + s.sorted_capacity * entry_len s ≤ size old) is.shape (omega (arith, ends))) held.room
         (subst (λ (s : Shape). LiesOutside (sorted_at s merge.region) (entries_len s) at count) is.shape own) (changes.shown was)
 
--- the oldest of stores in front of which others came
+-- the oldest stores, after newer ones came
 pub oldest_stores_law : OldestStoresLaw
 oldest_stores_law newer stores count most =
     let before : length (newer ++ stores) - count ≡ length newer + (length stores - count) = omega (arith, most, length-append newer stores) in

@@ -58,11 +58,11 @@ module _ (image : List ℕ) (stores : List HashState) (sorted : SortedState) whe
   abbrev hashed : List StoredRow
   hashed = rows_of_hashes sorted.shape image (regions_of stores)
 
-  -- the row for which a key's source stands
+  -- the row that a key's source names
   abbrev pub waits_in : List (Key × Source) → List ℕ → Option StoredRow
   waits_in waiting key = option_map (source_row sorted.shape image (regions_of stores)) (source_at waiting key)
 
-  -- where all slots are gathered, what waits is what is not decided
+  -- once all slots are gathered, the rows that wait are those not decided
   pub decided_of : (merge : MergeState) → length (regions_of stores) ≤ merge.store → merge.slot ≡ 0 → IsGatheredIn image stores sorted merge
       → IsDecided entries hashed merge.decided merge.passed (waits_in merge.waiting)
   unfolding sources
@@ -125,7 +125,7 @@ module _ (image : List ℕ) (stores : List HashState) (sorted : SortedState) (me
   pub decides : (row : StoredRow) × (slice_get all_rows merge.decided ≡ Some row) × (row.key ≡ choice.key.0)
   decides = lowest_next old_entries old_hashed merge.decided merge.passed (waits_in image stores sorted merge.waiting) rises so_far choice.key.0 is.lowest
 
-  -- whose entry is due, where it is a put
+  -- whose entry is written, if it is a put
   pub due_is : (after : List ℕ) → ReadsRow sorted.shape image (regions_of stores) choice.key.0 choice.source bytes after → due_rows (choice_puts choice.source) after ≡ filter is_put_row (decides.0 ∷ [])
   due_is after read = go choice.source refl read
     where
@@ -276,7 +276,7 @@ module _ (old new : Content) (stores : List HashState) (sorted : SortedState) (m
       same_beside stores sorted merge.region old.shown new.shown (subst (λ (s : Shape). device_size s ≤ size old) (sym is.shape) fits) sound.there held_sorted is.apart held.there
       (subst (λ (s : Shape). Torn (sorted_at s merge.region) (s.sorted_capacity * entry_len s) old.shown new.shown) (sym is.shape) (changes.shown was))
 
-  -- where the entries stay, all that is due stays written
+  -- if the entries stay, all that was written stays
   pub merged_stays : (IsTrue old.honest → sorted_rows merge.shape merge.region merge.written new.shown ≡ sorted_rows merge.shape merge.region merge.written old.shown) → HasMerged old stores sorted merge → HasMerged new stores sorted merge
   merged_stays kept is = record {
     shape = is.shape;
@@ -296,7 +296,7 @@ module _ (old new : Content) (stores : List HashState) (sorted : SortedState) (m
       → (key : List ℕ) (source : Source) → source_at after key ≡ Some source → source_at merge.waiting key ≡ Some source
   still_inside choice after gone key source is = (cond_some (bytes_eq choice.key.0 key) (source_at merge.waiting key) source (sym (gone key) ∙ is)).1
 
-  -- a key that is decided, with its entry where one is due
+  -- a decided key, with its entry if it has one
   pub merged_step : (first : Option (Key × Source)) (next : Option Key) (choice : Choice) (bytes row_bytes : List ℕ) (after : List (Key × Source)) (count : ℕ) (hasher : Sha1) → merge.store ≡ merge.stores → IsFirstWaiting merge.waiting first
       → choice_of first next ≡ Some choice → is_some next ≡ nat_lt merge.passed sorted.count → (IsTrue old.honest → AreEntries (entries_of old sorted) merge.passed merge.ahead → IsNextEntry (entries_of old sorted) merge.passed bytes next)
       → (IsTrue old.honest → ReadsRow merge.shape old.shown (regions_of stores) choice.key.0 choice.source bytes row_bytes)
@@ -439,7 +439,7 @@ module _ (merge : MergeState) (sorted : SortedState) where
       go true = sym (ap (λ b. b && nat_le sorted.count merge.passed) (ne_eqb (length merge.waiting) 0 some))
       go false = refl
 
-  -- where all slots are gathered and no row waits, the entries decide
+  -- once all slots are gathered and no row waits, the entries decide
   pub entries_decide : merge.store ≡ merge.stores → length merge.waiting ≡ 0 → nat_le sorted.count merge.passed ≡ is_done merge sorted
   entries_decide all none =
       let both : ((merge.store == merge.stores) && (length merge.waiting == 0)) ≡ true = and_from (merge.store == merge.stores) (length merge.waiting == 0) (eq-eqb merge.store merge.stores all) (eq-eqb (length merge.waiting) 0 none) in

@@ -26,7 +26,7 @@ use Rattle.silt_merge.proofs.Newest.{key_is, newest_append, newest_cons, or_none
 
 -- ---- rows
 
--- one row more, behind which newer rows stand
+-- one more row, with newer rows behind it
 row_more : (older newer : List StoredRow) (row : StoredRow) (key : List ℕ) → (bytes_eq row.key key ≡ true → newest_row older key ≡ None)
     → newest_row ((older ++ row ∷ []) ++ newer) key ≡ option_or (newest_row (older ++ newer) key) (own row key)
 row_more older newer row key alone =
@@ -135,7 +135,7 @@ module _ (s : Shape) (image regions : List ℕ) (store slot : ℕ) (below : stor
       none_known key (rows_before s region image slot)
       (ap (λ k. holds_key k (rows_before s region image slot)) (sym (key_is shown.key key same)) ∙ ap (holds_key shown.key) (sym (before_taken s region image slot (omega arith))) ∙ parts.1)
 
-  -- the newest row of a key with one slot more, where the slot has a row of a known kind
+  -- the newest row of a key with one more slot, if the slot has a row of a known kind
   row_gathered : (row : Row) (key : List ℕ) → IsRowAt shown slot (Some row) → newest_row (gathered_rows s image regions store (slot + 1)) key ≡ option_or (newest_row (gathered_rows s image regions store slot) key) (own shown key)
   unfolding gathered_rows
   row_gathered row key is =
@@ -146,7 +146,7 @@ module _ (s : Shape) (image regions : List ℕ) (store slot : ℕ) (below : stor
       ∙ ap (λ l. newest_row (l ++ newer) key) (known_more (rows_before s region image slot) shown is.known)
       ∙ row_more older newer shown key (alone key is.known)
 
-  -- and where it has none
+  -- and if it has none
   none_there : (key : List ℕ) → IsRowAt shown slot None → newest_row (gathered_rows s image regions store (slot + 1)) key ≡ newest_row (gathered_rows s image regions store slot) key
   unfolding gathered_rows
   none_there key unknown =

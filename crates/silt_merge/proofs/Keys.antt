@@ -137,7 +137,7 @@ module _ (last : Option Key) (count : ℕ) (keys : List Key) (key : Key) (are : 
 
 -- ---- on an honest disk
 
--- an entry that was written, where one was due and had room, is that of the next key
+-- a written entry, if there was one to write and it had room, is that of the next key
 pub written_keys : (most written count : ℕ) (old due new : List StoredRow) (row : StoredRow) (keys : List Key) (key : Key) → length old ≡ written → length new ≡ count → written ≤ most → row.key ≡ key.0
     → due ≡ filter is_put_row (row ∷ []) → new ≡ take most (old ++ due) → keys_of old ≡ bytes_of keys
     → (count ≡ written_after (nat_lt written count) written) × (keys_of new ≡ bytes_of (keys_after (nat_lt written count) keys key))

@@ -29,7 +29,7 @@ use Rattle.silt_merge.specs.Rows.{merged_rows, newest_rows, with_older}
 
 -- ---- keys
 
--- keys that are told as equal are equal
+-- keys that compare as equal are equal
 pub key_is : (a b : List ℕ) → bytes_eq a b ≡ true → a ≡ b
 key_is a b same = (bytes_eq-Decides a b).0 same
 
@@ -54,7 +54,7 @@ turned a b greater = nat_list_cmp_total.antisymm b a ∙ ap ordering_reverse gre
 
 -- ---- the newest row of a key
 
--- a row, where it has the key
+-- a row, if it has the key
 abbrev pub own : StoredRow → List ℕ → Option StoredRow
 own row key = cond (bytes_eq row.key key) (Some row) None
 
@@ -132,7 +132,7 @@ pub or_none : {A : Type 0} (o : Option A) → option_or o None ≡ o
 or_none None = refl
 or_none (Some x) = refl
 
--- a choice that comes first, or last where there is no other
+-- a choice that comes first, or last if there is no other
 pub prefer : {A : Type 0} (b : Bool) (x : A) (o : Option A) → (b ≡ true → o ≡ None) → cond b (Some x) o ≡ option_or o (cond b (Some x) None)
 prefer true x o none = sym (ap (λ p. option_or p (Some x)) (none refl))
 prefer false x o none = sym (or_none o)
@@ -224,7 +224,7 @@ abbrev put_of : Option StoredRow → Option StoredRow
 put_of None = None
 put_of (Some row) = cond (is_put_row row) (Some row) None
 
--- the first row, where it is a put
+-- the first row, if it is a put
 pub put_first : (row : StoredRow) (rows : List StoredRow) → is_put_row row ≡ true → filter is_put_row (row ∷ rows) ≡ row ∷ filter is_put_row rows
 put_first row rows put = cond-true _ _ _ put
 

@@ -78,7 +78,7 @@ pub first_slot : (s : Shape) (region slot : ℕ) (image bytes : List ℕ) (len a
 first_slot s region slot image bytes len at zero some are = absurd (omega arith)
 first_slot s region slot image bytes len at (suc count) some are = are.0.1
 
--- where the rows of the slots are the same, the parts are slots still
+-- if the rows of the slots are the same, the parts are still their bytes
 pub slots_same : (s : Shape) (region : ℕ) (old new : List ℕ) (slot : ℕ) (parts : List (List ℕ)) → ((n : ℕ) → n < 4 * s.buckets → slot_row s region new n ≡ slot_row s region old n) → AreSlots s region old slot parts → AreSlots s region new slot parts
 slots_same s region old new slot [] same are = tt
 slots_same s region old new slot (part ∷ parts) same are = ((are.0.0, same slot are.0.0 ∙ are.0.1), slots_same s region old new (slot + 1) parts same are.1)

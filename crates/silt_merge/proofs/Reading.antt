@@ -14,12 +14,12 @@ use Rattle.silt_merge.specs.declared.source.Source.{Source}
 abbrev pub blank : HashState
 blank = record { shape = record { value_len = 0; buckets = 0; log_capacity = 0; logs = 0; hashes = 0; sorted_capacity = 0 }; region = 0; tags = []; puts = 0; digest = [] }
 
--- a weaker fact of a call that was answered Ok
+-- a weaker fact of a call that returned Ok
 weaker_on_ok : {A E : Type 0} {P Q : Type 0} (result : Result A E) → (P → Q) → OnOk result P → OnOk result Q
 weaker_on_ok (Ok x) step is = step is
 weaker_on_ok (Err e) step is = tt
 
--- what is so holds where a call was answered Err
+-- what is true holds if a call returned Err
 pub on_err : {A E P : Type 0} (result : Result A E) → P → OnErr result P
 on_err (Ok x) is = tt
 on_err (Err e) is = is

@@ -1,4 +1,4 @@
--- Stores that stand on an honest disk are sound.
+-- Stores that match an honest disk are sound.
 use Rattle.std.proofs.Common.{◌≡◌, suc, ◌<◌, IsTrue, List, [], ◌∷◌, flat_map, map, slice_index_or, refl, subst, arith}
 use Rattle.std.specs.List.{All}
 use Rattle.silt_disk.specs.Disk.{Content}
@@ -10,7 +10,7 @@ use Rattle.silt_event.proofs.Findings.{nothing_both}
 use Rattle.silt_merge.specs.Laws.{SoundStoresLaw}
 use Rattle.silt_merge.specs.Rows.{regions_of}
 
--- nothing is found in stores that stand
+-- there is no finding in stores that match the disk
 all_stand : (content : Content) (s : Shape) (stores : List HashState) → IsTrue content.honest → All (λ store. store.shape ≡ s) stores → All (IsHashStore content) stores
     → flat_map (hash_findings s) (map (hash_part s content.shown) (regions_of stores)) ≡ []
 all_stand content s [] honest shapes stand = refl

@@ -66,7 +66,7 @@ few_pending d (suc t) counts bits rest pending =
 pub counted : (n r : ℕ) → r ≡ from_bool (leb 2 n) → (2 ≤ n → r ≡ 1) × (n < 2 → r ≡ 0)
 counted n r is = (λ many. is ∙ ap from_bool (le-leb 2 n many), λ few. is ∙ ap from_bool (lt-leb 2 n few))
 
--- keys of which there are two have bits left
+-- if there are two keys, they have bits left
 inside : (keys : List (List ℕ)) (e : ℕ) → IsCodable keys e → 2 ≤ length keys → e < 160
 inside keys e codable many = elim (cases_lt e 160) [ inl within ↦ within | inr past ↦ let few = deep_few e keys codable past in absurd (omega arith) ]
 

@@ -132,7 +132,7 @@ divided_some (suc m) keys d skip half skips parts lefts rights all half_is left 
       right = right ∙ ap (λ (xs : List ℕ). drop half xs) both ∙ drop_at one two half half_size ∙ ap (λ (k : ℕ). skips_of k (with_bit 1 d keys) (d + 1)) less;
     }
 
--- zeros in front of which both sides' skips are written, and the skip over the left side in front of these
+-- zeros that are overwritten by the skip over the left side, and then by both sides' skips
 pub skips_written : (m d left half first skip : ℕ) (keys lefts rights : List Key) (zeros parts zeros_left zeros_right new_left new_right new before after : List ℕ) → IsCodable (bytes_of keys) d → left ≡ length (with_bit 0 d (bytes_of keys)) → lefts ≡ take left keys → rights ≡ drop left keys
     → zeros ≡ first ∷ parts → half ≡ length parts / 2 → zeros_left ≡ take half parts → zeros_right ≡ drop half parts
     → ((k : ℕ) → zeros_left ≡ replicate (2 ^ k - 1) 0 → new_left ≡ skips_of k (bytes_of lefts) (d + 1)) → ((k : ℕ) → zeros_right ≡ replicate (2 ^ k - 1) 0 → new_right ≡ skips_of k (bytes_of rights) (d + 1))

@@ -108,7 +108,7 @@ prefixes (suc g) = map (λ prefix. 0 ∷ prefix) (prefixes g) ++ map (λ prefix.
 abbrev pub GroupsLaw : Type 0
 GroupsLaw = (g d : ℕ) (keys : List (List ℕ)) → grouped_code g keys d ≡ flat_map (λ prefix. trie_code (sub_keys keys d prefix) (d + g)) (prefixes g)
 
--- the code of grouped keys with marks of all prefixes of `levels` bits from `depth` on, the first `groups` of which have no numbers
+-- the code of grouped keys with marks of all prefixes of `levels` bits from `depth` on; it has no numbers for the first `groups` bits
 pub record MarkedCode : Type 0 where
   pub code : List ℕ
   pub marks : List Mark
