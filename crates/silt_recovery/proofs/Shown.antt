@@ -10,7 +10,7 @@ use Rattle.silt_log.specs.Rows.{first_rows, log_rows}
 use Rattle.silt_log.specs.State.{settled_rows}
 use Rattle.silt_log.proofs.Waiting.{none_waiting}
 use Rattle.silt_manifest.specs.declared.digests.Digests.{Digests}
-use Rattle.silt_standing.specs.Standing.{Shows, base_map, current_map, shown_stores}
+use Rattle.silt_standing.specs.Standing.{ShowsStores, base_map, current_map, shown_stores}
 use Rattle.silt_standing.specs.State.{TiersState}
 use Rattle.silt_recovery.specs.Logs.{IsReadLog}
 use Rattle.silt_recovery.specs.Opening.{Holds}
@@ -22,7 +22,7 @@ module _ (content : Content) (s : TiersState) (holds : Holds content s) where
   active_shown h = ap (first_rows s.active.log.shape s.active.log.region content.shown) (sym (holds.active.scanned h).settled)
 
   -- the stores that are held are those that are shown
-  pub held_shown : Shows content s
+  pub held_shown : ShowsStores content s
   held_shown = record {
     whole = holds.whole;
     bounds = holds.active.bounds;

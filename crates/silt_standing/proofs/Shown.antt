@@ -2,10 +2,10 @@
 use Rattle.silt_disk.specs.Disk.{Content}
 use Rattle.silt_disk.proofs.Images.{shown_left}
 use Rattle.silt_standing.specs.State.{TiersState}
-use Rattle.silt_standing.specs.Standing.{Shows, Stands}
+use Rattle.silt_standing.specs.Standing.{ShowsStores, Stands}
 
 -- stores that stand on a disk are shown by it
-pub stands_shown : (content : Content) (s : TiersState) → Stands content s → Shows content s
+pub stands_shown : (content : Content) (s : TiersState) → Stands content s → ShowsStores content s
 stands_shown content s stands = record {
   whole = stands.whole;
   bounds = stands.active.bounds;

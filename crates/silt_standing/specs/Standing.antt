@@ -90,7 +90,7 @@ pub record Stands (content : Content) (s : TiersState) : Type 0 where
   pub counted : IsTrue content.honest → s.charge ≡ put_count (rows_of (shown_stores content s) ++ waiting_rows content s.active.log)
 
 -- The stores are those that the disk shows, with the rows that wait, whatever a crash leaves: what reading them needs.
-pub record Shows (content : Content) (s : TiersState) : Type 0 where
+pub record ShowsStores (content : Content) (s : TiersState) : Type 0 where
   pub whole : AreWhole s
   pub bounds : InBounds s.active.log
   pub active : IsTrue content.honest → log_rows s.active.log.shape s.active.log.region content.shown ≡ settled_rows content s.active.log

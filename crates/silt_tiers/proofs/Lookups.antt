@@ -42,7 +42,7 @@ use Rattle.silt_sorted_store.proofs.Entries.{entries_law}
 use Rattle.silt_tiers.specs.declared.lookup.Holder.{Holder}
 use Rattle.silt_tiers.specs.declared.lookup.Holder.TheVariants.{Active, Frozen, Hashed}
 use Rattle.silt_standing.specs.State.{TiersState, hash_region_of, region_of}
-use Rattle.silt_standing.specs.Standing.{Shows, Stands, current_map, shown_stores, waiting_commands}
+use Rattle.silt_standing.specs.Standing.{ShowsStores, Stands, current_map, shown_stores, waiting_commands}
 use Rattle.silt_standing.proofs.Shown.{stands_shown}
 use Rattle.silt_tiers.specs.Entries.{hashed_rows}
 use Rattle.silt_tiers.specs.Lookup.{FindsFrozen, FindsHashed, FindsNewest, frozen_at, hash_store_at, hash_rows_of, row_in, value_found}
@@ -257,7 +257,7 @@ named_rows shape body image =
     ∙ ap (λ (logs : List (List StoredRow)). entries ++ oldest_first (map (λ region. filter has_known_kind (hash_rows shape region image)) body.hashed) ++ (oldest_first logs ++ newest))
     (map_twice part_rows (log_part shape image) body.frozen)
 
-module _ (content : Content) (s : TiersState) (shows : Shows content s) (honest : IsTrue content.honest) where
+module _ (content : Content) (s : TiersState) (shows : ShowsStores content s) (honest : IsTrue content.honest) where
   -- the rows of the frozen logs
   frozen_rows : map (λ region. log_rows s.manifest.shape region content.shown) s.manifest.ruling.frozen ≡ map (rows_in content) s.frozen
   frozen_rows =

@@ -218,7 +218,7 @@ pub fn do_sorted_store<D: Disk>(
 
 impl Tiers {
     ghost use Rattle.silt_tiers.specs.Lookup.{AreEntriesOf};
-    ghost use Rattle.silt_standing.specs.Standing.{Shows, current_map};
+    ghost use Rattle.silt_standing.specs.Standing.{ShowsStores, current_map};
 
     // Does all rows of the hash stores, the oldest store first.
     fn do_hash_stores<D: Disk>(
@@ -249,7 +249,7 @@ impl Tiers {
         disk: &D,
     ) -> Result<BTreeMap<Key, Value>, EntriesError<D::Fault>>
         requires size { device_size self.now.manifest.shape ≤ size (D.content disk.now) }
-        ensures entries { Shows (D.content disk.now) self.now → IsTrue (D.content disk.now).honest → IfOk result (AreEntriesOf (current_map (D.content disk.now) self.now)) }
+        ensures entries { ShowsStores (D.content disk.now) self.now → IsTrue (D.content disk.now).honest → IfOk result (AreEntriesOf (current_map (D.content disk.now) self.now)) }
         ensures cause { IfErr result (EntriesErrorCause (GaveAny D.gave disk.now)) }
     {
         let mut entries = BTreeMap::new(alloc);
