@@ -1,5 +1,6 @@
 // Laws of images, for the crates above.
-ghost use Rattle.silt_image.specs.Laws.{AgainLaw, AppendLaw, BeginningLaw, ChargeFoundLaw, ChargeLaw, DigestsLaw, EmptyLaw, FirstEntryLaw, FirstFindingLaw, FirstSlotLaw, FormattedLaw, FrameLaw, FreeHashLaw};
+ghost use Rattle.silt_image.specs.Laws.{AgainLaw, AppendLaw, BeginningLaw, ChargeFoundLaw, ChargeLaw, DigestsLaw};
+ghost use Rattle.silt_image.specs.Laws.{EmptyLaw, FirstEntryLaw, FirstFindingLaw, FirstSlotLaw, FormattedLaw, FrameLaw, FreeHashLaw};
 ghost use Rattle.silt_image.specs.Laws.{FreeSortedLaw, FreezeLaw, FrozenLaw, HeaderLaw, LimitsLaw, LogRegionLaw, ManifestLaw, MeaningLaw, NewActiveLaw, NewLogLaw, NoStoresLaw};
 ghost use Rattle.silt_image.specs.Laws.{OwnRowsLaw, PartsLaw, RowsLaw, SaidLaw, SoundLaw, StandsLaw, StoresLaw, TakenLaw, UnnamedLaw, VerdictLaw, WholeLaw};
 

@@ -7,7 +7,8 @@ ghost use Rattle.silt_manifest.specs.Body.{is_well_formed};
 ghost use Rattle.silt_manifest.specs.Digests.{long_record};
 ghost use Rattle.silt_manifest.specs.Ruling.{ClosedSlotLaw, OtherRecordsLaw, OtherRegionsLaw, is_slot_open, is_sound_record};
 ghost use Rattle.silt_manifest.specs.Faults.{IsNotRead};
-ghost use Rattle.silt_manifest.specs.Standing.{CanCommit, FirstRulesLaw, IsFirst, IsNext, IsRuled, Rules, RulesAsHeld, RulesOldOrNew, WritesNext, closing_place, manifest_of, ruled_by, ruling_record, ruling_slot, spare_slot};
+ghost use Rattle.silt_manifest.specs.Standing.{CanCommit, FirstRulesLaw, IsFirst, IsNext, IsRuled, Rules, RulesAsHeld};
+ghost use Rattle.silt_manifest.specs.Standing.{RulesOldOrNew, WritesNext, closing_place, manifest_of, ruled_by, ruling_record, ruling_slot, spare_slot};
 
 use crate::body::Body;
 use crate::digests::Digests;
