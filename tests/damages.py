@@ -3,14 +3,21 @@
 A damage changes the image of a sound store, and returns the refusal that has to come, or None where
 the store has nothing to be damaged so. `DAMAGES` has them by group, in the order in which an opening
 looks: of two damages of different groups, the one of the earlier group decides.
+
+A store may be of either version of the layout. What digests do not cover differs without damage.
 """
 import struct
 
 import model
 
+VERSION = 9
 HEADER_NUMBERS = {"v": 13, "b": 17, "cap": 21, "nl": 25, "nh": 29, "s": 33}
-# Offsets in a manifest slot, whose body begins at 1.
+# Offsets in a manifest slot, whose body begins at 1. Behind it may be digests: of 16 hash stores, and of the sorted store.
 GENERATION, ACTIVE, FROZEN, HASHES, SORTED, COUNT = 1, 9, 13, 45, 113, 117
+HASH_DIGESTS, SORTED_DIGEST, SLOT_END = 121, 441, 461
+DIGEST = 20
+# The bit of a slot's byte 1 that says that there are digests.
+LONG_FORM = 0x80
 
 DAMAGES = {it: [] for it in ("unknown", "header", "length", "slots", "no slot", "logs", "hashes", "sorted", "charge")}
 HARMLESS = []
@@ -41,6 +48,10 @@ def other_byte(random, *not_these):
     return random.choice([it for it in range(256) if it not in not_these])
 
 
+def change_byte(image, at, random):
+    image[at] ^= random.randint(1, 255)
+
+
 # ---------------------------------------------------------------- header and length
 
 
@@ -58,7 +69,7 @@ def other_magic(image, store, random):
 
 @damage("unknown")
 def other_version(image, store, random):
-    set_number(image, 9, random.choice([9, 0, 256, 1 << 24, 2**32 - 1]))
+    set_number(image, VERSION, random.choice([3, 9, 0, 256, 257, 258, 1 << 24, 2**32 - 1]))
     return "refused 1 NotFormatted"
 
 
@@ -121,12 +132,27 @@ def current_slot(store):
     return store.generation % 2
 
 
+def current_at(store):
+    return model.slot_at(current_slot(store))
+
+
+def is_long(image, slot_at):
+    return image[slot_at + GENERATION] & LONG_FORM != 0
+
+
+def open_slots(store):
+    """The offsets of the open slots."""
+    return [model.slot_at(slot) for slot in (0, 1) if store.slots_open[slot]]
+
+
 def open_slot(image, store, slot):
     """Opens a slot, by a body that is well formed if it is closed, and returns its offset."""
-    at, current = model.slot_at(slot), model.slot_at(current_slot(store))
+    at, current = model.slot_at(slot), current_at(store)
     if image[at] != model.OPEN and at != current:
-        image[at : at + 121] = image[current : current + 121]
+        image[at : at + SLOT_END] = image[current : current + SLOT_END]
+        form = image[at + GENERATION] & LONG_FORM
         set_number(image, at + GENERATION, abs(store.generation - 1), 8)
+        image[at + GENERATION] |= form
     image[at] = model.OPEN
     return at
 
@@ -166,7 +192,15 @@ def repeated_hash_store(image, at, geometry, random):
     return True
 
 
-bad_slot("a_great_generation", lambda image, at, g, random: image.__setitem__(at + GENERATION, 0x80))
+def no_digests(image, at, geometry, random):
+    """A slot without digests is damage on a device of version 2 alone."""
+    if get_number(image, VERSION) == 1:
+        return False
+    image[at + GENERATION] &= ~LONG_FORM
+    return True
+
+
+bad_slot("no_digests", no_digests)
 bad_slot("the_other_slot's_generation", lambda image, at, g, random: image.__setitem__(at + 8, image[at + 8] ^ 1))
 bad_slot(
     "an_active_log_too_many",
@@ -196,6 +230,16 @@ bad_slot(
     "too_many_entries",
     lambda image, at, g, random: set_number(image, at + COUNT, random.choice([g.s + 1, 2**24 + 1, 2**32 - 1])),
 )
+
+
+@damage("slots")
+def short_slots_of_a_new_device(image, store, random):
+    """The header of an old device says version 2."""
+    short = [at for at in open_slots(store) if not is_long(image, at)]
+    if not short:
+        return None
+    set_number(image, VERSION, 2)
+    return f"refused 3 Damaged slot {(min(short) - model.slot_at(0)) // model.SECTOR}"
 
 
 @damage("no slot")
@@ -309,6 +353,116 @@ def key_in_two_slots(image, store, random):
     return f"refused 3 Damaged hash {one.region} slot {max(source, target)}"
 
 
+def said(store, one):
+    """The refusal of a hash store that has another digest than the manifest says. One without digests says nothing."""
+    return f"refused 3 Damaged hash {one.region} digest" if store.layout == 2 else None
+
+
+@damage("hashes")
+def other_value_of_a_hashed_row(image, store, random):
+    picked = pick_row(store, random)
+    if not picked:
+        return None
+    one, slot = picked
+    change_byte(image, slot_place(store, one, slot) + random.randrange(21, store.geometry.row_length), random)
+    return said(store, one)
+
+
+@damage("hashes")
+def other_key_of_a_hashed_row(image, store, random):
+    """A key of the same buckets, that no other row has."""
+    picked = pick_row(store, random)
+    if not picked:
+        return None
+    one, slot = picked
+    change_byte(image, slot_place(store, one, slot) + 1 + random.randrange(4, 20), random)
+    return said(store, one)
+
+
+@damage("hashes")
+def put_for_a_delete_and_back(image, store, random):
+    """In a store without digests the charge is another one. It may then be too great, so such a store stays as it is."""
+    picked = pick_row(store, random)
+    if not picked or store.layout == 1:
+        return None
+    one, slot = picked
+    image[slot_place(store, one, slot)] ^= 3
+    return said(store, one)
+
+
+@damage("hashes")
+def noise_behind_the_kind_of_an_empty_slot(image, store, random):
+    found = [(one, slot) for one in store.hashes for slot, row in enumerate(one.slots) if not row]
+    if not found:
+        return None
+    one, slot = random.choice(found)
+    change_byte(image, slot_place(store, one, slot) + random.randrange(1, store.geometry.row_length), random)
+    return said(store, one)
+
+
+def hash_digest_at(store, place):
+    """Where the current slot has the digest of the hash store at this place, the newest at 0."""
+    return current_at(store) + HASH_DIGESTS + DIGEST * place
+
+
+@damage("hashes")
+def other_digest_of_a_hash_store(image, store, random):
+    if not store.hashes or store.layout == 1:
+        return None
+    place = random.randrange(len(store.hashes))
+    change_byte(image, hash_digest_at(store, place) + random.randrange(DIGEST), random)
+    return said(store, store.hashes[place])
+
+
+@damage("hashes")
+def digests_of_hash_stores_swapped(image, store, random):
+    if len(store.hashes) < 2 or store.layout == 1:
+        return None
+    places = random.sample(range(len(store.hashes)), 2)
+    first, second = (hash_digest_at(store, it) for it in places)
+    image[first : first + DIGEST], image[second : second + DIGEST] = image[second : second + DIGEST], image[first : first + DIGEST]
+    return said(store, store.hashes[min(places)])
+
+
+@damage("hashes")
+def other_digests_of_all_hash_stores(image, store, random):
+    """The newest one decides, whatever is wrong with the slots of the others."""
+    if len(store.hashes) < 2 or store.layout == 1:
+        return None
+    for place in range(len(store.hashes)):
+        change_byte(image, hash_digest_at(store, place), random)
+    image[slot_place(store, store.hashes[1], 0)] = 3
+    return said(store, store.hashes[0])
+
+
+@damage("hashes")
+def bad_slot_and_other_digest(image, store, random):
+    """Of one hash store its slots are looked at first."""
+    if not store.hashes or store.layout == 1:
+        return None
+    place, slot = random.randrange(len(store.hashes)), random.randrange(store.geometry.slots)
+    one = store.hashes[place]
+    change_byte(image, hash_digest_at(store, place), random)
+    image[slot_place(store, one, slot)] = 3
+    return f"refused 3 Damaged hash {one.region} slot {slot}"
+
+
+def say_digests(image, store, hashes, entries):
+    """Writes digests behind the body of the current slot, and that they are there."""
+    at = current_at(store)
+    image[at + GENERATION] |= LONG_FORM
+    image[at + HASH_DIGESTS : at + SLOT_END] = b"".join(hashes).ljust(16 * DIGEST, b"\0") + entries
+
+
+@damage("hashes")
+def zeros_for_digests(image, store, random):
+    """The current slot of an old device says that there are digests, and has zeros there."""
+    if not store.hashes or store.layout == 2:
+        return None
+    say_digests(image, store, [], bytes(DIGEST))
+    return f"refused 3 Damaged hash {store.hashes[0].region} digest"
+
+
 # ---------------------------------------------------------------- sorted entries and charge
 
 
@@ -346,6 +500,41 @@ def entry_above_all_others(image, store, random):
     return f"refused 3 Damaged sorted {entry + 1}"
 
 
+@damage("sorted")
+def other_value_of_an_entry(image, store, random):
+    if not store.sorted.entries:
+        return None
+    at = entry_place(store, random.randrange(len(store.sorted.entries)))
+    change_byte(image, at + random.randrange(20, store.geometry.entry_length), random)
+    return "refused 3 Damaged sorted digest" if store.layout == 2 else None
+
+
+@damage("sorted")
+def other_digest_of_the_entries(image, store, random):
+    if store.layout == 1:
+        return None
+    change_byte(image, current_at(store) + SORTED_DIGEST + random.randrange(DIGEST), random)
+    return "refused 3 Damaged sorted digest"
+
+
+@damage("sorted")
+def equal_entries_and_other_digest(image, store, random):
+    """The entries are looked at first."""
+    refusal = equal_entries(image, store, random)
+    if refusal and store.layout == 2:
+        change_byte(image, current_at(store) + SORTED_DIGEST, random)
+    return refusal
+
+
+@damage("sorted")
+def zeros_for_the_digest_of_the_entries(image, store, random):
+    """The current slot of an old device has the digests of the hash stores alone."""
+    if store.layout == 2:
+        return None
+    say_digests(image, store, [it.digest for it in store.hashes], bytes(DIGEST))
+    return "refused 3 Damaged sorted digest"
+
+
 @damage("charge")
 def charge_above_its_limit(image, store, random):
     """A lower S in the header, for which the device is as long, and no slot has more entries."""
@@ -373,8 +562,37 @@ def noise_behind_the_header(image, store, random):
 
 @harmless
 def noise_behind_the_bodies(image, store, random):
+    """Behind a body without digests, and behind the digests of one that has them."""
     for slot in (0, 1):
-        set_noise(image, model.slot_at(slot) + 121, model.slot_at(slot) + 4096, random)
+        at = model.slot_at(slot)
+        end = SLOT_END if is_long(image, at) else HASH_DIGESTS
+        set_noise(image, at + end, at + 4096, random)
+
+
+@harmless
+def noise_past_the_digests(image, store, random):
+    """In the places of hash stores that the manifest does not name."""
+    for at in open_slots(store):
+        if is_long(image, at):
+            set_noise(image, at + HASH_DIGESTS + DIGEST * get_number(image, at + HASHES), at + SORTED_DIGEST, random)
+
+
+@harmless
+def noise_in_the_digests_of_the_other_slot(image, store, random):
+    other = model.slot_at(1 - current_slot(store))
+    set_noise(image, other + HASH_DIGESTS, other + 4096, random)
+
+
+@harmless
+def digests_that_somebody_else_wrote(image, store, random):
+    """They count wherever they are, if they are right."""
+    say_digests(image, store, [it.digest for it in store.hashes], store.sorted.digest)
+
+
+@harmless
+def version_1_over_digests(image, store, random):
+    """On a device of version 1 a slot may have digests."""
+    set_number(image, VERSION, 1)
 
 
 @harmless
@@ -425,11 +643,21 @@ def other_values(image, store, random):
 
 
 @harmless
-def noise_behind_the_kind_of_empty_slots(image, store, random):
+def noise_where_no_digest_is_said(image, store, random):
+    """In a store without digests: the values of hashed rows and entries, and what empty slots have behind their kind."""
+    if store.layout == 2:
+        return
     for one in store.hashes:
         for slot, row in enumerate(one.slots):
-            if not row:
-                set_noise(image, slot_place(store, one, slot) + 1, slot_place(store, one, slot + 1), random)
+            set_noise(image, slot_place(store, one, slot) + (21 if row else 1), slot_place(store, one, slot + 1), random)
+    for entry in range(len(store.sorted.entries)):
+        set_noise(image, entry_place(store, entry) + 20, entry_place(store, entry + 1), random)
+
+
+@harmless
+def noise_behind_the_slots(image, store, random):
+    for one in store.hashes:
+        set_noise(image, slot_place(store, one, store.geometry.slots), store.geometry.hash_at(one.region + 1), random)
 
 
 @harmless

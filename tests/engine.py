@@ -99,12 +99,23 @@ class Engine:
     def slot_at(self, region, slot):
         return self.layout.hash_region(region) + slot * self.layout.row_len
 
+    def slot_bytes(self, row):
+        """A slot of a hash store. Without a row it has zeros."""
+        return self.layout.row(*row) if row else bytes(self.layout.row_len)
+
+    def slots_bytes(self, slots):
+        return b"".join(self.slot_bytes(row) for row in slots)
+
+    def entry_bytes(self, key, value):
+        return self.layout.row(PUT, key, value)[1:]
+
     def write_manifest(self):
         """The next generation, of the stores as they now are."""
         self.generation += 1
         slot = SECTOR * (1 + self.generation % 2)
-        frozen, hashes = [it.region for it in self.frozen], [region for region, _ in self.hashes]
-        body = manifest(self.generation, self.active.region, frozen, hashes, self.region, len(self.entries))
+        frozen, hashes = [it.region for it in self.frozen], [(it, self.slots_bytes(slots)) for it, slots in self.hashes]
+        entries = [self.entry_bytes(*it) for it in self.entries]
+        body = manifest(self.generation, self.active.region, frozen, hashes, self.region, entries)
         self.write(slot + 4095 * self.is_spare_closed, CLOSED)
         self.sync()
         self.write(slot + 1, body)
@@ -238,13 +249,12 @@ class Engine:
         return "finished"
 
     def convert_slot(self, region, slots):
-        log, row, data = self.frozen[-1], None, bytes(self.layout.row_len)
+        log, row = self.frozen[-1], None
         entry = log.table.slots[len(slots)]
         if entry:
             self.read(self.body_at(log, entry[1]), self.layout.row_len)
             row = log.rows[entry[1]]
-            data = self.layout.row(*row)
-        self.write(self.slot_at(region, len(slots)), data)
+        self.write(self.slot_at(region, len(slots)), self.slot_bytes(row))
         slots.append(row)
         return "moved"
 
@@ -294,7 +304,7 @@ class Engine:
                 self.read(self.slot_at(region, slot) + 21, self.layout.values)
         if value:
             at = self.layout.sorted_region(1 - self.region) + len(merge.made) * self.layout.entry_len
-            self.write(at, self.layout.row(PUT, key, value)[1:])
+            self.write(at, self.entry_bytes(key, value))
             merge.made.append((key, value))
         return "moved"
 

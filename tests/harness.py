@@ -11,6 +11,8 @@ import tempfile
 import unittest
 from dataclasses import dataclass
 
+from layout import as_version_1
+
 TESTS = pathlib.Path(__file__).resolve().parent
 TOP = TESTS.parent
 # The gate's seed: each run of the gate makes the same random choices.
@@ -70,6 +72,8 @@ class Case(unittest.TestCase):
     """A test with a folder of its own, in which the program runs, and random numbers of its own."""
 
     maxDiff = None
+    # The version of the layout of the stores that `store` makes.
+    version = 2
 
     def setUp(self):
         self.folder = pathlib.Path(tempfile.mkdtemp(prefix="silt-test-"))
@@ -96,13 +100,21 @@ class Case(unittest.TestCase):
         return Ended(running.returncode, out.decode(errors="replace"), err.decode(errors="replace"))
 
     def store(self, geometry, lines=(), name="store"):
-        """Makes a store of this geometry ('2 2 4 2 2 8') in the test's folder, and runs these lines on it. Returns its path."""
+        """Makes a store of this geometry ('2 2 4 2 2 8') in the test's folder, and runs these lines on it. Returns its path.
+
+        A store of version 1 is then as a program left it that knew no digests."""
         made = self.silt("format", name, *geometry.split())
         self.assertEqual(made.status, 0, made)
         if lines:
             ran = self.silt("run", name, text="".join(line + "\n" for line in lines))
             self.assertEqual(ran.status, 0, ran)
+        if self.version == 1:
+            self.make_old(name)
         return self.path(name)
+
+    def make_old(self, name="store"):
+        """Makes a store's file a device of version 1, with the same stores."""
+        self.path(name).write_bytes(as_version_1(self.path(name).read_bytes()))
 
     def check_report(self, name="store"):
         """What `check` prints of a store."""

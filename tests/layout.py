@@ -63,8 +63,8 @@ class Layout:
 
     @property
     def header(self):
-        """The header without its gate."""
-        numbers = (1, self.values, self.buckets, self.rows, self.logs, self.hashes, self.entries)
+        """The header of a new store without its gate."""
+        numbers = (2, self.values, self.buckets, self.rows, self.logs, self.hashes, self.entries)
         return b"SILTFLSH" + b"".join(it.to_bytes(4, "big") for it in numbers)
 
     def row(self, kind, word, value=None):
@@ -88,7 +88,26 @@ def ids(numbers, room):
     return b"".join(it.to_bytes(4, "big") for it in [len(numbers), *numbers] + [0] * (room - len(numbers)))
 
 
-def manifest(generation, active, frozen=(), hashes=(), region=0, count=0):
-    """The 120 bytes of a manifest's body."""
-    return (generation.to_bytes(8, "big") + active.to_bytes(4, "big") + ids(list(frozen), 7) + ids(list(hashes), 16)
-            + region.to_bytes(4, "big") + count.to_bytes(4, "big"))
+def sha1(data):
+    return hashlib.sha1(data).digest()
+
+
+def manifest(generation, active, frozen=(), hashes=(), region=0, entries=()):
+    """The 460 bytes behind a manifest's gate. Of each hash store come its region and the bytes of its
+    slots, and of each sorted entry its bytes."""
+    regions, digests = [it for it, _ in hashes], [sha1(slots) for _, slots in hashes]
+    body = (((1 << 63) + generation).to_bytes(8, "big") + active.to_bytes(4, "big") + ids(list(frozen), 7)
+            + ids(regions, 16) + region.to_bytes(4, "big") + len(entries).to_bytes(4, "big"))
+    return body + b"".join(digests).ljust(320, b"\0") + sha1(b"".join(entries))
+
+
+def as_version_1(image):
+    """The same store as a device of version 1 that no manifest was written to since: its open slots
+    have no digests."""
+    made = bytearray(image)
+    made[12] = 1
+    for slot in (SECTOR, 2 * SECTOR):
+        if made[slot:slot + 1] == OPEN:
+            made[slot + 1] &= 0x7F
+            made[slot + 121:slot + 461] = bytes(340)
+    return bytes(made)

@@ -1,7 +1,7 @@
 """A model of the whole product: each byte of a device, and each line that the program prints.
 
 It is written from the rules of layout, lines and replies alone, and keeps whole rows where the
-program keeps tags and places. Nothing here calls the program.
+program keeps tags and places. It knows both versions of the layout. Nothing here calls the program.
 
     run_script(geometry, data)     what `silt script` prints for these bytes of standard input
     Device(image)                  a device with shown and settled bytes, and pending ranges
@@ -19,8 +19,8 @@ SECTOR = 4096
 OPEN = 0xA7
 MAGIC = b"SILTFLSH"
 HEADER_LENGTH = 37
-# The header versions that a store may have. A second layout adds its number here.
-VERSIONS = (1,)
+# The header versions that a store may have. The last one is that of a new store.
+VERSIONS = (1, 2)
 PUT, DELETE = 1, 2
 LAST_GENERATION = 2**63 - 1
 LAST_TURN = 127
@@ -258,10 +258,11 @@ class Log:
 
 @dataclass
 class HashStore:
-    """A hash region: for each slot its row, or None."""
+    """A hash region: for each slot its row, or None. The digest is that of the bytes of all slots."""
 
     region: int
     slots: list
+    digest: bytes
 
     def newest_first(self):
         return (row for row in self.slots if row)
@@ -269,10 +270,11 @@ class HashStore:
 
 @dataclass
 class SortedStore:
-    """A sorted region: its entries as put rows."""
+    """A sorted region: its entries as put rows. The digest is that of their bytes."""
 
     region: int
     entries: list
+    digest: bytes
 
     def newest_first(self):
         return iter(self.entries)
@@ -280,9 +282,11 @@ class SortedStore:
 
 @dataclass
 class Contents:
-    """What a manifest names, in memory. Frozen logs and hash stores are newest first."""
+    """What a manifest names, in memory. Frozen logs and hash stores are newest first. The layout is
+    2 if the manifest has digests."""
 
     geometry: Geometry
+    layout: int
     generation: int
     active: Log
     frozen: list
@@ -296,6 +300,9 @@ class Contents:
     def charge(self):
         return sum(row[0] == PUT for store in self.stores() for row in store.newest_first())
 
+    def digests(self):
+        return Digests(tuple(it.digest for it in self.hashes), self.sorted.digest)
+
     def first_row(self, key):
         rows = (row for store in self.stores() for row in store.newest_first())
         return next((row for row in rows if row[1] == key), None)
@@ -304,9 +311,24 @@ class Contents:
 # ---------------------------------------------------------------- manifests
 
 
+def digest(data):
+    return hashlib.sha1(data).digest()
+
+
+@dataclass(frozen=True)
+class Digests:
+    """The digests of the hash stores that a manifest names, newest first, and of its sorted store."""
+
+    hashes: tuple
+    sorted: bytes
+
+    def encode(self):
+        return b"".join(self.hashes).ljust(20 * 16, b"\0") + self.sorted
+
+
 @dataclass(frozen=True)
 class Body:
-    """What a manifest slot says."""
+    """What a manifest slot says. In the short form it has no digests."""
 
     generation: int
     active: int
@@ -314,27 +336,40 @@ class Body:
     hashes: tuple
     sorted: int
     count: int
+    digests: Digests | None
 
     def encode(self):
         frozen = [*self.frozen, *[0] * (7 - len(self.frozen))]
         hashes = [*self.hashes, *[0] * (16 - len(self.hashes))]
         numbers = (self.active, len(self.frozen), *frozen, len(self.hashes), *hashes)
-        return struct.pack(">Q28I", self.generation, *numbers, self.sorted, self.count)
+        form = LONG_FORM if self.digests else 0
+        body = struct.pack(">Q28I", form + self.generation, *numbers, self.sorted, self.count)
+        return body + (self.digests.encode() if self.digests else b"")
 
 
+# The bit of the generation's field that says that digests follow the body.
+LONG_FORM = 2**63
 BODY_LENGTH = 120
+SLOT_LENGTH = 1 + BODY_LENGTH + 20 * 17
 
 
-def decode_body(data, slot, geometry):
+def decode_digests(data, hash_count):
+    """The digests behind a body."""
+    digests = [data[at : at + 20] for at in range(BODY_LENGTH, SLOT_LENGTH - 1, 20)]
+    return Digests(tuple(digests[:hash_count]), digests[16])
+
+
+def decode_body(data, slot, geometry, version):
     """The body of an open slot, or None where it is not well formed."""
-    generation, active, frozen_count, *rest = struct.unpack(">Q28I", data)
+    field, active, frozen_count, *rest = struct.unpack(">Q28I", data[:BODY_LENGTH])
     frozen, hash_count, hashes = rest[:7], rest[7], rest[8:24]
     sorted_region, count = rest[24:]
+    is_long, generation = divmod(field, LONG_FORM)
     if frozen_count > geometry.nl - 1 or hash_count > geometry.nh:
         return None
     logs, hashes = [active, *frozen[:frozen_count]], hashes[:hash_count]
     good = (
-        generation <= LAST_GENERATION
+        (is_long or version == 1)
         and generation % 2 == slot
         and all(it < geometry.nl for it in logs)
         and len(set(logs)) == len(logs)
@@ -345,7 +380,8 @@ def decode_body(data, slot, geometry):
     )
     if not good:
         return None
-    return Body(generation, active, tuple(logs[1:]), tuple(hashes), sorted_region, count)
+    digests = decode_digests(data, hash_count) if is_long else None
+    return Body(generation, active, tuple(logs[1:]), tuple(hashes), sorted_region, count, digests)
 
 
 def slot_at(slot):
@@ -368,14 +404,14 @@ def write_manifest(device, body, gate_is_open):
 
 def examine(image):
     """What the store of an image consists of. Raises the first finding."""
-    geometry = examine_header(image)
-    body, slots_open = examine_slots(image, geometry)
+    version, geometry = examine_header(image)
+    body, slots_open = examine_slots(image, version, geometry)
     active, *frozen = [examine_log(image, geometry, it) for it in (body.active, *body.frozen)]
-    hashes = [examine_hash(image, geometry, it) for it in body.hashes]
-    entries = examine_sorted(image, geometry, body)
-    contents = Contents(
-        geometry, body.generation, active, frozen, hashes, SortedStore(body.sorted, entries), slots_open
-    )
+    said = body.digests or Digests((None,) * len(body.hashes), None)
+    hashes = [examine_hash(image, geometry, *it) for it in zip(body.hashes, said.hashes)]
+    entries = examine_sorted(image, geometry, body, said.sorted)
+    layout = 2 if body.digests else 1
+    contents = Contents(geometry, layout, body.generation, active, frozen, hashes, entries, slots_open)
     if contents.charge() > geometry.s:
         raise Refused(3, "charge")
     return contents
@@ -393,16 +429,16 @@ def examine_header(image):
         raise Refused(3, "header")
     if len(image) != geometry.size:
         raise Refused(3, "length")
-    return geometry
+    return version, geometry
 
 
-def examine_slots(image, geometry):
+def examine_slots(image, version, geometry):
     slots_open, bodies = [], []
     for slot in (0, 1):
         at = slot_at(slot)
         slots_open.append(image[at] == OPEN)
         if slots_open[slot]:
-            body = decode_body(image[at + 1 : at + 1 + BODY_LENGTH], slot, geometry)
+            body = decode_body(bytes(image[at + 1 : at + SLOT_LENGTH]), slot, geometry, version)
             if body is None:
                 raise Refused(3, f"slot {slot}")
             bodies.append(body)
@@ -430,10 +466,12 @@ def examine_log(image, geometry, region):
     return log
 
 
-def examine_hash(image, geometry, region):
+def examine_hash(image, geometry, region, said):
+    """A hash store, whose digest has to be the one that is said, if one is."""
+    at = geometry.hash_at(region)
     slots, seen = [], set()
     for i in range(geometry.slots):
-        row = row_at(image, geometry.hash_at(region) + i * geometry.row_length, geometry)
+        row = row_at(image, at + i * geometry.row_length, geometry)
         if row[0] == 0:
             slots.append(None)
             continue
@@ -441,18 +479,25 @@ def examine_hash(image, geometry, region):
             raise Refused(3, f"hash {region} slot {i}")
         seen.add(row[1])
         slots.append(row)
-    return HashStore(region, slots)
+    found = digest(image[at : at + geometry.slots * geometry.row_length])
+    if said not in (None, found):
+        raise Refused(3, f"hash {region} digest")
+    return HashStore(region, slots, found)
 
 
-def examine_sorted(image, geometry, body):
-    entries = []
+def examine_sorted(image, geometry, body, said):
+    """The sorted store, whose digest has to be the one that is said, if one is."""
+    begin, entries = geometry.sorted_at(body.sorted), []
     for i in range(body.count):
-        at = geometry.sorted_at(body.sorted) + i * geometry.entry_length
+        at = begin + i * geometry.entry_length
         entry = (PUT, bytes(image[at : at + 20]), bytes(image[at + 20 : at + geometry.entry_length]))
         if entries and entry[1] <= entries[-1][1]:
             raise Refused(3, f"sorted {i}")
         entries.append(entry)
-    return entries
+    found = digest(image[begin : begin + body.count * geometry.entry_length])
+    if said not in (None, found):
+        raise Refused(3, "sorted digest")
+    return SortedStore(body.sorted, entries, found)
 
 
 def report(contents):
@@ -465,6 +510,7 @@ def report(contents):
         f"hash stores {len(contents.hashes)} rows {hash_rows}",
         f"sorted entries {len(contents.sorted.entries)}",
         f"charge {contents.charge()}",
+        f"layout {contents.layout}",
     ]
 
 
@@ -485,7 +531,7 @@ def format_device(device, geometry):
     device.sync()
     device.write(slot_at(1), b"\0")
     prepare_log(device, geometry, 0)
-    write_manifest(device, Body(0, 0, (), (), 0, 0), gate_is_open=True)
+    write_manifest(device, Body(0, 0, (), (), 0, 0, Digests((), digest(b""))), gate_is_open=True)
     device.write(1, MAGIC + struct.pack(">7I", VERSIONS[-1], *geometry.numbers))
     device.sync()
     device.write(0, bytes([OPEN]))
@@ -529,7 +575,7 @@ def seal(device, geometry, log):
 class Conversion:
     log: Log
     region: int
-    done: int = 0
+    written: list = field(default_factory=list)
 
 
 @dataclass
@@ -635,16 +681,15 @@ class Store:
             raise Refused(10)
 
     def next_manifest(self):
-        """Writes what the contents name now as the next generation."""
+        """Writes what the contents name now as the next generation, with digests."""
         now = self.contents
         now.generation += 1
         slot = now.generation % 2
         frozen, hashes = (tuple(it.region for it in some) for some in (now.frozen, now.hashes))
-        body = Body(
-            now.generation, now.active.region, frozen, hashes, now.sorted.region, len(now.sorted.entries)
-        )
+        count = len(now.sorted.entries)
+        body = Body(now.generation, now.active.region, frozen, hashes, now.sorted.region, count, now.digests())
         write_manifest(self.device, body, now.slots_open[slot])
-        now.slots_open[slot] = True
+        now.slots_open[slot], now.layout = True, 2
 
     # Work in the background.
 
@@ -658,20 +703,21 @@ class Store:
             if not free:
                 return "waiting"
             self.conversion = Conversion(now.frozen[-1], free[0])
-        if self.conversion.done == self.geometry.slots:
+        if len(self.conversion.written) == self.geometry.slots:
             return self.finish_conversion()
         self.convert_slot()
         return "moved"
 
     def convert_slot(self):
         work, length = self.conversion, self.geometry.row_length
-        key = work.log.table.keys[work.done]
+        slot = len(work.written)
+        key = work.log.table.keys[slot]
         data = bytes(length)
         if key is not None:
             kind, _, value = work.log.last_row(key)
             data = bytes([kind]) + key + value
-        self.device.write(self.geometry.hash_at(work.region) + work.done * length, data)
-        work.done += 1
+        self.device.write(self.geometry.hash_at(work.region) + slot * length, data)
+        work.written.append(data)
 
     def finish_conversion(self):
         self.refuse_last_generation()
@@ -679,7 +725,7 @@ class Store:
         self.device.sync()
         now.frozen.pop()
         rows = [key and work.log.last_row(key) for key in work.log.table.keys]
-        now.hashes.insert(0, HashStore(work.region, rows))
+        now.hashes.insert(0, HashStore(work.region, rows, digest(b"".join(work.written))))
         self.next_manifest()
         self.conversion = None
         return "finished"
@@ -720,7 +766,8 @@ class Store:
         work, now = self.merging, self.contents
         self.device.sync()
         now.hashes = now.hashes[: -work.taken]
-        now.sorted = SortedStore(work.region, work.entries)
+        entries = b"".join(key + value for _, key, value in work.entries)
+        now.sorted = SortedStore(work.region, work.entries, digest(entries))
         self.next_manifest()
         self.merging = None
         return "finished"

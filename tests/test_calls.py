@@ -4,6 +4,8 @@ how many reads.
 What is due is worked out of the table in docs/layout.md: the device calls of each call of the
 store. A disk in a file buffers adjacent writes, and makes them one write before a write
 elsewhere, before a sync, and when its room is full.
+
+On a device of version 1 the same calls are due: the classes with `OfVersion1` run all tests there.
 """
 from commands import Commands
 from engine import SYNC, Engine
@@ -86,9 +88,17 @@ class Rules:
         """All slots of a conversion, one list for each step. These have rows."""
         return [self.slot(region, n, rows.get(n)) for n in range(self.layout.slots)]
 
+    def hash_store(self, region, rows):
+        """A hash store as a manifest names it: its region and the bytes of its slots."""
+        return region, b"".join(data for ((_, data),) in self.slots(region, rows))
+
     def entry(self, region, place, key, value):
         entry = self.layout.row(PUT, key, value)[1:]
         return [(self.layout.sorted_region(region) + place * self.layout.entry_len, entry)]
+
+    def entries(self, pairs):
+        """The sorted entries of these keys and values, as a manifest names them."""
+        return [self.layout.row(PUT, key, value)[1:] for key, value in pairs if value]
 
     def empty_store(self):
         """What formatting writes."""
@@ -157,6 +167,10 @@ class Writes(CallCase):
     def freeze(self, body, is_closed, log=1):
         return self.rules.prepare(log) + self.rules.manifest(body, is_closed)
 
+    def converted(self, rows):
+        """The manifest behind the first conversion."""
+        return manifest(2, 1, hashes=[self.rules.hash_store(0, rows)])
+
     def convert(self, rows, body, is_closed, region=0):
         """All steps of a conversion: each slot, and the manifest that names the hash store."""
         slots = [("convert", it) for it in self.rules.slots(region, rows)]
@@ -170,7 +184,7 @@ class Writes(CallCase):
 
     def hash_store(self):
         """And then log 0 is converted."""
-        return self.frozen_log() + self.convert(self.rows(), manifest(2, 1, hashes=[0]), False)
+        return self.frozen_log() + self.convert(self.rows(), self.converted(self.rows()), False)
 
     def test_puts_and_flushes(self):
         self.store(G)
@@ -211,14 +225,14 @@ class Writes(CallCase):
     def test_a_conversion_with_rows_waiting(self):
         """The bytes of a waiting row go out before the first slot, and its gate stays closed."""
         self.store(G)
-        steps = self.convert(self.rows(), manifest(2, 1, hashes=[0]), False)
+        steps = self.convert(self.rows(), self.converted(self.rows()), False)
         row = self.put(1, A, "0006", 1)
         self.judge(self.frozen_log() + [row, *steps, ("flush", self.rules.flush(1, 1, 1))])
 
     def test_a_conversion_between_rows(self):
         """Slots and rows by turns are no adjacent writes."""
         self.store(G)
-        steps = self.convert(self.rows(), manifest(2, 1, hashes=[0]), False)
+        steps = self.convert(self.rows(), self.converted(self.rows()), False)
         rows = [self.put(1, A, "0006", 1), self.put(2, B, "0007", 1)]
         self.judge(self.frozen_log() + [steps[0], rows[0], steps[1], rows[1], *steps[2:]])
 
@@ -231,7 +245,7 @@ class Writes(CallCase):
         freeze = self.freeze(manifest(1, 1, frozen=[0]), True) + self.rules.row(1, 0, PUT, E, "0005")
         slots = {0: row(PUT, A, "0003"), 4: row(DELETE, LATER)}
         self.judge([*puts, (f"put {E} 0005", freeze), ("flush", self.rules.flush(1, 0, 1)),
-                    *self.convert(slots, manifest(2, 1, hashes=[0]), False)])
+                    *self.convert(slots, self.converted(slots), False)])
 
     def merge(self, entries, body, gathered=8, region=1):
         """All steps of a merge: slots that are gathered, keys with their values or None, and the
@@ -245,7 +259,7 @@ class Writes(CallCase):
     def merged(self):
         """And then the hash store is merged into sorted region 1."""
         entries = [(A, "0001"), (B, "0002"), (C, "0003"), (D, "0004")]
-        return self.hash_store() + self.merge(entries, manifest(3, 1, region=1, count=4))
+        return self.hash_store() + self.merge(entries, manifest(3, 1, region=1, entries=self.rules.entries(entries)))
 
     def test_a_merge(self):
         self.store(G)
@@ -266,13 +280,14 @@ class Writes(CallCase):
         lines = [(f"delete {B}", self.rules.row(1, 1, DELETE, B)), self.put(2, C, "0007", 1),
                  ("flush", self.rules.flush(1, 1, 2)), self.put(3, LATER, "0008", 1),
                  ("flush", self.rules.flush(1, 3, 1))]
-        freeze = self.freeze(manifest(4, 0, frozen=[1], region=1, count=4), False, log=0)
+        old = self.rules.entries([(A, "0001"), (B, "0002"), (C, "0003"), (D, "0004")])
+        freeze = self.freeze(manifest(4, 0, frozen=[1], region=1, entries=old), False, log=0)
         lines.append((f"put {D} 0009", freeze + self.rules.row(0, 0, PUT, D, "0009")))
         slots = {0: row(PUT, E, "0005"), 1: row(DELETE, B), 2: row(PUT, C, "0007"), 4: row(PUT, LATER, "0008")}
-        body = manifest(5, 0, hashes=[0], region=1, count=4)
+        body = manifest(5, 0, hashes=[self.rules.hash_store(0, slots)], region=1, entries=old)
         entries = [(LATER, "0008"), (A, "0001"), (B, None), (C, "0007"), (D, "0004"), (E, "0005")]
         self.judge(self.merged() + lines + self.convert(slots, body, False)
-                   + self.merge(entries, manifest(6, 0, region=0, count=5), region=0))
+                   + self.merge(entries, manifest(6, 0, region=0, entries=self.rules.entries(entries)), region=0))
 
     def test_a_conversion_beside_a_merge(self):
         """Their steps by turns are no adjacent writes, and the hash store that comes stays in
@@ -284,8 +299,10 @@ class Writes(CallCase):
         # Opening forgets the merge under way. Log 1 is frozen, and the hash store in region 0 has
         # key A.
         rows = {0: self.rules.layout.row(PUT, B, "0002")}
-        converts = self.convert(rows, manifest(4, 0, hashes=[1, 0]), False, region=1)
-        merges = self.merge([(A, "0001")], manifest(5, 0, hashes=[1], region=1, count=1))
+        old = self.rules.hash_store(0, {0: self.rules.layout.row(PUT, A, "0001")})
+        new, entries = self.rules.hash_store(1, rows), [(A, "0001")]
+        converts = self.convert(rows, manifest(4, 0, hashes=[new, old]), False, region=1)
+        merges = self.merge(entries, manifest(5, 0, hashes=[new], region=1, entries=self.rules.entries(entries)))
         self.judge([*merges[:8], *converts[:4], merges[8], *converts[4:], merges[9]])
 
     def test_more_than_the_buffer_takes(self):
@@ -306,6 +323,10 @@ class Writes(CallCase):
                 self.judge([self.put(0, A, "0102"), ("flush", self.rules.flush(0, 0, 1))], drop=f"fdatasync:{number}")
 
 
+class WritesOfVersion1(Writes):
+    version = 1
+
+
 class Jobs(CallCase):
     """What the jobs of the program call, from the opening of the file on."""
 
@@ -321,7 +342,7 @@ class Jobs(CallCase):
         self.store(G, [f"put {A} 0001", "flush"])
         calls = self.opened(self.calls_of([])[0], 0o2, 6)
         self.assertEqual(changes(calls), [("fsync", "store"), SYNC])
-        self.assertEqual(reads(calls), [(0, 37), (4096, 121), (8192, 121), (12288, 4), (16384, 21)])
+        self.assertEqual(reads(calls), [(0, 37), (4096, 461), (8192, 461), (12288, 4), (16384, 21)])
         self.assertEqual([it.name for it in calls[:3]], ["fsync", "fdatasync", "pread"])
 
     def test_an_opening_that_seals(self):
@@ -348,7 +369,7 @@ class Jobs(CallCase):
         length and synced."""
         due = Buffer().make(Rules(G).empty_store())
         # Of a store it reads the header, what a check reads, and the header again for its numbers.
-        check = [(0, 37), (4096, 121), (8192, 121), (12288, 4)]
+        check = [(0, 37), (4096, 461), (8192, 461), (12288, 4)]
         for looks in ([], [(0, 37), (0, 37), *check]):
             ended, calls = self.recorded("format", "store", *G.split())
             self.assertEqual(ended.out, "formatted 45056\n")
@@ -360,6 +381,8 @@ class Jobs(CallCase):
             self.assertLess(names.index("fsync"), names.index("ftruncate"))
             self.assertEqual(reads(calls), looks, "what is lost")
             self.assertEqual(reads(calls[names.index("ftruncate"):]), [])
+            if self.version == 1:
+                self.make_old()
 
     def test_a_check(self):
         """It reads what an opening reads, and the header once more for its numbers, and makes no
@@ -367,7 +390,7 @@ class Jobs(CallCase):
         self.store(G, [f"put {A} 0001", "flush"])
         calls = self.opened(self.recorded("check", "store")[1], 0o0, 5)
         self.assertEqual(changes(calls), [])
-        self.assertEqual(reads(calls), [(0, 37), (4096, 121), (8192, 121), (12288, 4), (16384, 21), (0, 37)])
+        self.assertEqual(reads(calls), [(0, 37), (4096, 461), (8192, 461), (12288, 4), (16384, 21), (0, 37)])
 
     def test_a_run_that_tends(self):
         """A put that freezes finds the log frozen before converted: its steps come before the next
@@ -390,6 +413,10 @@ class Jobs(CallCase):
         ended, calls = self.recorded("run", "store", text="put =abc 0102\nflush\n")
         names = [it.name for it in calls if it.file in ("store", "standard output")]
         self.assertEqual(names[-7:], ["write", "pwrite", "fdatasync", "pwrite", "fdatasync", "write", "close"])
+
+
+class JobsOfVersion1(Jobs):
+    version = 1
 
 
 # How many reads: tables of 64 buckets. Each key has two buckets of its own.
@@ -512,7 +539,7 @@ class Reads(CallCase):
         lines += [f"put {key(20)} 0001", "flush", ""]
         self.silt("run", "store", text="\n".join(lines))
         calls = self.calls_of([])[0]
-        head = [(0, 37), (4096, 121), (8192, 121)]
+        head = [(0, 37), (4096, 461), (8192, 461)]
         active = [(self.layout.gates(0), 8), self.row(0, 21)]
         frozen = [(self.layout.gates(1), 8)] + [self.row(n, 21, log=1) for n in range(8)]
         self.assertEqual(reads(calls), head + active + frozen + [self.entry(0, 8 * 22)])
@@ -536,6 +563,10 @@ class Reads(CallCase):
         self.judge_reads([(f"get {key(1)}", [(at, 20), (at + 20, 493)])])
 
 
+class ReadsOfVersion1(Reads):
+    version = 1
+
+
 def all_calls(calls):
     """The reads, writes and syncs of the store's file."""
     made = {"pread": lambda it: ("pread", it.at, it.asked), "pwrite": lambda it: ("pwrite", it.at, it.data)}
@@ -543,7 +574,8 @@ def all_calls(calls):
 
 
 class Random(CallCase):
-    """Random lines: each reply, and all device calls of each, as the rules have them."""
+    """Random lines: each reply, and all device calls of each, as the rules have them, on devices of both
+    versions."""
 
     def keys(self, count, buckets):
         """Keys. Many share their buckets if there are few of these."""
@@ -572,6 +604,7 @@ class Random(CallCase):
         not say which."""
         layout, buffer = Layout.of(geometry), Buffer()
         steps = self.answered(Engine(layout), self.keys(keys, layout.buckets), count)
+        self.version = self.random.choice((1, 2))
         self.store(geometry)
         replies, calls = self.record_by_lines([line for line, _, _, _ in steps])
         for n, (step, reply, part) in enumerate(zip(steps, replies[1:], by_line(calls)[1:], strict=True)):

@@ -1,7 +1,10 @@
 """Damaged stores: check and run tell the finding that the rules name, and change no byte.
 
-Each damage says which refusal has to come, and the model has to find it too.
+Each damage says which refusal has to come, and the model has to find it too. The stores are of
+both versions of the layout.
 """
+import itertools
+
 import model
 from damages import DAMAGES, HARMLESS
 from harness import PROVED, scaled
@@ -11,6 +14,8 @@ from test_stores import FileCase
 COUNT = scaled(40 if PROVED else 8)
 # How many pairs of damages are planted in each store.
 PAIRS = 30
+# The versions of rich stores: new devices, old ones, and old ones to which manifests were written since.
+VERSIONS = ("new", "old", "changed")
 
 
 def make_rich_geometry(random):
@@ -22,7 +27,8 @@ def make_rich_geometry(random):
 
 
 def rich_lines(random, geometry):
-    """Lines after which the store has entries, hash stores, frozen logs, and rows in its log."""
+    """Lines after which the store has entries, hash stores, frozen logs, and rows in its log. They come
+    in two parts: what follows the last conversion is a part of its own."""
     maker = Maker(random, geometry, full_tables=True)
     maker.keys = [b"=%d" % i for i in range(5 * geometry.cap)]
     convert = [b"convert"] * (geometry.slots + 1)
@@ -34,17 +40,26 @@ def rich_lines(random, geometry):
     lines += [b"merge"] * (geometry.slots + geometry.cap + 1)
     for _ in range(min(geometry.nh, 2)):
         lines += commands(geometry.cap) + convert
-    lines += commands((geometry.nl - 1) * geometry.cap)
-    return lines + [b"flush"]
+    return [*lines, b"flush"], [*commands((geometry.nl - 1) * geometry.cap), b"flush"]
 
 
 class DamageCase(FileCase):
+    def setUp(self):
+        super().setUp()
+        self.versions = itertools.cycle(VERSIONS)
+
     def make_rich_store(self):
-        """Makes a store, and returns its bytes and what the model finds there."""
-        geometry = make_rich_geometry(self.random)
+        """Makes a store, and returns its bytes and what the model finds there. The versions take turns."""
+        geometry, version = make_rich_geometry(self.random), next(self.versions)
         self.path("store").unlink(missing_ok=True)
         self.store(geometry.words)
-        self.compare_run(join_lines(rich_lines(self.random, geometry)), geometry.words)
+        first, second = rich_lines(self.random, geometry)
+        self.compare_run(join_lines(first), geometry.words)
+        if version == "changed":
+            self.make_old()
+        self.compare_run(join_lines(second), geometry.words)
+        if version == "old":
+            self.make_old()
         return self.image(), model.examine(self.image())
 
     def assert_refused(self, image, expected, note):
@@ -103,9 +118,11 @@ class Damage(DamageCase):
 
 
 class WorkedDamage(DamageCase):
-    """The worked findings of `2 2 4 2 2 8`, with their bytes written out by hand."""
+    """The worked findings of `2 2 4 2 2 8`, with their bytes written out by hand, on devices of
+    version 1: there no digest covers them. test_versions.py has those of version 2."""
 
     GEOMETRY = "2 2 4 2 2 8"
+    version = 1
 
     def crafted(self, *changes, geometry=GEOMETRY, lines=()):
         """A store's image, with these bytes in place: (offset, hexadecimal digits)."""
@@ -170,8 +187,9 @@ class WorkedDamage(DamageCase):
     def test_header_gate_closed(self):
         self.assert_refused(self.crafted((0, "00")), "refused 1 NotFormatted", "")
 
-    def test_version_9(self):
-        self.assert_refused(self.crafted((9, "00000009")), "refused 1 NotFormatted", "")
+    def test_other_versions(self):
+        for version in ("00000000", "00000003", "00000009", "01000001", "00010002"):
+            self.assert_refused(self.crafted((9, version)), "refused 1 NotFormatted", version)
 
     def test_three_buckets(self):
         image = self.crafted((17, "00000003"))
@@ -191,4 +209,4 @@ class WorkedDamage(DamageCase):
         self.assert_refused(image, "refused 3 Damaged charge", "")
         image[12288] = 0
         self.path("store").write_bytes(image)
-        self.assertEqual(self.check_report().lines[-2:], ["sorted entries 8", "charge 8"])
+        self.assertEqual(self.check_report().lines[-3:], ["sorted entries 8", "charge 8", "layout 1"])

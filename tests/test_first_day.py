@@ -24,7 +24,7 @@ class Formats(WatchedCase):
 
     def check_formatted(self, ended, geometry=SMALL):
         self.assertEqual((ended.status, ended.out), (0, "formatted 45056\n"), ended)
-        self.assertEqual(self.check_report("file").lines[-1], "charge 0")
+        self.assertEqual(self.check_report("file").lines[-2:], ["charge 0", "layout 2"])
 
     def other_data(self):
         return (b"x", b"the only copy of something\n" * 3, bytes(45056), self.random.randbytes(45056), self.random.randbytes(100_000))
@@ -245,7 +245,7 @@ class Reasons(ServedCase):
     def test_a_check_tells_the_geometry_and_how_full_the_store_is(self):
         self.store(SMALL, ["put =a 0102", "put =b 0304", "flush"])
         ended = self.check_report()
-        self.assertEqual((ended.status, ended.lines[-1]), (0, "charge 2"), ended)
+        self.assertEqual((ended.status, ended.lines[-2:]), (0, ["charge 2", "layout 2"]), ended)
         self.assertEqual(ended.err, f"silt: store: {NAMED}; charge 2 of 8\n")
 
     def test_a_port_in_use_is_told_before_the_store_is_opened(self):

@@ -69,8 +69,8 @@ def geometry_of(row):
     return model.Geometry(*map(int, row.geometry.split()))
 
 
-class Rows(Case):
-    """Each row, run by the program."""
+class RowCase(Case):
+    """A row, run by the program."""
 
     def check_ended(self, row, ended):
         self.assertEqual(ended.out, row.out)
@@ -90,7 +90,22 @@ class Rows(Case):
         self.store(row.geometry)
         self.check_ended(row, self.silt("run", "store", text=row.text))
         if row.report:
-            self.assertEqual(self.check_report().out, row.report)
+            self.assertEqual(self.check_report().out, self.due_report(row))
+
+    def due_report(self, row):
+        """A run that writes no manifest leaves a device of version 1 without digests."""
+        has_none = self.version == 1 and row.report.startswith("generation 0\n")
+        return row.report.replace("layout 2", "layout 1") if has_none else row.report
+
+
+class Rows(RowCase):
+    """Each row."""
+
+
+class RowsOfVersion1(RowCase):
+    """Each row of a run, on a device of version 1."""
+
+    version = 1
 
 
 class RowsOfTheModel(Case):
@@ -115,7 +130,7 @@ class RowsOfTheModel(Case):
 
 
 def add_test(row):
-    for kind in (Rows, RowsOfTheModel):
+    for kind in (Rows, RowsOfTheModel, *[RowsOfVersion1] * (row.call == "run")):
         setattr(kind, f"test_{row.name}", lambda self, row=row: getattr(self, f"do_{row.call}")(row))
 
 

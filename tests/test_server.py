@@ -6,7 +6,7 @@ import unittest
 
 from served import SMALL, Client, ServedCase, digits
 
-OPENED_REPORT = ["active log 1 rows 1", "frozen logs 0 rows 0", "hash stores 0 rows 0", "sorted entries 4", "charge 5"]
+OPENED_REPORT = ["active log 1 rows 1", "frozen logs 0 rows 0", "hash stores 0 rows 0", "sorted entries 4", "charge 5", "layout 2"]
 
 
 class Replies(ServedCase):
