@@ -2,7 +2,8 @@
 
 All writes and syncs of a run or of a server are recorded. Then the file is made anew as a crash
 at any call could leave it. It has to open, to hold what was acknowledged, to be the map of a
-beginning of the accepted commands, and to take new commands.
+beginning of the accepted commands, and to take new commands. All of this holds for files of both
+versions of the layout.
 """
 import collections
 import socket
@@ -11,7 +12,7 @@ import threading
 from commands import Commands, answer, done, is_command, maps_after, names
 from crashes import cuts, image
 from harness import PROVED, scaled
-from layout import Layout
+from layout import Layout, as_version_1
 from notes import told_of_lines
 from watch import WatchedCase, read_record, watching
 
@@ -83,6 +84,7 @@ class CutCase(WatchedCase):
         ran = self.silt("run", "cut", text=text)
         notes = told_of_lines(text.encode(), ran.out)
         self.assertEqual((ran.status, ran.err, len(ran.lines)), (0, notes, len(lines) + 1), ran)
+        self.assertEqual(path.read_bytes()[:37], content[:37], "a run wrote the header")
         held = {key: it.split()[1] for key, it in zip(keys, ran.lines[1:]) if it != "absent"}
         self.follow(lines, ran.lines, held)
         accepted = [it.startswith("accepted") for it in ran.lines[-len(keys) - 4:-len(keys):2]]
@@ -143,11 +145,20 @@ class Runs(CutCase):
         return left
 
     def try_lives(self, geometry):
+        """Lives on files of both versions."""
+        for version in (1, 2):
+            with self.subTest(version=version):
+                self.try_lives_of_version(version, geometry, OF_RUNS // len(GEOMETRIES) // 2)
+
+    def try_lives_of_version(self, version, geometry, count):
         """Lives one after the other, each on a file that a crash left, until there are enough
-        cuts of each kind."""
+        cuts of each kind. A file of version 1 has digests or none."""
+        self.path("store").unlink(missing_ok=True)
         layout, seen = Layout.of(geometry), collections.Counter()
-        left, count = (self.store(geometry).read_bytes(), {}), OF_RUNS // len(GEOMETRIES)
+        left = self.store(geometry).read_bytes(), {}
         while seen["cut"] < count or not all(seen[part] for part in PARTS):
+            if version == 1 and self.random.random() < 0.5:
+                left = as_version_1(left[0]), left[1]
             left = self.try_life(layout, *left, seen)
             self.assertLess(seen["cut"], 3 * count + 20 * OF_A_LIFE, f"pending parts of the file: {seen}")
 
@@ -172,6 +183,20 @@ class Runs(CutCase):
             # The first sync is the opening's.
             fault = f"{call}:{self.random.randint(2, 40)}:{self.random.choice(('EIO', 'ENOSPC'))}"
             self.try_life(layout, before, {}, collections.Counter(), fail=fault)
+
+    def test_both_versions_make_the_same_calls(self):
+        """Each life makes the same writes, syncs and reads on a file without digests."""
+        layout = Layout.of(GEOMETRIES[0])
+        before = self.store(GEOMETRIES[0]).read_bytes()
+        for _ in range(max(4, OF_RUNS // 8 // OF_A_LIFE)):
+            lines = Commands(self.random, KEYS, layout.values, burst=layout.slots + len(KEYS) + 2).lines(100)
+            of_versions = []
+            for content in (as_version_1(before), before):
+                self.path("store").write_bytes(content)
+                calls = self.record_by_lines(lines)[1]
+                of_versions.append([(it.name, it.at, it.asked, it.data) for it in calls if it.file == "store"])
+            self.assertEqual(*of_versions)
+            before = self.path("store").read_bytes()
 
     def test_a_program_without_syncs_is_refused(self):
         before = self.store(GEOMETRIES[0]).read_bytes()
@@ -235,6 +260,10 @@ class Needed(CutCase):
         torn[layout.bodies(0) + layout.row_len + 5] ^= 1
         with self.assertRaises(AssertionError):
             self.judge(cut, bytes(torn), layout, {}, life.accepted, life.owed(cut.number))
+
+
+class NeededOfVersion1(Needed):
+    version = 1
 
 
 class Session:
@@ -307,6 +336,7 @@ class Servers(CutCase):
         layout, base = Layout.of(geometry), {}
         before = self.store(geometry).read_bytes()
         while count > 0:
+            before = self.random.choice((before, as_version_1(before)))
             life = self.served(layout, before, **plans)
             self.assertTrue(life.is_whole, "the numbers of the accepted commands have gaps")
             for cut in self.some_cuts(layout, before, life.calls, OF_A_LIFE):
@@ -358,4 +388,5 @@ class Formats(CutCase):
     def test_a_file_with_a_store(self):
         lines = [f"put =k{n} 0001" for n in range(6)] + ["convert"] * 9 + ["flush"]
         before = self.store("2 2 4 2 2 8", lines).read_bytes()
-        self.try_format("2 2 4 2 2 8", before)
+        for content in (before, as_version_1(before)):
+            self.try_format("2 2 4 2 2 8", content)
