@@ -13,7 +13,10 @@ from html import escape
 SECTOR = 4096
 HEADER_LEN = 37
 OPEN = 0xA7
+VERSIONS = (1, 2)
 BODY_LEN = 120
+# The highest bit of a generation's field says that digests follow the body.
+LONG_FORM = 1 << 63
 LIMITS = {"V": (1, 4096), "B": (2, 32768), "CAP": (1, 131072), "NL": (2, 8), "NH": (1, 16), "S": (1, 16777216)}
 
 PUT, DELETE, BAD, EMPTY, BORDER, TEXT, FAINT = "#2f7d59", "#d08a2c", "#c0392b", "#eef1ee", "#8a948e", "#1d2421", "#6b756f"
@@ -34,9 +37,10 @@ def sectors(length):
 
 
 class Shape:
-    """The six numbers of a store, and where its regions lie."""
+    """The version and the six numbers of a store, and where its regions lie."""
 
-    def __init__(self, numbers):
+    def __init__(self, version, numbers):
+        self.version = version
         self.numbers = dict(zip(LIMITS, numbers))
         for name, (least, most) in LIMITS.items():
             if not least <= self.numbers[name] <= most:
@@ -63,18 +67,18 @@ class Shape:
 
 
 class Body:
-    """What a manifest slot names."""
+    """What a manifest slot names. The digests behind it are not looked at: `silt check` compares them."""
 
     def __init__(self, data, slot, shape):
         self.slot = slot
-        self.generation = number(data, 0, 8)
+        has_digests, self.generation = divmod(number(data, 0, 8), LONG_FORM)
         self.active = number(data, 8)
         self.frozen = [number(data, 16 + 4 * i) for i in range(min(number(data, 12), 7))]
         self.hashed = [number(data, 48 + 4 * i) for i in range(min(number(data, 44), 16))]
         self.sorted, self.count = number(data, 112), number(data, 116)
         logs = [self.active, *self.frozen]
         is_sound = (
-            self.generation < 2 ** 63 and self.generation % 2 == slot
+            (has_digests or shape.version == 1) and self.generation % 2 == slot
             and number(data, 12) < shape.NL and number(data, 44) <= shape.NH
             and len(set(logs)) == len(logs) and max(logs) < shape.NL
             and len(set(self.hashed)) == len(self.hashed) and all(it < shape.NH for it in self.hashed)
@@ -104,9 +108,9 @@ def read_shape(data):
         raise NoStore(f"it has {len(data)} bytes, and a header has {HEADER_LEN}")
     if data[0] != OPEN or data[1:9] != b"SILTFLSH":
         raise NoStore("it does not begin with a store's header")
-    if number(data, 9) != 1:
-        raise NoStore(f"its layout is version {number(data, 9)}, and this draws version 1")
-    shape = Shape([number(data, 13 + 4 * i) for i in range(6)])
+    if number(data, 9) not in VERSIONS:
+        raise NoStore(f"its layout is version {number(data, 9)}, and this draws versions 1 and 2")
+    shape = Shape(number(data, 9), [number(data, 13 + 4 * i) for i in range(6)])
     if len(data) != shape.length():
         raise NoStore(f"it has {len(data)} bytes, and a store of these numbers has {shape.length()}")
     return shape
