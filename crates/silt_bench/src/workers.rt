@@ -5,9 +5,7 @@ use crate::error::BenchError;
 use crate::job::Plan;
 use crate::writer::{Filled, Writer, fill_all};
 use crossbeam_channel::{Receiver, Sender};
-use silt_desk::{
-    Naming, OpenGate, Seat, Shared, Trace, Wake, Wakes, converter, join_over, merger,
-};
+use silt_desk::{Naming, OpenGate, Seat, Shared, Trace, Wake, Wakes, converter, join_over, merger};
 use silt_device::Disk;
 use std::alloc::{AllocError, Global};
 use std::sync::Wait;
@@ -116,7 +114,15 @@ fn both_workers<D: Disk, T: Trace + Send + Sync, N: Naming + Send + Sync, R: Thr
         rt,
         shared,
         move |desk: &Shared<D, T, N>| {
-            converter(rt, alloc, desk, first.seat, &OpenGate, first.wakes, first.other)
+            converter(
+                rt,
+                alloc,
+                desk,
+                first.seat,
+                &OpenGate,
+                first.wakes,
+                first.other,
+            )
         },
         move |desk: &Shared<D, T, N>| {
             merger(

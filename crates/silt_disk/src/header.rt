@@ -15,6 +15,7 @@ const MAGIC: [u8; 8] = *b"SILTFLSH";
 
 // The version numbers: the first layout, and the one that `format` writes.
 const FIRST_VERSION: u32 = 1;
+
 const NEW_VERSION: u32 = 2;
 
 /// The version of a device's layout, from its header.

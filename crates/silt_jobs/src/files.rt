@@ -11,9 +11,9 @@ ghost use Rattle.silt_jobs.specs.declared.held_data.Holding.{Holding as HoldingO
 
 use crate::failure::Watched;
 use crate::geometry::geometry_of;
+use crate::held_data::may_overwrite;
 use crate::jobs::{check_on, format_on, run_on, tend_on};
 use crate::notes::{FaultNotes, Notes, SourceNotes};
-use crate::held_data::may_overwrite;
 use crate::refusal::refuse;
 use crate::streams::{KeepsError, KeepsLines, KeepsTally};
 use silt_device::DiskSource;

@@ -10,13 +10,13 @@ ghost use Rattle.silt_jobs.specs.Jobs.{AnswersLines, AnswersReader, EndsCheck, E
 ghost use Rattle.silt_jobs.specs.Jobs.{TellsCheck, TellsFormat, TellsRun, TellsTend, formatted_line, status_of, tended_line};
 ghost use Rattle.silt_jobs.specs.Notes.{ToldFailures, ToldLines, ToldRefusal, ToldSession};
 
+use crate::background_work::{Steps, Tending, tend_all};
 use crate::damage::{damage_at, geometry_on};
 use crate::failure::Watched;
 use crate::notes::{FaultNotes, Notes, tell_end, tell_failures, tell_refusal};
 use crate::output::write_out;
 use crate::refusal::refuse;
 use crate::streams::{KeepsError, KeepsLines, KeepsTally};
-use crate::background_work::{Steps, Tending, tend_all};
 use silt_disk::{Disk, Geometry};
 use silt_recovery::{check, format};
 use silt_store_set::{Core, OpenFault, Refusal, Served};

@@ -7,17 +7,18 @@
 //! which of their calls failed, and that show how far an opening is (`Progress`).
 #![tactic(auto)]
 
+mod background_work;
 mod damage;
 mod dump;
 mod failure;
 mod files;
 mod geometry;
+mod held_data;
 mod input_lines;
 mod jobs;
 mod note_lines;
 mod notes;
 mod output;
-mod held_data;
 mod plan;
 mod progress;
 mod refusal;
@@ -26,7 +27,6 @@ mod script_lines;
 mod stop;
 mod streams;
 mod tally;
-mod background_work;
 #[cfg(test)]
 mod tests;
 mod transcript;
@@ -35,11 +35,11 @@ mod watched_file;
 pub use dump::dump_file;
 pub use failure::{Failure, Watched};
 pub use files::{check_file, format_file, run_file, tend_file};
+pub use held_data::HeldStore;
 pub use input_lines::InputLines;
 pub use jobs::refuse_opening;
 pub use note_lines::NoteLines;
 pub use notes::{FaultNotes, Notes, SourceNotes, tell_error_of, tell_failures};
-pub use held_data::HeldStore;
 pub use plan::write_plan;
 pub use progress::{AfterProgress, Progress};
 pub use refusal::refuse;

@@ -3,9 +3,9 @@ ghost use Rattle.std.specs.Prelude.{◌≡◌, ⊤};
 
 use crate::failure::Failure;
 use crate::geometry::{NumbersText, out_of_limits};
+use crate::held_data::HeldStore;
 use crate::input_lines::InputLines;
 use crate::notes::{FaultNotes, Notes, SourceNotes};
-use crate::held_data::HeldStore;
 use crate::streams::StreamError;
 use crate::tally::{KINDS, Refusals, Tally};
 use silt_disk::Geometry;

@@ -12,8 +12,8 @@ ghost use Rattle.silt_jobs.specs.declared.tally.Tally.{Tally as TallyOf};
 ghost use Rattle.silt_jobs.specs.declared.streams.StreamError.{StreamError as StreamErrorOf};
 
 use crate::failure::{Failure, Watched};
-use crate::input_lines::InputLines;
 use crate::held_data::HeldStore;
+use crate::input_lines::InputLines;
 use crate::streams::{KeepsError, StreamError};
 use crate::tally::Tally;
 use silt_disk::Geometry;

@@ -1,17 +1,17 @@
 // What no contract says of the jobs: their texts, letter for letter, over memory.
 
+mod background_work;
 mod damage;
 mod formats;
 mod jobs;
 mod notes;
 mod plans;
 mod progress;
-mod background_work;
 
 use crate::failure::{Failure, Watched};
+use crate::held_data::HeldStore;
 use crate::input_lines::InputLines;
 use crate::notes::{FaultNotes, Notes, SourceNotes};
-use crate::held_data::HeldStore;
 use crate::script_lines::read_script;
 use crate::streams::StreamError;
 use crate::tally::Tally;

@@ -23,18 +23,18 @@
 
 mod answerer;
 mod basis;
+mod device_entries;
 mod laws;
 mod life;
-mod device_entries;
 mod remembered;
 mod replies;
 mod store_core;
 
 pub use crate::store_core::{Core, OpenFault};
 pub use answerer::Served;
+pub use device_entries::read_entries;
 pub use laws::failed_law;
 pub use life::lives;
-pub use device_entries::read_entries;
 pub use replies::{accepted, progressed};
 pub use silt_device::{FileDisk, MemDisk};
 pub use silt_disk::{BadGeometry, Disk, Geometry};
