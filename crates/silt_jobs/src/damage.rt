@@ -1,12 +1,12 @@
 // Where a damaged part of a disk lies, and what its header says.
-ghost use Rattle.std.specs.Prelude.{◌≡◌, ◌+◌, ◌*◌, ◌<◌, ◌≤◌, ◌^◌, IsTrue, IfOk, IfSome, IfNone};
+ghost use Rattle.std.specs.Prelude.{◌≡◌, ◌+◌, ◌*◌, ◌<◌, ◌≤◌, ◌^◌, Ok, Err, IsTrue, IfOk, IfSome, IfNone, MatchResult};
 ghost use Rattle.silt_disk.specs.Disk.{GaveAny, size};
 ghost use Rattle.silt_disk.specs.Layout.{device_size, entry_len, row_len};
-ghost use Rattle.silt_disk.specs.Header.{header_of};
+ghost use Rattle.silt_disk.specs.Header.{header_of, version_of};
 ghost use Rattle.silt_image.specs.Stores.{shape_found};
 ghost use Rattle.silt_jobs.specs.Damage.{HasShape, LacksShape, part_at, offset_of};
 
-use silt_disk::{Disk, Geometry, HEADER_LEN, slot_start};
+use silt_disk::{Disk, Geometry, HEADER_LEN, Version, slot_start, version_of};
 use silt_event::{Finding, Place, Refusal};
 use silt_image::read_header;
 use silt_manifest::read_current;
@@ -19,17 +19,27 @@ pub fn damage_at<D: Disk, F: Drop>(disk: &D, refusal: &Refusal<F>) -> Option<u64
     match refusal {
         Refusal::Damaged(Place::Header) => Some(NUMBERS_AT),
         Refusal::Damaged(place) => {
-            let geometry = geometry_on(disk)?;
-            offset_of(&geometry, sorted_on(disk, geometry), *place)
+            let header = whole_header_on(disk)?;
+            offset_of(&header.geometry, sorted_on(disk, &header), *place)
         }
         _ => None,
     }
 }
 
-// What the header of a disk says. None where it cannot be read.
-fn header_on<D: Disk>(disk: &D) -> Option<Result<Geometry, Finding>>
-    ensures found { IsTrue (D.content disk.now).honest → IfSome result (λ found. shape_found (size (D.content disk.now)) (header_of (D.content disk.now).shown) ≡ found) }
-    ensures size { IfSome result (λ found. IfOk found (λ geometry. size (D.content disk.now) ≡ device_size geometry)) }
+// What the header of a disk says: the six numbers, and the version of the layout.
+#[derive(Clone, Copy)]
+struct Header {
+    geometry: Geometry,
+    version: Version,
+}
+
+// What the header of a disk says, or what is found in it. None where it cannot be read.
+fn header_on<D: Disk>(disk: &D) -> Option<Result<Header, Finding>>
+    ensures found { IsTrue (D.content disk.now).honest → IfSome result (λ found. MatchResult found
+        (λ header. shape_found (size (D.content disk.now)) (header_of (D.content disk.now).shown) ≡ Ok header.geometry)
+        (λ finding. shape_found (size (D.content disk.now)) (header_of (D.content disk.now).shown) ≡ Err finding)) }
+    ensures version { IsTrue (D.content disk.now).honest → IfSome result (λ found. IfOk found (λ header. header.version ≡ version_of (header_of (D.content disk.now).shown))) }
+    ensures size { IfSome result (λ found. IfOk found (λ header. size (D.content disk.now) ≡ device_size header.geometry)) }
     ensures unread { IfNone result ((fault : D.Fault) × GaveAny D.gave disk.now fault) }
 {
     if disk.len() < HEADER_LEN as u64 {
@@ -37,7 +47,31 @@ fn header_on<D: Disk>(disk: &D) -> Option<Result<Geometry, Finding>>
     }
     let mut header = [0; HEADER_LEN];
     match disk.read(0, &mut header) {
-        Ok(()) => Some(read_header(disk.len(), &header)),
+        Ok(()) => Some(parse_header(disk.len(), &header)),
+        Err(_) => None,
+    }
+}
+
+// What these bytes of a header say of a disk of this length, or what is found in them.
+fn parse_header(len: u64, bytes: &[u8; HEADER_LEN]) -> Result<Header, Finding>
+    ensures found { MatchResult result (λ header. shape_found len bytes.now ≡ Ok header.geometry) (λ finding. shape_found len bytes.now ≡ Err finding) }
+    ensures version { IfOk result (λ header. header.version ≡ version_of bytes.now) }
+    ensures size { IfOk result (λ header. len ≡ device_size header.geometry) }
+{
+    let geometry = read_header(len, bytes)?;
+    let version = version_of(bytes);
+    Ok(Header { geometry, version })
+}
+
+// What the header of a disk says, if it is whole and can be read.
+fn whole_header_on<D: Disk>(disk: &D) -> Option<Header>
+    ensures version { IsTrue (D.content disk.now).honest → IfSome result (λ header. header.version ≡ version_of (header_of (D.content disk.now).shown)) }
+    ensures size { IfSome result (λ header. size (D.content disk.now) ≡ device_size header.geometry) }
+    ensures found { IfSome result (λ header. HasShape (D.content disk.now) header.geometry) }
+    ensures none { IfNone result (LacksShape D.Disk disk.now) }
+{
+    match header_on(disk)? {
+        Ok(header) => Some(header),
         Err(_) => None,
     }
 }
@@ -48,18 +82,17 @@ pub fn geometry_on<D: Disk>(disk: &D) -> Option<Geometry>
     ensures found { IfSome result (HasShape (D.content disk.now)) }
     ensures none { IfNone result (LacksShape D.Disk disk.now) }
 {
-    match header_on(disk)? {
-        Ok(geometry) => Some(geometry),
-        Err(_) => None,
-    }
+    let header = whole_header_on(disk)?;
+    Some(header.geometry)
 }
 
 // The region in which the sorted store of a disk lies, by its manifest, if that can be read.
-fn sorted_on<D: Disk>(disk: &D, geometry: Geometry) -> u32
-    requires { size (D.content disk.now) ≡ device_size geometry }
+fn sorted_on<D: Disk>(disk: &D, header: &Header) -> u32
+    requires size { size (D.content disk.now) ≡ device_size header.now.geometry }
+    requires version { IsTrue (D.content disk.now).honest → header.now.version ≡ version_of (header_of (D.content disk.now).shown) }
     ensures { result < 2 }
 {
-    match read_current(disk, geometry) {
+    match read_current(disk, header.geometry, header.version) {
         Ok(manifest) if manifest.ruling().sorted < 2 => manifest.ruling().sorted,
         _ => 0,
     }
@@ -91,12 +124,14 @@ pub(crate) fn offset_of(geometry: &Geometry, sorted: u32, place: Place) -> Optio
                 slot,
             )
         }
+        Place::HashDigest(region) if region < geometry.hashes() => Some(geometry.hash_at(region)),
         Place::Sorted(entry) => part_at(
             geometry.sorted_at(sorted),
             geometry.entry_len() as u64,
             geometry.sorted_capacity(),
             entry,
         ),
+        Place::SortedDigest => Some(geometry.sorted_at(sorted)),
         _ => None,
     }
 }

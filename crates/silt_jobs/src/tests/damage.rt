@@ -31,8 +31,11 @@ fn tells_where_parts_begin(rt: HostRuntime) -> Result<(), Fail> {
         (Place::Hash { region: 1, slot: 7 }, Some(32_929)),
         (Place::Hash { region: 1, slot: 8 }, None),
         (Place::Hash { region: 2, slot: 0 }, None),
+        (Place::HashDigest(1), Some(32_768)),
+        (Place::HashDigest(2), None),
         (Place::Sorted(2), Some(41_004)),
         (Place::Sorted(8), None),
+        (Place::SortedDigest, Some(40_960)),
         (Place::Charge, None),
     ] {
         assert!(rt; offset_of(&geometry, 1, place) == at, "{place:?}");

@@ -99,7 +99,7 @@ fn runs_and_reports<S: AllocGlobal + Abort>(rt: &S, disk: MemDisk, text: &[u8]) 
         b"opened\naccepted 1\naccepted 2\naccepted 3\naccepted 4\naccepted 5\nacknowledged 5\n";
     let disk = runs(rt, disk, text, 0, output);
     let output =
-        b"generation 1\nactive log 1 rows 1\nfrozen logs 1 rows 4\nhash stores 0 rows 0\nsorted entries 0\ncharge 5\n";
+        b"generation 1\nactive log 1 rows 1\nfrozen logs 1 rows 4\nhash stores 0 rows 0\nsorted entries 0\ncharge 5\nlayout 2\n";
     checks(rt, &disk, 0, output);
 }
 
@@ -205,7 +205,7 @@ fn checks_path<S: AllocGlobal + Abort>(rt: &S, source: NamedDisk<MemDisk>) {
     let mut out = Vec::new(rt.alloc());
     let (_, code) = check_file(rt.alloc(), source, "disk", &mut out, &mut Counted::new());
     let output =
-        b"generation 0\nactive log 0 rows 1\nfrozen logs 0 rows 0\nhash stores 0 rows 0\nsorted entries 0\ncharge 1\n";
+        b"generation 0\nactive log 0 rows 1\nfrozen logs 0 rows 0\nhash stores 0 rows 0\nsorted entries 0\ncharge 1\nlayout 2\n";
     compare(rt, "check", code.ok(), &out, 0, output);
 }
 
