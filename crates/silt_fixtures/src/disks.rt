@@ -1,6 +1,8 @@
-// Disks in memory: their geometries, empty stores on them, stops, and bytes with some of them changed.
+// Disks in memory: their geometries and versions, empty stores on them, stops, and bytes with some of them changed.
 
 use silt_device::{Disk, Fill, Geometry, MemDisk, Stop};
+use silt_disk::Version;
+use silt_frame::is_open;
 use silt_recovery::format;
 use silt_store_set::Core;
 use std::alloc::{AllocError, Global};
@@ -50,6 +52,9 @@ pub fn of_values(alloc: Global, value_len: u32) -> Result<MemDisk, Fail> {
     formatted_with(alloc, geometry)
 }
 
+/// Both versions of a device.
+pub const VERSIONS: [Version; 2] = [Version::One, Version::Two];
+
 /// The store on this disk.
 pub fn opened_on<D: Disk>(alloc: Global, disk: D) -> Result<Core<D>, Fail> {
     Ok(Core::open(alloc, disk).ok().ok_or("opens")?)
@@ -93,4 +98,50 @@ pub fn changed(alloc: Global, whole: &[u8], changes: &[(usize, u8)]) -> Result<V
     let mut bytes = whole.to_vec(alloc)?;
     change(&mut bytes, changes)?;
     Ok(bytes)
+}
+
+// Where a device has the number of its version, and where its manifest slots begin.
+const VERSION_AT: usize = 12;
+
+const SLOTS_AT: [usize; 2] = [4096, 8192];
+
+// Where a slot has its digests.
+const DIGESTS_AT: usize = 121;
+
+// The bytes of a slot that count.
+const SLOT_LEN: usize = 461;
+
+// Makes an open slot one without digests: the bit that says that they follow, and they, are zeros.
+fn drop_digests(bytes: &mut [u8], at: usize) -> Result<(), Fail> {
+    let slot = bytes
+        .get_mut(at..at.saturating_add(SLOT_LEN))
+        .ok_or("a slot inside")?;
+    if is_open(slot[0]) {
+        slot[1] &= 0x7F;
+        slot[DIGESTS_AT..].fill(0);
+    }
+    Ok(())
+}
+
+/// The bytes of this device as one of version 1: it has no digests.
+pub fn as_version_1(alloc: Global, bytes: &[u8]) -> Result<Vec<u8>, Fail> {
+    let mut old = changed(alloc, bytes, &[(VERSION_AT, 1)])?;
+    for at in SLOTS_AT {
+        drop_digests(&mut old, at)?;
+    }
+    Ok(old)
+}
+
+/// The bytes of this device as one of this version.
+pub fn as_version(alloc: Global, bytes: &[u8], version: Version) -> Result<Vec<u8>, Fail> {
+    match version {
+        Version::One => as_version_1(alloc, bytes),
+        Version::Two => Ok(bytes.to_vec(alloc)?),
+    }
+}
+
+/// The bytes of an empty store of this geometry on a device of version 1.
+pub fn blank_of_version_1(alloc: Global, geometry: Geometry) -> Result<Vec<u8>, Fail> {
+    let whole = blank(alloc, geometry)?;
+    as_version_1(alloc, &whole)
 }
