@@ -1,12 +1,18 @@
-// What no clause says of the manifest: the layout's bytes, the damaged slots, each stop of a write, and the first call of a write.
-ghost use Rattle.std.specs.Prelude.{◌≡◌, ◌+◌, ◌≤◌, ◌<◌, ◌↔◌, IsTrue, OnOk};
+// What no clause says of the manifest: the layout's bytes, the damaged slots, the forms of slots on devices of either version, each stop of a
+// write, and the first call of a write.
+ghost use Rattle.std.specs.Prelude.{◌≡◌, ◌+◌, ◌≤◌, ◌<◌, ◌↔◌, IsTrue, IfSome, OnOk};
 ghost use Rattle.silt_disk.specs.Disk.{Rests, size};
 ghost use Rattle.silt_manifest.specs.Standing.{IsNext, Rules};
+ghost use Rattle.silt_disk.specs.Header.{header_of, version_of};
 ghost use Rattle.silt_disk.specs.Layout.{slot_at};
 
 use crate::tests::shows;
-use silt_device::{Call, Disk, FaultDisk, Fill, Geometry, MemDisk, Stop, Stoppable, write_synced};
-use silt_manifest::{Body, Damage, Ids, Manifest, ReadFault, read_current, write_first};
+use silt_device::{
+    Call, Disk, FaultDisk, Fill, Geometry, HEADER_LEN, MemDisk, Stop, Stoppable, write_synced,
+};
+use silt_disk::{Version, version_of};
+use silt_frame::Digest;
+use silt_manifest::{Body, Damage, Digests, Ids, Manifest, ReadFault, read_current, write_first};
 use std::alloc::{AllocError, Global};
 use std::process::Abort;
 use std::test::Fail;
@@ -15,6 +21,9 @@ const FILLS: [Fill; 5] = [Fill::Old, Fill::New, Fill::Zero, Fill::Ones, Fill::Mi
 
 // The header and the two slots.
 const LEN: usize = 12_288;
+
+// The bytes of a slot that count: the gate, the body, and the digests, or else zeros.
+type Slot = [u8; 461];
 
 // Values of 2 bytes, 2 buckets, logs of 4 rows, 2 logs, 2 hash regions and 8 sorted entries.
 fn small(rt: &impl Abort) -> Geometry {
@@ -26,16 +35,22 @@ fn large(rt: &impl Abort) -> Geometry {
     Geometry::new(2, 2, 4, 8, 16, 8).expect(rt, "the numbers are within their limits")
 }
 
-// A device on which the slots begin with these bytes, and which then lives two lives: one that no call stops, and this one.
-fn device(
+// A device of version 1 with these slots, which lives two lives: one that no call stops, and this one.
+fn device(alloc: Global, first: &Slot, second: &Slot, stop: Stop) -> Result<MemDisk, AllocError> {
+    device_as(alloc, 1, (first, second), stop)
+}
+
+// A device so whose header has this number as its version.
+fn device_as(
     alloc: Global,
-    first: &[u8; 121],
-    second: &[u8; 121],
+    number: u8,
+    (first, second): (&Slot, &Slot),
     stop: Stop,
 ) -> Result<MemDisk, AllocError> {
     let mut bytes = vec![in alloc; 0u8; LEN]?;
-    bytes[4096..4217].copy_from_slice(first);
-    bytes[8192..8313].copy_from_slice(second);
+    bytes[12] = number;
+    bytes[4096..4557].copy_from_slice(first);
+    bytes[8192..8653].copy_from_slice(second);
     let mut stops = Vec::new(alloc);
     stops.push(Stop {
         k: 0,
@@ -51,11 +66,23 @@ const NEVER: Stop = Stop {
 };
 
 // A slot with this gate and this generation below 256, and else zeros.
-fn slot_of(gate: u8, generation: u8) -> [u8; 121] {
-    let mut slot = [0; 121];
+fn slot_of(gate: u8, generation: u8) -> Slot {
+    let mut slot = [0; 461];
     slot[0] = gate;
     slot[8] = generation;
     slot
+}
+
+// The version of a device, by its header, if that can be read.
+fn version_on<D: Disk>(disk: &D) -> Option<Version>
+    requires { 37 ≤ size (D.content disk.now) }
+    ensures { IfSome result (λ version. IsTrue (D.content disk.now).honest → version ≡ version_of (header_of (D.content disk.now).shown)) }
+{
+    let mut header = [0; HEADER_LEN];
+    match disk.read(0, &mut header) {
+        Ok(()) => Some(version_of(&header)),
+        Err(_) => None,
+    }
 }
 
 // What the slots of a disk of this length hold: the body that rules, or the damage.
@@ -63,10 +90,23 @@ fn ruling<D: Disk>(disk: &D, geometry: Geometry) -> Option<Result<Body, Damage>>
     if disk.len() != LEN as u64 {
         return None;
     }
-    match read_current(disk, geometry) {
+    let version = version_on(disk)?;
+    match read_current(disk, geometry, version) {
         Ok(manifest) => Some(Ok(manifest.ruling())),
         Err(ReadFault::Damaged(damage)) => Some(Err(damage)),
         Err(ReadFault::Device(_)) => None,
+    }
+}
+
+// The digests behind the body that rules on a disk of this length, if there are any.
+fn said<D: Disk>(disk: &D, geometry: Geometry) -> Option<Digests> {
+    if disk.len() != LEN as u64 {
+        return None;
+    }
+    let version = version_on(disk)?;
+    match read_current(disk, geometry, version) {
+        Ok(manifest) => manifest.digests(),
+        Err(_) => None,
     }
 }
 
@@ -79,7 +119,28 @@ fn is_next(manifest: &Manifest, next: &Body) -> bool
         && next.is_well_formed(&manifest.geometry(), (generation % 2) as u32)
 }
 
-// Writes this body as the next one.
+// Digests: as many hash stores as there may be have each its number, from 1 on, in all bytes.
+fn some_digests() -> Digests {
+    let mut hashed = [Digest([0; 20]); 16];
+    for k in 0..16usize {
+        hashed[k] = Digest([k as u8 + 1; 20]);
+    }
+    Digests {
+        hashed,
+        sorted: Digest([0xEE; 20]),
+    }
+}
+
+// Writes them into a slot, and the bit that says that they are there.
+fn put_digests(slot: &mut Slot) {
+    slot[1] |= 0x80;
+    for k in 0..16usize {
+        slot[121 + 20 * k..141 + 20 * k].fill(k as u8 + 1);
+    }
+    slot[441..].fill(0xEE);
+}
+
+// Writes this body as the next one, with those digests.
 fn write<D: Disk>(manifest: &mut Manifest, disk: &mut D, next: Body) -> Result<(), D::Fault>
     requires size { slot_at 1 + 4096 ≤ size (D.content disk.old) }
     requires rules { Rules manifest.old (D.content disk.old) }
@@ -87,7 +148,7 @@ fn write<D: Disk>(manifest: &mut Manifest, disk: &mut D, next: Body) -> Result<(
     ensures size { size (D.content disk.new) ≡ size (D.content disk.old) }
     ensures rules { OnOk result (Rules manifest.new (D.content disk.new)) }
 {
-    manifest.prepare_next(disk, next)?;
+    manifest.prepare_next(disk, next, some_digests())?;
     manifest.commit_next(disk)?;
     Ok(())
 }
@@ -99,7 +160,10 @@ fn write_next<D: Disk>(disk: &mut D, geometry: Geometry, next: Body) -> bool
     if disk.len() < LEN as u64 {
         return false;
     }
-    let Ok(mut manifest) = read_current(disk, geometry) else {
+    let Some(version) = version_on(disk) else {
+        return false;
+    };
+    let Ok(mut manifest) = read_current(disk, geometry, version) else {
         return false;
     };
     if !is_next(&manifest, &next) {
@@ -115,7 +179,10 @@ fn write_two<D: Disk>(disk: &mut D, geometry: Geometry, next: Body, last: Body) 
     if disk.len() < LEN as u64 {
         return false;
     }
-    let Ok(mut manifest) = read_current(disk, geometry) else {
+    let Some(version) = version_on(disk) else {
+        return false;
+    };
+    let Ok(mut manifest) = read_current(disk, geometry, version) else {
         return false;
     };
     if !is_next(&manifest, &next) {
@@ -141,13 +208,13 @@ fn first_ids(count: u32) -> Ids {
     ids
 }
 
-// Closes slot 1 and writes the first body into slot 0, in eight calls.
+// Closes slot 1 and writes the first body into slot 0, with those digests, in eight calls.
 fn write_slots<D: Disk>(disk: &mut D) -> Result<(), D::Fault>
     requires { 12288 ≤ size (D.content disk.old) }
     ensures { size (D.content disk.new) ≡ size (D.content disk.old) }
 {
     write_synced(disk, 8192, &[0])?;
-    write_first(disk)?;
+    write_first(disk, &some_digests())?;
     Ok(())
 }
 
@@ -164,8 +231,8 @@ fn body_of(generation: u64) -> Body {
 fn ruling_of(
     alloc: Global,
     geometry: Geometry,
-    first: &[u8; 121],
-    second: &[u8; 121],
+    first: &Slot,
+    second: &Slot,
 ) -> Result<Option<Result<Body, Damage>>, Fail> {
     let disk = device(alloc, first, second, NEVER)?.restart();
     Ok(ruling(&disk, geometry))
@@ -195,8 +262,8 @@ fn finds_the_damaged_slot(rt: HostRuntime) -> Result<(), Fail> {
     Ok(())
 }
 
-// A slot with a well-formed body of which each rule can be broken by one byte.
-fn good_slot() -> [u8; 121] {
+// A slot without digests whose body is well formed, and of which each rule can be broken by one byte.
+fn good_slot() -> Slot {
     let mut good = slot_of(0xA7, 0);
     good[12] = 1;
     good[16] = 1;
@@ -214,7 +281,7 @@ fn ruling_changed(
     place: usize,
     byte: u8,
 ) -> Result<Option<Result<Body, Damage>>, Fail>
-    requires { place < 121 }
+    requires { place < 461 }
 {
     let mut slot = good_slot();
     slot[place] = byte;
@@ -227,8 +294,7 @@ fn refuses_each_fault_of_a_body(rt: HostRuntime) -> Result<(), Fail> {
     let geometry = small(&rt);
     let good = ruling_changed(rt.alloc(), geometry, 0, 0xA7)?;
     assert!(rt; matches!(good, Some(Ok(_))));
-    let cases: [(usize, u8); 11] = [
-        (1, 0x80),
+    let cases: [(usize, u8); 10] = [
         (12, 2),
         (12, 0),
         (16, 2),
@@ -241,7 +307,7 @@ fn refuses_each_fault_of_a_body(rt: HostRuntime) -> Result<(), Fail> {
         (120, 9),
     ];
     for (place, byte) in cases {
-        assert!(rt; place < 121);
+        assert!(rt; place < 461);
         assert_eq!(rt;
             ruling_changed(rt.alloc(), geometry, place, byte)?,
             Some(Err(Damage::Slot(0))),
@@ -271,8 +337,8 @@ fn the_greater_generation_rules(rt: HostRuntime) -> Result<(), Fail> {
     Ok(())
 }
 
-// The slot of the last generation but one, of the first body else.
-fn last_but_one() -> [u8; 121] {
+// The slot of the last generation but one, of the first body else, without digests.
+fn last_but_one() -> Slot {
     let mut slot = slot_of(0xA7, 0xFE);
     slot[1] = 0x7F;
     for place in 2..8usize {
@@ -294,7 +360,7 @@ fn greatest() -> Body {
 }
 
 // Its slot.
-fn greatest_slot() -> [u8; 121] {
+fn greatest_slot() -> Slot {
     let mut slot = last_but_one();
     slot[8] = 0xFF;
     slot[12] = 7;
@@ -308,29 +374,64 @@ fn greatest_slot() -> [u8; 121] {
     }
     slot[116] = 1;
     slot[120] = 8;
+    put_digests(&mut slot);
     slot
 }
 
-// Whether the greatest body was written, whether its bytes are shown, and what rules after a stop.
-fn write_greatest(
-    alloc: Global,
-    geometry: Geometry,
-) -> Result<(bool, bool, Option<Result<Body, Damage>>), Fail> {
+// The device after the greatest body was written, and whether it was, and its bytes are shown.
+fn write_greatest(alloc: Global, geometry: Geometry) -> Result<(MemDisk, bool, bool), Fail> {
     let mut disk = device(alloc, &last_but_one(), &slot_of(0, 0), NEVER)?.restart();
     let done = write_next(&mut disk, geometry, greatest());
     let is_shown = disk.shown().len() == LEN && shows(&disk, 8192, &greatest_slot());
-    Ok((done, is_shown, ruling(&disk.restart(), geometry)))
+    Ok((disk.restart(), done, is_shown))
 }
 
+// The body that rules and the digests behind it are those that were written.
+fn reads_back(rt: &impl Abort, disk: &MemDisk, geometry: Geometry) {
+    assert_eq!(rt; ruling(disk, geometry), Some(Ok(greatest())));
+    assert!(rt; said(disk, geometry) == Some(some_digests()));
+}
+
+// Also a device of version 1 is given digests.
 #[test]
 fn writes_the_layouts_bytes(rt: HostRuntime) -> Result<(), Fail> {
-    let written = write_greatest(rt.alloc(), large(&rt))?;
-    assert_eq!(rt; written, (true, true, Some(Ok(greatest()))));
+    let (disk, done, is_shown) = write_greatest(rt.alloc(), large(&rt))?;
+    assert_eq!(rt; (done, is_shown), (true, true));
+    reads_back(&rt, &disk, large(&rt));
+    Ok(())
+}
+
+// What rules on a device whose header has this number, and whose first slot, open and of generation 0, has this byte behind its gate; and
+// whether there are digests.
+fn ruling_as(
+    alloc: Global,
+    geometry: Geometry,
+    (number, byte): (u8, u8),
+) -> Result<(Option<Result<Body, Damage>>, bool), Fail> {
+    let mut slot = slot_of(0xA7, 0);
+    slot[1] = byte;
+    let disk = device_as(alloc, number, (&slot, &slot_of(0, 1)), NEVER)?.restart();
+    Ok((ruling(&disk, geometry), said(&disk, geometry).is_some()))
+}
+
+// With digests and without on a device of version 1, and with digests alone on one of version 2.
+#[test]
+fn takes_the_forms_of_its_version(rt: HostRuntime) -> Result<(), Fail> {
+    let geometry = small(&rt);
+    let first = Some(Ok(Body::first()));
+    for (form, found) in [
+        ((1, 0x00), (first, false)),
+        ((1, 0x80), (first, true)),
+        ((2, 0x00), (Some(Err(Damage::Slot(0))), false)),
+        ((2, 0x80), (first, true)),
+    ] {
+        assert_eq!(rt; ruling_as(rt.alloc(), geometry, form)?, found, "{form:?}");
+    }
     Ok(())
 }
 
 // The two slots where this generation rules and the other slot has this gate, the first slot in front.
-fn slots_of(old: u8, spare: u8) -> ([u8; 121], [u8; 121]) {
+fn slots_of(old: u8, spare: u8) -> (Slot, Slot) {
     let ruling_slot = slot_of(0xA7, old);
     let spare_slot = slot_of(spare, old.wrapping_sub(1));
     if old % 2 == 0 {
@@ -344,7 +445,7 @@ fn slots_of(old: u8, spare: u8) -> ([u8; 121], [u8; 121]) {
 fn stopped_write(
     alloc: Global,
     geometry: Geometry,
-    slots: &([u8; 121], [u8; 121]),
+    slots: &(Slot, Slot),
     next: Body,
     stop: Stop,
 ) -> Result<(bool, Option<Result<Body, Damage>>), Fail> {
@@ -472,8 +573,8 @@ fn the_first_call_spares_a_closed_gate(rt: HostRuntime) -> Result<(), Fail> {
 // A device with these slots, on which the first body was written up to this stop, and whether it was.
 fn first_written(
     alloc: Global,
-    first: &[u8; 121],
-    second: &[u8; 121],
+    first: &Slot,
+    second: &Slot,
     stop: Stop,
 ) -> Result<(MemDisk, bool), Fail> {
     let mut disk = device(alloc, first, second, stop)?.restart();
@@ -484,14 +585,15 @@ fn first_written(
     Ok((disk, done))
 }
 
-// Whether the first body was written over two old ones before this stop, what rules after it, and whether the body's bytes are shown then.
+// Whether the first body was written over two old ones before this stop, what rules after it, and whether its bytes and the digests' are
+// shown then.
 fn stopped_first(
     alloc: Global,
     geometry: Geometry,
     stop: Stop,
 ) -> Result<(bool, Option<Result<Body, Damage>>, bool), Fail> {
-    let mut slot = [0; 121];
-    slot[0] = 0xA7;
+    let mut slot = slot_of(0xA7, 0);
+    put_digests(&mut slot);
     let (disk, done) = first_written(alloc, &slot_of(0xA7, 4), &slot_of(0xA7, 5), stop)?;
     let disk = disk.restart();
     Ok((done, ruling(&disk, geometry), shows(&disk, 4096, &slot)))
@@ -577,14 +679,14 @@ fn writes_with_fault(
     Ok(write_next(&mut disk, geometry, body_of(1)))
 }
 
-// The fault of each read, and of each of the six calls, is handed on.
+// The fault of each read, that of the header before them, and of each of the six calls, is handed on.
 #[test]
 fn hands_on_each_fault(rt: HostRuntime) -> Result<(), Fail> {
     let geometry = small(&rt);
-    for number in 1..4u64 {
+    for number in 1..5u64 {
         assert_eq!(rt;
             reads_with_fault(rt.alloc(), geometry, number)?,
-            number == 3
+            number == 4
         );
     }
     for call in [Call::Write, Call::Sync] {
