@@ -10,17 +10,18 @@ mod random_lives;
 mod reports;
 
 use silt_device::MemDisk;
-use silt_event::{Finding, Report};
-use silt_fixtures::{SMALL_LEN, blank, small};
+use silt_event::{Finding, Layout, Report};
+use silt_fixtures::{SMALL_LEN, blank_of_version_1, small};
 use silt_frame::Key;
 use silt_recovery::{OpenError, check};
 use std::alloc::Global;
 use std::process::Abort;
 use std::test::Fail;
 
-// The bytes of an empty store of the small geometry, SMALL_LEN of them.
+// The bytes of an empty store of the small geometry, SMALL_LEN of them, on a device of version 1: its manifest has no digests, so that
+// stores can be named there whose bytes are made by hand.
 fn small_blank(rt: &impl Abort, alloc: Global) -> Result<Vec<u8>, Fail> {
-    let whole = blank(alloc, small()?)?;
+    let whole = blank_of_version_1(alloc, small()?)?;
     assert_eq!(rt; whole.len(), SMALL_LEN);
     Ok(whole)
 }
@@ -39,6 +40,13 @@ const EMPTY: Report = Report {
     hash_rows: 0,
     entries: 0,
     charge: 0,
+    layout: Layout::Two,
+};
+
+// The numbers of an empty store on a device of version 1.
+const EMPTY_OLD: Report = Report {
+    layout: Layout::One,
+    ..EMPTY
 };
 
 // The numbers of a store, or what is found.

@@ -1,6 +1,7 @@
 // What is found on a device of given bytes: by a check and by an opening alike.
 
 mod damage;
+mod digests;
 mod images;
 
 use super::{Changes, Found, checked, small_blank};
@@ -28,6 +29,8 @@ const CHARGE: Finding = Damaged(Place::Charge);
 const SLOT_0: Finding = Damaged(Place::Slot(0));
 
 const SLOT_1: Finding = Damaged(Place::Slot(1));
+
+const SORTED_DIGEST: Finding = Damaged(Place::SortedDigest);
 
 // The finding for which a store was not opened.
 fn finding_of(refusal: Refusal<MemFault>) -> Result<Finding, Fail> {
@@ -92,7 +95,7 @@ fn look_at_each(rt: &impl Abort, alloc: Global, whole: &[u8], cases: &[Case]) ->
     Ok(())
 }
 
-// Each of these cases of an empty store of the small geometry.
+// Each of these cases of an empty store of the small geometry without digests.
 fn look_at_small(rt: &impl Abort, alloc: Global, cases: &[Case]) -> Result<(), Fail> {
     let whole = small_blank(rt, alloc)?;
     look_at_each(rt, alloc, &whole, cases)

@@ -134,7 +134,7 @@ fn seals_the_active_log_alone(rt: HostRuntime) -> Result<(), Fail> {
     Ok(())
 }
 
-// The bytes of an empty store of the small geometry with some of them changed.
+// The bytes of an empty store of the small geometry without digests, with some of them changed.
 fn small_changed(rt: &impl Abort, alloc: Global, changes: &[(usize, u8)]) -> Result<Vec<u8>, Fail> {
     let whole = small_blank(rt, alloc)?;
     changed(alloc, &whole, changes)

@@ -1,8 +1,10 @@
-// Many lives of pseudo-random events on one disk, each stopped at a pseudo-random call with a pseudo-random fill, beside a plain map.
+// Many lives of pseudo-random events on one disk, of either version, each stopped at a pseudo-random call with a pseudo-random fill,
+// beside a plain map.
 
 use super::{generation_of, key_of, next};
 use silt_device::{Disk, Fill, Geometry, MemDisk, Stop, Stoppable};
-use silt_fixtures::{formatted_with, of_regions};
+use silt_disk::Version;
+use silt_fixtures::{as_version, blank, of_regions};
 use silt_frame::{Key, Value};
 use silt_store_set::{Core, OpenFault, Refusal};
 use std::alloc::{AllocError, Global};
@@ -264,24 +266,49 @@ fn lives(rt: &impl Abort, alloc: Global, mut disk: MemDisk, seed: u32) -> Result
     Ok(disk)
 }
 
-// All lives on a new disk of this geometry. On the way logs were frozen, converted and merged: each time the manifest took its next
-// generation.
-fn all_lives(rt: &impl Abort, alloc: Global, geometry: Geometry, seed: u32) -> Result<(), Fail> {
+// A new disk of this geometry and this version that is stopped so.
+fn stopping(
+    alloc: Global,
+    geometry: Geometry,
+    version: Version,
+    stops: Vec<Stop>,
+) -> Result<MemDisk, Fail> {
+    let bytes = as_version(alloc, &blank(alloc, geometry)?, version)?;
+    Ok(MemDisk::with_bytes(alloc, &bytes)?.arm(stops))
+}
+
+// All lives on such a disk. On the way logs were frozen, converted and merged: each time the manifest took its next generation.
+fn all_lives(
+    rt: &impl Abort,
+    alloc: Global,
+    geometry: Geometry,
+    (seed, version): (u32, Version),
+) -> Result<(), Fail> {
     let stops = random_stops(alloc, seed)?;
-    let disk = formatted_with(alloc, geometry)?.arm(stops);
+    let disk = stopping(alloc, geometry, version, stops)?;
     let disk = lives(rt, alloc, disk, seed)?;
     let generation = generation_of(alloc, &disk)?;
     assert!(rt; 50 < generation, "{generation}");
     Ok(())
 }
 
+// The seed of each run, and the version of its disks.
+const RUNS: [(u32, Version); 6] = [
+    (1, Version::Two),
+    (2, Version::Two),
+    (3, Version::Two),
+    (1, Version::One),
+    (2, Version::One),
+    (3, Version::One),
+];
+
 #[test]
 fn lives_stopped_at_random(rt: HostRuntime) -> Result<(), Fail> {
     let alloc = rt.alloc();
-    for seed in [1u32, 2, 3] {
-        all_lives(&rt, alloc, of_regions(3, 3, 2, 30)?, seed)?;
-        all_lives(&rt, alloc, of_regions(1, 2, 2, 12)?, seed)?;
-        all_lives(&rt, alloc, of_regions(8, 4, 1, 40)?, seed)?;
+    for run in RUNS {
+        all_lives(&rt, alloc, of_regions(3, 3, 2, 30)?, run)?;
+        all_lives(&rt, alloc, of_regions(1, 2, 2, 12)?, run)?;
+        all_lives(&rt, alloc, of_regions(8, 4, 1, 40)?, run)?;
     }
     Ok(())
 }

@@ -84,14 +84,19 @@ fn put_five<D: Disk>(rt: &impl Abort, alloc: Global, core: &mut Core<D>) {
     }
 }
 
-// Slot 1 is open with generation 1, log 1 active and log 0 frozen.
+// The digest of no entries.
+const OF_NO_ENTRIES: &[u8] =
+    b"\xda\x39\xa3\xee\x5e\x6b\x4b\x0d\x32\x55\xbf\xef\x95\x60\x18\x90\xaf\xd8\x07\x09";
+
+// Slot 1 is open with generation 1, log 1 active and log 0 frozen, and no hash stores: their digests are zeros.
 fn has_frozen(rt: &impl Abort, shown: &[u8]) {
     let body =
-        b"\xa7\x00\x00\x00\x00\x00\x00\x00\x01\x00\x00\x00\x01\x00\x00\x00\x01\x00\x00\x00\x00";
+        b"\xa7\x80\x00\x00\x00\x00\x00\x00\x01\x00\x00\x00\x01\x00\x00\x00\x01\x00\x00\x00\x00";
     assert_eq!(rt; shown.len(), 45_056);
     assert!(rt; shown[8192..].starts_with(body));
-    assert!(rt; shown[8213..8313].iter().all(|byte| *byte == 0));
-    assert!(rt; shown[4096..].starts_with(b"\xa7\x00"));
+    assert!(rt; shown[8213..8633].iter().all(|byte| *byte == 0));
+    assert!(rt; shown[8633..].starts_with(OF_NO_ENTRIES));
+    assert!(rt; shown[4096..].starts_with(b"\xa7\x80"));
 }
 
 // The bytes of the manifest after the first freeze.

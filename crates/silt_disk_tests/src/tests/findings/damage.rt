@@ -1,15 +1,17 @@
-// Damaged devices: what is found in each, and of several damages the first.
+// Damaged devices of version 1, without digests: what is found in each, and of several damages the first.
 
 use super::{
-    CHARGE, HEADER, LENGTH, NO_SLOT, SLOT_0, SLOT_1, find_each_byte, find_each_cut, find_in_turn,
-    look_at_each, looked_behind,
+    CHARGE, HEADER, LENGTH, NO_SLOT, SLOT_0, SLOT_1, SORTED_DIGEST, find_each_byte, find_each_cut,
+    find_in_turn, look_at_each, looked_behind,
 };
-use crate::tests::{Changes, EMPTY, Found};
+use crate::tests::{Changes, EMPTY_OLD, Found};
 use silt_device::Disk;
 use silt_event::Finding::{self, Crowded, Damaged, NotFormatted};
 use silt_event::Place::{Hash, Log, Sorted};
 use silt_event::Report;
-use silt_fixtures::{blank, changed, key, of_regions, opened_with, small};
+use silt_fixtures::{
+    as_version_1, blank_of_version_1, changed, key, of_regions, opened_with, small,
+};
 use silt_store_set::Core;
 use std::alloc::Global;
 use std::process::Abort;
@@ -31,26 +33,29 @@ fn put_two<D: Disk>(rt: &impl Abort, alloc: Global, core: &mut Core<D>) {
 fn image(rt: &impl Abort, alloc: Global) -> Result<Vec<u8>, Fail> {
     let mut core = opened_with(alloc, small()?)?;
     put_two(rt, alloc, &mut core);
-    let disk = core.close();
-    Ok(disk.shown().to_vec(alloc)?)
+    as_version_1(alloc, core.close().shown())
 }
 
 // The numbers of that store.
 const TWO_ROWS: Report = Report {
     active_rows: 2,
     charge: 2,
-    ..EMPTY
+    ..EMPTY_OLD
 };
 
 // One byte of it is changed.
-const BYTES: [(usize, u8, Found); 46] = [
+const BYTES: [(usize, u8, Found); 49] = [
     // the header's gate, the magic bytes and the version
     (0, 0x00, Err(NotFormatted)),
     (0, 0xFF, Err(NotFormatted)),
     (1, b's', Err(NotFormatted)),
     (8, b'I', Err(NotFormatted)),
     (9, 1, Err(NotFormatted)),
+    (12, 0, Err(NotFormatted)),
+    (12, 3, Err(NotFormatted)),
     (12, 9, Err(NotFormatted)),
+    // under version 2 a slot has digests
+    (12, 2, Err(SLOT_0)),
     // the six numbers: each past its limits, or within them with another size
     (16, 0, Err(HEADER)),
     (15, 0x11, Err(HEADER)),
@@ -67,7 +72,8 @@ const BYTES: [(usize, u8, Found); 46] = [
     (32, 1, Err(LENGTH)),
     // manifest slot 0: its gate, generation, active log, count of frozen logs, count of hash stores, sorted region and count
     (4096, 0x00, Err(NO_SLOT)),
-    (4097, 0x80, Err(SLOT_0)),
+    // the bit that says that digests follow, which are zeros
+    (4097, 0x80, Err(SORTED_DIGEST)),
     (
         4097,
         1,
@@ -85,7 +91,14 @@ const BYTES: [(usize, u8, Found); 46] = [
             ..TWO_ROWS
         }),
     ),
-    (4108, 1, Ok(Report { active: 1, ..EMPTY })),
+    (
+        4108,
+        1,
+        Ok(Report {
+            active: 1,
+            ..EMPTY_OLD
+        }),
+    ),
     (4108, 2, Err(SLOT_0)),
     (4112, 1, Err(SLOT_0)),
     (
@@ -122,14 +135,14 @@ const BYTES: [(usize, u8, Found); 46] = [
     (16_407, 0, Err(Damaged(Log { region: 0, row: 1 }))),
     (16_407, 255, Err(Damaged(Log { region: 0, row: 1 }))),
     (16_430, 3, Ok(TWO_ROWS)),
-    (12_288, 0xFF, Ok(EMPTY)),
+    (12_288, 0xFF, Ok(EMPTY_OLD)),
     (
         12_289,
         0x00,
         Ok(Report {
             active_rows: 1,
             charge: 1,
-            ..EMPTY
+            ..EMPTY_OLD
         }),
     ),
     // more puts than sorted entries
@@ -229,7 +242,7 @@ const OF_WHOLE: Report = Report {
     hash_rows: 3,
     entries: 3,
     charge: 10,
-    ..EMPTY
+    ..EMPTY_OLD
 };
 
 // Changes of that device, and what is found behind them.
@@ -268,7 +281,7 @@ const CLOSED: Changes = &[(4096, 0x00)];
 
 // The bytes of that device.
 fn planted(alloc: Global) -> Result<Vec<u8>, Fail> {
-    let empty = blank(alloc, of_regions(8, 2, 2, 16)?)?;
+    let empty = blank_of_version_1(alloc, of_regions(8, 2, 2, 16)?)?;
     changed(alloc, &empty, WHOLE)
 }
 

@@ -1,11 +1,11 @@
-// Crafted images, and what stands in each.
+// Crafted images, and what stands in each. They are of version 1, so that no digest is compared.
 
 use super::{CHARGE, Case, LENGTH, SLOT_1, find_in_turn, look_at_each, look_at_small};
-use crate::tests::{Changes, EMPTY, small_blank};
+use crate::tests::{Changes, EMPTY, EMPTY_OLD, small_blank};
 use silt_event::Finding::{self, Crowded, Damaged, NotFormatted};
 use silt_event::Place::{Hash, Log, Sorted};
 use silt_event::Report;
-use silt_fixtures::{SMALL_LEN, blank, change, of_regions, small};
+use silt_fixtures::{SMALL_LEN, blank, blank_of_version_1, change, of_regions, small};
 use std::alloc::Global;
 use std::process::Abort;
 use std::test::Fail;
@@ -19,7 +19,7 @@ fn an_empty_store_is_all_zeros(rt: HostRuntime) -> Result<(), Fail> {
 
 fn has_its_header(rt: &impl Abort, whole: &[u8]) {
     let header =
-        b"\xa7SILTFLSH\x00\x00\x00\x01\x00\x00\x00\x02\x00\x00\x00\x02\x00\x00\x00\x04\x00\x00\x00\x02\x00\x00\x00\x02\x00\x00\x00\x08";
+        b"\xa7SILTFLSH\x00\x00\x00\x02\x00\x00\x00\x02\x00\x00\x00\x02\x00\x00\x00\x04\x00\x00\x00\x02\x00\x00\x00\x02\x00\x00\x00\x08";
     assert_eq!(rt; whole.len(), SMALL_LEN);
     assert!(rt; whole.starts_with(header));
 }
@@ -66,7 +66,7 @@ const OF_THREE_ROWS: Report = Report {
     frozen: 1,
     frozen_rows: 1,
     charge: 2,
-    ..EMPTY
+    ..EMPTY_OLD
 };
 
 // A row behind a closed gate is not there, and one behind a gate past it does not come back.
@@ -97,7 +97,7 @@ const ROWS: [Case; 3] = [
         Ok(Report {
             active_rows: 1,
             charge: 1,
-            ..EMPTY
+            ..EMPTY_OLD
         }),
     ),
     (
@@ -150,7 +150,7 @@ const OF_EIGHT_HASHED: Report = Report {
     hashes: 2,
     hash_rows: 8,
     charge: 8,
-    ..EMPTY
+    ..EMPTY_OLD
 };
 
 // The newest hash store is looked at first. Eight puts in it are as many as the store may hold. One in the older one is too many, a delete
@@ -188,7 +188,7 @@ const THREE_ENTRIES: Changes = &[
 const OF_THREE_ENTRIES: Report = Report {
     entries: 3,
     charge: 3,
-    ..EMPTY
+    ..EMPTY_OLD
 };
 
 // Sorted region 1 is named, and has three entries that rise where region 0 has none.
@@ -214,7 +214,7 @@ const SORTED: [Case; 5] = [
         Ok(Report {
             entries: 1,
             charge: 1,
-            ..EMPTY
+            ..EMPTY_OLD
         }),
     ),
     (&[THREE_ENTRIES, OTHER_REGION], Err(Damaged(Sorted(1)))),
@@ -239,7 +239,7 @@ const EIGHT_ENTRIES: Changes = &[
 const OF_EIGHT_ENTRIES: Report = Report {
     entries: 8,
     charge: 8,
-    ..EMPTY
+    ..EMPTY_OLD
 };
 
 // A row of the log: a put, and a delete.
@@ -305,14 +305,14 @@ const CROWDED: [Case; 2] = [
         Ok(Report {
             active_rows: 4,
             charge: 4,
-            ..EMPTY
+            ..EMPTY_OLD
         }),
     ),
 ];
 
 #[test]
 fn finds_a_crowded_log(rt: HostRuntime) -> Result<(), Fail> {
-    let whole = blank(rt.alloc(), of_regions(8, 2, 2, 16)?)?;
+    let whole = blank_of_version_1(rt.alloc(), of_regions(8, 2, 2, 16)?)?;
     look_at_each(&rt, rt.alloc(), &whole, &CROWDED)
 }
 
@@ -363,7 +363,7 @@ const TURNS: [Turns; 3] = [
 
 // An empty store of the small geometry with all of these changes.
 fn changed_by(alloc: Global, all: &[Changes]) -> Result<Vec<u8>, Fail> {
-    let mut bytes = blank(alloc, small()?)?;
+    let mut bytes = blank_of_version_1(alloc, small()?)?;
     for changes in all {
         change(&mut bytes, changes)?;
     }

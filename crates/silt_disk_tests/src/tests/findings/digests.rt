@@ -1,0 +1,234 @@
+// What is found where a store has another digest than the manifest says, and which form of a slot is taken on a device of which version.
+
+use super::{CHARGE, Case, SLOT_0, SLOT_1, SORTED_DIGEST, look_at_each, looked_changed};
+use crate::tests::{Changes, Found};
+use silt_device::{Disk, MemDisk};
+use silt_event::Finding::{self, Damaged};
+use silt_event::Place::{Hash, HashDigest, Sorted};
+use silt_event::{Layout, Report};
+use silt_fixtures::{as_version_1, key, of_regions, opened_with};
+use silt_store_set::Core;
+use std::alloc::Global;
+use std::process::Abort;
+use std::test::Fail;
+
+const NEWEST: Finding = Damaged(HashDigest(1));
+
+const OLDER: Finding = Damaged(HashDigest(0));
+
+// A put of a key with its own number as its value.
+fn put_one<D: Disk>(rt: &impl Abort, alloc: Global, core: &mut Core<D>, first: u8) {
+    assert_eq!(rt; core.geometry().value_len(), 2);
+    assert!(rt; core.put(alloc, &key(first), &[0, first]).is_ok());
+}
+
+// The steps that convert the log that a put froze.
+fn convert<D: Disk>(rt: &impl Abort, alloc: Global, core: &mut Core<D>) {
+    for _ in 0..9u8 {
+        assert!(rt; core.convert(alloc).is_ok());
+    }
+}
+
+// The steps that merge one hash store of one row.
+fn merge<D: Disk>(rt: &impl Abort, alloc: Global, core: &mut Core<D>) {
+    for _ in 0..10u8 {
+        assert!(rt; core.merge(alloc).is_ok());
+    }
+}
+
+// A put of a key that freezes the log of the key before it, and its conversion.
+fn put_and_convert<D: Disk>(rt: &impl Abort, alloc: Global, core: &mut Core<D>, first: u8) {
+    put_one(rt, alloc, core, first);
+    convert(rt, alloc, core);
+}
+
+// A device with logs of one row. Key 1 was merged into sorted region 1. Then key 2 became hash store 0, and key 3 hash store 1, which is the
+// newest. Key 4 waits in log 1. Slot 1 of the manifest rules, with generation 7; generation 6 has log 0 frozen in the place of hash store 1.
+fn with_three_stores(rt: &impl Abort, alloc: Global) -> Result<MemDisk, Fail> {
+    let mut core = opened_with(alloc, of_regions(1, 2, 2, 4)?)?;
+    put_one(rt, alloc, &mut core, 1);
+    put_and_convert(rt, alloc, &mut core, 2);
+    merge(rt, alloc, &mut core);
+    put_and_convert(rt, alloc, &mut core, 3);
+    put_and_convert(rt, alloc, &mut core, 4);
+    Ok(core.close())
+}
+
+const OF_THREE_STORES: Report = Report {
+    generation: 7,
+    active: 1,
+    active_rows: 0,
+    frozen: 0,
+    frozen_rows: 0,
+    hashes: 2,
+    hash_rows: 2,
+    entries: 1,
+    charge: 3,
+    layout: Layout::Two,
+};
+
+const OF_THREE_OLD_STORES: Report = Report {
+    layout: Layout::One,
+    ..OF_THREE_STORES
+};
+
+// A byte of the value of an entry, of a row of the older hash store, and of a row of the newest one.
+const ENTRY: Changes = &[(40_981, 9)];
+
+const OLDER_ROW: Changes = &[(28_694, 9)];
+
+const NEWEST_ROW: Changes = &[(32_790, 9)];
+
+// The first slot of the older hash store, and the second slot of each, is of an unknown kind.
+const OLDER_SLOT_0: Changes = &[(28_672, 3)];
+
+const OLDER_SLOT_1: Changes = &[(28_695, 3)];
+
+const NEWEST_SLOT_1: Changes = &[(32_791, 3)];
+
+// The header has version 1. The ruling slot, and the other one, says that no digests follow.
+const OLD: Changes = &[(12, 1)];
+
+const SHORT: Changes = &[(8193, 0x00)];
+
+const OTHER_SHORT: Changes = &[(4097, 0x00)];
+
+// A digest is looked at behind the slots or entries of its store, and before the next store.
+const OF_DIGESTS: [Case; 11] = [
+    (&[], Ok(OF_THREE_STORES)),
+    (&[OLDER_ROW], Err(OLDER)),
+    (&[NEWEST_ROW], Err(NEWEST)),
+    (&[OLDER_ROW, NEWEST_ROW], Err(NEWEST)),
+    (
+        &[NEWEST_ROW, NEWEST_SLOT_1],
+        Err(Damaged(Hash { region: 1, slot: 1 })),
+    ),
+    (&[NEWEST_ROW, OLDER_SLOT_0], Err(NEWEST)),
+    (
+        &[OLDER_ROW, OLDER_SLOT_1],
+        Err(Damaged(Hash { region: 0, slot: 1 })),
+    ),
+    (&[ENTRY, OLDER_ROW], Err(OLDER)),
+    // one entry more, whose key is zeros
+    (&[ENTRY, &[(8312, 2)]], Err(Damaged(Sorted(1)))),
+    (&[ENTRY, &[(36, 1)]], Err(SORTED_DIGEST)),
+    (&[&[(36, 1)]], Err(CHARGE)),
+];
+
+// A device of version 2 has digests in each slot that is open. One of version 1 has them or none, and then none is compared, whatever
+// stands there. The layout is told by the slot that rules.
+const OF_VERSIONS: [Case; 9] = [
+    (&[SHORT], Err(SLOT_1)),
+    (&[OTHER_SHORT], Err(SLOT_0)),
+    (&[OLD], Ok(OF_THREE_STORES)),
+    (&[OLD, OTHER_SHORT], Ok(OF_THREE_STORES)),
+    (&[OLD, OTHER_SHORT, OLDER_ROW], Err(OLDER)),
+    (&[OLD, SHORT], Ok(OF_THREE_OLD_STORES)),
+    (
+        &[OLD, SHORT, NEWEST_ROW, OLDER_ROW, ENTRY],
+        Ok(OF_THREE_OLD_STORES),
+    ),
+    (
+        &[OLD, SHORT, OLDER_SLOT_0],
+        Err(Damaged(Hash { region: 0, slot: 0 })),
+    ),
+    // the ruling slot is closed
+    (
+        &[&[(8192, 0)]],
+        Ok(Report {
+            generation: 6,
+            frozen: 1,
+            frozen_rows: 1,
+            hashes: 1,
+            hash_rows: 1,
+            ..OF_THREE_STORES
+        }),
+    ),
+];
+
+#[test]
+fn compares_digests(rt: HostRuntime) -> Result<(), Fail> {
+    let disk = with_three_stores(&rt, rt.alloc())?;
+    look_at_each(&rt, rt.alloc(), disk.shown(), &OF_DIGESTS)?;
+    look_at_each(&rt, rt.alloc(), disk.shown(), &OF_VERSIONS)
+}
+
+// The same device without digests. Of the digests that a slot then says it has, all zeros, only those of the ruling slot are compared.
+const OF_VERSION_1: [Case; 5] = [
+    (&[], Ok(OF_THREE_OLD_STORES)),
+    (&[NEWEST_ROW, OLDER_ROW, ENTRY], Ok(OF_THREE_OLD_STORES)),
+    (&[&[(4097, 0x80)]], Ok(OF_THREE_OLD_STORES)),
+    (&[&[(8193, 0x80)]], Err(NEWEST)),
+    (&[&[(12, 2)]], Err(SLOT_0)),
+];
+
+#[test]
+fn compares_no_digests_on_old_devices(rt: HostRuntime) -> Result<(), Fail> {
+    let disk = with_three_stores(&rt, rt.alloc())?;
+    let whole = as_version_1(rt.alloc(), disk.shown())?;
+    look_at_each(&rt, rt.alloc(), &whole, &OF_VERSION_1)
+}
+
+// The digests of the ruling slot and what is behind them: where they begin, how many bytes follow, and what is found where one of these
+// is another. Digests past the two hash stores are not looked at, nor are those of the other slot.
+const FIELDS: [(usize, usize, Found); 6] = [
+    (8313, 20, Err(NEWEST)),
+    (8333, 20, Err(OLDER)),
+    (8353, 280, Ok(OF_THREE_STORES)),
+    (8633, 20, Err(SORTED_DIGEST)),
+    (8653, 3, Ok(OF_THREE_STORES)),
+    (4217, 340, Ok(OF_THREE_STORES)),
+];
+
+// What is found where the lowest bit of this byte is the other one.
+fn looked_flipped(
+    rt: &impl Abort,
+    alloc: Global,
+    whole: &[u8],
+    place: usize,
+) -> Result<Found, Fail> {
+    let byte = *whole.get(place).ok_or("a place inside")?;
+    looked_changed(rt, alloc, whole, &[(place, byte ^ 1)])
+}
+
+fn find_each_flipped(
+    rt: &impl Abort,
+    alloc: Global,
+    whole: &[u8],
+    (at, count, expected): (usize, usize, Found),
+) -> Result<(), Fail> {
+    for place in at..at.saturating_add(count) {
+        let found = looked_flipped(rt, alloc, whole, place)?;
+        assert_eq!(rt; found, expected, "{place}");
+    }
+    Ok(())
+}
+
+fn find_each_field(rt: &impl Abort, alloc: Global, whole: &[u8]) -> Result<(), Fail> {
+    for field in FIELDS {
+        find_each_flipped(rt, alloc, whole, field)?;
+    }
+    Ok(())
+}
+
+#[test]
+fn compares_each_byte_of_a_digest(rt: HostRuntime) -> Result<(), Fail> {
+    let disk = with_three_stores(&rt, rt.alloc())?;
+    find_each_field(&rt, rt.alloc(), disk.shown())
+}
+
+// The digests of the two hash stores are exchanged: the first one that is compared is that of the newest.
+fn exchange_digests(rt: &impl Abort, whole: &mut [u8]) {
+    assert_eq!(rt; whole.len(), 45_056);
+    for place in 8313..8333usize {
+        whole.swap(place, place + 20);
+    }
+}
+
+#[test]
+fn compares_digests_in_their_order(rt: HostRuntime) -> Result<(), Fail> {
+    let disk = with_three_stores(&rt, rt.alloc())?;
+    let mut whole = disk.shown().to_vec(rt.alloc())?;
+    exchange_digests(&rt, &mut whole);
+    look_at_each(&rt, rt.alloc(), &whole, &[(&[], Err(NEWEST))])
+}
