@@ -2,7 +2,9 @@
 
 use crate::support::{entries_of, values_of};
 use silt_device::{Call, Disk, FaultDisk, MemDisk, MemFault};
-use silt_fixtures::{blank, changed, formatted, formatted_with, key, of_regions, small};
+use silt_fixtures::{
+    blank_of_version_1, changed, formatted, formatted_with, key, of_regions, small,
+};
 use silt_store_set::{Core, Refusal};
 use std::alloc::Global;
 use std::process::Abort;
@@ -226,9 +228,9 @@ fn opened_from(alloc: Global, bytes: &[u8]) -> Result<Core<MemDisk>, Fail> {
     Ok(Core::open(alloc, disk).ok().ok_or("opens")?)
 }
 
-// A small store with these bytes changed.
+// A small store without digests, with these bytes changed.
 fn with_changes(alloc: Global, changes: &[(usize, u8)]) -> Result<Core<MemDisk>, Fail> {
-    let whole = blank(alloc, small()?)?;
+    let whole = blank_of_version_1(alloc, small()?)?;
     let bytes = changed(alloc, &whole, changes)?;
     opened_from(alloc, &bytes)
 }

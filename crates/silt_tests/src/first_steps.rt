@@ -3,7 +3,7 @@
 use crate::life_lines::Line;
 use crate::lines::IDLE;
 use crate::script::{Told, told_of_life};
-use crate::support::stands_at;
+use crate::support::{OF_NO_ENTRIES, stands_at};
 use silt_device::MemDisk;
 use silt_fixtures::{formatted, opened, small};
 use silt_frame::Key;
@@ -41,13 +41,14 @@ fn puts_flushes_and_gets(rt: HostRuntime) -> Result<(), Fail> {
     Ok(())
 }
 
-// The header of the small geometry, and the gates and the first body of the manifest.
+// The header of the small geometry, and the gates and the first body of the manifest, with the digest of no entries.
 fn is_laid_out(rt: &impl Abort, disk: &MemDisk) {
     let header =
-        b"\xa7SILTFLSH\x00\x00\x00\x01\x00\x00\x00\x02\x00\x00\x00\x02\x00\x00\x00\x04\x00\x00\x00\x02\x00\x00\x00\x02\x00\x00\x00\x08";
+        b"\xa7SILTFLSH\x00\x00\x00\x02\x00\x00\x00\x02\x00\x00\x00\x02\x00\x00\x00\x04\x00\x00\x00\x02\x00\x00\x00\x02\x00\x00\x00\x08";
     assert!(rt; stands_at(disk, 0, header));
-    assert!(rt; stands_at(disk, 4096, b"\xa7"));
-    assert!(rt; stands_at(disk, 4097, &[0; 120]));
+    assert!(rt; stands_at(disk, 4096, b"\xa7\x80"));
+    assert!(rt; stands_at(disk, 4098, &[0; 439]));
+    assert!(rt; stands_at(disk, 4537, OF_NO_ENTRIES));
     assert!(rt; stands_at(disk, 8192, b"\x00"));
 }
 

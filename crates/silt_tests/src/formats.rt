@@ -1,11 +1,11 @@
-// A formatting that is stopped at each of its calls, on a device of zeros and on one that holds a store.
+// A formatting that is stopped at each of its calls, on a device of zeros and on one that holds a store, of either version.
 
 use crate::kept::goes_on;
 use crate::lines::{MERGED_TWICE, of_two_hash_stores};
 use crate::script::{live, repeated};
 use crate::support::{entries_of, listed};
 use silt_device::{Fill, Geometry, MemDisk, Stop, Stoppable};
-use silt_fixtures::{FILLS, SMALL_LEN, formatted_with, small, stopping};
+use silt_fixtures::{FILLS, SMALL_LEN, as_version_1, formatted_with, small, stopping};
 use silt_recovery::{FormatError, FormatFault, format};
 use silt_store_set::Core;
 use std::alloc::Global;
@@ -173,4 +173,12 @@ fn formatting_over_a_store_stopped_anywhere(rt: HostRuntime) -> Result<(), Fail>
     let (disk, left) = entries_of(rt.alloc(), old_disk(rt.alloc())?)?;
     has_old_values(&rt, left);
     each_formatted_over(&rt, rt.alloc(), disk.shown())
+}
+
+// The same over that store without digests.
+#[test]
+fn formatting_over_an_old_store_stopped_anywhere(rt: HostRuntime) -> Result<(), Fail> {
+    let disk = old_disk(rt.alloc())?;
+    let old = as_version_1(rt.alloc(), disk.shown())?;
+    each_formatted_over(&rt, rt.alloc(), &old)
 }

@@ -38,5 +38,7 @@ mod script;
 mod stops;
 #[cfg(test)]
 mod support;
+#[cfg(test)]
+mod versions;
 
 pub use life_lines::{Line, event, events};

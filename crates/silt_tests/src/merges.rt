@@ -8,7 +8,7 @@ use crate::lines::{
 };
 use crate::script::{Told, live, repeated, told_of_life};
 use silt_device::Geometry;
-use silt_event::Report;
+use silt_event::{Layout, Report};
 use silt_fixtures::{formatted_with, of_regions};
 use silt_recovery::check;
 use silt_store_set::Progress;
@@ -137,6 +137,7 @@ fn reports_what_is_merged(rt: HostRuntime) -> Result<(), Fail> {
         hash_rows: 0,
         entries: 1,
         charge: 2,
+        layout: Layout::Two,
     };
     assert_eq!(rt; check(alloc, &disk).ok(), Some(expected));
     Ok(())

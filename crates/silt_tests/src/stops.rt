@@ -1,4 +1,4 @@
-// A stop at each device call, with each fill: what the next opening finds.
+// A stop at each device call, with each fill, on a device of either version: what the next opening finds.
 
 use crate::kept::{goes_on, is_kept};
 use crate::life_lines::Line;
@@ -9,7 +9,8 @@ use crate::lines::{
 use crate::script::{Told, live, repeated};
 use crate::support::entries_of;
 use silt_device::{Geometry, MemDisk, Stop, Stoppable};
-use silt_fixtures::{FILLS, formatted_with, small, stopping};
+use silt_disk::Version;
+use silt_fixtures::{FILLS, VERSIONS, as_version, blank, small, stopping};
 use std::alloc::Global;
 use std::process::Abort;
 use std::test::Fail;
@@ -30,10 +31,10 @@ fn was_stopped(told: &[Told]) -> bool {
     told.iter().any(|reply| matches!(reply, Told::Refused(5) | Told::NotOpened(5)))
 }
 
-// The life on a new disk that ends so, and each further one with the same fill.
+// The life on a disk of these bytes that ends so, and each further one with the same fill.
 fn lived(
     alloc: Global,
-    geometry: Geometry,
+    new: &[u8],
     lines: &[Line],
     stop: Stop,
 ) -> Result<(MemDisk, Vec<Told>), Fail> {
@@ -41,7 +42,7 @@ fn lived(
         alloc,
         &[(stop.k, stop.fill), (0, stop.fill), (0, stop.fill)],
     )?;
-    let disk = formatted_with(alloc, geometry)?.arm(stops);
+    let disk = MemDisk::with_bytes(alloc, new)?.arm(stops);
     Ok(live(alloc, disk, lines)?)
 }
 
@@ -65,15 +66,16 @@ fn keeps(rt: &impl Abort, lines: &[Line], told: &[Told], found: [u16; 8], stop: 
     assert!(rt; is_kept(lines, told, found), "{found:?} {stop:?}");
 }
 
-// The life on a new disk, stopped so; then what the next one finds, and how it goes on.
+// The life on a disk of this geometry and these bytes, stopped so; then what the next one finds, and how it goes on.
 fn stopped_at(
     rt: &impl Abort,
     alloc: Global,
     geometry: Geometry,
+    new: &[u8],
     lines: &[Line],
     stop: Stop,
 ) -> Result<bool, Fail> {
-    let (disk, told) = lived(alloc, geometry, lines, stop)?;
+    let (disk, told) = lived(alloc, new, lines, stop)?;
     let (disk, found) = reopened(rt, alloc, disk, stop)?;
     keeps(rt, lines, &told, found, stop);
     goes_on(rt, alloc, disk, geometry, found)?;
@@ -85,7 +87,38 @@ fn is_within(stop: Stop, calls: u32) -> bool {
     0 < stop.k && stop.k <= calls
 }
 
-// Stops the life on a new disk of this geometry at each of its calls, of which there are this many, and at its end.
+// Stops the life on a disk of this geometry and these bytes at each of its calls, of which there are this many, and at its end.
+fn sweep_on(
+    rt: &impl Abort,
+    alloc: Global,
+    geometry: Geometry,
+    new: &[u8],
+    lines: &[Line],
+    calls: u32,
+) -> Result<(), Fail> {
+    for k in 0..calls.saturating_add(2) {
+        for fill in FILLS {
+            let stop = Stop { k, fill };
+            let stopped = stopped_at(rt, alloc, geometry, new, lines, stop)?;
+            assert_eq!(rt; stopped, is_within(stop, calls), "{stop:?}");
+        }
+    }
+    Ok(())
+}
+
+// Stops the life so on a new disk of this geometry and version.
+fn sweep_as(
+    rt: &impl Abort,
+    alloc: Global,
+    (geometry, version): (Geometry, Version),
+    lines: &[Line],
+    calls: u32,
+) -> Result<(), Fail> {
+    let new = as_version(alloc, &blank(alloc, geometry)?, version)?;
+    sweep_on(rt, alloc, geometry, &new, lines, calls)
+}
+
+// Stops the life so on a new disk of this geometry of each version: it makes as many calls on both.
 fn sweep(
     rt: &impl Abort,
     alloc: Global,
@@ -93,12 +126,8 @@ fn sweep(
     lines: &[Line],
     calls: u32,
 ) -> Result<(), Fail> {
-    for k in 0..calls.saturating_add(2) {
-        for fill in FILLS {
-            let stop = Stop { k, fill };
-            let stopped = stopped_at(rt, alloc, geometry, lines, stop)?;
-            assert_eq!(rt; stopped, is_within(stop, calls), "{stop:?}");
-        }
+    for version in VERSIONS {
+        sweep_as(rt, alloc, (geometry, version), lines, calls)?;
     }
     Ok(())
 }
@@ -124,20 +153,47 @@ fn five_puts_stopped_anywhere(rt: HostRuntime) -> Result<(), Fail> {
     sweep(&rt, rt.alloc(), small()?, &lines, 25)
 }
 
+fn sweep_conversion(rt: &impl Abort, alloc: Global, version: Version) -> Result<(), Fail> {
+    let lines = repeated(alloc, &CONVERTED)?;
+    sweep_as(rt, alloc, (small()?, version), &lines, 40)
+}
+
 #[test]
 fn conversion_stopped_anywhere(rt: HostRuntime) -> Result<(), Fail> {
-    let lines = repeated(rt.alloc(), &CONVERTED)?;
-    sweep(&rt, rt.alloc(), small()?, &lines, 40)
+    sweep_conversion(&rt, rt.alloc(), Version::Two)
+}
+
+#[test]
+fn old_conversion_stopped_anywhere(rt: HostRuntime) -> Result<(), Fail> {
+    sweep_conversion(&rt, rt.alloc(), Version::One)
+}
+
+fn sweep_merges(rt: &impl Abort, alloc: Global, version: Version) -> Result<(), Fail> {
+    let lines = repeated(alloc, &MERGED_TWICE)?;
+    sweep_as(rt, alloc, (of_two_hash_stores()?, version), &lines, 106)
 }
 
 #[test]
 fn two_merges_stopped_anywhere(rt: HostRuntime) -> Result<(), Fail> {
-    let lines = repeated(rt.alloc(), &MERGED_TWICE)?;
-    sweep(&rt, rt.alloc(), of_two_hash_stores()?, &lines, 106)
+    sweep_merges(&rt, rt.alloc(), Version::Two)
+}
+
+#[test]
+fn two_old_merges_stopped_anywhere(rt: HostRuntime) -> Result<(), Fail> {
+    sweep_merges(&rt, rt.alloc(), Version::One)
+}
+
+fn sweep_conversions(rt: &impl Abort, alloc: Global, version: Version) -> Result<(), Fail> {
+    let lines = repeated(alloc, &CONVERTED_MEANWHILE)?;
+    sweep_as(rt, alloc, (of_three_hash_stores()?, version), &lines, 95)
 }
 
 #[test]
 fn merge_beside_conversions_stopped_anywhere(rt: HostRuntime) -> Result<(), Fail> {
-    let lines = repeated(rt.alloc(), &CONVERTED_MEANWHILE)?;
-    sweep(&rt, rt.alloc(), of_three_hash_stores()?, &lines, 95)
+    sweep_conversions(&rt, rt.alloc(), Version::Two)
+}
+
+#[test]
+fn old_merge_beside_conversions_stopped_anywhere(rt: HostRuntime) -> Result<(), Fail> {
+    sweep_conversions(&rt, rt.alloc(), Version::One)
 }

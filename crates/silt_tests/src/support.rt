@@ -49,6 +49,10 @@ pub(crate) fn entries_of(alloc: Global, disk: MemDisk) -> Result<(MemDisk, [u16;
     with_values(core.close(), values)
 }
 
+/// The digest of a sorted store without entries.
+pub(crate) const OF_NO_ENTRIES: &[u8] =
+    b"\xda\x39\xa3\xee\x5e\x6b\x4b\x0d\x32\x55\xbf\xef\x95\x60\x18\x90\xaf\xd8\x07\x09";
+
 /// Whether these bytes stand at this place of the device.
 pub(crate) fn stands_at(disk: &MemDisk, at: usize, bytes: &[u8]) -> bool {
     let shown = disk.shown();
