@@ -2,7 +2,7 @@
 
 mod sessions;
 
-use silt_event::{Place, Progress, Refusal, Reply, Report};
+use silt_event::{Layout, Place, Progress, Refusal, Reply, Report};
 use silt_wire::{LineFault, print_fault, print_reply, print_report};
 use std::process::Abort;
 use std::test::Fail;
@@ -24,8 +24,16 @@ fn prints_replies(rt: HostRuntime) -> Result<(), Fail> {
             "refused 3 Damaged hash 1 slot 7",
         ),
         (
+            Refusal::Damaged(Place::HashDigest(12)),
+            "refused 3 Damaged hash 12 digest",
+        ),
+        (
             Refusal::Damaged(Place::Sorted(1)),
             "refused 3 Damaged sorted 1",
+        ),
+        (
+            Refusal::Damaged(Place::SortedDigest),
+            "refused 3 Damaged sorted digest",
         ),
         (Refusal::Damaged(Place::Charge), "refused 3 Damaged charge"),
         (Refusal::Crowded, "refused 4 Crowded"),
@@ -73,7 +81,7 @@ fn prints_progress(rt: HostRuntime) -> Result<(), Fail> {
 // Each number has its own place, also a number of many digits.
 #[test]
 fn prints_reports(rt: HostRuntime) -> Result<(), Fail> {
-    let report = Report {
+    let mut report = Report {
         generation: 9_223_372_036_854_775_807,
         active: 1,
         active_rows: 131_072,
@@ -83,9 +91,16 @@ fn prints_reports(rt: HostRuntime) -> Result<(), Fail> {
         hash_rows: 30,
         entries: 16_777_216,
         charge: 50,
+        layout: Layout::Two,
     };
     let text =
-        "generation 9223372036854775807\nactive log 1 rows 131072\nfrozen logs 7 rows 20\nhash stores 16 rows 30\nsorted entries 16777216\ncharge 50\n";
+        "generation 9223372036854775807\nactive log 1 rows 131072\nfrozen logs 7 rows 20\nhash stores 16 rows 30\nsorted entries 16777216\ncharge 50\nlayout 2\n";
     assert_eq!(rt; print_report(rt.alloc(), &report)?.as_str(), text);
+    report.layout = Layout::One;
+    assert!(rt;
+        print_report(rt.alloc(), &report)?
+            .as_str()
+            .ends_with("\ncharge 50\nlayout 1\n")
+    );
     Ok(())
 }

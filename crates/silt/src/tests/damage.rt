@@ -72,6 +72,28 @@ fn tells_damage_in_the_named_region(rt: HostRuntime) -> Result<(), Fail> {
     take_in_folder(&rt, "region", &REGION)
 }
 
+// The sorted store, and then a hash store, has another digest than the manifest says: it begins where its region does.
+const OTHER_DIGESTS: [Step; 5] = [
+    Step::Tells("silt format digests/disk 2 2 4 2 2 8", 0, ""),
+    Step::Overwrite("digests/disk", 4216, &[1]),
+    Step::Tells(
+        "silt check digests/disk",
+        1,
+        "silt: digests/disk: the sorted store has another digest than the manifest says, at byte 36864\n",
+    ),
+    Step::Overwrite("digests/disk", 4144, &[1, 0, 0, 0, 1]),
+    Step::Tells(
+        "silt run digests/disk",
+        1,
+        "silt: digests/disk: a hash store has another digest than the manifest says, at byte 32768\n",
+    ),
+];
+
+#[test]
+fn tells_another_digest(rt: HostRuntime) -> Result<(), Fail> {
+    take_in_folder(&rt, "digests", &OTHER_DIGESTS)
+}
+
 // Other data stay. A store that is overwritten is told of, whole or not; other data that are overwritten by force are not.
 const OVERWRITTEN: [Step; 10] = [
     Step::Fill(

@@ -247,7 +247,7 @@ const REPORTS: [Step; 4] = [
         "silt check reports/disk",
         "",
         0,
-        "generation 0\nactive log 0 rows 0\nfrozen logs 0 rows 0\nhash stores 0 rows 0\nsorted entries 0\ncharge 0\n",
+        "generation 0\nactive log 0 rows 0\nfrozen logs 0 rows 0\nhash stores 0 rows 0\nsorted entries 0\ncharge 0\nlayout 2\n",
     ),
     Step::Answers(
         "silt run reports/disk",
@@ -259,7 +259,7 @@ const REPORTS: [Step; 4] = [
         "silt check reports/disk",
         "",
         0,
-        "generation 1\nactive log 1 rows 1\nfrozen logs 1 rows 4\nhash stores 0 rows 0\nsorted entries 0\ncharge 5\n",
+        "generation 1\nactive log 1 rows 1\nfrozen logs 1 rows 4\nhash stores 0 rows 0\nsorted entries 0\ncharge 5\nlayout 2\n",
     ),
 ];
 

@@ -3,7 +3,7 @@
 use crate::tests::Open;
 use crate::tests::server::{Served, ask, asked, serve_beside};
 use silt_device::{Disk, Fill, MemDisk, Stop};
-use silt_event::Report;
+use silt_event::{Layout, Report};
 use silt_fixtures::formatted;
 use silt_recovery::check;
 use std::alloc::Global;
@@ -89,6 +89,7 @@ fn finishes_what_is_wanted(rt: HostRuntime) -> Result<(), Fail> {
         hash_rows: 0,
         entries: 4,
         charge: 5,
+        layout: Layout::Two,
     };
     assert_eq!(rt; report, left);
     Ok(())
