@@ -235,7 +235,7 @@ bad_slot(
 @damage("slots")
 def short_slots_of_a_new_device(image, store, random):
     """The header of an old device says version 2."""
-    short = [at for at in open_slots(store) if not is_long(image, at)]
+    short = [at for at in open_slots(store) if image[at] == model.OPEN and not is_long(image, at)]
     if not short:
         return None
     set_number(image, VERSION, 2)
