@@ -2,7 +2,7 @@
 
 use crate::error::BenchError;
 use crate::turns::Turns;
-use silt_desk::{Naming, Seat, Shared, Trace, Wakes};
+use silt_desk::{DeskId, Seat, Shared, Trace, Wakes};
 use silt_device::Disk;
 use std::alloc::Global;
 use std::sync::Wait;
@@ -10,13 +10,13 @@ use std::thread;
 use std::time::{Clock, Duration};
 
 // Whether the store has background work to do.
-fn wants_work<D: Disk, T: Trace, N: Naming, R: Wait>(rt: &R, shared: &Shared<D, T, N>) -> bool {
+fn wants_work<D: Disk, T: Trace, N: DeskId, R: Wait>(rt: &R, shared: &Shared<D, T, N>) -> bool {
     let desk = shared.read(rt);
     desk.wants_convert() || desk.wants_merge()
 }
 
 // Waits until the workers have left no background work to do.
-fn finish_beside<D: Disk, T: Trace, N: Naming, R: Wait + Clock>(
+fn finish_beside<D: Disk, T: Trace, N: DeskId, R: Wait + Clock>(
     rt: &R,
     shared: &Shared<D, T, N>,
     wakes: &Wakes,
@@ -41,7 +41,7 @@ pub enum Background {
 
 impl Background {
     /// The writer takes its turn, or wakes the workers, since there may be work.
-    pub fn go_on<D: Disk, T: Trace, N: Naming, R: Wait>(
+    pub fn go_on<D: Disk, T: Trace, N: DeskId, R: Wait>(
         &mut self,
         rt: &R,
         alloc: Global,
@@ -58,7 +58,7 @@ impl Background {
     }
 
     /// Waits until all background work is done.
-    pub fn finish<D: Disk, T: Trace, N: Naming, R: Wait + Clock>(
+    pub fn finish<D: Disk, T: Trace, N: DeskId, R: Wait + Clock>(
         &mut self,
         rt: &R,
         alloc: Global,

@@ -10,7 +10,7 @@ use crate::read_counter::CountingDisk;
 use crate::store::{new_store, seated};
 use crate::turns::Turns;
 use crate::writer::{Writer, fill, fill_all};
-use silt_desk::{Naming, Seat, Shared, Trace};
+use silt_desk::{DeskId, Seat, Shared, Trace};
 use silt_device::{Disk, Geometry, MemDisk};
 use silt_store_set::Core;
 use std::alloc::Global;
@@ -73,7 +73,7 @@ pub fn grow_small<R: Threads + Wait + Clock + Print + Sync>(
 }
 
 // Grows a new store and counts its reads.
-fn grow_seated<D: Disk, N: Naming + Send + Sync, R: Threads + Wait + Clock + Print + Sync>(
+fn grow_seated<D: Disk, N: DeskId + Send + Sync, R: Threads + Wait + Clock + Print + Sync>(
     rt: &R,
     alloc: Global,
     core: Core<D>,
@@ -99,7 +99,7 @@ fn grow_seated<D: Disk, N: Naming + Send + Sync, R: Threads + Wait + Clock + Pri
 fn grow_at<
     D: Disk,
     T: Trace + Send + Sync,
-    N: Naming + Send + Sync,
+    N: DeskId + Send + Sync,
     R: Threads + Wait + Clock + Print + Sync,
 >(
     rt: &R,
@@ -138,7 +138,7 @@ fn tell_names<R: Print>(rt: &R, detail: Detail) -> Result<(), BenchError> {
 fn tell_state<
     D: Disk,
     T: Trace + Send + Sync,
-    N: Naming + Send + Sync,
+    N: DeskId + Send + Sync,
     R: Threads + Wait + Clock + Print + Sync,
 >(
     rt: &R,

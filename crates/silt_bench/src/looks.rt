@@ -4,7 +4,7 @@ use crate::error::BenchError;
 use crate::figures::a_second;
 use crate::keys::{byte_of, key_of, pick};
 use crate::pauses::Lap;
-use silt_desk::{Desk, Naming, Shared, Trace, join_over};
+use silt_desk::{Desk, DeskId, Shared, Trace, join_over};
 use silt_device::Disk;
 use std::sync::Wait;
 use std::sync::atomic::{AtomicU64, Ordering};
@@ -54,7 +54,7 @@ impl Looks {
 /// # Errors
 ///
 /// `Wrong` if a look found another value than was put.
-pub fn looks_by_one<D: Disk, T: Trace, N: Naming, R: Wait + Clock>(
+pub fn looks_by_one<D: Disk, T: Trace, N: DeskId, R: Wait + Clock>(
     rt: &R,
     shared: &Shared<D, T, N>,
     looks: Looks,
@@ -74,7 +74,7 @@ pub fn looks_by_one<D: Disk, T: Trace, N: Naming, R: Wait + Clock>(
 pub fn looks_by_four<
     D: Disk,
     T: Trace + Send + Sync,
-    N: Naming + Send + Sync,
+    N: DeskId + Send + Sync,
     R: Threads + Wait + Clock + Sync,
 >(rt: &R, shared: &Shared<D, T, N>, looks: Looks) -> Result<u64, BenchError> {
     let each = looks.count / 4;
@@ -90,7 +90,7 @@ pub fn looks_by_four<
 /// # Errors
 ///
 /// `Wrong` if a look found another value than was put.
-pub fn count_reads<D: Disk, T: Trace, N: Naming, R: Wait>(
+pub fn count_reads<D: Disk, T: Trace, N: DeskId, R: Wait>(
     rt: &R,
     shared: &Shared<D, T, N>,
     reads: &AtomicU64,
@@ -104,7 +104,7 @@ pub fn count_reads<D: Disk, T: Trace, N: Naming, R: Wait>(
 }
 
 // So many looks by each of four threads: whether each found what is there.
-fn four_look<D: Disk, T: Trace + Send + Sync, N: Naming + Send + Sync, R: Threads + Wait + Sync>(
+fn four_look<D: Disk, T: Trace + Send + Sync, N: DeskId + Send + Sync, R: Threads + Wait + Sync>(
     rt: &R,
     shared: &Shared<D, T, N>,
     looks: Looks,
@@ -120,7 +120,7 @@ fn four_look<D: Disk, T: Trace + Send + Sync, N: Naming + Send + Sync, R: Thread
 }
 
 // So many looks by each of two threads: whether each found what is there.
-fn two_look<D: Disk, T: Trace + Send + Sync, N: Naming + Send + Sync, R: Threads + Wait + Sync>(
+fn two_look<D: Disk, T: Trace + Send + Sync, N: DeskId + Send + Sync, R: Threads + Wait + Sync>(
     rt: &R,
     shared: &Shared<D, T, N>,
     looks: Looks,
@@ -137,7 +137,7 @@ fn two_look<D: Disk, T: Trace + Send + Sync, N: Naming + Send + Sync, R: Threads
 }
 
 // So many looks of one thread: whether each found what is there.
-fn look_all<D: Disk, T: Trace, N: Naming, R: Wait>(
+fn look_all<D: Disk, T: Trace, N: DeskId, R: Wait>(
     rt: &R,
     shared: &Shared<D, T, N>,
     looks: Looks,
@@ -158,7 +158,7 @@ fn look_all<D: Disk, T: Trace, N: Naming, R: Wait>(
 }
 
 // Whether one look finds what is there.
-fn is_right<D: Disk, T: Trace, N: Naming>(
+fn is_right<D: Disk, T: Trace, N: DeskId>(
     desk: &Desk<D, T, N>,
     looks: Looks,
     number: u64,

@@ -12,7 +12,7 @@ use crate::store::{new_store, open_store, seated};
 use crate::turns::Turns;
 use crate::workers::fill_beside;
 use crate::writer::{Filled, Writer, fill_all};
-use silt_desk::{Naming, Seat, Shared, Trace};
+use silt_desk::{DeskId, Seat, Shared, Trace};
 use silt_device::Disk;
 use silt_store_set::Core;
 use std::alloc::Global;
@@ -76,7 +76,7 @@ pub fn measure<D: Disk, R: Threads + Wait + Clock + Print + Files + Sync>(
 }
 
 // Fills a new store and looks at it from a desk, and gives its disk back.
-fn see<D: Disk, N: Naming + Send + Sync, R: Threads + Wait + Clock + Files + Sync>(
+fn see<D: Disk, N: DeskId + Send + Sync, R: Threads + Wait + Clock + Files + Sync>(
     rt: &R,
     alloc: Global,
     core: Core<D>,
@@ -101,7 +101,7 @@ fn see<D: Disk, N: Naming + Send + Sync, R: Threads + Wait + Clock + Files + Syn
 fn fill_and_look<
     D: Disk,
     T: Trace + Send + Sync,
-    N: Naming + Send + Sync,
+    N: DeskId + Send + Sync,
     R: Threads + Wait + Clock + Files + Sync,
 >(
     rt: &R,
@@ -120,7 +120,7 @@ fn fill_and_look<
 }
 
 // The seats of a desk that has three.
-fn three_of<N: Naming>(seats: Vec<Seat<N>>) -> Option<(Seat<N>, Seat<N>, Seat<N>)> {
+fn three_of<N: DeskId>(seats: Vec<Seat<N>>) -> Option<(Seat<N>, Seat<N>, Seat<N>)> {
     let mut seats = seats;
     let third = seats.pop()?;
     let second = seats.pop()?;
@@ -129,7 +129,7 @@ fn three_of<N: Naming>(seats: Vec<Seat<N>>) -> Option<(Seat<N>, Seat<N>, Seat<N>
 }
 
 // Fills a store on this thread, with its work in the background between the groups.
-fn fill_by_turns<D: Disk, T: Trace, N: Naming, R: Wait + Clock>(
+fn fill_by_turns<D: Disk, T: Trace, N: DeskId, R: Wait + Clock>(
     rt: &R,
     alloc: Global,
     shared: &Shared<D, T, N>,
@@ -145,7 +145,7 @@ fn fill_by_turns<D: Disk, T: Trace, N: Naming, R: Wait + Clock>(
 fn look<
     D: Disk,
     T: Trace + Send + Sync,
-    N: Naming + Send + Sync,
+    N: DeskId + Send + Sync,
     R: Threads + Wait + Clock + Files + Sync,
 >(
     rt: &R,
@@ -193,7 +193,7 @@ fn count_opened<D: Disk, R: Wait>(
 }
 
 // The same for a store that was just opened.
-fn count_seated<D: Disk, N: Naming, R: Wait>(
+fn count_seated<D: Disk, N: DeskId, R: Wait>(
     rt: &R,
     alloc: Global,
     core: Core<D>,
@@ -213,7 +213,7 @@ fn count_seated<D: Disk, N: Naming, R: Wait>(
 }
 
 // Counts the reads of looks for present and for absent keys.
-fn count_looks<D: Disk, T: Trace, N: Naming, R: Wait>(
+fn count_looks<D: Disk, T: Trace, N: DeskId, R: Wait>(
     rt: &R,
     shared: &Shared<D, T, N>,
     reads: &AtomicU64,

@@ -2,7 +2,7 @@
 ghost use Rattle.std.specs.Prelude.{◌≡◌};
 
 use crate::error::{BenchError, Call};
-use silt_desk::{Count, Desk, Naming, Seat};
+use silt_desk::{Count, Desk, DeskId, Seat};
 use silt_device::{Disk, Geometry};
 use silt_recovery::format;
 use silt_store_set::Core;
@@ -30,7 +30,7 @@ pub fn open_store<D: Disk>(alloc: Global, disk: D) -> Result<Core<D>, BenchError
 }
 
 /// A store at a desk with three seats.
-pub fn seated<D: Disk, N: Naming>(
+pub fn seated<D: Disk, N: DeskId>(
     alloc: Global,
     core: Core<D>,
     calls: Blank,

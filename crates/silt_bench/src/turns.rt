@@ -3,7 +3,7 @@ ghost use Rattle.std.specs.Prelude.{◌≡◌, false, OnOk};
 ghost use Rattle.silt_store_set.specs.CoreState.{wants_convert, wants_merge};
 
 use crate::error::{BenchError, Call};
-use silt_desk::{Desk, Naming, Seat, Trace};
+use silt_desk::{Desk, DeskId, Seat, Trace};
 use silt_device::Disk;
 use silt_event::Progress;
 use std::alloc::Global;
@@ -25,7 +25,7 @@ impl Turns {
     }
 
     /// Does all conversions that are due, and then a merge if there are enough hash stores.
-    pub fn take<D: Disk, T: Trace, N: Naming>(
+    pub fn take<D: Disk, T: Trace, N: DeskId>(
         &mut self,
         alloc: Global,
         desk: &mut Desk<D, T, N>,
@@ -39,7 +39,7 @@ impl Turns {
     }
 
     /// Does all background work that is due, to its end.
-    pub fn finish<D: Disk, T: Trace, N: Naming>(
+    pub fn finish<D: Disk, T: Trace, N: DeskId>(
         &mut self,
         alloc: Global,
         desk: &mut Desk<D, T, N>,
@@ -58,7 +58,7 @@ impl Turns {
     }
 
     // Does all conversions that are due, to the end.
-    fn convert_all<D: Disk, T: Trace, N: Naming>(
+    fn convert_all<D: Disk, T: Trace, N: DeskId>(
         &mut self,
         alloc: Global,
         desk: &mut Desk<D, T, N>,
@@ -76,7 +76,7 @@ impl Turns {
     }
 
     // Merges until there is nothing to merge.
-    fn merge_all<D: Disk, T: Trace, N: Naming>(
+    fn merge_all<D: Disk, T: Trace, N: DeskId>(
         &mut self,
         alloc: Global,
         desk: &mut Desk<D, T, N>,

@@ -5,7 +5,7 @@ use crate::error::BenchError;
 use crate::job::Plan;
 use crate::writer::{Filled, Writer, fill_all};
 use crossbeam_channel::{Receiver, Sender};
-use silt_desk::{Naming, OpenGate, Seat, Shared, Trace, Wake, Wakes, converter, join_over, merger};
+use silt_desk::{DeskId, OpenGate, Seat, Shared, Trace, Wake, Wakes, converter, join_over, merger};
 use silt_device::Disk;
 use std::alloc::{AllocError, Global};
 use std::sync::Wait;
@@ -14,7 +14,7 @@ use std::time::Clock;
 
 /// The place of a worker: its seat, where it is woken, and how it wakes the other one.
 #[derive(Drop)]
-struct Worker<N: Naming> {
+struct Worker<N: DeskId> {
     seat: Seat<N>,
     wakes: Receiver<Wake>,
     other: Sender<Wake>,
@@ -22,7 +22,7 @@ struct Worker<N: Naming> {
 
 /// The threads that fill a store: a writer and two workers.
 #[derive(Drop)]
-struct Crew<N: Naming> {
+struct FillThreads<N: DeskId> {
     writer: Writer<N>,
     converter: Worker<N>,
     merger: Worker<N>,
@@ -32,7 +32,7 @@ struct Crew<N: Naming> {
 pub fn fill_beside<
     D: Disk,
     T: Trace + Send + Sync,
-    N: Naming + Send + Sync,
+    N: DeskId + Send + Sync,
     R: Threads + Wait + Clock + Sync,
 >(
     rt: &R,
@@ -41,17 +41,17 @@ pub fn fill_beside<
     seats: (Seat<N>, Seat<N>, Seat<N>),
     plan: &Plan,
 ) -> Result<Filled, BenchError> {
-    match crew_of(alloc, seats) {
-        Ok(crew) => run_crew(rt, alloc, shared, crew, plan),
+    match threads_of(alloc, seats) {
+        Ok(threads) => run_threads(rt, alloc, shared, threads, plan),
         Err(_) => Err(BenchError::NoMemory),
     }
 }
 
 // The places of those who have these seats.
-fn crew_of<N: Naming>(
+fn threads_of<N: DeskId>(
     alloc: Global,
     seats: (Seat<N>, Seat<N>, Seat<N>),
-) -> Result<Crew<N>, AllocError> {
+) -> Result<FillThreads<N>, AllocError> {
     let (to_converter, converter_wakes) = crossbeam_channel::unbounded(alloc)?;
     let (to_merger, merger_wakes) = crossbeam_channel::unbounded(alloc)?;
     let converter = Worker {
@@ -68,7 +68,7 @@ fn crew_of<N: Naming>(
         converter: to_converter,
         merger: to_merger,
     };
-    Ok(Crew {
+    Ok(FillThreads {
         writer: Writer::new(seats.0, Background::Workers(wakes)),
         converter,
         merger,
@@ -76,23 +76,23 @@ fn crew_of<N: Naming>(
 }
 
 // The two workers in threads of their own, and the writer in this one.
-fn run_crew<
+fn run_threads<
     D: Disk,
     T: Trace + Send + Sync,
-    N: Naming + Send + Sync,
+    N: DeskId + Send + Sync,
     R: Threads + Wait + Clock + Sync,
 >(
     rt: &R,
     alloc: Global,
     shared: &Shared<D, T, N>,
-    crew: Crew<N>,
+    threads: FillThreads<N>,
     plan: &Plan,
 ) -> Result<Filled, BenchError> {
-    let Crew {
+    let FillThreads {
         writer,
         converter,
         merger,
-    } = crew;
+    } = threads;
     let (_seats, filled) = join_over(
         rt,
         shared,
@@ -103,7 +103,7 @@ fn run_crew<
 }
 
 // Runs the two workers, each until it is stopped.
-fn both_workers<D: Disk, T: Trace + Send + Sync, N: Naming + Send + Sync, R: Threads + Wait + Sync>(
+fn both_workers<D: Disk, T: Trace + Send + Sync, N: DeskId + Send + Sync, R: Threads + Wait + Sync>(
     rt: &R,
     alloc: Global,
     shared: &Shared<D, T, N>,
@@ -139,7 +139,7 @@ fn both_workers<D: Disk, T: Trace + Send + Sync, N: Naming + Send + Sync, R: Thr
 }
 
 // Puts all keys, waits until no work is left, and stops the workers.
-fn write<D: Disk, T: Trace, N: Naming, R: Wait + Clock>(
+fn write<D: Disk, T: Trace, N: DeskId, R: Wait + Clock>(
     rt: &R,
     alloc: Global,
     shared: &Shared<D, T, N>,

@@ -6,7 +6,7 @@ use crate::error::{BenchError, Call};
 use crate::job::Plan;
 use crate::keys::{byte_of, key_of};
 use crate::pauses::{Lap, Pauses};
-use silt_desk::{Desk, Naming, Seat, Shared, Trace};
+use silt_desk::{Desk, DeskId, Seat, Shared, Trace};
 use silt_device::Disk;
 use silt_event::Refusal;
 use silt_frame::Key;
@@ -30,14 +30,14 @@ pub struct Filled {
 
 /// The writer of a store, and who does the work in the background.
 #[derive(Drop)]
-pub struct Writer<N: Naming> {
+pub struct Writer<N: DeskId> {
     pub seat: Seat<N>,
     pub background: Background,
     pub puts: Pauses,
     pub flushes: Pauses,
 }
 
-impl<N: Naming> Writer<N> {
+impl<N: DeskId> Writer<N> {
     /// A writer that has put nothing yet.
     pub fn new(seat: Seat<N>, background: Background) -> Writer<N> {
         Writer {
@@ -61,7 +61,7 @@ impl<N: Naming> Writer<N> {
 }
 
 /// Puts the plan's keys, and sees all work in the background done.
-pub fn fill_all<D: Disk, T: Trace, N: Naming, R: Wait + Clock>(
+pub fn fill_all<D: Disk, T: Trace, N: DeskId, R: Wait + Clock>(
     rt: &R,
     alloc: Global,
     shared: &Shared<D, T, N>,
@@ -78,7 +78,7 @@ pub fn fill_all<D: Disk, T: Trace, N: Naming, R: Wait + Clock>(
 
 /// Puts the keys of the numbers from `first` up to `end`, in groups, with a flush and some work in the background behind each. What is
 /// done in the background on this thread is part of the next put's pause.
-pub fn fill<D: Disk, T: Trace, N: Naming, R: Wait + Clock>(
+pub fn fill<D: Disk, T: Trace, N: DeskId, R: Wait + Clock>(
     rt: &R,
     alloc: Global,
     shared: &Shared<D, T, N>,
@@ -103,7 +103,7 @@ pub fn fill<D: Disk, T: Trace, N: Naming, R: Wait + Clock>(
 }
 
 // Puts the keys of the numbers from `first` up to `end`.
-fn put_group<D: Disk, T: Trace, N: Naming, R: Wait + Clock>(
+fn put_group<D: Disk, T: Trace, N: DeskId, R: Wait + Clock>(
     rt: &R,
     alloc: Global,
     shared: &Shared<D, T, N>,
@@ -122,7 +122,7 @@ fn put_group<D: Disk, T: Trace, N: Naming, R: Wait + Clock>(
 }
 
 // Puts a value, and waits for the work in the background if the store has no room for it.
-fn put_patiently<D: Disk, T: Trace, N: Naming, R: Wait + Clock>(
+fn put_patiently<D: Disk, T: Trace, N: DeskId, R: Wait + Clock>(
     rt: &R,
     alloc: Global,
     shared: &Shared<D, T, N>,
@@ -143,7 +143,7 @@ fn put_patiently<D: Disk, T: Trace, N: Naming, R: Wait + Clock>(
 }
 
 // Puts a value. False if the store has no room for it.
-fn put_once<D: Disk, T: Trace, N: Naming>(
+fn put_once<D: Disk, T: Trace, N: DeskId>(
     desk: &mut Desk<D, T, N>,
     alloc: Global,
     seat: &mut Seat<N>,
@@ -161,7 +161,7 @@ fn put_once<D: Disk, T: Trace, N: Naming>(
 }
 
 // Acknowledges all puts.
-fn flush_once<D: Disk, T: Trace, N: Naming>(
+fn flush_once<D: Disk, T: Trace, N: DeskId>(
     desk: &mut Desk<D, T, N>,
     alloc: Global,
     seat: &mut Seat<N>,

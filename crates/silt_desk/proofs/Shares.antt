@@ -10,7 +10,7 @@ use Rattle.std.specs.Sync.Ledger.{chain, row, Rule, book_owns, share_owns}
 use Rattle.std.specs.declared.sync.ledger.Ledger.{Ghosts}
 use Rattle.silt_disk.specs.declared.disk.Disk as Disk
 use Rattle.silt_desk.specs.declared.trace.Trace as Trace
-use Rattle.silt_desk.specs.declared.seat.Naming as Naming
+use Rattle.silt_desk.specs.declared.seat.DeskId as DeskId
 use Rattle.silt_desk.specs.contracts.desk.Desk as Desk
 use Rattle.silt_desk.specs.contracts.desk.Desk.TheInside as DeskInside
 use Rattle.silt_desk.specs.contracts.seat.Ledgers as Ledgers
@@ -57,17 +57,17 @@ module _ (T : RattleType) (g : Ghosts T.Denot) where
   pub share_sync : IsSync (Share.the_row T g)
   share_sync = record { shared = λ d b o κ. λ q. part_keyless (Share.the_row T g) share_send q d b o }
 
-ledgers_inside_sync : (N : RattleType) (h : Naming.Ghosts N.Denot) → IsSync (LedgersInside.the_row N h)
+ledgers_inside_sync : (N : RattleType) (h : DeskId.Ghosts N.Denot) → IsSync (LedgersInside.the_row N h)
 ledgers_inside_sync N h =
     let L = LedgersInside.the_type N h in
     let k = calls.ghosts N h calls.no_dict in
     let a = accepted.ghosts N h accepted.no_dict in
     let all : AllSync (fields L) = (search sendable, (book_sync (CallsOf.the_row N) k, (book_sync (AcceptedOf.the_row N) a, (share_sync (CallsOf.the_row N) k, (share_sync (AcceptedOf.the_row N) a, tt))))) in recorded_sync (Struct (shape L)) L.D L.to L.to_one (struct_sync (shape L) all)
 
-pub ledgers_sync : (N : RattleType) (h : Naming.Ghosts N.Denot) → IsSync (Ledgers.the_row N h)
+pub ledgers_sync : (N : RattleType) (h : DeskId.Ghosts N.Denot) → IsSync (Ledgers.the_row N h)
 ledgers_sync N h = view_sync _ _ _ _ _ (ledgers_inside_sync N h)
 
-module _ (D T N F : RattleType) (d : Disk.Ghosts D.Denot F.Denot) (t : Trace.Ghosts T.Denot) (n : Naming.Ghosts N.Denot) where
+module _ (D T N F : RattleType) (d : Disk.Ghosts D.Denot F.Denot) (t : Trace.Ghosts T.Denot) (n : DeskId.Ghosts N.Denot) where
   inside_sync : IsSync D → IsSync T → IsSync (DeskInside.the_row D T N F d t n)
   inside_sync x y =
       let I = DeskInside.the_type D T N F d t n in

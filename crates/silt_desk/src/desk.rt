@@ -7,7 +7,7 @@ ghost use Rattle.silt_desk.specs.Preparing.{unprepared_refusal};
 ghost use Rattle.silt_desk.specs.Seats.{accepted_of, calls_of, fresh};
 
 use crate::call::{Note, plain};
-use crate::seat::{Ledgers, MissingSeats, Naming, Seat};
+use crate::seat::{Ledgers, MissingSeats, DeskId, Seat};
 use crate::trace::{NotPrepared, Trace};
 use silt_disk::{Disk, Geometry};
 use silt_event::{Progress, Refusal};
@@ -19,7 +19,7 @@ use std::sync::ledger::Blank;
 
 /// A store with the trace of its calls. Contracts see the two.
 #[derive(Drop)]
-pub struct Desk<D: Disk, T: Trace, N: Naming> {
+pub struct Desk<D: Disk, T: Trace, N: DeskId> {
     core: Core<D>,
     trace: T,
     ledgers: Ledgers<N>,
@@ -32,7 +32,7 @@ pub struct NotMade<D: Disk, T: Trace> {
     pub trace: T,
 }
 
-impl<D: Disk, T: Trace, N: Naming> Model for Desk<D, T, N> {
+impl<D: Disk, T: Trace, N: DeskId> Model for Desk<D, T, N> {
     ghost use Rattle.std.specs.Coded.{codes};
     ghost use Rattle.silt_event.specs.Commands.{map_code};
     ghost use Rattle.silt_desk.specs.DeskState.{DeskState};
@@ -48,7 +48,7 @@ impl<D: Disk, T: Trace, N: Naming> Model for Desk<D, T, N> {
 }
 
 // Notes a call in the trace, with the seat and in the ledgers, if it is to be recorded.
-fn note<T: Trace, N: Naming>(
+fn note<T: Trace, N: DeskId>(
     trace: &mut T,
     ledgers: &mut Ledgers<N>,
     seat: &mut Seat<N>,
@@ -76,7 +76,7 @@ fn refusal<F>(lack: NotPrepared) -> Refusal<F>
     }
 }
 
-impl<D: Disk, T: Trace, N: Naming> Desk<D, T, N> {
+impl<D: Disk, T: Trace, N: DeskId> Desk<D, T, N> {
     ghost use Rattle.std.specs.Prelude.{IsErrOf};
     ghost use Rattle.silt_disk.specs.Disk.{LeavesOnly};
     ghost use Rattle.silt_image.specs.Meaning.{StandsFor};

@@ -31,10 +31,10 @@ pub use count::Count;
 pub use desk::{Desk, NotMade};
 pub use kept::Kept;
 pub use laws::others_stay_law;
-pub use seat::{MissingSeats, Naming, Seat};
+pub use seat::{MissingSeats, DeskId, Seat};
 pub use shared::{Shared, settle};
 pub use silt_inbox::{
-    Answered, EventKind, Feeder, Inbox, MissingFeeders, NotPushed, NotPut, NotPutReason, Post,
+    Answered, EventKind, Feeder, Inbox, MissingFeeders, NotPushed, NotPut, NotPutReason, InboxId,
     Queue, Taker, answered_law,
 };
 pub use threads::join_over;

@@ -7,7 +7,7 @@ use std::marker::{Brand, Model, PhantomData};
 use std::sync::ledger::{Blank, Book, Ledger, Share};
 
 /// Names a desk. Each call of a program picks the name.
-pub trait Naming {
+pub trait DeskId {
     /// The name of the ledger of recorded calls.
     ghost calls_name: { ℕ };
 
@@ -18,7 +18,7 @@ pub trait Naming {
     ghost seats: { ℕ };
 }
 
-impl Naming for Brand {
+impl DeskId for Brand {
     ghost calls_name = { 0 };
 
     ghost accepted_name = { 0 };
@@ -27,22 +27,22 @@ impl Naming for Brand {
 }
 
 /// The ledger of a desk's recorded calls.
-pub(crate) struct CallsOf<N: Naming> {
+pub(crate) struct CallsOf<N: DeskId> {
     of: PhantomData<N>,
 }
 
 /// The ledger of a desk's accepted commands.
-pub(crate) struct AcceptedOf<N: Naming> {
+pub(crate) struct AcceptedOf<N: DeskId> {
     of: PhantomData<N>,
 }
 
-impl<N: Naming> Ledger for CallsOf<N> {
+impl<N: DeskId> Ledger for CallsOf<N> {
     ghost name = { N.calls_name };
 
     ghost parts = { N.seats };
 }
 
-impl<N: Naming> Ledger for AcceptedOf<N> {
+impl<N: DeskId> Ledger for AcceptedOf<N> {
     ghost name = { N.accepted_name };
 
     ghost parts = { N.seats };
@@ -51,13 +51,13 @@ impl<N: Naming> Ledger for AcceptedOf<N> {
 /// A place at a desk. Contracts see its number, and how many calls from it are recorded and are accepted commands. It fits only the
 /// desk that gave it out.
 #[derive(Drop)]
-pub struct Seat<N: Naming> {
+pub struct Seat<N: DeskId> {
     number: u64,
     calls: Share<CallsOf<N>>,
     accepted: Share<AcceptedOf<N>>,
 }
 
-impl<N: Naming> Model for Seat<N> {
+impl<N: DeskId> Model for Seat<N> {
     ghost use Rattle.std.specs.Prelude.{◌≡◌};
     ghost use Rattle.silt_desk.specs.Seats.{SeatState};
 
@@ -68,7 +68,7 @@ impl<N: Naming> Model for Seat<N> {
     ghost invariant = { λ s. (s.calls.parts ≡ 1) × (s.accepted.parts ≡ 1) };
 }
 
-impl<N: Naming> Seat<N> {
+impl<N: DeskId> Seat<N> {
     /// Its number. The seats of a desk are numbered from 0.
     pub fn number(&self) -> u64
         ensures { result ≡ self.now.number }
@@ -79,13 +79,13 @@ impl<N: Naming> Seat<N> {
 
 /// The given seats, if some of a desk's seats are missing.
 #[derive(Drop)]
-pub struct MissingSeats<N: Naming> {
+pub struct MissingSeats<N: DeskId> {
     pub seats: Vec<Seat<N>>,
 }
 
 /// The ledgers of a desk. Contracts see their totals.
 #[derive(Drop)]
-pub(crate) struct Ledgers<N: Naming> {
+pub(crate) struct Ledgers<N: DeskId> {
     seats: u64,
     calls: Book<CallsOf<N>>,
     accepted: Book<AcceptedOf<N>>,
@@ -93,7 +93,7 @@ pub(crate) struct Ledgers<N: Naming> {
     idle_accepted: Share<AcceptedOf<N>>,
 }
 
-impl<N: Naming> Model for Ledgers<N> {
+impl<N: DeskId> Model for Ledgers<N> {
     ghost use Rattle.std.specs.Prelude.{◌≡◌};
     ghost use Rattle.silt_desk.specs.Seats.{Totals};
 
@@ -104,7 +104,7 @@ impl<N: Naming> Model for Ledgers<N> {
     ghost invariant = { λ l. (l.seats ≡ N.seats) × (l.idle_calls.parts ≡ 0) × (l.idle_calls.amount ≡ 0) × (l.idle_accepted.parts ≡ 0) × (l.idle_accepted.amount ≡ 0) };
 }
 
-impl<N: Naming> Ledgers<N> {
+impl<N: DeskId> Ledgers<N> {
     // Empty ledgers, and this many seats, numbered from 0.
     pub fn new(
         alloc: Global,

@@ -3,7 +3,7 @@ ghost use Rattle.std.specs.Prelude.{◌≡◌, ◌≢◌, ◌%◌, ◌^◌, IfOk
 ghost use Rattle.silt_desk.specs.Seats.{accepted_of, calls_of};
 
 use crate::desk::Desk;
-use crate::seat::{MissingSeats, Naming, Seat};
+use crate::seat::{MissingSeats, DeskId, Seat};
 use crate::trace::Trace;
 use silt_disk::Disk;
 use std::sync::{RwLock, Wait};
@@ -18,7 +18,7 @@ pub type Shared<D, T, N> = RwLock<Desk<D, T, N>>;
 /// # Errors
 ///
 /// A seat is missing. Then all are handed back.
-pub fn settle<D: Disk, T: Trace, N: Naming, R: Wait>(
+pub fn settle<D: Disk, T: Trace, N: DeskId, R: Wait>(
     rt: &R,
     shared: &Shared<D, T, N>,
     seats: Vec<Seat<N>>,

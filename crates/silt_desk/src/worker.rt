@@ -10,7 +10,7 @@ ghost use Rattle.silt_desk.specs.Turns.{turn_of};
 ghost use Rattle.silt_desk.specs.declared.worker.Turn.TheVariants as TurnOf;
 
 use crate::desk::Desk;
-use crate::seat::{Naming, Seat};
+use crate::seat::{DeskId, Seat};
 use crate::shared::Shared;
 use crate::trace::Trace;
 use crate::wakes::wake;
@@ -74,7 +74,7 @@ fn turn_after<F: Drop>(answer: Result<Progress, Refusal<F>>) -> Turn
 }
 
 /// Does one step of conversion if there is one to do, and else nothing.
-pub fn convert_once<D: Disk, T: Trace, N: Naming>(
+pub fn convert_once<D: Disk, T: Trace, N: DeskId>(
     desk: &mut Desk<D, T, N>,
     alloc: Global,
     seat: &mut Seat<N>,
@@ -90,7 +90,7 @@ pub fn convert_once<D: Disk, T: Trace, N: Naming>(
 }
 
 /// Does one step of merging if there is one to do, and else nothing.
-pub fn merge_once<D: Disk, T: Trace, N: Naming>(
+pub fn merge_once<D: Disk, T: Trace, N: DeskId>(
     desk: &mut Desk<D, T, N>,
     alloc: Global,
     seat: &mut Seat<N>,
@@ -139,7 +139,7 @@ fn rest<W: Hears, R: Wait>(rt: &R, turn: Turn, wakes: &W, other: &Sender<Wake>) 
 }
 
 /// Does steps of conversion, each under a guard of its own, until it hears that it is to end. Gives its seat back.
-pub fn converter<D: Disk, T: Trace, N: Naming, G: Gate, W: Hears, R: Wait>(
+pub fn converter<D: Disk, T: Trace, N: DeskId, G: Gate, W: Hears, R: Wait>(
     rt: &R,
     alloc: Global,
     shared: &Shared<D, T, N>,
@@ -162,7 +162,7 @@ pub fn converter<D: Disk, T: Trace, N: Naming, G: Gate, W: Hears, R: Wait>(
 }
 
 /// Does steps of merging, each under a guard of its own, until it hears that it is to end. Gives its seat back.
-pub fn merger<D: Disk, T: Trace, N: Naming, G: Gate, W: Hears, R: Wait>(
+pub fn merger<D: Disk, T: Trace, N: DeskId, G: Gate, W: Hears, R: Wait>(
     rt: &R,
     alloc: Global,
     shared: &Shared<D, T, N>,

@@ -1,8 +1,8 @@
 // A queue under a lock.
 ghost use Rattle.std.specs.Prelude.{◌≡◌, ◌≢◌, ◌+◌, ◌%◌, ◌^◌, sum, vec_len, All, IfOk, MatchResult, MatchOption};
 
-use crate::letters::{Letters, MissingFeeders, NotPut};
-use crate::places::{Feeder, Post, PutOf, TakenOf, Taker};
+use crate::job_queue::{JobQueue, MissingFeeders, NotPut};
+use crate::places::{Feeder, InboxId, PutOf, TakenOf, Taker};
 use crate::queue::Queue;
 use std::alloc::{AllocError, Global};
 use std::sync::ledger::Blank;
@@ -10,12 +10,12 @@ use std::sync::{Condvar, Mutex, Wait};
 
 /// Jobs that go from many threads to one.
 #[derive(Drop)]
-pub struct Inbox<J: Drop, P: Post> {
-    letters: Mutex<Letters<J, P>>,
+pub struct Inbox<J: Drop, P: InboxId> {
+    job_queue: Mutex<JobQueue<J, P>>,
     arrived: Condvar,
 }
 
-impl<J: Drop, P: Post> Inbox<J, P> {
+impl<J: Drop, P: InboxId> Inbox<J, P> {
     /// An inbox with this many feeders, and its taker. The two blanks become its ledgers.
     ///
     /// # Errors
@@ -38,9 +38,9 @@ impl<J: Drop, P: Post> Inbox<J, P> {
         for _number in 0..feeders {
             places.push_reserved(Feeder::split(&mut rest));
         }
-        let letters = Letters::new(Queue::new(alloc), feeders, put_book, taken_book, rest);
+        let job_queue = JobQueue::new(Queue::new(alloc), feeders, put_book, taken_book, rest);
         let inbox = Inbox {
-            letters: Mutex::new(letters),
+            job_queue: Mutex::new(job_queue),
             arrived: Condvar::new(),
         };
         Ok((inbox, places, Taker::of(share)))
@@ -50,7 +50,7 @@ impl<J: Drop, P: Post> Inbox<J, P> {
     pub fn put<R: Wait>(&self, rt: &R, feeder: &mut Feeder<P>, job: J) -> Result<(), NotPut<J>>
         ensures { MatchResult result (λ _. feeder.new ≡ feeder.old + 1) (λ e. (e.job ≡ job) × (feeder.new ≡ feeder.old)) }
     {
-        let done = self.letters.lock(rt).put(feeder, job);
+        let done = self.job_queue.lock(rt).put(feeder, job);
         self.arrived.notify_one();
         done
     }
@@ -60,15 +60,15 @@ impl<J: Drop, P: Post> Inbox<J, P> {
     pub fn take_all<R: Wait>(&self, rt: &R, taker: &mut Taker<P>) -> Option<Vec<J>>
         ensures { MatchOption result (taker.new ≡ taker.old) (λ v. taker.new ≡ taker.old + vec_len v) }
     {
-        let mut letters = self
+        let mut job_queue = self
             .arrived
-            .wait_while(rt, self.letters.lock(rt), |letters| letters.is_idle());
-        letters.take_all(taker)
+            .wait_while(rt, self.job_queue.lock(rt), |job_queue| job_queue.is_idle());
+        job_queue.take_all(taker)
     }
 
     /// From now on no job is put.
     pub fn close<R: Wait>(&self, rt: &R) {
-        self.letters.lock(rt).close();
+        self.job_queue.lock(rt).close();
         self.arrived.notify_all();
     }
 
@@ -88,6 +88,6 @@ impl<J: Drop, P: Post> Inbox<J, P> {
         ensures left { IfOk result (λ r. sum feeders.items ≡ taker + r.2) }
         ensures missing { MatchResult result (λ _. vec_len feeders ≡ P.feeders) (λ e. (e.feeders.items ≡ feeders.items) × (e.taker ≡ taker) × (vec_len feeders ≢ P.feeders)) }
     {
-        self.letters.lock(rt).tally(feeders, taker)
+        self.job_queue.lock(rt).tally(feeders, taker)
     }
 }

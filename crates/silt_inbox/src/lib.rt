@@ -12,12 +12,12 @@
 
 mod answered;
 mod inbox;
-mod letters;
+mod job_queue;
 mod places;
 mod queue;
 
 pub use answered::{Answered, EventKind, answered_law};
 pub use inbox::Inbox;
-pub use letters::{MissingFeeders, NotPut, NotPutReason};
-pub use places::{Feeder, Post, Taker};
+pub use job_queue::{MissingFeeders, NotPut, NotPutReason};
+pub use places::{Feeder, InboxId, Taker};
 pub use queue::{NotPushed, Queue};

@@ -5,7 +5,7 @@ use std::marker::{Brand, Model, PhantomData};
 use std::sync::ledger::{Book, Ledger, Share};
 
 /// Names an inbox. Each call of a program picks the name.
-pub trait Post {
+pub trait InboxId {
     /// The name of the ledger of the jobs put.
     ghost put_name: { ℕ };
 
@@ -16,7 +16,7 @@ pub trait Post {
     ghost feeders: { ℕ };
 }
 
-impl Post for Brand {
+impl InboxId for Brand {
     ghost put_name = { 0 };
 
     ghost taken_name = { 0 };
@@ -25,22 +25,22 @@ impl Post for Brand {
 }
 
 /// The ledger of the jobs put.
-pub(crate) struct PutOf<P: Post> {
+pub(crate) struct PutOf<P: InboxId> {
     of: PhantomData<P>,
 }
 
 /// The ledger of the jobs taken.
-pub(crate) struct TakenOf<P: Post> {
+pub(crate) struct TakenOf<P: InboxId> {
     of: PhantomData<P>,
 }
 
-impl<P: Post> Ledger for PutOf<P> {
+impl<P: InboxId> Ledger for PutOf<P> {
     ghost name = { P.put_name };
 
     ghost parts = { P.feeders };
 }
 
-impl<P: Post> Ledger for TakenOf<P> {
+impl<P: InboxId> Ledger for TakenOf<P> {
     ghost name = { P.taken_name };
 
     ghost parts = { 1 };
@@ -48,11 +48,11 @@ impl<P: Post> Ledger for TakenOf<P> {
 
 /// The place of one who puts. Contracts see how many jobs were put with it. It fits only the inbox that gave it out.
 #[derive(Drop)]
-pub struct Feeder<P: Post> {
+pub struct Feeder<P: InboxId> {
     share: Share<PutOf<P>>,
 }
 
-impl<P: Post> Model for Feeder<P> {
+impl<P: InboxId> Model for Feeder<P> {
     ghost Value = { ℕ };
 
     ghost view = { λ f. f.share.amount };
@@ -62,11 +62,11 @@ impl<P: Post> Model for Feeder<P> {
 
 /// The place of the one who takes. Contracts see how many jobs were taken with it. It fits only the inbox that gave it out.
 #[derive(Drop)]
-pub struct Taker<P: Post> {
+pub struct Taker<P: InboxId> {
     share: Share<TakenOf<P>>,
 }
 
-impl<P: Post> Model for Taker<P> {
+impl<P: InboxId> Model for Taker<P> {
     ghost Value = { ℕ };
 
     ghost view = { λ t. t.share.amount };
@@ -74,7 +74,7 @@ impl<P: Post> Model for Taker<P> {
     ghost invariant = { λ t. t.share.parts ≡ 1 };
 }
 
-impl<P: Post> Feeder<P> {
+impl<P: InboxId> Feeder<P> {
     // A place with one part of the ledger.
     pub(crate) fn split(rest: &mut Share<PutOf<P>>) -> Feeder<P>
         requires { (1 ≤ rest.old.parts) × (rest.old.amount ≡ 0) }
@@ -103,7 +103,7 @@ impl<P: Post> Feeder<P> {
     }
 }
 
-impl<P: Post> Taker<P> {
+impl<P: InboxId> Taker<P> {
     // The place with the whole ledger.
     pub(crate) fn of(share: Share<TakenOf<P>>) -> Taker<P>
         requires { share.parts ≡ 1 }

@@ -9,7 +9,7 @@ use Rattle.silt_wire.specs.Replies.{reply_text}
 abbrev pub listening_text : ℕ → List ℕ
 listening_text port = codes "listening " ++ (decimal port ++ codes "\n")
 
--- why a connection is closed that finds all places taken: no reply begins so
+-- why a connection is closed that finds no free slot: no reply begins so
 abbrev pub busy_text : List ℕ
 busy_text = codes "busy: 64 connections are served already\n"
 

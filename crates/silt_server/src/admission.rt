@@ -2,13 +2,13 @@
 ghost use Rattle.std.specs.Prelude.{◌≡◌, ◌<◌, ◌≤◌, length, IfOk, IfSome};
 
 use crate::client::{AskBy, Asking, Client};
-use crate::entrance::{Entrance, Listens};
+use crate::counting_listener::{CountingListener, Listens};
 use crate::limits::{Limits, limit_silence};
 use crate::outlet::Outlet;
-use crate::places::{Place, free_place};
+use crate::session_slots::{SessionSlot, free_slot};
 use crate::written::turn_away;
 use silt_event::{Event, Reply};
-use silt_inbox::Post;
+use silt_inbox::InboxId;
 use silt_wire::{SessionEnd, client_session};
 use std::alloc::Global;
 use std::io::{self, ErrorKind};
@@ -26,7 +26,7 @@ fn is_passing(kind: ErrorKind) -> bool {
     )
 }
 
-// Writes to a connection that there is no place for it. The listener waits for no client: it drops what the system does
+// Writes to a connection that there is no slot for it. The listener waits for no client: it drops what the system does
 // not take at once.
 fn turn_connection_away(stream: &TcpStream) {
     if stream.set_nonblocking(true).is_ok() {
@@ -35,14 +35,14 @@ fn turn_connection_away(stream: &TcpStream) {
     }
 }
 
-// Gives a connection to a free place, and returns its number. If there is none, the client gets a line that says so,
+// Gives a connection to a free slot, and returns its number. If there is none, the client gets a line that says so,
 // and the connection is closed.
-fn admit<P: Post, R: Wait>(rt: &R, places: &[Mutex<Place<P>>], stream: TcpStream) -> Option<usize>
-    ensures { IfSome result (λ number. number < length places.now) }
+fn admit<P: InboxId, R: Wait>(rt: &R, slots: &[Mutex<SessionSlot<P>>], stream: TcpStream) -> Option<usize>
+    ensures { IfSome result (λ number. number < length slots.now) }
 {
-    match free_place(rt, places) {
+    match free_slot(rt, slots) {
         Some(number) => {
-            places[number].lock(rt).connect(stream);
+            slots[number].lock(rt).connect(stream);
             Some(number)
         }
         None => {
@@ -53,8 +53,8 @@ fn admit<P: Post, R: Wait>(rt: &R, places: &[Mutex<Place<P>>], stream: TcpStream
 }
 
 /// Serves the connections of a listener, as many sessions as the limits say, and returns when all have ended. Each
-/// session has a thread and a place of its own. A connection without a place or a thread is closed and not counted.
-/// `reply` gives the reply to an event of the session in the place with a number.
+/// session has a thread and a slot of its own. A connection without a slot or a thread is closed and not counted.
+/// `reply` gives the reply to an event of the session in the slot with a number.
 ///
 /// # Errors
 ///
@@ -63,7 +63,7 @@ pub fn accept_clients<
     'a,
     L: Listens,
     S: Sync,
-    P: Post + Send + Sync,
+    P: InboxId + Send + Sync,
     C: Fn(&S, usize, Event) -> Option<Reply<()>> + Sync,
     R: Threads + Wait + Sync,
 >(
@@ -71,46 +71,46 @@ pub fn accept_clients<
     alloc: Global,
     listener: &'a L,
     shared: &S,
-    places: &[Mutex<Place<P>>],
+    slots: &[Mutex<SessionSlot<P>>],
     reply: &C,
     value_len: usize,
     limits: Limits,
-) -> io::Result<Entrance<'a, L>>
+) -> io::Result<CountingListener<'a, L>>
     requires { C.IsAlwaysCallable reply.now }
-    ensures { IfOk result (λ entrance. limits.sessions ≤ entrance.accepted) }
+    ensures { IfOk result (λ counting_listener. limits.sessions ≤ counting_listener.accepted) }
 {
     let Limits { sessions, idle, .. } = limits;
     thread::scope(
         thread::scope_env(),
         rt,
-        |scope| -> io::Result<Entrance<'_, L>>
+        |scope| -> io::Result<CountingListener<'_, L>>
             requires { C.IsAlwaysCallable reply.now }
-            ensures { IfOk result (λ entrance. sessions ≤ entrance.accepted) }
+            ensures { IfOk result (λ counting_listener. sessions ≤ counting_listener.accepted) }
         {
-            let mut entrance = Entrance::new(listener);
+            let mut counting_listener = CountingListener::new(listener);
             let mut count = 0u32;
             for _ in rt.forever() {
-                let stream = match entrance.accept() {
+                let stream = match counting_listener.accept() {
                     Ok(stream) => stream,
                     Err(error) if is_passing(error.kind()) => continue,
                     Err(error) => return Err(error),
                 };
-                let Some(number) = admit(rt, places, stream) else {
+                let Some(number) = admit(rt, slots, stream) else {
                     continue;
                 };
-                let place = &places[number];
+                let slot = &slots[number];
                 let started = scope.spawn(
                     move ||
                         requires { C.IsAlwaysCallable reply.now }
-                    { serve_session(rt, alloc, shared, place, number, reply, value_len, idle) },
+                    { serve_session(rt, alloc, shared, slot, number, reply, value_len, idle) },
                 );
                 if started.is_err() {
-                    place.lock(rt).leave();
+                    slot.lock(rt).leave();
                     continue;
                 }
                 count = count.saturating_add(1);
                 if count == sessions {
-                    return Ok(entrance);
+                    return Ok(counting_listener);
                 }
             }
             unreachable!()
@@ -118,12 +118,12 @@ pub fn accept_clients<
     )
 }
 
-// Runs one session in its place, and then frees the place.
-fn serve_session<S, P: Post, C: Fn(&S, usize, Event) -> Option<Reply<()>>, R: Wait>(
+// Runs one session in its slot, and then frees the slot.
+fn serve_session<S, P: InboxId, C: Fn(&S, usize, Event) -> Option<Reply<()>>, R: Wait>(
     rt: &R,
     alloc: Global,
     shared: &S,
-    place: &Mutex<Place<P>>,
+    slot: &Mutex<SessionSlot<P>>,
     number: usize,
     reply: &C,
     value_len: usize,
@@ -131,11 +131,11 @@ fn serve_session<S, P: Post, C: Fn(&S, usize, Event) -> Option<Reply<()>>, R: Wa
 )
     requires { C.IsAlwaysCallable reply.now }
 {
-    let stream = place.lock(rt).connection();
+    let stream = slot.lock(rt).connection();
     if let Some(stream) = stream {
         answer_lines(alloc, shared, number, reply, value_len, idle, &stream);
     }
-    place.lock(rt).leave();
+    slot.lock(rt).leave();
 }
 
 // Replies to the lines of a connection.

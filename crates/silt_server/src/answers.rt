@@ -6,18 +6,18 @@ ghost use Rattle.silt_server.specs.Requests.{asked_event};
 ghost use Rattle.silt_server.specs.Sessions.{AnswersGet, IsAnswer};
 
 use crate::job::{Job, Request};
-use crate::places::Place;
+use crate::session_slots::SessionSlot;
 use crossbeam_channel::Receiver;
-use silt_desk::{Desk, Naming, Shared, Trace};
+use silt_desk::{Desk, DeskId, Shared, Trace};
 use silt_disk::Disk;
 use silt_event::{Event, Refusal, Reply};
 use silt_frame::{Key, Value};
-use silt_inbox::{Answered, EventKind, Feeder, Inbox, NotPutReason, Post};
+use silt_inbox::{Answered, EventKind, Feeder, Inbox, NotPutReason, InboxId};
 use std::alloc::Global;
 use std::sync::{Mutex, Wait};
 
 // What a look at the desk finds. None if the store's values have another length.
-fn look_up<D: Disk, T: Trace, N: Naming>(
+fn look_up<D: Disk, T: Trace, N: DeskId>(
     desk: &Desk<D, T, N>,
     key: &Key,
     mut out: Vec<u8>,
@@ -48,7 +48,7 @@ fn forwarded(answered: Answered, kind: EventKind) -> Option<Reply<()>>
 }
 
 // Puts a request into the inbox, and returns where its reply will come. If out of memory, nothing is put.
-fn put_request<P: Post, R: Wait>(
+fn put_request<P: InboxId, R: Wait>(
     rt: &R,
     alloc: Global,
     inbox: &Inbox<Job, P>,
@@ -68,17 +68,17 @@ fn put_request<P: Post, R: Wait>(
 
 // Puts a request into the inbox and waits for its reply. None if no reply comes, or one to an event of another kind. If
 // out of memory, nothing is done.
-fn ask<P: Post, R: Wait>(
+fn ask<P: InboxId, R: Wait>(
     rt: &R,
     alloc: Global,
     inbox: &Inbox<Job, P>,
-    place: &Mutex<Place<P>>,
+    slot: &Mutex<SessionSlot<P>>,
     request: Request,
 ) -> Option<Reply<()>>
     ensures { IfSome result (λ reply. is_allowed (event_kind (asked_event request)) reply ≡ true) }
 {
     let kind = request.kind();
-    let put = put_request(rt, alloc, inbox, place.lock(rt).feeder(), request);
+    let put = put_request(rt, alloc, inbox, slot.lock(rt).feeder(), request);
     match put {
         Ok(replies) => forwarded(replies.recv(rt).ok()?, kind),
         Err(NotPutReason::NoMemory) => Some(Reply::Refused(Refusal::NoMemory)),
@@ -87,7 +87,7 @@ fn ask<P: Post, R: Wait>(
 }
 
 // Looks a key up, at the same time as other threads. If out of memory for the value's buffer, nothing is looked up.
-fn find<D: Disk, T: Trace, N: Naming, R: Wait>(
+fn find<D: Disk, T: Trace, N: DeskId, R: Wait>(
     rt: &R,
     alloc: Global,
     shared: &Shared<D, T, N>,
@@ -105,21 +105,21 @@ fn find<D: Disk, T: Trace, N: Naming, R: Wait>(
 
 /// The reply to an event. Gets are looked up; puts, deletes and flushes go to the writer; steps are not served. None if
 /// no reply comes, or one that does not fit the event.
-pub fn answer<D: Disk, T: Trace, N: Naming, P: Post, R: Wait>(
+pub fn answer<D: Disk, T: Trace, N: DeskId, P: InboxId, R: Wait>(
     rt: &R,
     alloc: Global,
     shared: &Shared<D, T, N>,
     inbox: &Inbox<Job, P>,
     value_len: usize,
-    place: &Mutex<Place<P>>,
+    slot: &Mutex<SessionSlot<P>>,
     event: Event,
 ) -> Option<Reply<()>>
     ensures { IfSome result (λ reply. IsAnswer D.Disk event reply) }
 {
     match event {
-        Event::Put(key, value) => ask(rt, alloc, inbox, place, Request::Put(key, value)),
-        Event::Delete(key) => ask(rt, alloc, inbox, place, Request::Delete(key)),
-        Event::Flush => ask(rt, alloc, inbox, place, Request::Flush),
+        Event::Put(key, value) => ask(rt, alloc, inbox, slot, Request::Put(key, value)),
+        Event::Delete(key) => ask(rt, alloc, inbox, slot, Request::Delete(key)),
+        Event::Flush => ask(rt, alloc, inbox, slot, Request::Flush),
         Event::Get(key) => find(rt, alloc, shared, value_len, &key),
         Event::Convert | Event::Merge => Some(Reply::NotServed),
     }

@@ -3,7 +3,7 @@ ghost use Rattle.std.specs.Prelude.{◌≡◌};
 ghost use Rattle.silt_server.specs.Batches.{Flushes, Performs, PerformsAll, RepliesToAll, ServesBatch};
 
 use crate::job::{Job, Request, reply_after};
-use silt_desk::{Desk, Gate, Naming, Seat, Shared, Spot, Trace, plain};
+use silt_desk::{Desk, Gate, DeskId, Seat, Shared, Spot, Trace, plain};
 use silt_disk::Disk;
 use silt_event::Refusal;
 use std::alloc::Global;
@@ -11,7 +11,7 @@ use std::sync::Wait;
 
 // Does a request at the desk, and returns the result. There is none for a flush, because the batch does one for all of
 // them, and none for a put whose value has another length than the store's.
-fn perform<D: Disk, T: Trace, N: Naming>(
+fn perform<D: Disk, T: Trace, N: DeskId>(
     desk: &mut Desk<D, T, N>,
     alloc: Global,
     seat: &mut Seat<N>,
@@ -33,7 +33,7 @@ fn perform<D: Disk, T: Trace, N: Naming>(
 }
 
 // Flushes, and returns the result.
-fn flush<D: Disk, T: Trace, N: Naming>(
+fn flush<D: Disk, T: Trace, N: DeskId>(
     desk: &mut Desk<D, T, N>,
     alloc: Global,
     seat: &mut Seat<N>,
@@ -44,7 +44,7 @@ fn flush<D: Disk, T: Trace, N: Naming>(
 }
 
 // Does each job's request at the desk, in order, each under a guard of its own.
-fn perform_all<D: Disk, T: Trace, N: Naming, G: Gate, R: Wait>(
+fn perform_all<D: Disk, T: Trace, N: DeskId, G: Gate, R: Wait>(
     rt: &R,
     alloc: Global,
     shared: &Shared<D, T, N>,
@@ -74,7 +74,7 @@ fn reply_to_all(jobs: &mut Vec<Job>, flushed: &Result<u64, Refusal<()>>)
 /// Does each job's request at the desk, in order, each under a guard of its own. Then it flushes once and gives each
 /// job its reply; that of an accepted command depends on the flush. No reply is sent yet. It allocates no memory of its
 /// own.
-pub fn serve_batch<D: Disk, T: Trace, N: Naming, G: Gate, R: Wait>(
+pub fn serve_batch<D: Disk, T: Trace, N: DeskId, G: Gate, R: Wait>(
     rt: &R,
     alloc: Global,
     shared: &Shared<D, T, N>,

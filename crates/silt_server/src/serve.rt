@@ -11,18 +11,18 @@ ghost use Rattle.silt_server.specs.Serving.{TellsServed, head_text, network_text
 
 use crate::admission::accept_clients;
 use crate::answers::answer;
-use crate::crew::Crew;
-use crate::entrance::Listens;
+use crate::workers::Workers;
+use crate::counting_listener::Listens;
 use crate::job::Job;
 use crate::limits::Limits;
-use crate::places::{Place, places_of};
+use crate::session_slots::{SessionSlot, slots_of};
 use crate::threads::run_beside;
 use crate::work::writer;
 use crate::written::{refuse, write_calls, write_listening, write_network_fault, write_opened};
-use silt_desk::{Count, Desk, Gate, Kept, Naming, Seat, Shared, Trace, converter, merger};
+use silt_desk::{Count, Desk, Gate, Kept, DeskId, Seat, Shared, Trace, converter, merger};
 use silt_disk::Disk;
 use silt_event::{Event, Refusal, Reply};
-use silt_inbox::{Inbox, Post, Taker};
+use silt_inbox::{Inbox, InboxId, Taker};
 use silt_store_set::Core;
 use std::alloc::Global;
 use std::io::{self, Write};
@@ -167,8 +167,8 @@ fn serve_traced<
     L: Listens,
     D: Disk,
     T: Trace + Send + Sync,
-    N: Naming + Send + Sync,
-    P: Post + Send + Sync,
+    N: DeskId + Send + Sync,
+    P: InboxId + Send + Sync,
     G: Gate + Sync,
     R: Threads + Wait + Sync,
     W: Write,
@@ -201,11 +201,11 @@ fn serve_traced<
     } = blanks;
     match Desk::<D, T, N>::new(alloc, core, trace, WORKERS, calls, accepted) {
         Ok((desk, seats)) => {
-            let Some(hall) = Hall::<N, P>::new(alloc, seats, put, taken) else {
+            let Some(state) = ServerState::<N, P>::new(alloc, seats, put, taken) else {
                 let status = refuse(alloc, &Refusal::<()>::NoMemory, out);
                 return (desk.close(), status);
             };
-            let (desk, status) = serve_desk(rt, alloc, listener, desk, hall, limits, gate, out);
+            let (desk, status) = serve_desk(rt, alloc, listener, desk, state, limits, gate, out);
             let _ = desk.trace(); // it agrees with the store
             (desk.close(), status)
         }
@@ -216,29 +216,29 @@ fn serve_traced<
     }
 }
 
-/// The state between the connections and the desk: the writer and the workers, the inbox of their jobs, and a place for
+/// The state between the connections and the desk: the writer and the workers, the inbox of their jobs, and a slot for
 /// each session.
 #[derive(Drop)]
-pub struct Hall<N: Naming, P: Post> {
-    crew: Crew<N>,
+pub struct ServerState<N: DeskId, P: InboxId> {
+    workers: Workers<N>,
     inbox: Inbox<Job, P>,
-    places: Vec<Mutex<Place<P>>>,
+    slots: Vec<Mutex<SessionSlot<P>>>,
     taker: Taker<P>,
 }
 
-impl<N: Naming, P: Post> Hall<N, P> {
+impl<N: DeskId, P: InboxId> ServerState<N, P> {
     /// The writer and the workers on these seats, and the inbox with ledgers of these blanks. None if out of memory.
-    pub fn new(alloc: Global, seats: Vec<Seat<N>>, put: Blank, taken: Blank) -> Option<Hall<N, P>>
+    pub fn new(alloc: Global, seats: Vec<Seat<N>>, put: Blank, taken: Blank) -> Option<ServerState<N, P>>
         requires put { (put.name ≡ P.put_name) × (put.parts ≡ P.feeders) × (P.feeders ≡ 64) }
         requires taken { (taken.name ≡ P.taken_name) × (taken.parts ≡ 1) }
     {
-        let crew = Crew::new(alloc, seats)?;
+        let workers = Workers::new(alloc, seats)?;
         let (inbox, feeders, taker) = Inbox::new(alloc, MOST_SESSIONS, put, taken).ok()?;
-        let places = places_of(alloc, feeders).ok()?;
-        Some(Hall {
-            crew,
+        let slots = slots_of(alloc, feeders).ok()?;
+        Some(ServerState {
+            workers,
             inbox,
-            places,
+            slots,
             taker,
         })
     }
@@ -250,8 +250,8 @@ pub fn serve_desk<
     L: Listens,
     D: Disk,
     T: Trace + Send + Sync,
-    N: Naming + Send + Sync,
-    P: Post + Send + Sync,
+    N: DeskId + Send + Sync,
+    P: InboxId + Send + Sync,
     G: Gate + Sync,
     R: Threads + Wait + Sync,
     W: Write,
@@ -260,7 +260,7 @@ pub fn serve_desk<
     alloc: Global,
     listener: &L,
     desk: Desk<D, T, N>,
-    hall: Hall<N, P>,
+    state: ServerState<N, P>,
     limits: Limits,
     gate: &G,
     out: &mut W,
@@ -277,7 +277,7 @@ pub fn serve_desk<
     }
     let value_len = desk.geometry().value_len() as usize;
     let shared: Shared<D, T, N> = RwLock::new(desk);
-    let served = run_threads(rt, alloc, listener, &shared, hall, value_len, limits, gate);
+    let served = run_threads(rt, alloc, listener, &shared, state, value_len, limits, gate);
     let mut desk = shared.into_inner();
     let status = end(alloc, &mut desk, served, out);
     (desk, status)
@@ -293,13 +293,13 @@ fn write_head<W: Write>(alloc: Global, port: u16, out: &mut W) -> io::Result<()>
 
 // What comes back when the sessions have ended: the seats, and whether the listener failed.
 #[derive(Drop)]
-struct Served<N: Naming> {
+struct Served<N: DeskId> {
     seats: (Seat<N>, Seat<N>, Seat<N>),
     accepted: io::Result<()>,
 }
 
 // Writes the last lines after the sessions have ended, and returns the status.
-fn end<D: Disk, T: Trace, N: Naming, W: Write>(
+fn end<D: Disk, T: Trace, N: DeskId, W: Write>(
     alloc: Global,
     desk: &mut Desk<D, T, N>,
     served: Option<Served<N>>,
@@ -319,7 +319,7 @@ fn end<D: Disk, T: Trace, N: Naming, W: Write>(
 }
 
 // Writes how many calls are recorded, once all seats are given back.
-fn write_settled<D: Disk, T: Trace, N: Naming, W: Write>(
+fn write_settled<D: Disk, T: Trace, N: DeskId, W: Write>(
     alloc: Global,
     desk: &mut Desk<D, T, N>,
     seats: (Seat<N>, Seat<N>, Seat<N>),
@@ -346,8 +346,8 @@ fn run_threads<
     L: Listens,
     D: Disk,
     T: Trace + Send + Sync,
-    N: Naming + Send + Sync,
-    P: Post + Send + Sync,
+    N: DeskId + Send + Sync,
+    P: InboxId + Send + Sync,
     G: Gate + Sync,
     R: Threads + Wait + Sync,
 >(
@@ -355,29 +355,29 @@ fn run_threads<
     alloc: Global,
     listener: &L,
     shared: &Shared<D, T, N>,
-    hall: Hall<N, P>,
+    state: ServerState<N, P>,
     value_len: usize,
     limits: Limits,
     gate: &G,
 ) -> Option<Served<N>> {
-    let Hall {
-        crew,
+    let ServerState {
+        workers,
         inbox,
-        places,
+        slots,
         taker,
-    } = hall;
-    let Crew {
+    } = state;
+    let Workers {
         writer: seat,
         converter: first,
         merger: second,
         wakes,
         stops,
-    } = crew;
+    } = workers;
     let inbox = &inbox;
-    let places = places.as_slice();
+    let slots = slots.as_slice();
     let reply = |desk: &Shared<D, T, N>, number: usize, event: Event| -> Option<Reply<()>> {
-        let place = places.get(number)?;
-        answer(rt, alloc, desk, inbox, value_len, place, event)
+        let slot = slots.get(number)?;
+        answer(rt, alloc, desk, inbox, value_len, slot, event)
     };
     let reply = &reply;
     let (merged, converted, written) = run_beside(
@@ -400,7 +400,7 @@ fn run_threads<
         },
         move |desk: &Shared<D, T, N>| writer(rt, alloc, desk, seat, gate, inbox, taker, wakes),
         move |desk: &Shared<D, T, N>| {
-            accept_clients(rt, alloc, listener, desk, places, reply, value_len, limits)
+            accept_clients(rt, alloc, listener, desk, slots, reply, value_len, limits)
         },
         stops,
     );

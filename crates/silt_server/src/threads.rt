@@ -4,7 +4,7 @@ ghost use Rattle.std.specs.Prelude.{◌≡◌};
 use crate::job::Job;
 use crossbeam_channel::Sender;
 use silt_desk::{Wake, Wakes, join_over};
-use silt_inbox::{Inbox, Post};
+use silt_inbox::{Inbox, InboxId};
 use std::sync::Wait;
 use std::thread;
 use std::thread::Threads;
@@ -39,7 +39,7 @@ fn beside<
 // writer ends when it is empty. None if the writer's thread cannot be started; then there are no sessions.
 fn write_beside<
     S: Sync,
-    P: Post + Send + Sync,
+    P: InboxId + Send + Sync,
     X: Send + Drop,
     Y,
     A: FnOnce(&S) -> X + Send + Drop,
@@ -73,7 +73,7 @@ fn write_beside<
 // the converter is stopped.
 fn convert_beside<
     S: Sync,
-    P: Post + Send + Sync,
+    P: InboxId + Send + Sync,
     X: Send,
     V: Send + Drop,
     Y,
@@ -110,7 +110,7 @@ fn convert_beside<
 /// last two are None if the writer has no thread.
 pub fn run_beside<
     S: Sync,
-    P: Post + Send + Sync,
+    P: InboxId + Send + Sync,
     X: Send,
     V: Send + Drop,
     Y,

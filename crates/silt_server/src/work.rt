@@ -5,14 +5,14 @@ ghost use Rattle.silt_server.specs.declared.job.Job.{Job as JobOf};
 
 use crate::batch::serve_batch;
 use crate::job::Job;
-use silt_desk::{Gate, Naming, Seat, Shared, Trace, Wakes};
+use silt_desk::{Gate, DeskId, Seat, Shared, Trace, Wakes};
 use silt_disk::Disk;
-use silt_inbox::{Inbox, Post, Taker};
+use silt_inbox::{Inbox, InboxId, Taker};
 use std::alloc::Global;
 use std::sync::Wait;
 
 /// The source of the writer's jobs.
-pub trait Jobs<P: Post> {
+pub trait Jobs<P: InboxId> {
     /// There are no more jobs.
     ghost has_ended: { Self → Type 0 };
 
@@ -21,7 +21,7 @@ pub trait Jobs<P: Post> {
         ensures { MatchOption result (has_ended self.now × (taker.new ≡ taker.old)) (λ jobs. taker.new ≡ taker.old + vec_len jobs) };
 }
 
-impl<P: Post> Jobs<P> for Inbox<Job, P> {
+impl<P: InboxId> Jobs<P> for Inbox<Job, P> {
     ghost has_ended = { λ inbox. Unit {0} };
 
     fn take_all<R: Wait>(&self, rt: &R, taker: &mut Taker<P>) -> Option<Vec<Job>> {
@@ -30,8 +30,8 @@ impl<P: Post> Jobs<P> for Inbox<Job, P> {
 }
 
 /// Takes all jobs that wait, does each under a guard of its own, flushes once and then replies, until there are no more.
-/// After each batch it wakes the converter and the merger. Gives its places back.
-pub fn writer<D: Disk, T: Trace, N: Naming, P: Post, I: Jobs<P>, G: Gate, R: Wait>(
+/// After each batch it wakes the converter and the merger. Gives its seat and its taker back.
+pub fn writer<D: Disk, T: Trace, N: DeskId, P: InboxId, I: Jobs<P>, G: Gate, R: Wait>(
     rt: &R,
     alloc: Global,
     shared: &Shared<D, T, N>,

@@ -37,7 +37,7 @@ pub fn write_calls<W: Write>(alloc: Global, calls: u64, out: &mut W) -> io::Resu
     Ok(0)
 }
 
-/// Writes that all places are taken and the connection is closed, or as much of that as the system takes at once.
+/// Writes that all slots are taken and the connection is closed, or as much of that as the system takes at once.
 pub fn turn_away<W: Write>(out: &mut W)
     ensures { (written : List ℕ) × IsBeginning written busy_text × Appends (W.contents out.old) (W.contents out.new) written }
 {

@@ -12,7 +12,7 @@ mod sessions;
 mod steps;
 mod wakes;
 
-use silt_desk::{Desk, Kept, Naming, Seat, Shared, Trace, settle};
+use silt_desk::{Desk, Kept, DeskId, Seat, Shared, Trace, settle};
 use silt_device::Disk;
 use silt_event::Refusal;
 use silt_fixtures::key;
@@ -24,7 +24,7 @@ use std::sync::ledger::Blank;
 use std::test::Fail;
 
 // A put, where the store has values of this length.
-fn put<D: Disk, T: Trace, N: Naming>(
+fn put<D: Disk, T: Trace, N: DeskId>(
     desk: &mut Desk<D, T, N>,
     alloc: Global,
     seat: &mut Seat<N>,
@@ -38,7 +38,7 @@ fn put<D: Disk, T: Trace, N: Naming>(
 }
 
 // A get, where the store has values of this length.
-fn get<D: Disk, T: Trace, N: Naming>(
+fn get<D: Disk, T: Trace, N: DeskId>(
     desk: &mut Desk<D, T, N>,
     alloc: Global,
     seat: &mut Seat<N>,
@@ -52,7 +52,7 @@ fn get<D: Disk, T: Trace, N: Naming>(
 }
 
 // A look, where the store has values of this length.
-fn look<D: Disk, T: Trace, N: Naming>(
+fn look<D: Disk, T: Trace, N: DeskId>(
     desk: &Desk<D, T, N>,
     key: &Key,
     out: &mut [u8],
@@ -64,7 +64,7 @@ fn look<D: Disk, T: Trace, N: Naming>(
 }
 
 // A desk that keeps at most so many calls, with so many seats.
-fn seated<D: Disk, N: Naming>(
+fn seated<D: Disk, N: DeskId>(
     alloc: Global,
     core: Core<D>,
     most: u64,
@@ -86,14 +86,14 @@ fn seated<D: Disk, N: Naming>(
 }
 
 // Two seats of those that there are, the last one last.
-fn pop_two<N: Naming>(seats: &mut Vec<Seat<N>>) -> Option<(Seat<N>, Seat<N>)> {
+fn pop_two<N: DeskId>(seats: &mut Vec<Seat<N>>) -> Option<(Seat<N>, Seat<N>)> {
     let second = seats.pop()?;
     let first = seats.pop()?;
     Some((first, second))
 }
 
 // A desk that keeps at most so many calls, and its two seats, the first one first.
-fn two_seats<D: Disk, N: Naming>(
+fn two_seats<D: Disk, N: DeskId>(
     alloc: Global,
     core: Core<D>,
     most: u64,
@@ -112,7 +112,7 @@ fn two_seats<D: Disk, N: Naming>(
 }
 
 // How many calls and accepted commands a desk tells with both seats.
-fn settle_two<D: Disk, N: Naming, R: Wait>(
+fn settle_two<D: Disk, N: DeskId, R: Wait>(
     rt: &R,
     alloc: Global,
     shared: &Shared<D, Kept, N>,
@@ -126,7 +126,7 @@ fn settle_two<D: Disk, N: Naming, R: Wait>(
 }
 
 // Puts the keys 1 to 5: the fifth put freezes the first log.
-fn put_five<D: Disk, N: Naming, R: Wait>(
+fn put_five<D: Disk, N: DeskId, R: Wait>(
     rt: &R,
     alloc: Global,
     shared: &Shared<D, Kept, N>,

@@ -6,7 +6,7 @@ ghost use Rattle.silt_inbox.specs.declared.answered.EventKind.TheVariants as kin
 use crossbeam_channel::{Receiver, Sender};
 use silt_event::{Event, Reply};
 use silt_frame::Key;
-use silt_inbox::{Answered, EventKind, Feeder, Inbox, NotPutReason, Post, Queue, Taker};
+use silt_inbox::{Answered, EventKind, Feeder, Inbox, NotPutReason, InboxId, Queue, Taker};
 use std::alloc::Global;
 use std::marker::Brand;
 use std::process::Abort;
@@ -54,7 +54,7 @@ fn a_queue_keeps_the_order(rt: HostRuntime) -> Result<(), Fail> {
 }
 
 /// Replies to all jobs until the inbox is closed and empty, in at most a hundred turns.
-fn serve<P: Post, R: Wait>(rt: &R, inbox: &Inbox<Job, P>, mut taker: Taker<P>) -> Taker<P> {
+fn serve<P: InboxId, R: Wait>(rt: &R, inbox: &Inbox<Job, P>, mut taker: Taker<P>) -> Taker<P> {
     for _ in 0..100u32 {
         let Some(jobs) = inbox.take_all(rt, &mut taker) else {
             break;
@@ -91,7 +91,7 @@ fn flushed<R: Wait>(rt: &R, replies: &Receiver<Answered>) -> Option<Reply<()>>
 }
 
 /// Asks for one flush, and says whether it was answered by its own number.
-fn ask<P: Post, R: Wait>(
+fn ask<P: InboxId, R: Wait>(
     rt: &R,
     alloc: Global,
     inbox: &Inbox<Job, P>,
@@ -112,7 +112,7 @@ fn ask<P: Post, R: Wait>(
 }
 
 /// Asks five times, and closes the inbox. Says how often it was answered.
-fn ask_five<P: Post, R: Wait>(
+fn ask_five<P: InboxId, R: Wait>(
     rt: &R,
     alloc: Global,
     inbox: &Inbox<Job, P>,
@@ -128,7 +128,7 @@ fn ask_five<P: Post, R: Wait>(
     (feeder, answered)
 }
 
-fn run_both<P: Post + Send + Sync, R: Threads + Wait + Sync>(
+fn run_both<P: InboxId + Send + Sync, R: Threads + Wait + Sync>(
     rt: &R,
     alloc: Global,
     inbox: &Inbox<Job, P>,
@@ -143,7 +143,7 @@ fn run_both<P: Post + Send + Sync, R: Threads + Wait + Sync>(
 }
 
 /// Without the feeder the inbox is not tallied, with it five jobs were put and taken.
-fn tallies<P: Post, R: Wait + Abort>(
+fn tallies<P: InboxId, R: Wait + Abort>(
     rt: &R,
     inbox: &Inbox<Job, P>,
     feeders: Vec<Feeder<P>>,
@@ -164,7 +164,7 @@ fn tallies<P: Post, R: Wait + Abort>(
     Ok(())
 }
 
-fn five_jobs<P: Post + Send + Sync, R: Threads + Wait + Abort + Sync>(
+fn five_jobs<P: InboxId + Send + Sync, R: Threads + Wait + Abort + Sync>(
     rt: &R,
     alloc: Global,
     put: Blank,
@@ -187,7 +187,7 @@ fn answers_five_jobs(rt: HostRuntime) -> Result<(), Fail> {
 }
 
 /// Puts a job, once more where it is handed back for want of memory.
-fn put_again<P: Post, R: Wait + Abort>(
+fn put_again<P: InboxId, R: Wait + Abort>(
     rt: &R,
     inbox: &Inbox<u64, P>,
     feeder: &mut Feeder<P>,
@@ -205,7 +205,7 @@ fn put_again<P: Post, R: Wait + Abort>(
 }
 
 /// A closed inbox hands a job back, and gives those that wait.
-fn closes<P: Post, R: Wait + Abort>(
+fn closes<P: InboxId, R: Wait + Abort>(
     rt: &R,
     inbox: &Inbox<u64, P>,
     feeder: &mut Feeder<P>,
@@ -222,7 +222,7 @@ fn closes<P: Post, R: Wait + Abort>(
 }
 
 /// And is tallied then.
-fn closed_inbox<P: Post, R: Wait + Abort>(
+fn closed_inbox<P: InboxId, R: Wait + Abort>(
     rt: &R,
     alloc: Global,
     put: Blank,

@@ -2,7 +2,7 @@ use denote.Param.Send.{sendable}
 use Rattle.std.proofs.Crossing.{crosses}
 use Rattle.std.proofs.sync.RwLock.TheSendSync.{the_sync as lock_sync}
 use Rattle.silt_desk.proofs.Shares.{desk_send, desk_sync}
-use Rattle.silt_bench.proofs.workers.run_crew.Goals as goal
+use Rattle.silt_bench.proofs.workers.run_threads.Goals as goal
 
 pub join_over-seats-requires-sync-S : goal.join_over-seats-requires-sync-S
 join_over-seats-requires-sync-S g c κs within = search (sendable, crosses, lock_sync, desk_send, desk_sync) depth 20

@@ -3,7 +3,7 @@ ghost use Rattle.std.specs.Prelude.{◌≡◌};
 
 use crate::tests::desk::{get, put, put_five, two_seats};
 use crossbeam_channel::{Receiver, Sender};
-use silt_desk::{Gate, Kept, Naming, Seat, Shared, Spot, Wake, converter, join_over};
+use silt_desk::{Gate, Kept, DeskId, Seat, Shared, Spot, Wake, converter, join_over};
 use silt_device::Disk;
 use silt_event::Progress;
 use silt_fixtures::{formatted, key, opened_on, reaches};
@@ -48,7 +48,7 @@ struct Seen {
 }
 
 /// Calls while the worker is held, then frees it and stops it.
-fn call_beside<D: Disk, N: Naming, R: Wait + Clock>(
+fn call_beside<D: Disk, N: DeskId, R: Wait + Clock>(
     rt: &R,
     alloc: Global,
     shared: &Shared<D, Kept, N>,
@@ -74,7 +74,7 @@ fn call_beside<D: Disk, N: Naming, R: Wait + Clock>(
 }
 
 /// The worker and another thread, until both are done.
-fn run_both<D: Disk, N: Naming + Send + Sync, R: Threads + Wait + Clock + Sync>(
+fn run_both<D: Disk, N: DeskId + Send + Sync, R: Threads + Wait + Clock + Sync>(
     rt: &R,
     alloc: Global,
     shared: &Shared<D, Kept, N>,
@@ -94,7 +94,7 @@ fn run_both<D: Disk, N: Naming + Send + Sync, R: Threads + Wait + Clock + Sync>(
 }
 
 /// What another thread is answered while the worker is held, and whether the worker was freed in time and woke the other one.
-fn beside_held<D: Disk, N: Naming + Send + Sync, R: Threads + Wait + Clock + Sync>(
+fn beside_held<D: Disk, N: DeskId + Send + Sync, R: Threads + Wait + Clock + Sync>(
     rt: &R,
     alloc: Global,
     shared: &Shared<D, Kept, N>,
@@ -115,7 +115,7 @@ fn beside_held<D: Disk, N: Naming + Send + Sync, R: Threads + Wait + Clock + Syn
 }
 
 /// The worker is held before its second step until another thread's calls are answered.
-fn held_between_steps<D: Disk, N: Naming + Send + Sync, R: Threads + Wait + Clock + Abort + Sync>(
+fn held_between_steps<D: Disk, N: DeskId + Send + Sync, R: Threads + Wait + Clock + Abort + Sync>(
     rt: &R,
     alloc: Global,
     core: Core<D>,

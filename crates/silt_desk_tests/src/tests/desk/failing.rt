@@ -2,7 +2,7 @@
 ghost use Rattle.std.specs.Prelude.{◌≡◌};
 
 use crate::tests::desk::{get, put_five, settle_two, two_seats};
-use silt_desk::{Desk, Kept, Naming, OpenGate, Seat, Shared, Wake, converter};
+use silt_desk::{Desk, Kept, DeskId, OpenGate, Seat, Shared, Wake, converter};
 use silt_device::{Call, Disk, FaultDisk};
 use silt_event::Refusal;
 use silt_fixtures::{formatted, key, opened_on};
@@ -15,7 +15,7 @@ use std::sync::{RwLock, Wait};
 use std::test::Fail;
 
 // A get is refused, since the store is failed.
-fn is_failed<D: Disk, N: Naming>(
+fn is_failed<D: Disk, N: DeskId>(
     rt: &impl Abort,
     alloc: Global,
     desk: &mut Desk<D, Kept, N>,
@@ -27,7 +27,7 @@ fn is_failed<D: Disk, N: Naming>(
 }
 
 // The worker waits, and is stopped by its first message, without one of its own.
-fn waits<D: Disk, N: Naming, R: Wait + Abort>(
+fn waits<D: Disk, N: DeskId, R: Wait + Abort>(
     rt: &R,
     alloc: Global,
     shared: &Shared<D, Kept, N>,
@@ -42,7 +42,7 @@ fn waits<D: Disk, N: Naming, R: Wait + Abort>(
 }
 
 // The write of the first step of a conversion fails.
-fn failed_step<D: Disk, N: Naming, R: Wait + Abort>(
+fn failed_step<D: Disk, N: DeskId, R: Wait + Abort>(
     rt: &R,
     alloc: Global,
     core: Core<D>,

@@ -2,7 +2,7 @@
 ghost use Rattle.std.specs.Prelude.{◌≡◌};
 
 use crate::tests::desk::{get, look, put, two_seats};
-use silt_desk::{Desk, Kept, Naming, Seat, Shared, settle};
+use silt_desk::{Desk, Kept, DeskId, Seat, Shared, settle};
 use silt_device::Disk;
 use silt_event::Refusal;
 use silt_fixtures::{formatted, key, opened_on};
@@ -15,7 +15,7 @@ use std::sync::{RwLock, Wait};
 use std::test::Fail;
 
 // Three calls are recorded, and a fourth is refused.
-fn answers_three<D: Disk, N: Naming, R: Wait + Abort>(
+fn answers_three<D: Disk, N: DeskId, R: Wait + Abort>(
     rt: &R,
     alloc: Global,
     shared: &Shared<D, Kept, N>,
@@ -36,7 +36,7 @@ fn answers_three<D: Disk, N: Naming, R: Wait + Abort>(
 }
 
 // At a desk for three calls.
-fn three_calls<D: Disk, N: Naming, R: Wait + Abort>(
+fn three_calls<D: Disk, N: DeskId, R: Wait + Abort>(
     rt: &R,
     alloc: Global,
     core: Core<D>,
@@ -54,7 +54,7 @@ fn three_calls<D: Disk, N: Naming, R: Wait + Abort>(
 }
 
 // With one seat the desk is not settled, with both it tells three calls and one accepted command.
-fn settles<D: Disk, N: Naming, R: Wait + Abort>(
+fn settles<D: Disk, N: DeskId, R: Wait + Abort>(
     rt: &R,
     alloc: Global,
     shared: &Shared<D, Kept, N>,

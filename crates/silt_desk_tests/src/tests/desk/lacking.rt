@@ -2,7 +2,7 @@
 ghost use Rattle.std.specs.Prelude.{◌≡◌};
 
 use crate::tests::desk::{get, look, put};
-use silt_desk::{Count, Desk, Kept, Naming, NotPrepared, Note, Seat, Trace};
+use silt_desk::{Count, Desk, Kept, DeskId, NotPrepared, Note, Seat, Trace};
 use silt_device::Disk;
 use silt_event::Refusal;
 use silt_fixtures::{formatted, key, opened_on};
@@ -55,7 +55,7 @@ fn lacks<A: Drop, F: Drop>(answer: Result<A, Refusal<F>>) -> bool {
 }
 
 // How many of the six calls were refused for want of memory.
-fn six_calls<D: Disk, T: Trace, N: Naming>(
+fn six_calls<D: Disk, T: Trace, N: DeskId>(
     desk: &mut Desk<D, T, N>,
     alloc: Global,
     seat: &mut Seat<N>,
@@ -74,7 +74,7 @@ fn six_calls<D: Disk, T: Trace, N: Naming>(
 }
 
 // All six calls are refused, and a look finds nothing done.
-fn refuses_six<D: Disk, N: Naming, R: Abort>(
+fn refuses_six<D: Disk, N: DeskId, R: Abort>(
     rt: &R,
     alloc: Global,
     desk: &mut Desk<D, Lacking<Count>, N>,
@@ -90,7 +90,7 @@ fn refuses_six<D: Disk, N: Naming, R: Abort>(
 }
 
 // At a desk whose trace finds no memory.
-fn refuses_all<D: Disk, N: Naming, R: Abort>(
+fn refuses_all<D: Disk, N: DeskId, R: Abort>(
     rt: &R,
     alloc: Global,
     core: Core<D>,

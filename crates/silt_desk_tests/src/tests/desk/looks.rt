@@ -2,7 +2,7 @@
 ghost use Rattle.std.specs.Prelude.{◌≡◌};
 
 use crate::tests::desk::{look, put, two_seats};
-use silt_desk::{Kept, Naming, Seat, Shared, join_over};
+use silt_desk::{Kept, DeskId, Seat, Shared, join_over};
 use silt_device::Disk;
 use silt_fixtures::{formatted, key, opened_on};
 use silt_store_set::Core;
@@ -86,7 +86,7 @@ impl<D: Disk> Disk for Meeting<'_, D> {
 }
 
 /// A look under a read guard, or under a write guard.
-fn look_once<D: Disk, N: Naming, R: Wait>(
+fn look_once<D: Disk, N: DeskId, R: Wait>(
     rt: &R,
     shared: &Shared<D, Kept, N>,
     alone: bool,
@@ -100,7 +100,7 @@ fn look_once<D: Disk, N: Naming, R: Wait>(
 }
 
 /// Two looks by two threads.
-fn both_look<D: Disk, N: Naming + Send + Sync, R: Threads + Wait + Sync>(
+fn both_look<D: Disk, N: DeskId + Send + Sync, R: Threads + Wait + Sync>(
     rt: &R,
     shared: &Shared<D, Kept, N>,
     alone: bool,
@@ -114,7 +114,7 @@ fn both_look<D: Disk, N: Naming + Send + Sync, R: Threads + Wait + Sync>(
 }
 
 /// A key is put, and two threads find it. Whether a read waited in vain for a second one.
-fn find_both<D: Disk, N: Naming + Send + Sync, R: Threads + Wait + Abort + Sync>(
+fn find_both<D: Disk, N: DeskId + Send + Sync, R: Threads + Wait + Abort + Sync>(
     rt: &R,
     alloc: Global,
     shared: &Shared<D, Kept, N>,
@@ -131,7 +131,7 @@ fn find_both<D: Disk, N: Naming + Send + Sync, R: Threads + Wait + Abort + Sync>
 }
 
 /// The same at a desk of this store.
-fn misses<D: Disk, N: Naming + Send + Sync, R: Threads + Wait + Abort + Sync>(
+fn misses<D: Disk, N: DeskId + Send + Sync, R: Threads + Wait + Abort + Sync>(
     rt: &R,
     alloc: Global,
     core: Core<D>,

@@ -6,7 +6,7 @@ ghost use Rattle.silt_desk.specs.Seeing.{seen};
 ghost use Rattle.silt_desk.specs.Traces.{IsHistory};
 
 use crate::tests::desk::{get, look, put};
-use silt_desk::{Desk, Kept, Naming, NotMade, Seat};
+use silt_desk::{Desk, Kept, DeskId, NotMade, Seat};
 use silt_device::Disk;
 use silt_event::{Progress, Refusal};
 use silt_fixtures::{formatted, key, opened_on};
@@ -70,7 +70,7 @@ fn found<F: Drop>(answer: Result<bool, Refusal<F>>, out: [u8; 2]) -> Told {
     }
 }
 
-fn ask_put<D: Disk, N: Naming>(
+fn ask_put<D: Disk, N: DeskId>(
     desk: &mut Desk<D, Kept, N>,
     alloc: Global,
     seat: &mut Seat<N>,
@@ -82,7 +82,7 @@ fn ask_put<D: Disk, N: Naming>(
     }
 }
 
-fn ask_get<D: Disk, N: Naming>(
+fn ask_get<D: Disk, N: DeskId>(
     desk: &mut Desk<D, Kept, N>,
     alloc: Global,
     seat: &mut Seat<N>,
@@ -95,7 +95,7 @@ fn ask_get<D: Disk, N: Naming>(
     }
 }
 
-fn ask<D: Disk, N: Naming>(
+fn ask<D: Disk, N: DeskId>(
     desk: &mut Desk<D, Kept, N>,
     alloc: Global,
     seat: &mut Seat<N>,
@@ -125,13 +125,13 @@ fn call_of(turn: u8) -> (Call, Told) {
 }
 
 // Whether a look finds that the call of this turn did nothing: a key of this number is put in no earlier turn.
-fn did_nothing<D: Disk, N: Naming>(desk: &Desk<D, Kept, N>, turn: u8) -> bool {
+fn did_nothing<D: Disk, N: DeskId>(desk: &Desk<D, Kept, N>, turn: u8) -> bool {
     let mut out = [7; 2];
     look(desk, &key(turn), &mut out) == Some((u64::from(turn.saturating_sub(1).min(5)), false))
 }
 
 // What the call of this turn is answered, once more where it is refused memory and did nothing.
-fn ask_again<D: Disk, N: Naming>(
+fn ask_again<D: Disk, N: DeskId>(
     desk: &mut Desk<D, Kept, N>,
     alloc: Global,
     seat: &mut Seat<N>,
@@ -146,7 +146,7 @@ fn ask_again<D: Disk, N: Naming>(
 }
 
 // All calls.
-fn ask_all<D: Disk, N: Naming>(
+fn ask_all<D: Disk, N: DeskId>(
     rt: &impl Abort,
     alloc: Global,
     desk: &mut Desk<D, Kept, N>,
@@ -182,7 +182,7 @@ fn kept_again<D: Disk>(alloc: Global, core: &Core<D>) -> Option<Kept>
 }
 
 // All calls that were done are recorded, each once.
-fn records_each<D: Disk, N: Naming>(
+fn records_each<D: Disk, N: DeskId>(
     rt: &impl Abort,
     alloc: Global,
     desk: &mut Desk<D, Kept, N>,
@@ -196,7 +196,7 @@ fn records_each<D: Disk, N: Naming>(
 }
 
 // The same at a desk with its seat.
-fn records_all<D: Disk, N: Naming>(
+fn records_all<D: Disk, N: DeskId>(
     rt: &impl Abort,
     alloc: Global,
     made: (Desk<D, Kept, N>, Vec<Seat<N>>),
@@ -222,7 +222,7 @@ fn is_unused<D: Disk>(rt: &impl Abort, not_made: &NotMade<D, Kept>) {
 }
 
 // A store that gets no desk is handed back. At a desk all calls that were done are recorded.
-fn records_what_is_done<D: Disk, N: Naming, R: Abort>(
+fn records_what_is_done<D: Disk, N: DeskId, R: Abort>(
     rt: &R,
     alloc: Global,
     core: Core<D>,

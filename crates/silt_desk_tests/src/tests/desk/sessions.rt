@@ -4,7 +4,7 @@ ghost use Rattle.std.specs.Prelude.{◌≡◌};
 use crate::tests::desk::{get, pop_two, put, seated};
 use crossbeam_channel::{Receiver, Sender};
 use silt_desk::{
-    Desk, Kept, Naming, OpenGate, RecordedCall, Seat, Shared, Wake, converter, join_over, merger,
+    Desk, Kept, DeskId, OpenGate, RecordedCall, Seat, Shared, Wake, converter, join_over, merger,
     settle,
 };
 use silt_device::{Disk, Geometry};
@@ -30,7 +30,7 @@ fn key_of(thread: u8, number: u8) -> Key {
 }
 
 /// A put, a get and a delete, each under a guard of its own.
-fn turn<D: Disk, N: Naming, R: Wait>(
+fn turn<D: Disk, N: DeskId, R: Wait>(
     rt: &R,
     alloc: Global,
     shared: &Shared<D, Kept, N>,
@@ -47,7 +47,7 @@ fn turn<D: Disk, N: Naming, R: Wait>(
 }
 
 /// Turns of one thread, which wakes the workers now and then.
-fn session<D: Disk, N: Naming, R: Wait>(
+fn session<D: Disk, N: DeskId, R: Wait>(
     rt: &R,
     alloc: Global,
     shared: &Shared<D, Kept, N>,
@@ -66,7 +66,7 @@ fn session<D: Disk, N: Naming, R: Wait>(
 }
 
 /// Two sessions at once.
-fn two_sessions<D: Disk, N: Naming + Send + Sync, R: Threads + Wait + Sync>(
+fn two_sessions<D: Disk, N: DeskId + Send + Sync, R: Threads + Wait + Sync>(
     rt: &R,
     alloc: Global,
     shared: &Shared<D, Kept, N>,
@@ -85,7 +85,7 @@ fn two_sessions<D: Disk, N: Naming + Send + Sync, R: Threads + Wait + Sync>(
 }
 
 /// Four sessions at once, and then the workers are stopped.
-fn four_sessions<D: Disk, N: Naming + Send + Sync, R: Threads + Wait + Sync>(
+fn four_sessions<D: Disk, N: DeskId + Send + Sync, R: Threads + Wait + Sync>(
     rt: &R,
     alloc: Global,
     shared: &Shared<D, Kept, N>,
@@ -108,19 +108,19 @@ fn four_sessions<D: Disk, N: Naming + Send + Sync, R: Threads + Wait + Sync>(
 
 /// A worker's seat and its channels.
 #[derive(Drop)]
-struct Place<N: Naming> {
+struct SeatedWorker<N: DeskId> {
     seat: Seat<N>,
     wakes: Receiver<Wake>,
     other: Sender<Wake>,
 }
 
 /// Both workers until they are stopped.
-fn both_workers<D: Disk, N: Naming + Send + Sync, R: Threads + Wait + Sync>(
+fn both_workers<D: Disk, N: DeskId + Send + Sync, R: Threads + Wait + Sync>(
     rt: &R,
     alloc: Global,
     shared: &Shared<D, Kept, N>,
-    first: Place<N>,
-    second: Place<N>,
+    first: SeatedWorker<N>,
+    second: SeatedWorker<N>,
 ) -> (Seat<N>, Seat<N>) {
     join_over(
         rt,
@@ -186,7 +186,7 @@ fn done_again(map: &mut BTreeMap<Key, [u8; 2]>, call: &RecordedCall) -> Result<b
 }
 
 /// Two seats come back.
-fn push_two<N: Naming>(
+fn push_two<N: DeskId>(
     seats: &mut Vec<Seat<N>>,
     two: (Seat<N>, Seat<N>),
 ) -> Result<(), AllocError> {
@@ -196,7 +196,7 @@ fn push_two<N: Naming>(
 }
 
 /// Four of them.
-fn pop_four<N: Naming>(seats: &mut Vec<Seat<N>>) -> Option<(Seat<N>, Seat<N>, Seat<N>, Seat<N>)> {
+fn pop_four<N: DeskId>(seats: &mut Vec<Seat<N>>) -> Option<(Seat<N>, Seat<N>, Seat<N>, Seat<N>)> {
     let (a, b) = pop_two(seats)?;
     let (c, d) = pop_two(seats)?;
     Some((a, b, c, d))
@@ -210,7 +210,7 @@ fn channel(alloc: Global) -> Result<(Receiver<Wake>, Sender<Wake>, Sender<Wake>)
 }
 
 /// The sessions and the workers at once, at seats that are handed out.
-fn run_seated<D: Disk, N: Naming + Send + Sync, R: Threads + Wait + Sync>(
+fn run_seated<D: Disk, N: DeskId + Send + Sync, R: Threads + Wait + Sync>(
     rt: &R,
     alloc: Global,
     shared: &Shared<D, Kept, N>,
@@ -220,12 +220,12 @@ fn run_seated<D: Disk, N: Naming + Send + Sync, R: Threads + Wait + Sync>(
 ) -> Result<((Seat<N>, Seat<N>), ((Seat<N>, Seat<N>), (Seat<N>, Seat<N>))), Fail> {
     let (first_from, to_first, first_by_other) = channel(alloc)?;
     let (second_from, to_second, second_by_other) = channel(alloc)?;
-    let first = Place {
+    let first = SeatedWorker {
         seat: workers.0,
         wakes: first_from,
         other: second_by_other,
     };
-    let second = Place {
+    let second = SeatedWorker {
         seat: workers.1,
         wakes: second_from,
         other: first_by_other,
@@ -236,7 +236,7 @@ fn run_seated<D: Disk, N: Naming + Send + Sync, R: Threads + Wait + Sync>(
 }
 
 /// The sessions and the workers at once. All seats come back.
-fn run_all<D: Disk, N: Naming + Send + Sync, R: Threads + Wait + Sync>(
+fn run_all<D: Disk, N: DeskId + Send + Sync, R: Threads + Wait + Sync>(
     rt: &R,
     alloc: Global,
     shared: &Shared<D, Kept, N>,
@@ -253,12 +253,12 @@ fn run_all<D: Disk, N: Naming + Send + Sync, R: Threads + Wait + Sync>(
 }
 
 /// The workers in one thread, and the sessions in another.
-fn run_both<D: Disk, N: Naming + Send + Sync, R: Threads + Wait + Sync>(
+fn run_both<D: Disk, N: DeskId + Send + Sync, R: Threads + Wait + Sync>(
     rt: &R,
     alloc: Global,
     shared: &Shared<D, Kept, N>,
-    first: Place<N>,
-    second: Place<N>,
+    first: SeatedWorker<N>,
+    second: SeatedWorker<N>,
     four: (Seat<N>, Seat<N>, Seat<N>, Seat<N>),
     turns: u32,
     wakes: Sender<Wake>,
@@ -275,7 +275,7 @@ fn run_both<D: Disk, N: Naming + Send + Sync, R: Threads + Wait + Sync>(
 }
 
 /// The store's entries at the end are what the recorded calls make of those at the opening, and as many calls are settled as recorded.
-fn many_calls<D: Disk, N: Naming + Send + Sync, R: Threads + Wait + Abort + Sync>(
+fn many_calls<D: Disk, N: DeskId + Send + Sync, R: Threads + Wait + Abort + Sync>(
     rt: &R,
     alloc: Global,
     core: Core<D>,
@@ -298,7 +298,7 @@ fn many_calls<D: Disk, N: Naming + Send + Sync, R: Threads + Wait + Abort + Sync
 }
 
 /// What the recorded calls of a desk make of the entries at its opening.
-fn replayed_by<D: Disk, N: Naming>(
+fn replayed_by<D: Disk, N: DeskId>(
     alloc: Global,
     desk: &Desk<D, Kept, N>,
 ) -> Result<BTreeMap<Key, [u8; 2]>, Fail> {
@@ -320,7 +320,7 @@ fn ends_with<D: Disk, R: Abort>(
 }
 
 /// The entries at the end are those of the replay.
-fn ends_as_replayed<D: Disk, N: Naming, R: Abort>(
+fn ends_as_replayed<D: Disk, N: DeskId, R: Abort>(
     rt: &R,
     alloc: Global,
     desk: Desk<D, Kept, N>,

@@ -2,7 +2,7 @@
 ghost use Rattle.std.specs.Prelude.{◌≡◌};
 
 use crate::tests::desk::{put_five, settle_two, two_seats};
-use silt_desk::{Kept, Naming, OpenGate, Seat, Shared, Wake, converter, merger};
+use silt_desk::{Kept, DeskId, OpenGate, Seat, Shared, Wake, converter, merger};
 use silt_device::Disk;
 use silt_fixtures::{formatted, opened_on};
 use silt_store_set::Core;
@@ -21,7 +21,7 @@ enum Worker {
 }
 
 // A worker until there is nothing for it to do, and whether it woke the other one.
-fn works<D: Disk, N: Naming, R: Wait>(
+fn works<D: Disk, N: DeskId, R: Wait>(
     rt: &R,
     alloc: Global,
     shared: &Shared<D, Kept, N>,
@@ -39,7 +39,7 @@ fn works<D: Disk, N: Naming, R: Wait>(
 }
 
 // Each worker twice, the converter first: where there is something to do it wakes the other.
-fn work_in_turn<D: Disk, N: Naming, R: Wait + Abort>(
+fn work_in_turn<D: Disk, N: DeskId, R: Wait + Abort>(
     rt: &R,
     alloc: Global,
     shared: &Shared<D, Kept, N>,
@@ -59,7 +59,7 @@ fn work_in_turn<D: Disk, N: Naming, R: Wait + Abort>(
 }
 
 // Five puts freeze a log of four rows. Its conversion has eight slots and an end, and the merge eight slots, four keys and an end.
-fn does_what_is_wanted<D: Disk, N: Naming, R: Wait + Abort>(
+fn does_what_is_wanted<D: Disk, N: DeskId, R: Wait + Abort>(
     rt: &R,
     alloc: Global,
     core: Core<D>,

@@ -6,13 +6,13 @@ ghost use Rattle.silt_desk.specs.Traces.{IsHistory};
 use crate::tests::server::record::{Found, ask_all};
 use crate::tests::server::{Patient, limits_of};
 use crate::tests::{Open, are_those, two_bytes};
-use silt_desk::{Desk, Kept, Naming, RecordedCall};
+use silt_desk::{Desk, Kept, DeskId, RecordedCall};
 use silt_device::{Disk, Geometry, MemDisk};
 use silt_event::{Event, Reply};
 use silt_fixtures::formatted_with;
 use silt_frame::Key;
-use silt_inbox::Post;
-use silt_server::{Hall, Listens, serve_desk};
+use silt_inbox::InboxId;
+use silt_server::{ServerState, Listens, serve_desk};
 use silt_store_set::Core;
 use std::alloc::{AllocError, Global};
 use std::collections::BTreeMap;
@@ -103,7 +103,7 @@ fn tell_of<D: Disk>(alloc: Global, core: &Core<D>, again: &Again, calls: u64) ->
 }
 
 /// What the record of a desk tells.
-fn tell<D: Disk, N: Naming>(alloc: Global, desk: Desk<D, Kept, N>) -> Option<Told> {
+fn tell<D: Disk, N: DeskId>(alloc: Global, desk: Desk<D, Kept, N>) -> Option<Told> {
     let calls = desk.trace().calls().len() as u64;
     let again = replayed(alloc, desk.trace().calls()).ok()?;
     tell_of(alloc, &desk.into_core(), &again, calls)
@@ -113,8 +113,8 @@ fn tell<D: Disk, N: Naming>(alloc: Global, desk: Desk<D, Kept, N>) -> Option<Tol
 fn serve_recorded<
     L: Listens,
     D: Disk,
-    N: Naming + Send + Sync,
-    P: Post + Send + Sync,
+    N: DeskId + Send + Sync,
+    P: InboxId + Send + Sync,
     R: Threads + Wait + Sync,
     W: Write,
 >(
@@ -137,9 +137,9 @@ fn serve_recorded<
     let (calls, accepted) = desk_blanks;
     let (put, taken) = inbox_blanks;
     let (desk, seats) = Desk::<D, Kept, N>::new(alloc, core, kept, 3, calls, accepted).ok()?;
-    let hall = Hall::<N, P>::new(alloc, seats, put, taken)?;
+    let state = ServerState::<N, P>::new(alloc, seats, put, taken)?;
     let limits = limits_of(sessions, None);
-    let (desk, status) = serve_desk(rt, alloc, listener, desk, hall, limits, &Open, out);
+    let (desk, status) = serve_desk(rt, alloc, listener, desk, state, limits, &Open, out);
     let told = tell(alloc, desk)?;
     Some((told, status.ok()?))
 }

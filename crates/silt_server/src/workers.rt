@@ -1,9 +1,9 @@
-// The workers' places, and the ways to wake them.
+// What the writer and the two workers need, and the ways to wake them.
 ghost use Rattle.std.specs.Prelude.{◌≡◌, ◌++◌, ◌∷◌, [], List, IfOk, IfSome};
 ghost use Rattle.silt_desk.specs.Seats.{SeatState};
 
 use crossbeam_channel::{Receiver, Sender};
-use silt_desk::{Naming, Seat, Wake, Wakes};
+use silt_desk::{DeskId, Seat, Wake, Wakes};
 use std::alloc::{AllocError, Global};
 
 // How many messages a worker's channel holds. The writer, the other worker and the thread that stops it each send one
@@ -11,17 +11,17 @@ use std::alloc::{AllocError, Global};
 // of memory.
 const MESSAGES: usize = 4;
 
-/// The place of a worker: its seat, where it is woken, and how it wakes the other one.
+/// What a worker needs: its seat, where it is woken, and how it wakes the other one.
 #[derive(Drop)]
-pub struct Worker<N: Naming> {
+pub struct Worker<N: DeskId> {
     pub seat: Seat<N>,
     pub wakes: Receiver<Wake>,
     pub other: Sender<Wake>,
 }
 
-/// The places of all workers, and the ways to stop the converter and the merger.
+/// What the writer and the workers need, and the ways to stop the converter and the merger.
 #[derive(Drop)]
-pub struct Crew<N: Naming> {
+pub struct Workers<N: DeskId> {
     pub writer: Seat<N>,
     pub converter: Worker<N>,
     pub merger: Worker<N>,
@@ -29,17 +29,17 @@ pub struct Crew<N: Naming> {
     pub stops: Wakes,
 }
 
-impl<N: Naming> Crew<N> {
-    /// The places of the workers, with the last three of these seats. None if there are fewer than three, or if out of
+impl<N: DeskId> Workers<N> {
+    /// The writer and the workers, with the last three of these seats. None if there are fewer than three, or if out of
     /// memory for the channels.
-    pub fn new(alloc: Global, seats: Vec<Seat<N>>) -> Option<Crew<N>>
-        ensures { IfSome result (λ crew. (others : List SeatState) × (seats.items ≡ others ++ crew.writer ∷ crew.converter.seat ∷ crew.merger.seat ∷ [])) }
+    pub fn new(alloc: Global, seats: Vec<Seat<N>>) -> Option<Workers<N>>
+        ensures { IfSome result (λ workers. (others : List SeatState) × (seats.items ≡ others ++ workers.writer ∷ workers.converter.seat ∷ workers.merger.seat ∷ [])) }
     {
         let mut seats = seats;
         let merger = seats.pop()?;
         let converter = seats.pop()?;
         let writer = seats.pop()?;
-        Crew::seated(alloc, writer, converter, merger).ok()
+        Workers::seated(alloc, writer, converter, merger).ok()
     }
 
     // With a channel to the converter and one to the merger.
@@ -48,11 +48,11 @@ impl<N: Naming> Crew<N> {
         writer: Seat<N>,
         converter: Seat<N>,
         merger: Seat<N>,
-    ) -> Result<Crew<N>, AllocError>
-        ensures { IfOk result (λ crew. (crew.writer ≡ writer) × (crew.converter.seat ≡ converter) × (crew.merger.seat ≡ merger)) }
+    ) -> Result<Workers<N>, AllocError>
+        ensures { IfOk result (λ workers. (workers.writer ≡ writer) × (workers.converter.seat ≡ converter) × (workers.merger.seat ≡ merger)) }
     {
         let (first, second) = two_ways(alloc)?;
-        Ok(Crew {
+        Ok(Workers {
             writer,
             converter: Worker {
                 seat: converter,

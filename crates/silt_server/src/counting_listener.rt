@@ -32,17 +32,17 @@ impl Listens for TcpListener {
 
 /// A listener, and how many connections it accepted.
 #[derive(Drop)]
-pub struct Entrance<'a, L: Listens> {
+pub struct CountingListener<'a, L: Listens> {
     listener: &'a L,
     accepted: u64,
 }
 
-impl<'a, L: Listens> Entrance<'a, L> {
+impl<'a, L: Listens> CountingListener<'a, L> {
     /// No connection is counted yet.
-    pub fn new(listener: &'a L) -> Entrance<'a, L>
+    pub fn new(listener: &'a L) -> CountingListener<'a, L>
         ensures { result.accepted ≡ 0 }
     {
-        Entrance {
+        CountingListener {
             listener,
             accepted: 0,
         }

@@ -1,22 +1,22 @@
-// The places of the sessions.
+// The slots of the sessions.
 ghost use Rattle.std.specs.Prelude.{◌≡◌, ◌<◌, true, false, not, length, Some, None, IfSome, IfOk, vec_len};
 
-use silt_inbox::{Feeder, Post};
+use silt_inbox::{Feeder, InboxId};
 use std::alloc::{AllocError, Global};
 use std::mem;
 use std::net::TcpStream;
 use std::sync::{Mutex, Wait};
 
-/// The place of one session: its feeder, whether a session has it, and the connection that waits for its thread.
+/// The slot of one session: its feeder, whether a session has it, and the connection that waits for its thread.
 #[derive(Drop)]
-pub struct Place<P: Post> {
+pub struct SessionSlot<P: InboxId> {
     feeder: Feeder<P>,
     is_taken: bool,
     stream: Option<TcpStream>,
 }
 
-impl<P: Post> Place<P> {
-    // Takes the place, and returns whether it was free.
+impl<P: InboxId> SessionSlot<P> {
+    // Takes the slot, and returns whether it was free.
     fn take(&mut self) -> bool
         ensures taken { self.new.is_taken ≡ true }
         ensures free { result ≡ not self.old.is_taken }
@@ -27,7 +27,7 @@ impl<P: Post> Place<P> {
         was_free
     }
 
-    /// Gives a connection to the session that will have this place.
+    /// Gives a connection to the session that will have this slot.
     pub fn connect(&mut self, stream: TcpStream)
         ensures given { self.new.stream ≡ Some stream }
         ensures others { (self.new.feeder ≡ self.old.feeder) × (self.new.is_taken ≡ self.old.is_taken) }
@@ -44,7 +44,7 @@ impl<P: Post> Place<P> {
         mem::replace(&mut self.stream, None)
     }
 
-    /// Gives the place back, with its feeder. A connection that still waits is closed.
+    /// Gives the slot back, with its feeder. A connection that still waits is closed.
     pub fn leave(&mut self)
         ensures free { self.new.is_taken ≡ false }
         ensures none { self.new.stream ≡ None }
@@ -60,35 +60,35 @@ impl<P: Post> Place<P> {
     }
 }
 
-/// A free place for each feeder.
+/// A free slot for each feeder.
 ///
 /// # Errors
 ///
 /// Out of memory for the list.
-pub fn places_of<P: Post>(
+pub fn slots_of<P: InboxId>(
     alloc: Global,
     feeders: Vec<Feeder<P>>,
-) -> Result<Vec<Mutex<Place<P>>>, AllocError>
-    ensures { IfOk result (λ places. vec_len places ≡ vec_len feeders) }
+) -> Result<Vec<Mutex<SessionSlot<P>>>, AllocError>
+    ensures { IfOk result (λ slots. vec_len slots ≡ vec_len feeders) }
 {
-    let mut places = Vec::with_capacity(alloc, feeders.len())?;
+    let mut slots = Vec::with_capacity(alloc, feeders.len())?;
     let mut feeders = feeders;
     while let Some(feeder) = feeders.pop() {
-        places.push(Mutex::new(Place {
+        slots.push(Mutex::new(SessionSlot {
             feeder,
             is_taken: false,
             stream: None,
         }))?;
     }
-    Ok(places)
+    Ok(slots)
 }
 
-/// The number of a place that was free, and is now taken.
-pub fn free_place<P: Post, R: Wait>(rt: &R, places: &[Mutex<Place<P>>]) -> Option<usize>
-    ensures { IfSome result (λ number. number < length places.now) }
+/// The number of a slot that was free, and is now taken.
+pub fn free_slot<P: InboxId, R: Wait>(rt: &R, slots: &[Mutex<SessionSlot<P>>]) -> Option<usize>
+    ensures { IfSome result (λ number. number < length slots.now) }
 {
-    for number in 0..places.len() {
-        if places[number].lock(rt).take() {
+    for number in 0..slots.len() {
+        if slots[number].lock(rt).take() {
             return Some(number);
         }
     }

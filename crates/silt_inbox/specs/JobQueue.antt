@@ -1,9 +1,9 @@
 -- What lies under the lock of an inbox, as contracts see it.
 use Rattle.std.specs.Prelude.{◌≡◌, Bool, true, false, List}
-use Rattle.silt_inbox.specs.declared.letters.NotPutReason.{NotPutReason}
-use Rattle.silt_inbox.specs.declared.letters.NotPutReason.TheVariants.{Closed, NoMemory}
+use Rattle.silt_inbox.specs.declared.job_queue.NotPutReason.{NotPutReason}
+use Rattle.silt_inbox.specs.declared.job_queue.NotPutReason.TheVariants.{Closed, NoMemory}
 
-pub record LettersState (J : Type 0) : Type 0 where
+pub record JobQueueState (J : Type 0) : Type 0 where
   -- the waiting jobs, in the order in which they were put
   pub jobs : List J
   pub closed : Bool

@@ -1,5 +1,5 @@
 use Rattle.std.proofs.Common.{◌≡◌, ◌+◌, sum, vec_len}
-use Rattle.silt_inbox.proofs.letters.Letters.tally.Given as goal
+use Rattle.silt_inbox.proofs.job_queue.JobQueue.tally.Given as goal
 
 -- the parts and amounts of the places taken out so far are joined
 abbrev pub invariant-loop-feeder : goal.invariant-loop-feeder

@@ -1,8 +1,8 @@
 // What lies under the lock of an inbox.
 ghost use Rattle.std.specs.Prelude.{◌≡◌, ◌≢◌, ℕ, ◌+◌, ◌%◌, ◌^◌, ◌++◌, ◌∷◌, [], length, sum, vec_len, true, false, IfOk, MatchResult, MatchOption, MatchBool};
-ghost use Rattle.silt_inbox.specs.Letters.{LettersState, IsReason};
+ghost use Rattle.silt_inbox.specs.JobQueue.{JobQueueState, IsReason};
 
-use crate::places::{Feeder, Post, PutOf, TakenOf, Taker};
+use crate::places::{Feeder, InboxId, PutOf, TakenOf, Taker};
 use crate::queue::Queue;
 use std::marker::Model;
 use std::sync::ledger::{Book, Share};
@@ -25,14 +25,14 @@ pub struct NotPut<J: Drop> {
 
 /// The given feeders, if some are missing.
 #[derive(Drop)]
-pub struct MissingFeeders<P: Post> {
+pub struct MissingFeeders<P: InboxId> {
     pub feeders: Vec<Feeder<P>>,
     pub taker: Taker<P>,
 }
 
 /// The jobs that wait, with the books of those put and taken. Contracts see the jobs, and whether the inbox is closed.
 #[derive(Drop)]
-pub(crate) struct Letters<J: Drop, P: Post> {
+pub(crate) struct JobQueue<J: Drop, P: InboxId> {
     queue: Queue<J>,
     closed: bool,
     feeders: u64,
@@ -43,11 +43,11 @@ pub(crate) struct Letters<J: Drop, P: Post> {
     idle: Share<PutOf<P>>,
 }
 
-impl<J: Drop, P: Post> Model for Letters<J, P> {
+impl<J: Drop, P: InboxId> Model for JobQueue<J, P> {
     ghost use Rattle.std.specs.Prelude.{◌≡◌, ◌+◌, ◌%◌, ◌^◌, length};
-    ghost use Rattle.silt_inbox.specs.Letters.{LettersState};
+    ghost use Rattle.silt_inbox.specs.JobQueue.{JobQueueState};
 
-    ghost Value = { LettersState J };
+    ghost Value = { JobQueueState J };
 
     ghost view = { λ l. record { jobs = l.queue; closed = l.closed } };
 
@@ -55,7 +55,7 @@ impl<J: Drop, P: Post> Model for Letters<J, P> {
         × (l.feeders ≡ P.feeders) × (l.idle.parts ≡ 0) × (l.idle.amount ≡ 0) };
 }
 
-impl<J: Drop, P: Post> Letters<J, P> {
+impl<J: Drop, P: InboxId> JobQueue<J, P> {
     // No jobs yet. All feeders have their places.
     pub fn new(
         queue: Queue<J>,
@@ -63,13 +63,13 @@ impl<J: Drop, P: Post> Letters<J, P> {
         put_book: Book<PutOf<P>>,
         taken_book: Book<TakenOf<P>>,
         idle: Share<PutOf<P>>,
-    ) -> Letters<J, P>
+    ) -> JobQueue<J, P>
         requires none { queue ≡ [] }
         requires books { (put_book.total ≡ 0) × (taken_book.total ≡ 0) }
         requires feeders { (feeders ≡ P.feeders) × (idle.parts ≡ 0) × (idle.amount ≡ 0) }
         ensures { (result.jobs ≡ []) × (result.closed ≡ false) }
     {
-        Letters {
+        JobQueue {
             queue,
             closed: false,
             feeders,
