@@ -1,15 +1,15 @@
 -- Which replies a store may give, and which commands a crash may take away.
-use Rattle.std.specs.Prelude.{Vec, ◌≡◌, ◌≤◌, ℕ, ◌+◌, Bool, true, false, ◌||◌, IsTrue, Some, None, List, [], ◌∷◌, ◌++◌, length, codes}
+use Rattle.std.specs.Prelude.{Vec, ◌≡◌, ◌≢◌, ◌≤◌, ℕ, ◌+◌, Bool, true, false, ◌||◌, IsTrue, Some, None, List, [], ◌∷◌, ◌++◌, length, codes}
 use Rattle.std.specs.FinMap.{get}
 use Rattle.std.specs.declared.alloc.Global.{Global}
 use Rattle.silt_event.specs.declared.reply.LifeReply.{LifeReply}
 use Rattle.silt_event.specs.declared.reply.LifeReply.TheVariants.{NotOpened, Opened}
 use Rattle.silt_event.specs.declared.event.Event.{Event}
-use Rattle.silt_event.specs.declared.event.Event.TheVariants.{Put, Delete, Flush, Get, Convert, Merge}
+use Rattle.silt_event.specs.declared.event.Event.TheVariants.{Put, Delete, Swap, Flush, Get, Convert, Merge}
 use Rattle.silt_event.specs.declared.refusal.Refusal.{Refusal}
 use Rattle.silt_event.specs.declared.refusal.Refusal.TheVariants.{NotFormatted, BadGeometry, Damaged, Crowded, Device, NoMemory, StoreFull, NoRoom, Failed, Spent, HistoryFull}
 use Rattle.silt_event.specs.declared.reply.Reply.{Reply}
-use Rattle.silt_event.specs.declared.reply.Reply.TheVariants.{Accepted, Acknowledged, Found, Absent, Progress, Refused, Unsettled, NotServed}
+use Rattle.silt_event.specs.declared.reply.Reply.TheVariants.{Accepted, Acknowledged, Found, Absent, Differs, Progress, Refused, Unsettled, NotServed}
 use Rattle.silt_event.specs.Commands.{Command, put, delete, Map, changed, map_after, Begins}
 
 -- ---- refusals
@@ -48,6 +48,7 @@ plain (Accepted n) = Accepted n
 plain (Acknowledged n) = Acknowledged n
 plain (Found value) = Found value
 plain Absent = Absent
+plain Differs = Differs
 plain (Progress progress) = Progress progress
 plain (Refused refusal) = Refused (plain_refusal refusal)
 plain (Unsettled n) = Unsettled n
@@ -59,15 +60,19 @@ PlainReply = Reply (Unit {0})
 
 -- ---- one event
 
--- a put's value has the store's value length
+-- each value of a put or a swap has the store's value length
 abbrev pub HasValueOf : ℕ → Event → Type 0
 HasValueOf len (Put key value) = length value ≡ len
+HasValueOf len (Swap key old new) = (length old ≡ len) × (length new ≡ len)
 HasValueOf len event = Unit {0}
 
--- An event with this reply takes one map to the other. A refused event changes nothing.
+-- An event with this reply takes one map to the other. A swap is accepted exactly if the key has the old value. A refused event
+-- changes nothing.
 abbrev pub Step : {F : Type 0} → Map → Event → Reply F → Map → Type 0
 Step map (Put key value) (Accepted n) to = to ≡ changed map (put key.0 value)
 Step map (Delete key) (Accepted n) to = to ≡ changed map (delete key.0)
+Step map (Swap key old new) (Accepted n) to = (get map key.0 ≡ Some old) × (to ≡ changed map (put key.0 new))
+Step map (Swap key old new) Differs to = (get map key.0 ≢ Some old) × (to ≡ map)
 Step map Flush (Acknowledged n) to = to ≡ map
 Step map (Get key) (Found value) to = (get map key.0 ≡ Some value) × (to ≡ map)
 Step map (Get key) Absent to = (get map key.0 ≡ None) × (to ≡ map)
@@ -95,6 +100,7 @@ Legal count map events replies end to = ⊥
 abbrev pub accepted_command : {F : Type 0} → Event → Reply F → List Command
 accepted_command (Put key value) (Accepted n) = put key.0 value ∷ []
 accepted_command (Delete key) (Accepted n) = delete key.0 ∷ []
+accepted_command (Swap key old new) (Accepted n) = put key.0 new ∷ []
 accepted_command event reply = []
 
 -- the commands that were accepted, in order

@@ -9,6 +9,8 @@ pub enum Event {
     Put(Key, Value),
     /// Deletes a key.
     Delete(Key),
+    /// Compare and swap: sets the value of a key to the second value if its value is the first one.
+    Swap(Key, Value, Value),
     /// Acknowledges all commands accepted so far.
     Flush,
     /// Looks up a key's value.

@@ -14,6 +14,8 @@ pub enum Reply<F> {
     Found(Value),
     /// The key has no value.
     Absent,
+    /// The key of a swap has another value than the one to compare with, or none. Nothing is done.
+    Differs,
     /// What a background step did.
     Progress(Progress),
     /// The call is refused.
@@ -47,6 +49,7 @@ impl<F: Drop> Reply<F> {
             Reply::Acknowledged(n) => Reply::Acknowledged(n),
             Reply::Found(value) => Reply::Found(value),
             Reply::Absent => Reply::Absent,
+            Reply::Differs => Reply::Differs,
             Reply::Progress(progress) => Reply::Progress(progress),
             Reply::Refused(refusal) => Reply::Refused(refusal.plain()),
             Reply::Unsettled(n) => Reply::Unsettled(n),

@@ -26,7 +26,7 @@ use Rattle.silt_tiers.specs.Merge.{merge_progress, merge_sources, merged_body}
 use Rattle.silt_tiers.specs.NextLog.{IsLowestFree, next_body}
 use Rattle.silt_tiers.specs.Laws.{IsGoodWith}
 use Rattle.silt_event.specs.declared.event.Event.{Event}
-use Rattle.silt_event.specs.declared.event.Event.TheVariants.{Put, Delete, Flush, Get, Convert, Merge}
+use Rattle.silt_event.specs.declared.event.Event.TheVariants.{Put, Delete, Swap, Flush, Get, Convert, Merge}
 use Rattle.silt_event.specs.declared.progress.Progress.{Progress as ProgressOf}
 use Rattle.silt_event.specs.declared.progress.Progress.TheVariants.{Idle, Waiting, Moved, Finished}
 use Rattle.silt_conversion.specs.Conversion.{ConversionState}
@@ -34,7 +34,7 @@ use Rattle.silt_hash_store.specs.Slots.{hash_rows}
 use Rattle.silt_event.specs.declared.refusal.Refusal.{Refusal}
 use Rattle.silt_event.specs.declared.refusal.Refusal.TheVariants.{Device, NoMemory, StoreFull, NoRoom, Failed, Spent}
 use Rattle.silt_event.specs.declared.reply.Reply.{Reply}
-use Rattle.silt_event.specs.declared.reply.Reply.TheVariants.{Accepted, Acknowledged, Found, Absent, Progress, Refused}
+use Rattle.silt_event.specs.declared.reply.Reply.TheVariants.{Accepted, Acknowledged, Found, Absent, Differs, Progress, Refused}
 use Rattle.silt_event.specs.Events.{Step, Counts, accepted_command, accepted_commands, acknowledged_after, is_fault, is_failed, plain, PlainReply}
 
 -- a conversion in progress: the hash region that it writes, and how many of the region's slots are written
@@ -277,6 +277,22 @@ module _ {D F : Type 0} (facts : Ghosts D F) (old new : CoreState D) where
   DeleteCause key (Refused refusal) = MayCount old × NoRowCause key refusal
   DeleteCause key reply = ⊥
 
+  -- on an honest disk, the key has this value
+  abbrev pub HasValue : List ℕ → List ℕ → Type 0
+  HasValue key value = IsTrue (facts.content old.disk).honest → get (map_of old) key ≡ Some value
+
+  -- A swap of the expected value: as a put, but only where the key has that value. A read may fail before that is known.
+  abbrev pub SwapCause : List ℕ → List ℕ → List ℕ → Reply F → Type 0
+  SwapCause key expected value (Accepted n) = HasValue key expected × MayPut old × WritesRow key (put key value)
+  SwapCause key expected value Differs = (old.failed ≡ false) × (new ≡ old)
+  SwapCause key expected value (Refused Failed) = old.failed ≡ true
+  SwapCause key expected value (Refused StoreFull) = HasValue key expected × MayCount old × (old.charge ≡ old.shape.sorted_capacity)
+  SwapCause key expected value (Refused Spent) =
+      HasValue key expected × (old.failed ≡ false) × ((old.count ≡ most_commands) ⊎ (MayPut old × NoRowCause key Spent))
+  SwapCause key expected value (Refused (Device fault)) = FailsRead facts old new fault ⊎ (HasValue key expected × MayPut old × FailsBy facts old new fault)
+  SwapCause key expected value (Refused refusal) = HasValue key expected × MayPut old × NoRowCause key refusal
+  SwapCause key expected value reply = ⊥
+
   -- if no command waits, a flush changes nothing
   abbrev pub FlushCause : Reply F → Type 0
   FlushCause (Acknowledged n) = (old.failed ≡ false) × (facts.failures new.disk ≡ facts.failures old.disk) × (old.waiting ≡ [] → new ≡ old)
@@ -341,6 +357,7 @@ module _ {D F : Type 0} (facts : Ghosts D F) (old new : CoreState D) where
   abbrev pub Cause : Event → Reply F → Type 0
   Cause (Put key value) = PutCause key.0 value
   Cause (Delete key) = DeleteCause key.0
+  Cause (Swap key expected value) = SwapCause key.0 expected value
   Cause Flush = FlushCause
   Cause (Get key) = GetCause key.0
   Cause Convert = ConvertCause

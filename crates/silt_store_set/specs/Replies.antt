@@ -4,11 +4,17 @@ use Rattle.silt_event.specs.declared.progress.Progress.{Progress as ProgressOf}
 use Rattle.silt_event.specs.declared.refusal.Refusal.{Refusal}
 use Rattle.silt_event.specs.declared.refusal.Refusal.TheVariants.{Device, NoMemory}
 use Rattle.silt_event.specs.declared.reply.Reply.{Reply}
-use Rattle.silt_event.specs.declared.reply.Reply.TheVariants.{Accepted, Acknowledged, Found, Absent, Progress, Refused}
+use Rattle.silt_event.specs.declared.reply.Reply.TheVariants.{Accepted, Acknowledged, Found, Absent, Differs, Progress, Refused}
 
 abbrev pub change_reply : {F : Type 0} → Result ℕ (Refusal F) → Reply F
 change_reply (Ok n) = Accepted n
 change_reply (Err refusal) = Refused refusal
+
+-- the number of an accepted swap, else Differs
+abbrev pub swap_reply : {F : Type 0} → Result (Option ℕ) (Refusal F) → Reply F
+swap_reply (Ok (Some n)) = Accepted n
+swap_reply (Ok None) = Differs
+swap_reply (Err refusal) = Refused refusal
 
 abbrev pub flush_reply : {F : Type 0} → Result ℕ (Refusal F) → Reply F
 flush_reply (Ok n) = Acknowledged n

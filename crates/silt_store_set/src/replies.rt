@@ -3,7 +3,7 @@ ghost use Rattle.std.specs.Prelude.{◌≡◌, ◌≤◌, length, IfOk};
 ghost use Rattle.silt_frame.specs.declared.key.Kind.TheVariants.{Delete};
 ghost use Rattle.silt_log.specs.Rows.{IsValueOf};
 ghost use Rattle.silt_tiers.specs.Conversion.{is_work};
-ghost use Rattle.silt_store_set.specs.Replies.{change_reply, progress_reply};
+ghost use Rattle.silt_store_set.specs.Replies.{change_reply, progress_reply, swap_reply};
 
 use crate::{Progress, Refusal, Reply};
 use silt_frame::Value;
@@ -41,6 +41,17 @@ pub fn accepted<F>(answer: Result<u64, Refusal<F>>) -> Reply<F>
 {
     match answer {
         Ok(count) => Reply::Accepted(count),
+        Err(refusal) => Reply::Refused(refusal),
+    }
+}
+
+/// The reply to a swap.
+pub fn swapped<F>(answer: Result<Option<u64>, Refusal<F>>) -> Reply<F>
+    ensures { result ≡ swap_reply answer }
+{
+    match answer {
+        Ok(Some(count)) => Reply::Accepted(count),
+        Ok(None) => Reply::Differs,
         Err(refusal) => Reply::Refused(refusal),
     }
 }

@@ -4,7 +4,7 @@ ghost use Rattle.silt_event.specs.Events.{Legal};
 ghost use Rattle.silt_disk.specs.Disk.{LeavesOnly};
 
 use crate::basis::Basis;
-use crate::replies::{accepted, copied, is_work, progressed, zeros};
+use crate::replies::{accepted, copied, is_work, progressed, swapped, zeros};
 use crate::{Event, Progress, Refusal, Reply};
 use silt_disk::{Disk, Geometry};
 use silt_frame::{Key, Kind, Value};
@@ -83,8 +83,8 @@ impl<D: Disk> Core<D> {
     ghost use Rattle.silt_store_set.specs.CoreState.{CoreState, Does, Runs, Opens, EntriesCause, StandsKept, map_of, MayWrite, row_event, wants_convert, wants_merge};
     ghost use Rattle.silt_event.specs.Events.{HasValueOf};
     ghost use Rattle.silt_store_set.specs.Opening.{OpeningCause};
-    ghost use Rattle.silt_store_set.specs.Replies.{change_reply, flush_reply, get_reply, read_reply, progress_reply};
-    ghost use Rattle.silt_event.specs.declared.event.Event.TheVariants.{Put, Delete, Get, Flush, Convert, Merge};
+    ghost use Rattle.silt_store_set.specs.Replies.{change_reply, flush_reply, get_reply, read_reply, progress_reply, swap_reply};
+    ghost use Rattle.silt_event.specs.declared.event.Event.TheVariants.{Put, Delete, Swap, Get, Flush, Convert, Merge};
 
     /// Opens a store on a device that a crash may have left.
     ///
@@ -186,6 +186,47 @@ impl<D: Disk> Core<D> {
         }
         let zeros = zeros(self.tiers.geometry().value_len());
         self.write_row(alloc, Kind::Delete, key, zeros)
+    }
+
+    /// Compare and swap: sets the value of a key to `new` if its value is `old`, and returns how many commands this life
+    /// has accepted, this one included. If the key has another value or none, it returns `None` and changes nothing.
+    ///
+    /// The checks are in this order: `Failed`, the reads of the key's value (`Device`), the comparison (`None`), and then
+    /// those of a put, from `Spent` (the count) on.
+    pub fn swap(
+        &mut self,
+        alloc: Global,
+        key: &Key,
+        old: &[u8],
+        new: &[u8],
+    ) -> Result<Option<u64>, Refusal<D::Fault>>
+        requires old { length old.now ≡ self.old.shape.value_len }
+        requires new { length new.now ≡ self.old.shape.value_len }
+        ensures { Does D.Disk self.old self.new (Swap key.now old.now new.now) (swap_reply result) }
+    {
+        if self.failed {
+            return Err(Refusal::Failed);
+        }
+        if !self.holds(key, old)? {
+            return Ok(None);
+        }
+        let count = self.put(alloc, key, new)?;
+        Ok(Some(count))
+    }
+
+    // Whether the key has this value. The buffer has room for the longest value, so that a row takes one read.
+    fn holds(&self, key: &Key, value: &[u8]) -> Result<bool, Refusal<D::Fault>>
+        requires working { self.now.failed ≡ false }
+        requires value { length value.now ≡ self.now.shape.value_len }
+        ensures holds { IsTrue (D.content self.now.disk).honest → IfOk result (λ holds. IsTrue holds ↔ (get (map_of self.now) key.0.now ≡ Some value.now)) }
+        ensures fault { IfErr result (λ refusal. IsRefusedRead D.Disk self.now refusal) }
+    {
+        let mut longest = [0; MOST_VALUE_LEN];
+        let out = &mut longest[..value.len()];
+        match self.tiers.get(&self.disk, key, out) {
+            Ok(found) => Ok(found && *out == *value),
+            Err(fault) => Err(Refusal::Device(fault)),
+        }
     }
 
     // Writes a row behind the others, or in a new log if the active one cannot take it.
@@ -355,6 +396,9 @@ impl<D: Disk> Core<D> {
         match event {
             Event::Put(key, value) => accepted(self.put(alloc, key, value.as_slice())),
             Event::Delete(key) => accepted(self.delete(alloc, key)),
+            Event::Swap(key, old, new) => {
+                swapped(self.swap(alloc, key, old.as_slice(), new.as_slice()))
+            }
             Event::Flush => match self.flush() {
                 Ok(count) => Reply::Acknowledged(count),
                 Err(refusal) => Reply::Refused(refusal),
