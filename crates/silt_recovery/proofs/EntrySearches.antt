@@ -24,7 +24,7 @@ use Rattle.silt_recovery.specs.Hashes.{AreSoundHashes}
 use Rattle.silt_recovery.specs.Logs.{AreSoundLogs}
 use Rattle.silt_recovery.proofs.Firsts.{first_behind, first_of_front, none_other, other_found}
 
--- the first finding in the entries that the ruling body names is the verdict, where nothing is found in the logs and the hash stores
+-- the first finding in the entries that the current record names is the verdict, if nothing is found in the logs and the hash stores
 pub entry_verdict : (shape : Shape) (body : Body) (image : List ℕ) (finding : Finding) → image_stores image ≡ Ok (stores_named shape body image) → AreSoundLogs shape image (body.active ∷ body.frozen)
     → AreSoundHashes shape (image_digests image) image body.hashed → HasFirstEntry shape (image_digests image) image body.sorted body.sorted_count finding → image_verdict image ≡ Some finding
 unfolding stores_named
@@ -45,11 +45,11 @@ module _ (content : Content) (shape : Shape) (said : Option Digests) (region cou
     digest_shown : IsTrue content.honest → digest ≡ entries_digest (sorted_rows shape region count content.shown)
     digest_shown h = digested h ∙ ap (λ (s : SortedState). entries_digest (sorted_rows s.shape s.region s.count content.shown)) is
 
-    -- the same test of what is said
+    -- the same test of the manifest's digest
     tests_said : (place : Place) → digest_findings place (said_sorted said) digest ≡ finding_if test (Damaged place)
     tests_said place = ap (λ (d : Option (List ℕ)). digest_findings place d digest) (sym is_said) ∙ tests place
 
-    -- another digest is said
+    -- the manifest has another digest
     pub other_sorted : test ≡ true → IsTrue content.honest → HasFirstEntry shape said content.shown region count (Damaged SortedDigest)
     unfolding rows
     other_sorted other h = record {
@@ -58,14 +58,14 @@ module _ (content : Content) (shape : Shape) (said : Option Digests) (region cou
           (other_found (said_sorted said) (entries_digest rows) digest test tests_said (digest_shown h) SortedDigest other);
     }
 
-    -- this one is said, or none
+    -- the manifest has this digest, or none
     pub sound_sorted : test ≡ false → IsTrue content.honest → AreSoundEntries shape said content.shown region count
     unfolding rows
     sound_sorted same h =
         nothing_both (sorted_findings rows) (digest_findings SortedDigest (said_sorted said) (entries_digest rows)) (sound h)
         (none_other (said_sorted said) (entries_digest rows) digest test tests_said (digest_shown h) SortedDigest same)
 
--- where all rows are puts, there are as many puts as rows
+-- if all rows are puts, there are as many puts as rows
 all_puts : (rows : List StoredRow) → ((place : ℕ) (row : StoredRow) → slice_get rows place ≡ Some row → row.kind ≡ 1) → put_count rows ≡ length rows
 all_puts [] puts = refl
 all_puts (row ∷ rows) puts =

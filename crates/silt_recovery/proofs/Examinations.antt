@@ -44,7 +44,7 @@ pub named_so : (content : Content) (manifest : ManifestState) (shape : Shape) (b
 named_so content manifest shape body same_shape same_body named h =
     named h ∙ ap (λ (s : Shape). Ok (stores_named s manifest.ruling content.shown)) (sym same_shape) ∙ ap (λ (b : Body). Ok (stores_named shape b content.shown)) (sym same_body)
 
--- nothing is found in the stores, and the digests that are said are theirs
+-- nothing is found in the stores, and the manifest's digests are theirs
 all_found : (said : Option Digests) (s : Stores) → flat_map (log_findings s.shape) s.logs ≡ [] → flat_map (said_hash_findings s.shape said) (enumerate_from 0 s.hashes) ≡ [] → said_entry_findings said s.entries ≡ []
     → charge_of s ≤ s.shape.sorted_capacity → IsSound s × AreDigestsOf said s
 all_found said s logs hashes entries charge =
@@ -131,7 +131,7 @@ module _ (content : Content) (shape : Shape) (body : Body) (named : IsTrue conte
               charge_found_law content.shown (stores_named shape body content.shown) (named h) (all_sound h) (image_sound h)
               (subst (λ (d : Option Digests). AreSoundEntries shape d content.shown body.sorted body.sorted_count) (sym (says h)) (entries_sound h)) (subst (λ (n : ℕ). shape.sorted_capacity < n) (charge_is h) many)
 
-          -- nothing is found, and the digests that are said are theirs
+          -- nothing is found, and the manifest's digests are those of the stores
           nothing_found : newest + older + hash_puts + sorted.count ≤ shape.sorted_capacity → IsTrue content.honest → IsSound (stores_named shape body content.shown) × AreDigestsOf said (stores_named shape body content.shown)
           unfolding stores_named
           nothing_found most h = all_found said (stores_named shape body content.shown) (all_sound h) (hashes_sound h) (entries_sound h) (subst (λ (n : ℕ). n ≤ shape.sorted_capacity) (charge_is h) most)

@@ -1,4 +1,4 @@
--- The first finding of several, and of a digest that is said.
+-- The first of several findings, and that of a digest.
 use Rattle.std.proofs.Common.{◌≡◌, ◌≤◌, ℕ, Bool, true, false, nat_lt, List, [], ◌∷◌, ◌++◌, slice_get, Option, Some, sym, ap, ◌∙◌}
 use Rattle.std.proofs.lemmas.Bool.{le-ltb}
 use Rattle.silt_event.specs.Findings.{finding_if}
@@ -20,7 +20,7 @@ first_behind xs ys x none e = ap (λ l. slice_get (l ++ ys) 0) none ∙ e
 pub charge_nothing : (n capacity : ℕ) (finding : Finding) → n ≤ capacity → finding_if (nat_lt capacity n) finding ≡ []
 charge_nothing n capacity finding most = ap (λ (b : Bool). finding_if b finding) (le-ltb capacity n most)
 
--- what a test of a digest tells: that a finding is there, or that there is none
+-- the test of a digest either finds it wrong or does not
 module _ (said : Option (List ℕ)) (digest read : List ℕ) (test : Bool) (tests : (place : Place) → digest_findings place said read ≡ finding_if test (Damaged place)) (same : read ≡ digest) (place : Place) where
   pub other_found : test ≡ true → slice_get (digest_findings place said digest) 0 ≡ Some (Damaged place)
   other_found is = ap (λ (d : List ℕ). slice_get (digest_findings place said d) 0) (sym same) ∙ ap (λ l. slice_get l 0) (tests place) ∙ ap (λ (b : Bool). slice_get (finding_if b (Damaged place)) 0) is

@@ -55,7 +55,7 @@ module _ (shape : Shape) (limits : InLimits shape) (c1 c2 c3 : Content) (sized :
       let end : 12288 ≤ device_size shape = omega (arith) in
       rests_leaves rests (closed_elsewhere 1 (gates_at shape 0) shape.log_capacity c2 c3 (omega arith) (omega (arith, long2, sized, end)) (inr low) prepared (closed_shown 1 c1 c2 (omega (arith, sized, end)) slot))
 
--- whatever a stop leaves of the device is an empty store
+-- each possible crash image of the device is an empty store
 pub formatted : (shape : Shape) (digests : Digests) (c3 c4 c5 : Content) → InLimits shape → digests.sorted.0 ≡ entries_digest [] → size c3 ≡ device_size shape → size c4 ≡ device_size shape → size c5 ≡ device_size shape
     → LeavesOnly c3 (λ image. log_rows shape 0 image ≡ []) → ChangesWithin (slot_at 0) 4096 c3 c4 → LeavesOnly c4 (IsFirst digests) → ChangesWithin 0 37 c4 c5 → (IsTrue c5.honest → header_of c5.shown ≡ 167 ∷ header_bytes shape) → Rests c5
     → LeavesOnly c5 (StandsFor shape empty)

@@ -1,4 +1,4 @@
--- What a stopped formatting leaves.
+-- What a crash leaves of a formatting.
 use Rattle.std.proofs.Common.{◌≡◌, ◌≢◌, ◌≤◌, ◌<◌, ℕ, ◌+◌, ◌==◌, Bool, false, ◌&&◌, ◌||◌, IsTrue, List, [], ◌∷◌, ◌++◌, length, get_or, slice_range, slice_index, Result, Ok, Err, Some, inl, inr, refl, ap, sym, ◌∙◌, subst, arith}
 use Rattle.std.specs.Result.{OnErr}
 use Rattle.std.proofs.lemmas.Bool.{cases_Bool, cases_eq}
@@ -99,7 +99,7 @@ left_but_for_gate shape old new changes = record {
       inl (record { before = from.0; left = from.1; torn = from.2 });
 }
 
--- where nothing was written
+-- if nothing was written
 pub left_so : (shape : Shape) (content : Content) → LeavesOnly content (IsHalfFormatted content shape)
 left_so shape content = record { each = λ honest image left. inl (record { before = image; left = left; torn = torn_refl 0 1 image }) }
 

@@ -57,7 +57,7 @@ module _ (content : Content) (shape : Shape) (region : ℕ) (said : Option (List
         stands.digested h ∙ ap (λ (s : Shape). part_digest (hash_part s content.shown store.region)) has_shape ∙ ap (λ (r : ℕ). part_digest (hash_part shape content.shown r)) has_region
 
     module _ (test : Bool) (tests : (place : Place) → digest_findings place said store.digest ≡ finding_if test (Damaged place)) where
-      -- another digest is said
+      -- the manifest has another digest
       pub other_digest : test ≡ true → IsTrue content.honest → HasFirstInRegion shape said content.shown region (Damaged (HashDigest region))
       other_digest is h = record {
         first =
@@ -65,7 +65,7 @@ module _ (content : Content) (shape : Shape) (region : ℕ) (said : Option (List
             (slots_sound h) (other_found said (part_digest (hash_part shape content.shown region)) store.digest test tests (digest_shown h) (HashDigest region) is);
       }
 
-      -- this one is said, or none
+      -- the manifest has this digest, or none
       pub sound_hash : test ≡ false → IsTrue content.honest → region_findings shape said content.shown region ≡ []
       sound_hash is h =
           nothing_both (hash_findings shape (hash_part shape content.shown region)) (digest_findings (HashDigest region) said (part_digest (hash_part shape content.shown region)))
@@ -87,7 +87,7 @@ one_more_sound shape said image some region place counted first second =
     ∙ flat_map-append (said_hash_findings shape said) (enumerate_from 0 parts) (enumerate_from (0 + length parts) last)
     ∙ nothing_both (flat_map (said_hash_findings shape said) (enumerate_from 0 parts)) (flat_map (said_hash_findings shape said) (enumerate_from (0 + length parts) last)) first own
 
--- the first finding in the hash stores that the ruling body names is the verdict, where nothing is found in the logs
+-- the first finding in the hash stores that the current record names is the verdict, if nothing is found in the logs
 pub slot_verdict : (shape : Shape) (body : Body) (image : List ℕ) (finding : Finding) → image_stores image ≡ Ok (stores_named shape body image) → AreSoundLogs shape image (body.active ∷ body.frozen)
     → HasFirstSlot shape (image_digests image) image body.hashed finding → image_verdict image ≡ Some finding
 unfolding stores_named
@@ -145,7 +145,7 @@ puts_read content shape store region has_region own h =
     own.stands.counted h ∙ ap (λ (s : Shape). region_puts s content.shown store.region) own.hash.has_shape ∙ ap (region_puts shape content.shown) has_region
 
 module _ (content : Content) (shape : Shape) (said : Option Digests) (regions : List ℕ) (i : ℕ) (stores : List HashState) (puts rows : ℕ) (before : i < length regions) (read : AreReadHashes content shape said (take i regions) stores puts rows) where
-  -- so many are read
+  -- this many are read
   so_many : length (take i regions) ≡ i
   so_many = length-take-le i regions (omega (arith, before))
 

@@ -1,4 +1,4 @@
--- What a read of the manifest says of the stores.
+-- What a read of the manifest shows of the stores.
 use Rattle.std.proofs.Common.{◌≡◌, ℕ, List, length, Some, Ok, Err, Result, refl, ap, sym, ◌∙◌}
 use Rattle.silt_disk.specs.Layout.{Shape}
 use Rattle.silt_disk.specs.Header.{header_of}
@@ -18,11 +18,11 @@ pub found_record : (found : Result SlotRecord Damage) (held : SlotRecord) → wh
 found_record (Ok other) held is = cc
 found_record (Err damage) held is = absurd (cc)
 
--- the record that rules, in a shape of another name
+-- the current record, in a shape of another name
 pub record_that_rules : (shape : Shape) (image : List ℕ) (m : ManifestState) → m.shape ≡ shape → IsRuled m image → manifest_found shape image ≡ Ok (ruling_record m)
 record_that_rules shape image m same ruled = ap (λ (s : Shape). manifest_found s image) (sym same) ∙ found_record (manifest_found m.shape image) (ruling_record m) ruled.rules
 
--- the stores of the body that rules
+-- the stores of the current record
 pub ruled_stores : (shape : Shape) (image : List ℕ) (m : ManifestState) → shape_found (length image) (header_of image) ≡ Ok shape → m.shape ≡ shape → IsRuled m image → image_stores image ≡ Ok (stores_named shape m.ruling image)
 unfolding stores_named
 ruled_stores shape image m header same ruled =

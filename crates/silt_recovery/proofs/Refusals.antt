@@ -13,7 +13,7 @@ refused_weaker P Q W Crowded step refused = step finding.Crowded refused
 refused_weaker P Q W (Device fault) step refused = refused
 refused_weaker P Q W NoMemory step refused = refused
 
--- a look is refused for the finding that is told
+-- an examination is refused for the finding that it reports
 pub look_refused : {F : Type 0} (P : Finding → Type 0) (W : F → Type 0) (found : Finding) → P found → IsRefusedLook P W (refusal_of found)
 look_refused P W finding.NotFormatted is = is
 look_refused P W (finding.Damaged place) is = is

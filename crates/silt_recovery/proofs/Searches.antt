@@ -110,7 +110,7 @@ found_within shape image before regions after finding sound found = record {
   first = found.first;
 }
 
--- the first finding in the logs that the ruling body names is the verdict
+-- the first finding in the logs that the current record names is the verdict
 pub log_verdict : (shape : Shape) (body : Body) (image : List ℕ) (finding : Finding) → image_stores image ≡ Ok (stores_named shape body image) → HasFirstFinding shape image (body.active ∷ body.frozen) finding → image_verdict image ≡ Some finding
 unfolding stores_named
 log_verdict shape body image finding stores found =

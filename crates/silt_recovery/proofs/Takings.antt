@@ -1,4 +1,4 @@
--- What stands at the exits of an opening.
+-- What holds at the exits of an opening.
 use Rattle.std.proofs.Common.{◌≡◌, ◌≤◌, ◌<◌, ℕ, ◌+◌, ◌-◌, ◌*◌, inl, inr, false, IsTrue, List, [], ◌∷◌, ◌++◌, All, length, map, slice_index_or, Option, None, Ok, refl, ap, sym, ◌∙◌, subst, arith}
 use Rattle.std.specs.List.{list_all}
 use Rattle.std.specs.Option.{IfSome}
@@ -54,7 +54,7 @@ use Rattle.silt_recovery.proofs.Shown.{held_good}
 pub unsettled : (old new : Content) → Stays old new → LeavesNoOther old new
 unsettled old new stays = record { each = λ honest image left. inl (left_after_failed_sync stays (sym stays.honest ∙ honest) image left) }
 
--- after a sync the disk shows what it showed, and a stop leaves that
+-- after a sync the disk shows what it showed, and that is its one crash image
 pub settled_only : (old new : Content) → Settles old new → IsUnwritten old new
 settled_only old new settles = record {
   shown = settles.shown;
@@ -96,7 +96,7 @@ scanned_rows : (content : Content) (log : LogState) → log.used ≡ open_count 
 unfolding log_rows
 scanned_rows content log used = ap (first_rows log.shape log.region content.shown) used
 
--- a log that was read stands while its rows stay
+-- a log that was read still matches the disk while its rows stay
 frozen_stands : (between new : Content) (shape : Shape) (store : LogStoreState) → new.honest ≡ between.honest → IsReadLog between shape store
     → (IsTrue between.honest → log_rows shape store.log.region new.shown ≡ log_rows shape store.log.region between.shown) → IsFrozen new store
 frozen_stands between new shape store honest read stays =
@@ -133,7 +133,7 @@ sealed_within log old new limits bounds changes =
     within_wider (gates_at log.shape log.region) (log_size log.shape) (omega arith)
     (omega (arith, bounds.room, limits.log_capacity_least, bodies, up_least log.shape.log_capacity, up_least (log.shape.log_capacity * row_len log.shape))) changes
 
--- a hash store stands while a log region alone is changed
+-- a hash store still matches the disk if only a log region changes
 hash_stands : (between new : Content) (shape : Shape) (log : ℕ) (store : HashState) → log < shape.logs → device_size shape ≤ size between → ChangesWithin (gates_at shape log) (log_size shape) between new → IsHashOf shape store
     → IsHashStore between store → IsHashStore new store
 hash_stands between new shape log store exists fits changes is stands =
@@ -160,14 +160,14 @@ digest_stands between new s log exists fits changes whole digested =
     (subst (λ (x : Shape). LiesOutside (sorted_at x s.sorted.region) (entries_len x) (gates_at s.manifest.shape log) (log_size s.manifest.shape)) is_shape
     (entries_behind_log s.manifest.shape log s.sorted.region exists)) changes digested
 
--- where no conversion is under way, nothing is asked of one
+-- if no conversion is in progress, nothing is required of one
 none_converts : (s : TiersState) → s.converting ≡ None → IfSome s.converting (IsUnderWay s)
 none_converts s none = subst (λ (converting : Option ConversionState). IfSome converting (IsUnderWay s)) (sym none) tt
 
 none_written : (content : Content) (s : TiersState) → s.converting ≡ None → IfSome s.converting (HasWritten content (oldest_log s))
 none_written content s none = subst (λ (converting : Option ConversionState). IfSome converting (HasWritten content (oldest_log s))) (sym none) tt
 
--- and where no merge is, nothing of one
+-- and if no merge is in progress, nothing is required of one
 none_merges : (s : TiersState) → s.merging ≡ None → IfSome s.merging (IsMerging s)
 none_merges s none = subst (λ (merging : Option MergeState). IfSome merging (IsMerging s)) (sym none) tt
 
@@ -212,7 +212,7 @@ module _ (old between new : Content) (s : TiersState) (settles : Settles old bet
   unfolding stores_named
   own_rows h = own_rows_law (shown_stores between s) (log_rows s.manifest.shape s.manifest.ruling.active between.shown) (whole h).active
 
-  -- whatever a stop leaves has the stores that were shown
+  -- each possible crash image has the stores that were shown
   same_stores : LeavesOnly new (λ image. image_stores image ≡ Ok (shown_stores between s))
   unfolding stores_named
   same_stores = record {
@@ -232,13 +232,13 @@ module _ (old between new : Content) (s : TiersState) (settles : Settles old bet
   unfolding stores_named
   shown_same h = sym ((stores_law new.shown (shown_stores between s)).0 (same_stores.each (changes.honest ∙ h) new.shown (shown_left new))).named
 
-  -- the same record rules in whatever a stop leaves
+  -- the same record is current in each possible crash image
   still_ruled : Rules s.manifest new
   still_ruled =
       let least : slot_at 1 + 4096 ≤ size between = omega (arith, holds.has_size) in
       rules_elsewhere s.manifest (gates_at s.manifest.shape s.manifest.ruling.active) (log_size s.manifest.shape) between new least (inr (omega arith)) changed (holds.rules settles.rests)
 
-  -- so the same digests are said
+  -- so it has the same digests
   said_in : (image : List ℕ) → image_stores image ≡ Ok (shown_stores between s) → IsRuled s.manifest image → image_digests image ≡ s.manifest.digests
   unfolding stores_named
   said_in image stores ruled = digests_law image (shown_stores between s) (ruling_record s.manifest) stores (record_that_rules s.manifest.shape image s.manifest refl ruled)
@@ -246,7 +246,7 @@ module _ (old between new : Content) (s : TiersState) (settles : Settles old bet
   same_said : LeavesOnly new (λ image. image_digests image ≡ s.manifest.digests)
   same_said = record { each = λ honest image left. said_in image (same_stores.each honest image left) (still_ruled.each honest image left) }
 
-  -- each image stands for what was shown
+  -- each image represents what was shown
   stands_for : IsTrue old.honest → (image : List ℕ) → image_stores image ≡ Ok (shown_stores between s) → image_digests image ≡ s.manifest.digests → StandsFor (shape_of old.shown) (image_map old.shown) image
   unfolding stores_named image_map
   stands_for o image stores says =
@@ -335,7 +335,7 @@ module _ (old between new : Content) (s : TiersState) (settles : Settles old bet
           counted = λ h. all_counted (was h);
         }
 
-    -- the stores were taken up
+    -- the store is opened
     pub taken_up : TakesUp old new (record s { active = after })
     unfolding base_map stores_named image_map
     taken_up = record {

@@ -1,8 +1,8 @@
--- The digests that a manifest says of its stores.
+-- The digests that a manifest has of its stores.
 use Rattle.std.specs.Prelude.{ℕ, List, Option, Some, None}
 use Rattle.silt_frame.specs.declared.digest.Digest.{Digest}
 
--- the bytes of a digest that is said
+-- the bytes of a digest of the manifest
 abbrev pub bytes_said : Option Digest → Option (List ℕ)
 bytes_said None = None
 bytes_said (Some digest) = Some digest.0

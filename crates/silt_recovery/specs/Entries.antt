@@ -6,10 +6,11 @@ use Rattle.silt_manifest.specs.declared.digests.Digests.{Digests}
 use Rattle.silt_sorted_store.specs.State.{sorted_rows}
 use Rattle.silt_event.specs.declared.damage.Finding.{Finding}
 
--- nothing is found in so many entries of this sorted region of an image, and the digest that is said of them is theirs
+-- nothing is found in the first `count` entries of this sorted region of an image, and the manifest's digest of them, if it has one, is
+-- theirs
 abbrev pub AreSoundEntries : Shape → Option Digests → List ℕ → ℕ → ℕ → Type 0
 AreSoundEntries shape said image region count = said_entry_findings said (sorted_rows shape region count image) ≡ []
 
--- this is the first finding in so many entries of this sorted region of an image and in the digest that is said of them
+-- this is the first finding in the first `count` entries of this sorted region of an image, and then in the manifest's digest of them
 pub record HasFirstEntry (shape : Shape) (said : Option Digests) (image : List ℕ) (region count : ℕ) (finding : Finding) : Type 0 where
   pub first : slice_get (said_entry_findings said (sorted_rows shape region count image)) 0 ≡ Some finding

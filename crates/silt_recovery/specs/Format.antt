@@ -10,8 +10,7 @@ use Rattle.silt_event.specs.declared.damage.Finding.TheVariants.{NotFormatted}
 use Rattle.silt_recovery.specs.declared.fault.FormatError.{FormatError}
 use Rattle.silt_recovery.specs.declared.fault.FormatError.TheVariants.{BadGeometry, Device, NoMemory}
 
--- Why a device was not formatted: it has another length, or a growth found no memory, and then it is as it was; or the disk gave a
--- fault.
+-- Why a device was not formatted: it has another length, or memory ran out, and then it is as it was; or the disk gave a fault.
 abbrev pub FormatCause : {D F : Type 0} → (D → Content) → (D → F → Type 0) → Shape → D → D → FormatError F → Type 0
 FormatCause content gave shape old new BadGeometry = (size (content old) ≢ device_size shape) × (new ≡ old)
 FormatCause content gave shape old new NoMemory = (size (content old) ≡ device_size shape) × (new ≡ old)
@@ -21,16 +20,16 @@ FormatCause content gave shape old new (Device fault) = (size (content old) ≡ 
 abbrev pub IsGateClosed : List ℕ → Type 0
 IsGateClosed image = get_or image 0 0 ≢ gate_open
 
--- the header's gate is closed, or the header of this shape stands behind it
+-- the header's gate (its commit byte) is closed, or the header of this shape is behind it
 abbrev pub HasHeaderOrNone : Shape → List ℕ → Type 0
 HasHeaderOrNone shape image = IsGateClosed image ⊎ (header_of image ≡ gate_open ∷ header_bytes shape)
 
--- an image that might have been left before, but for the header's gate
+-- an image that was possible before, but for the header's gate
 pub record IsLeftButForGate (old : Content) (image : List ℕ) : Type 0 where
   pub before : List ℕ
   pub left : Left old before
   pub torn : Torn 0 1 before image
 
--- what a stopped formatting leaves: what might have been left before, but for the header's gate; or no store; or the empty one
+-- a possible crash image of a formatting: one that was possible before, but for the header's gate; or no store; or the empty one
 abbrev pub IsHalfFormatted : Content → Shape → List ℕ → Type 0
 IsHalfFormatted old shape image = IsLeftButForGate old image ⊎ ((image_verdict image ≡ Some NotFormatted) ⊎ StandsFor shape empty image)

@@ -14,16 +14,16 @@ use Rattle.silt_event.specs.declared.damage.Finding.{Finding}
 use Rattle.silt_event.specs.declared.place.Place.TheVariants.{HashDigest}
 use Rattle.silt_standing.specs.State.{IsHashOf, hash_region_of}
 
--- what is found in a hash store of an image: in its slots, and behind them in the digest that is said of it
+-- what is found in a hash store of an image: in its slots, and then in the manifest's digest of it
 abbrev pub region_findings : Shape → Option (List ℕ) → List ℕ → ℕ → List Finding
 region_findings shape said image region =
     hash_findings shape (hash_part shape image region) ++ digest_findings (HashDigest region) said (part_digest (hash_part shape image region))
 
--- this is the first finding in a hash store of an image and in the digest that is said of it
+-- this is the first finding in a hash store of an image and in the manifest's digest of it
 pub record HasFirstInRegion (shape : Shape) (said : Option (List ℕ)) (image : List ℕ) (region : ℕ) (finding : Finding) : Type 0 where
   pub first : slice_get (region_findings shape said image region) 0 ≡ Some finding
 
--- nothing is found in these hash stores of an image, and the digests that are said of them are theirs
+-- nothing is found in these hash stores of an image, and the manifest's digests are theirs
 abbrev pub AreSoundHashes : Shape → Option Digests → List ℕ → List ℕ → Type 0
 AreSoundHashes shape said image regions = AreSoundParts shape said (map (hash_part shape image) regions)
 
@@ -35,7 +35,7 @@ region_puts shape image region = put_count (known_rows (hash_part shape image re
 abbrev pub region_rows : Shape → List ℕ → ℕ → ℕ
 region_rows shape image region = length (known_rows (hash_part shape image region))
 
--- this is the first finding in these hash stores of an image and in the digests that are said of them, in their order
+-- this is the first finding in these hash stores of an image and in the manifest's digests of them, in their order
 pub record HasFirstSlot (shape : Shape) (said : Option Digests) (image regions : List ℕ) (finding : Finding) : Type 0 where
   pub before : List ℕ
   pub region : ℕ
@@ -44,13 +44,13 @@ pub record HasFirstSlot (shape : Shape) (said : Option Digests) (image regions :
   pub sound : AreSoundHashes shape said image before
   pub first : slice_get (said_hash_findings shape said (length before, hash_part shape image region)) 0 ≡ Some finding
 
--- a hash store of this shape, as it stands on the device
+-- a hash store of this shape, as the device has it
 pub record IsReadHash (content : Content) (shape : Shape) (store : HashState) : Type 0 where
   pub hash : IsHashOf shape store
   pub stands : IsHashStore content store
 
--- these are the hash stores of these regions as they were read; nothing is found in them and in the digests that are said of them, and so
--- many of their rows are of known kinds, and so many of these are puts
+-- these are the hash stores of these regions as they were read; nothing is found in them and in the manifest's digests of them, this many
+-- of their rows are of known kinds, and this many of these are puts
 pub record AreReadHashes (content : Content) (shape : Shape) (said : Option Digests) (regions : List ℕ) (stores : List HashState) (puts rows : ℕ) : Type 0 where
   pub has_regions : map hash_region_of stores ≡ regions
   pub each : All (IsReadHash content shape) stores

@@ -39,7 +39,7 @@ pub record IsReadLog (content : Content) (shape : Shape) (store : LogStoreState)
   pub scanned : IsTrue content.honest → IsScanned content store.log
   pub indexed : IsIndexed content store
 
--- these are the logs of these regions as they were read; nothing is found in them, and so many of their rows are puts
+-- these are the logs of these regions as they were read; nothing is found in them, and this many of their rows are puts
 pub record AreReadLogs (content : Content) (shape : Shape) (regions : List ℕ) (stores : List LogStoreState) (puts : ℕ) : Type 0 where
   pub has_regions : map region_of stores ≡ regions
   pub each : All (IsReadLog content shape) stores

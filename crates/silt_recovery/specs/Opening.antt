@@ -17,7 +17,7 @@ use Rattle.silt_recovery.specs.declared.examination.Holding.{Holding}
 use Rattle.silt_recovery.specs.declared.fault.OpenError.{OpenError}
 use Rattle.silt_recovery.specs.declared.fault.OpenError.TheVariants.{Device}
 
--- the stores that are held in memory, with no conversion and no merge under way
+-- the stores in memory, with no conversion and no merge in progress
 abbrev pub held_stores : Holding → TiersState
 held_stores held = record {
   manifest = held.manifest;
@@ -52,7 +52,7 @@ pub record Holds (content : Content) (s : TiersState) : Type 0 where
   pub said : IsTrue content.honest → AreDigestsOf s.manifest.digests (shown_stores content s)
   pub counted : IsTrue content.honest → s.charge ≡ charge_of (shown_stores content s)
 
--- so many rows of known kinds have the hash stores that are shown, together
+-- together the hash stores that are shown have this many rows of known kinds
 abbrev pub CountsHashRows : Content → TiersState → ℕ → Type 0
 CountsHashRows content s count = IsTrue content.honest → count ≡ sum_by (λ part. length (known_rows part)) (shown_stores content s).hashes
 
@@ -63,11 +63,11 @@ pub record IsReported (image : List ℕ) (report : Report) : Type 0 where
   pub good : IsGood image
   pub numbers : report ≡ report_of (image_digests image) stores
 
--- each image that a stop may now leave might have been left before, or stands for what was shown
+-- each crash image that is possible now was possible before, or represents what was shown
 abbrev pub LeavesNoOther : Content → Content → Type 0
 LeavesNoOther old new = LeavesOnly new (λ image. Left old image ⊎ StandsFor (shape_of old.shown) (image_map old.shown) image)
 
--- nothing was written: the disk shows what it showed, and a stop leaves nothing that it might not have left before
+-- nothing was written: the disk shows what it showed, and each crash image that is possible now was possible before
 pub record IsUnwritten (old new : Content) : Type 0 where
   pub shown : IsTrue old.honest → new.shown ≡ old.shown
   pub left : LeavesOnly new (Left old)
@@ -77,8 +77,8 @@ abbrev pub IsUnwrittenUnlessFailed : {F : Type 0} → Content → Content → Op
 IsUnwrittenUnlessFailed old new (Device fault) = Unit {0}
 IsUnwrittenUnlessFailed old new error = IsUnwritten old new
 
--- stores were taken up: they stand on the disk with no row waiting and no conversion and no merge under way, for the map of the image
--- that was shown, which is good
+-- the store is opened: its stores stand on the disk, no row waits, no conversion and no merge is in progress, and the map is that of the
+-- image that was shown, which is good
 pub record TakesUp (old new : Content) (s : TiersState) : Type 0 where
   pub disk : SameDisk old new
   pub stands : Stands new s

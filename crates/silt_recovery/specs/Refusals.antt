@@ -10,13 +10,13 @@ use Rattle.silt_recovery.specs.declared.fault.OpenError.TheVariants.{NotFormatte
 abbrev pub IsFound : List ℕ → Finding → Type 0
 IsFound image found = image_verdict image ≡ Some found
 
--- the refusal that tells a finding
+-- the refusal for a finding
 abbrev pub refusal_of : {F : Type 0} → Finding → OpenError F
 refusal_of finding.NotFormatted = NotFormatted
 refusal_of (finding.Damaged place) = Damaged place
 refusal_of finding.Crowded = Crowded
 
--- why a look at a device is refused: for something that is found, by a fault that was given, or for want of memory
+-- why an examination is refused: for a finding, by a fault of the disk, or out of memory
 abbrev pub IsRefusedLook : {F : Type 0} → (Finding → Type 0) → (F → Type 0) → OpenError F → Type 0
 IsRefusedLook Finds WasGiven NotFormatted = Finds finding.NotFormatted
 IsRefusedLook Finds WasGiven (Damaged place) = Finds (finding.Damaged place)

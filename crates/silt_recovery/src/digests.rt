@@ -1,4 +1,4 @@
-// The digests that a manifest says of its stores, and what was read.
+// The digests that a manifest has of its stores, and those of what was read.
 ghost use Rattle.std.specs.Prelude.{◌≡◌, ◌<◌, [], get_or};
 ghost use Rattle.silt_event.specs.Findings.{finding_if};
 ghost use Rattle.silt_event.specs.declared.damage.Finding.TheVariants.{Damaged};
@@ -18,7 +18,7 @@ fn hashed_at(digests: &Digests, place: usize) -> Digest
     digests.hashed[place]
 }
 
-/// The digest that is said of the hash store at a place, the newest first.
+/// The manifest's digest of the hash store of this number, the newest first.
 pub fn hash_said(said: &Option<Digests>, place: usize) -> Option<Digest>
     requires { place < 16 }
     ensures { bytes_said result ≡ said_hash said.now place }
@@ -29,7 +29,7 @@ pub fn hash_said(said: &Option<Digests>, place: usize) -> Option<Digest>
     }
 }
 
-/// The digest that is said of the sorted store.
+/// The manifest's digest of the sorted store.
 pub fn sorted_said(said: &Option<Digests>) -> Option<Digest>
     ensures { bytes_said result ≡ said_sorted said.now }
 {
@@ -39,7 +39,7 @@ pub fn sorted_said(said: &Option<Digests>) -> Option<Digest>
     }
 }
 
-/// Whether a digest that is said is another than that of what was read. Where none is said, nothing is compared.
+/// Whether the manifest's digest is another than that of what was read. If it has none, nothing is compared.
 pub fn is_other(said: Option<Digest>, read: &Digest) -> bool
     ensures { (place : Place) → digest_findings place (bytes_said said) read.now.0 ≡ finding_if result (Damaged place) }
 {
@@ -49,7 +49,7 @@ pub fn is_other(said: Option<Digest>, read: &Digest) -> bool
     }
 }
 
-/// The layout of a manifest that says these digests.
+/// The layout of a manifest with these digests.
 pub fn layout_of(said: &Option<Digests>) -> Layout
     ensures { result ≡ layout_of said.now }
 {

@@ -16,14 +16,15 @@ use silt_log::Log;
 use silt_manifest::{Digests, write_first};
 use std::alloc::Global;
 
-/// Makes an empty store of this geometry, and gives the device back. What it held is lost. The header's gate is closed first and
-/// opened last, so that a device whose formatting was stopped holds no store, or the empty one.
+/// Makes an empty store of this geometry, and gives the device back. What the device held is lost. The header's gate,
+/// its commit byte, is closed first and opened last. So a device whose formatting was interrupted by a crash holds no
+/// store, or the empty one.
 ///
 /// # Errors
 ///
-/// `BadGeometry` exactly where the device is not as long as the geometry asks, and then nothing is written; `NoMemory`
-/// before the first write; `Device` with the fault of a write or a sync. Whatever a stop then leaves might have been left before,
-/// but for the header's gate, or it holds no store, or the empty one.
+/// `BadGeometry` exactly if the device has another length than the geometry asks for, and then nothing is written;
+/// `NoMemory` before the first write; `Device` with the fault of a write or a sync. Each crash image that is then
+/// possible was possible before, but for the header's gate, or it holds no store, or the empty one.
 pub fn format<D: Disk>(alloc: Global, mut disk: D, geometry: Geometry) -> Result<D, FormatFault<D>>
     ensures size { OnOk result (size (D.content disk) ≡ device_size geometry) }
     ensures images { MatchResult result (λ new. LeavesOnly (D.content new) (StandsFor geometry empty)) (λ fault. LeavesOnly (D.content fault.disk) (IsHalfFormatted (D.content disk) geometry)) }

@@ -15,13 +15,13 @@ use silt_manifest::Digests;
 use silt_sorted_store::{ScanError, SortedStore};
 use std::alloc::Global;
 
-/// Reads the first `count` entries of a sorted region once, and makes the index of their keys and the digest of their bytes. Behind
-/// the last entry the digest is compared with the one that is said, if one is.
+/// Reads the first `count` entries of a sorted region once, and makes the index of their keys and the digest of their
+/// bytes. After the last entry the digest is compared with the manifest's, if it has one.
 ///
 /// # Errors
 ///
-/// `Damaged` with the number of the first entry that is not above the one before it, or else at the digest, where it is another;
-/// `Device` with the fault of a read, and `NoMemory`, where what is read or the index finds none.
+/// `Damaged` with the number of the first entry that is not above the one before it, or else at the digest, if it is
+/// another; `Device` with the fault of a read; `NoMemory` for what is read and for the index.
 pub fn read_entries<D: Disk>(
     alloc: Global,
     disk: &D,

@@ -60,8 +60,8 @@ fn read_manifest<D: Disk>(
     }
 }
 
-// Reads the logs that a manifest names, the active one first, the hash stores and the sorted entries, compares the digests that it
-// says, and counts the puts.
+// Reads the logs that a manifest names, the active one first, the hash stores and the sorted entries, compares the
+// manifest's digests, and counts the puts.
 fn read_stores<D: Disk>(
     alloc: Global,
     disk: &D,
@@ -104,13 +104,13 @@ fn read_stores<D: Disk>(
     })
 }
 
-/// Looks at a device, in this order: the header, the manifest, the active log, the frozen logs from the newest on, the hash stores
-/// from the newest on, the sorted entries, the number of puts. Behind the slots of a hash store, and behind the sorted entries, the
-/// digest is compared with the one that the manifest says, if it says digests. It writes nothing.
+/// Examines a device, in this order: the header, the manifest, the active log, the frozen logs from the newest, the
+/// hash stores from the newest, the sorted entries, the number of puts. If the manifest has digests, that of a hash
+/// store is compared after its slots, and that of the sorted store after its entries. It writes nothing.
 ///
 /// # Errors
 ///
-/// The first thing that is found; or `Device` with the fault of a read, or `NoMemory`.
+/// The first finding; or `Device` with the fault of a read, or `NoMemory`.
 pub fn examine<D: Disk>(alloc: Global, disk: &D) -> Result<Holding, OpenError<D::Fault>>
     ensures holds { IfOk result (λ held. Holds (D.content disk.now) (held_stores held)) }
     ensures hash_rows { IfOk result (λ held. CountsHashRows (D.content disk.now) (held_stores held) held.hash_rows) }

@@ -18,7 +18,7 @@ pub enum FormatError<F> {
     /// A write or a sync failed with this fault.
     #[error("{0}")]
     Device(F),
-    /// The bytes for the gates of a log found no memory.
+    /// Out of memory for the gates of a log.
     #[error("memory was wanted")]
     NoMemory,
 }
@@ -30,8 +30,8 @@ pub struct FormatFault<D: Disk> {
     pub error: FormatError<D::Fault>,
 }
 
-/// Why a device was not opened or not found whole. The first thing that is found decides; a failed call or want of memory may be
-/// answered before it. A fault is the disk's own, of a call that failed within this very call.
+/// Why a device was not opened or did not pass a check. The first finding decides; a failed call or missing memory may
+/// come before it. A fault is the disk's own, of a call that failed within this very call.
 #[derive(Debug, Drop, Error)]
 #[error_bound(F: Display)]
 pub enum OpenError<F> {
@@ -47,7 +47,7 @@ pub enum OpenError<F> {
     /// A read, a write or a sync failed with this fault.
     #[error("{0}")]
     Device(F),
-    /// A log, a hash store or the sorted store found no memory.
+    /// Out of memory for a log, a hash store or the sorted store.
     #[error("memory was wanted")]
     NoMemory,
 }

@@ -26,13 +26,14 @@ pub struct ReadHashes {
     pub rows: u32,
 }
 
-/// Reads the hash store in a region, and makes the tags of its slots. Behind them the digest of their bytes is compared with the one
-/// that is said, if one is.
+/// Reads the hash store in a region, and makes the tags of its slots. After them the digest of their bytes is compared
+/// with the manifest's, if it has one.
 ///
 /// # Errors
 ///
-/// `Damaged` with the number of the first slot that has an unknown kind, a row that belongs into other buckets, or a row of a key
-/// that an earlier slot has, or else with the region, where its digest is another; `Device` with the fault of a read, and `NoMemory`.
+/// `Damaged` with the number of the first slot that has an unknown kind, a row that belongs into other buckets, or a
+/// row of a key that an earlier slot has; or else with the region, if its digest is another; `Device` with the fault of
+/// a read, and `NoMemory`.
 pub fn read_hash<D: Disk>(
     alloc: Global,
     disk: &D,
@@ -66,12 +67,12 @@ pub fn read_hash<D: Disk>(
     }
 }
 
-/// Reads the hash stores, the newest first, and compares their digests with those that are said. Their list has room for as many as a
-/// device can have.
+/// Reads the hash stores, the newest first, and compares their digests with the manifest's. Their list has room for as
+/// many as a device can have.
 ///
 /// # Errors
 ///
-/// Those of `read_hash`, of the first hash store in which something is found.
+/// Those of `read_hash`, of the first hash store with a finding.
 pub fn read_hashes<D: Disk>(
     alloc: Global,
     disk: &D,

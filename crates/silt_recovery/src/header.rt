@@ -13,7 +13,7 @@ use silt_disk::{Disk, Geometry, HEADER_LEN, Version, header_bytes, version_of, w
 use silt_frame::GATE_OPEN;
 use silt_image::read_header;
 
-/// What the header of a device says: its six numbers, and the version of its layout.
+/// What the header of a device has: six numbers, and the version of its layout.
 #[derive(Clone, Copy)]
 pub struct Header {
     pub geometry: Geometry,
@@ -31,7 +31,7 @@ fn read_bytes<D: Disk>(disk: &D) -> Result<[u8; 37], D::Fault>
     Ok(header)
 }
 
-/// The geometry and the version that the header of a device says, on a device of the length that this geometry asks.
+/// The geometry and the version in the header of a device. The device must have the length that this geometry asks for.
 ///
 /// # Errors
 ///

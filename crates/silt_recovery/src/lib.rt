@@ -1,15 +1,16 @@
-//! Making a store of a device, taking one up, and telling what one consists of.
+//! Formatting a device, opening a store on it, and checking one.
 //!
-//! `format` writes an empty store. Its header's gate is closed first and opened last, so that a device whose formatting was stopped
-//! holds no store, or the empty one.
+//! `format` writes an empty store. The header's gate, its commit byte, is closed first and opened last. So a device
+//! whose formatting was interrupted by a crash holds no store, or the empty one.
 //!
-//! `open` and `check` look at a device in one order: the header, the manifest, the active log, the frozen logs from the newest
-//! on, the hash stores from the newest on, the sorted entries, the number of puts. Where the manifest says digests of the stores, those
-//! of what was read are compared with them: that of a hash store behind its slots, that of the sorted store behind its last entry.
-//! Where it says none, nothing is compared. The first thing that is found decides. `open`
-//! settles what is shown before it looks, and then closes the gates of the active log past its first closed one: a row behind such
-//! a gate was dropped by a stop, and is not to come back. At each exit of an opening, whatever a stop leaves might have been left
-//! before, or stands for the map that was shown.
+//! `open` and `check` examine a device in one order: the header, the manifest, the active log, the frozen logs from the
+//! newest, the hash stores from the newest, the sorted entries, the number of puts. If the manifest has digests of its
+//! stores, they are compared with those of what was read: that of a hash store after its slots, that of the sorted
+//! store after its last entry. The first finding decides.
+//!
+//! `open` settles what is shown before it examines it. Then it closes the gates of the active log past its first closed
+//! one: a crash dropped the rows behind such gates, and they must not come back. At each exit of an opening, each
+//! possible crash image was possible before, or represents the map that was shown.
 #![tactic(auto)]
 
 mod digests;

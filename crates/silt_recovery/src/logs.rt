@@ -27,8 +27,8 @@ pub struct ReadLogs {
 ///
 /// # Errors
 ///
-/// `Damaged` with the number of the first row of an unknown kind, or `Crowded` where the placing rule gives up at an earlier
-/// one; `Device` with the fault of a read, and `NoMemory`.
+/// `Damaged` with the number of the first row of an unknown kind, or `Crowded` if the placing rule gives up at an
+/// earlier one; `Device` with the fault of a read, and `NoMemory`.
 pub fn read_log<D: Disk>(
     alloc: Global,
     disk: &D,

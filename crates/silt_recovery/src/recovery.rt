@@ -1,4 +1,4 @@
-// The recovery of a device that a stop may have left.
+// The opening of a device after a crash.
 ghost use Rattle.std.specs.Prelude.{◌≡◌, ◌≤◌, vec_capacity, IsTrue, IfOk, IfErr, MatchResult};
 ghost use Rattle.silt_disk.specs.Disk.{GaveAny};
 ghost use Rattle.silt_recovery.specs.Opening.{IsUnwrittenUnlessFailed, LeavesNoOther, TakesUp, held_stores};
@@ -17,14 +17,14 @@ pub struct Opened<D: Disk> {
     pub held: Holding,
 }
 
-/// Takes up a device: settles what it shows, looks at it, and closes the gates of the active log past its first closed one, where one
-/// of them is open. The stores stand for the map of what was shown, with no row waiting.
+/// Opens a device: settles what it shows, examines it, and, if a gate of the active log past its first closed one is
+/// open, closes these gates. The stores represent the map of what was shown, and no row waits.
 ///
 /// # Errors
 ///
-/// `NotFormatted`, `Damaged` or `Crowded` where that is the first thing found in what is shown; then, and with `NoMemory`, nothing
-/// was written. `Device` with the fault of a read, a write or a sync: whatever a stop leaves then might have been left before, or
-/// stands for the same map.
+/// `NotFormatted`, `Damaged` or `Crowded` if that is the first finding in what is shown; then, and with `NoMemory`,
+/// nothing was written. `Device` with the fault of a read, a write or a sync: each crash image that is then possible
+/// was possible before, or represents the same map.
 pub fn open<D: Disk>(alloc: Global, mut disk: D) -> Result<Opened<D>, OpenFault<D>>
     ensures ok { IfOk result (λ opened. TakesUp (D.content disk) (D.content opened.disk) (held_stores opened.held)) }
     ensures room { IfOk result (λ opened. (7 ≤ vec_capacity opened.held.frozen) × (16 ≤ vec_capacity opened.held.hashes)) }

@@ -14,7 +14,7 @@ use silt_event::Report;
 use silt_log_store::LogStore;
 use std::alloc::Global;
 
-/// Looks at a device as `open` does, and tells what it consists of. It makes no write and no sync.
+/// Examines a device as `open` does, and reports what it consists of. It makes no write and no sync.
 ///
 /// # Errors
 ///

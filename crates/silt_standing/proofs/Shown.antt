@@ -1,10 +1,10 @@
--- What a disk shows of stores that stand on it.
+-- What a disk shows if stores stand on it.
 use Rattle.silt_disk.specs.Disk.{Content}
 use Rattle.silt_disk.proofs.Images.{shown_left}
 use Rattle.silt_standing.specs.State.{TiersState}
 use Rattle.silt_standing.specs.Standing.{ShowsStores, Stands}
 
--- stores that stand on a disk are shown by it
+-- a disk shows the stores that stand on it
 pub stands_shown : (content : Content) (s : TiersState) → Stands content s → ShowsStores content s
 stands_shown content s stands = record {
   whole = stands.whole;

@@ -1,4 +1,4 @@
--- How the stores in memory stand on a disk.
+-- How the stores in memory match a disk.
 use Rattle.std.specs.Prelude.{◌≡◌, ℕ, IsTrue, List, [], ◌++◌, All, map, IfSome, None, Ok}
 use Rattle.silt_disk.specs.Disk.{Content, LeavesOnly, size}
 use Rattle.silt_disk.specs.Layout.{device_size}
@@ -22,7 +22,7 @@ use Rattle.silt_standing.specs.State.{TiersState, AreWhole, oldest_log}
 
 -- ---- the disk
 
--- the disk is as long and as honest as before
+-- the disk keeps its length, and whether it obeys the crash model
 pub record SameDisk (old new : Content) : Type 0 where
   pub size : size new ≡ size old
   pub honest : new.honest ≡ old.honest
@@ -41,7 +41,7 @@ base_map content s = map_of_rows (rows_of (shown_stores content s))
 abbrev pub waiting_commands : Content → TiersState → List Command
 waiting_commands content s = map command_of (waiting_rows content s.active.log)
 
--- the map from which lookups answer
+-- the map that lookups read
 abbrev pub current_map : Content → TiersState → Map
 current_map content s = map_after (base_map content s) (waiting_commands content s)
 
@@ -68,9 +68,9 @@ IsDigested content s = HasDigest content s.sorted s.digest
 abbrev pub HasGathered : Content → TiersState → MergeState → Type 0
 HasGathered content s merge = HasMerged content (oldest_stores merge.stores s.hashes) s.sorted merge
 
--- The stores fit their disk: whatever a stop leaves has the stores that are shown, and nothing is found in these, also once the
--- waiting rows are settled. The tables, the tags, the index and the digests in memory are those of what is shown, and so are the digests
--- that the manifest says, if it says any. A conversion and a merge have written what is due so far.
+-- The stores match their disk: every possible crash image has the stores that are shown, and nothing is wrong with these, also once the
+-- waiting rows are settled. The tables, the tags, the index and the digests in memory are those of what is shown. So are the digests that
+-- the manifest has, if it has any. A conversion and a merge have written exactly what is due so far.
 pub record Stands (content : Content) (s : TiersState) : Type 0 where
   pub has_size : size content ≡ device_size s.manifest.shape
   pub whole : AreWhole s
@@ -89,7 +89,7 @@ pub record Stands (content : Content) (s : TiersState) : Type 0 where
   pub said : IsTrue content.honest → AreDigestsOf s.manifest.digests (shown_stores content s)
   pub counted : IsTrue content.honest → s.charge ≡ put_count (rows_of (shown_stores content s) ++ waiting_rows content s.active.log)
 
--- The stores are those that the disk shows, with the rows that wait, whatever a crash leaves: what reading them needs.
+-- What reading needs: every possible crash image has the stores that the disk shows, and memory has the same ones, with the waiting rows.
 pub record ShowsStores (content : Content) (s : TiersState) : Type 0 where
   pub whole : AreWhole s
   pub bounds : InBounds s.active.log

@@ -11,9 +11,9 @@ use Rattle.silt_merge.specs.State.{MergeState, IsHeldMerge}
 use Rattle.silt_sorted_store.specs.State.{SortedState, IsHeldSorted}
 use Rattle.silt_trie.specs.Marks.{MarkedCode}
 
--- The manifest; the log that takes writes; the full logs behind it, the newest first; the hash stores behind these, the newest
--- first; the entries of the sorted store behind them all, their index and their digest; the oldest log's conversion and the merge of hash stores
--- and the sorted store, where they are under way; and how many put rows there are, those that wait included.
+-- The manifest. The log that takes writes. The full logs behind it, the newest first. The hash stores behind these, the newest first. The
+-- sorted store behind all of them, with its index and its digest. The conversion of the oldest log and the merge, if they are in progress.
+-- The number of put rows, the waiting ones included.
 pub record TiersState : Type 0 where
   pub manifest : ManifestState
   pub active : LogStoreState
@@ -72,8 +72,8 @@ pub record IsMerging (s : TiersState) (merge : MergeState) : Type 0 where
 abbrev pub sorted_named : Shape → Body → SortedState
 sorted_named shape body = record { shape = shape; region = body.sorted; count = body.sorted_count }
 
--- the stores are those that the ruling body names, a conversion and a merge write free regions, and no more rows are puts than the
--- store may hold
+-- the stores are those that the current manifest record names, a conversion and a merge write free regions, and there are no more put rows
+-- than the store may hold
 pub record AreWhole (s : TiersState) : Type 0 where
   pub has_shape : s.active.log.shape ≡ s.manifest.shape
   pub active_region : s.active.log.region ≡ s.manifest.ruling.active
