@@ -56,7 +56,7 @@ module _ (old new : Content) (s : TiersState) (after : LogStoreState) (more : Li
       ∙ append_assoc (settled_rows old s.active.log) (waiting_rows old s.active.log) more
       )
 
-  -- whatever a stop leaves has the stores that were shown
+  -- each possible crash image has the stores that were shown
   named : LeavesOnly new (λ image. image_stores image ≡ Ok (shown_stores old s))
   named = record {
     each = λ h image left.

@@ -16,7 +16,7 @@ use Rattle.silt_tiers.proofs.Facts.{base_safe, full_map}
 pub same_trans : (a b c : Content) → SameDisk a b → SameDisk b c → SameDisk a c
 same_trans a b c first second = record { size = second.size ∙ first.size; honest = second.honest ∙ first.honest }
 
--- a disk on which an honest one stands is honest
+-- a disk that keeps whether it obeys the crash model obeys it if the earlier one did
 pub honest_before : (a b : Content) → SameDisk a b → IsTrue b.honest → IsTrue a.honest
 honest_before a b same h = subst IsTrue same.honest h
 
@@ -75,7 +75,7 @@ advances_remap adds a b first second same stands m h =
     ∙ map_after-append (base_map a first) (waiting_commands a first) adds
     ∙ ap (λ (m : Map). map_after m adds) (sym (full_map a first stands h))
 
--- and where it adds none, whatever a stop leaves has a beginning of what waited
+-- and if it adds none, each possible crash image has a beginning of what waited
 pub advances_break : (a b : Content) (first second : TiersState) → SameDisk a b → Advances [] a b first second → Breaks a b first
 advances_break a b first second same m = record {
   each = λ h image left.

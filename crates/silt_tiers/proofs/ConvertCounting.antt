@@ -17,7 +17,7 @@ use Rattle.silt_conversion.specs.Conversion.{ConversionState}
 use Rattle.silt_tiers.specs.Conversion.{AreAllHashesNamed, EndsConversion, converted_body}
 use Rattle.silt_tiers.proofs.Counting.{all_among, at_most}
 
--- what a well-formed body says of its hash stores
+-- what holds of the hash stores of a well-formed record
 pub record HasSoundHashes (hashes : ℕ) (b : Body) : Type 0 where
   pub generation : b.generation < 2 ^ 63
   pub most : length b.hashed ≤ hashes
@@ -119,17 +119,17 @@ converted_sound_body s slot region b sound inside free unspent =
 pub hash_count : (s : TiersState) → AreWhole s → length s.hashes ≡ length s.manifest.ruling.hashed
 hash_count s whole = sym (length-map s.hashes hash_region_of) ∙ ap length whole.hash_regions
 
--- where every region is named there is a hash store in each
+-- if every region is named, there is a hash store in each
 pub no_hash_free : (s : TiersState) (slot : ℕ) → AreWhole s → is_well_formed s.manifest.shape slot s.manifest.ruling ≡ true → AreAllHashesNamed s.manifest.shape.hashes s.manifest.ruling → length s.hashes ≡ s.manifest.shape.hashes
 no_hash_free s slot whole sound named = hash_count s whole ∙ all_hashes_named s.manifest.shape slot s.manifest.ruling sound named
 
--- where one is free there are fewer
+-- if one is free, there are fewer
 pub hash_free : (s : TiersState) (slot region : ℕ) → AreWhole s → is_well_formed s.manifest.shape slot s.manifest.ruling ≡ true → region < s.manifest.shape.hashes → names_hash s.manifest.ruling region ≡ false → length s.hashes < s.manifest.shape.hashes
 hash_free s slot region whole sound inside free =
     let fewer = fewer_hashes s.manifest.shape slot region s.manifest.ruling sound inside free in
     omega (arith, fewer, hash_count s whole)
 
--- the body that ends a conversion may follow the one that rules
+-- the record that ends a conversion may follow the current one
 pub may_end : (s : TiersState) (body : Body) (digests : Digests) → is_well_formed s.manifest.shape (ruling_slot s.manifest) s.manifest.ruling ≡ true → AreWhole s → EndsConversion s body digests → IsNext s.manifest body
 may_end s body digests sound whole ends =
     let way : IsUnderWay s ends.conversion = subst (λ (o : Option ConversionState). IfSome o (IsUnderWay s)) ends.was whole.under_way in

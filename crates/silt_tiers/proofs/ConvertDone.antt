@@ -1,4 +1,4 @@
--- A conversion whose slots are all written: the stores in which it stands for the oldest log.
+-- A conversion whose slots are all written: the stores in which its hash store replaces the oldest log.
 use Rattle.std.proofs.Common.{◌≡◌, ◌≢◌, ◌<◌, ℕ, ◌-◌, ◌*◌, IsTrue, List, ◌++◌, length, filter, get_or, Option, Some, Ok, ap, sym, ◌∙◌, subst, arith}
 use Rattle.std.specs.Prelude.{IfSome}
 use Rattle.std.proofs.lemmas.List.{get_or-map, length-map}
@@ -38,7 +38,7 @@ module _ (content : Content) (s : TiersState) (stands : Stands content s) (some 
   last_inside : length s.frozen - 1 < length s.frozen
   last_inside = omega (arith, some)
 
-  -- as it stands
+  -- as it is
   pub oldest_frozen : IsFrozen content (oldest_log s)
   oldest_frozen = stands.frozen (length s.frozen - 1) s.active last_inside
 
@@ -79,7 +79,7 @@ module _ (content : Content) (s : TiersState) (stands : Stands content s) (some 
       (named_here s.manifest.shape s.manifest.ruling (shown_stores content s) image named same_shape same_body)
       (omega (arith, some_ids))
 
-  -- in whatever a stop leaves
+  -- in each possible crash image
   pub oldest_stands : IsFrozenStore content (oldest_log s)
   oldest_stands = record {
     images = record {
@@ -111,7 +111,7 @@ module _ (content : Content) (s : TiersState) (stands : Stands content s) (conve
   t_shape : t.shape ≡ s.manifest.shape
   t_shape = named_shape s.manifest.shape s.manifest.ruling content.shown
 
-  -- the body that rules then, the hash store, and the stores
+  -- the record that is current then, the hash store, and the stores
   abbrev pub ending_body : Body
   ending_body = converted_body s.manifest.ruling conversion.region
 
@@ -121,7 +121,7 @@ module _ (content : Content) (s : TiersState) (stands : Stands content s) (conve
   abbrev pub ending_stores : Stores
   ending_stores = with_converted ending_body ending_part (shown_stores content s)
 
-  -- the oldest log has these rows, also where the waiting rows are settled
+  -- the oldest log has these rows, also once the waiting rows are settled
   pub oldest : IsTrue content.honest → HasOldest rows t
   oldest h = subst (λ (r : List StoredRow). HasOldest r t) (shown_rows content s stands way.some_frozen h) (oldest_named s.manifest.shape s.manifest.ruling 0 content.shown (some_ids content s stands way.some_frozen))
 
@@ -144,7 +144,7 @@ module _ (content : Content) (s : TiersState) (stands : Stands content s) (conve
         indexed = indexed.indexed h;
       })
 
-  -- the hash store may stand for the log
+  -- the hash store may replace the log
   replaces : IsTrue content.honest → ReplacesLog rows ending_part t ending_stores
   replaces h = converts t ending_body rows (oldest_log s).table conversion.region (oldest h) (table_of h) (shown_sound content s stands h)
 

@@ -39,7 +39,7 @@ one_oldest rows other t has also = sym (last rows has) ∙ last other also
     last : (r : List StoredRow) → HasOldest r t → part_rows (get_or t.logs (length t.logs - 1) no_part) ≡ r
     last r is = ap (λ (l : List Part). part_rows (get_or l (length l - 1) no_part)) is.logs ∙ ap part_rows (last_is is.newer (record { region = is.region; rows = r }) no_part)
 
--- its rows in the full image are those that an honest disk with the same stores shows
+-- its rows in the full image are those that a disk with the same stores shows, if it obeys the crash model
 pub oldest_same : (first old : Content) (s : TiersState) (stood : Stands first s) (stands : Stands old s) (conversion : ConversionState) → s.converting ≡ Some conversion → IsTrue first.honest → IsTrue old.honest
     → shown_stores old s ≡ shown_stores first s → oldest_rows s.manifest.shape s.manifest.ruling (full_image first s) ≡ all_rows old (oldest_log s).log
 oldest_same first old s stood stands conversion was was_honest h same =

@@ -58,7 +58,7 @@ module _ (old new : Content) (s : TiersState) (region slot : ℕ) (stands : Stan
   slot_disk : SameDisk old new
   slot_disk = record { size = sizes; honest = changes.honest }
 
-  -- whatever a stop leaves has the same stores
+  -- each possible crash image has the same stores
   slot_named : LeavesOnly new (λ image. image_stores image ≡ Ok (shown_stores old s))
   slot_named = record {
     each = λ h image left.
@@ -92,7 +92,7 @@ module _ (old new : Content) (s : TiersState) (region slot : ℕ) (stands : Stan
       (subst (λ (n : ℕ). LiesOutside (gates_at s.manifest.shape n) (log_len s.manifest.shape) (hash_slot_at s.manifest.shape region slot) (row_len s.manifest.shape)) (sym stands.whole.active_region)
       (behind_logs s.manifest.shape s.manifest.ruling.active region slot (active_below old s stands)))
 
-  -- the stores stand on, with the conversion as it is then
+  -- the stores still stand, with the conversion as it is then
   pub slot_advances : (converting : Option ConversionState) → IfSome converting (IsUnderWay s) → IfSome converting (HasWritten new (oldest_log s)) → Advances [] old new s (record s { converting = converting })
   slot_advances converting under_way written = stays_with old new s (hash_slot_at s.manifest.shape region slot) (row_len s.manifest.shape) stands sizes changes slot_apart outside_active
       s.manifest converting s.merging refl refl refl stands.idle
@@ -109,7 +109,7 @@ module _ (old new : Content) (s : TiersState) (region slot : ℕ) (stands : Stan
 -- ---- the slots are settled
 
 module _ (old new : Content) (s : TiersState) (stands : Stands old s) (sizes : size new ≡ size old) where
-  -- where nothing is changed, and each image has the same stores, the stores stand on
+  -- if nothing is changed, and each image has the same stores, the stores still stand
   still_advances : ChangesWithin 0 0 old new → LeavesOnly new (λ image. image_stores image ≡ Ok (shown_stores old s)) → Advances [] old new s s
   still_advances changes named = stays_on old new s 0 0 stands sizes changes
       (λ h. record { active = inl (omega arith); frozen = λ id there. inl (omega arith); hashed = λ id there. inl (omega arith); sorted = inl (omega arith) }) (inl (omega arith))

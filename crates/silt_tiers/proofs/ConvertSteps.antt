@@ -61,7 +61,7 @@ module _ (s : TiersState) where
         absurd (let no : Finished ≡ Moved = sym turn ∙ moved in cc)
   ]
 
-  -- with frozen logs, no conversion under way, and this many hash stores
+  -- with frozen logs, no conversion in progress, and this many hash stores
   pub begins_turn : s.converting ≡ None → 0 < length s.frozen → convert_turn s ≡ (if length s.hashes == s.manifest.shape.hashes then Waiting else Moved)
   begins_turn none some = ap due none ∙ ap (λ (b : Bool). if b then Idle else if length s.hashes == s.manifest.shape.hashes then Waiting else Moved) (ne_eqb (length s.frozen) 0 (λ e. absurd (omega (arith, e, some))))
 
@@ -115,7 +115,7 @@ module _ (old new : Content) (s : TiersState) (log : LogStoreState) (before afte
   -- ---- it was written
 
   module _ (steps : Steps log old new before after) (written : IsFrozenStore old log → HasWritten old log before → HasWritten new log after) where
-    -- the conversion is under way
+    -- the conversion is in progress
     pub way_after : IsUnderWay s after
     way_after = subst (IsUnderWay s) (sym steps.next) (record {
       has_shape = way.has_shape;
@@ -168,7 +168,7 @@ next_converts s before after tags was turn next = record {
 
 -- ---- the first slot of a new one
 
--- where no conversion is under way, the first step begins one in a free region
+-- if no conversion is in progress, the first step begins one in a free region
 module _ (s : TiersState) (log : LogStoreState) (ruling : Body) (hashes region : ℕ) (read : Some log ≡ slice_get s.frozen (length s.frozen - 1)) (none : s.converting ≡ None) (whole : AreWhole s)
     (sound : is_well_formed s.manifest.shape (ruling_slot s.manifest) s.manifest.ruling ≡ true) (same_ruling : ruling ≡ s.manifest.ruling) (hashes_are : hashes ≡ s.manifest.shape.hashes) where
   some : 0 < length s.frozen

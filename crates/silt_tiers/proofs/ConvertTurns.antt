@@ -1,4 +1,4 @@
--- The end of a conversion: the body that names the hash store, and the stores once it rules.
+-- The end of a conversion: the record that names the hash store, and the stores once it is current.
 use Rattle.std.proofs.Common.{inr, ◌≡◌, ◌≤◌, ◌<◌, ℕ, ◌-◌, IsTrue, List, [], ◌∷◌, ◌++◌, length, map, take, get_or, Option, Some, None, refl, ap, sym, ◌∙◌, subst, arith}
 use Rattle.std.specs.Prelude.{All, IfSome}
 use Rattle.std.proofs.lemmas.List.{length-map, take-map}
@@ -63,7 +63,7 @@ module _ (old : Content) (s : TiersState) (body : Body) (digests : Digests) (sta
   some_ids : 0 < length s.manifest.ruling.frozen
   some_ids = omega (arith, under_way.some_frozen, length-map s.frozen region_of, ap length stands.whole.frozen_regions)
 
-  -- it names them in whatever a stop leaves, since nothing is pending
+  -- it names them in each possible crash image, since nothing is pending
   names : LeavesOnly old (λ image. stores_named s.manifest.shape body image ≡ converted_stores)
   names = record {
     each = λ h image left.
@@ -140,7 +140,7 @@ module _ (old : Content) (s : TiersState) (body : Body) (digests : Digests) (sta
     slots_stay : HasWritten new (oldest_log s) ends.conversion
     slots_stay = subst (λ (o : Option ConversionState). IfSome o (HasWritten new (oldest_log s))) ends.was (written_stays old new s stands sizes now.changes)
 
-    -- the oldest log is as it was in whatever a stop leaves
+    -- the oldest log is as it was in each possible crash image
     last_inside : length s.frozen - 1 < length s.frozen
     last_inside = omega (arith, under_way.some_frozen)
 
@@ -187,7 +187,7 @@ module _ (old : Content) (s : TiersState) (body : Body) (digests : Digests) (sta
       abbrev after : TiersState
       after = oldest_replaced s m ends.conversion digest
 
-      -- the new hash store stands
+      -- the new hash store matches the disk
       store_is : IsHashStore new (store_of ends.conversion digest)
       store_is = record {
         sound = λ h. (store_stands new (oldest_log s) ends.conversion digest (count h) ends.done digested oldest_stays slots_stay).sound h;
@@ -233,7 +233,7 @@ module _ (old : Content) (s : TiersState) (body : Body) (digests : Digests) (sta
             ∙ ap (λ (rows : List StoredRow). put_count (rows_of converted_stores ++ rows)) (sym (waiting_stays old new s stands sizes now.changes (back h)));
       }
 
-      -- and stand on
+      -- and still stand
       pub converted_advances : (finished : TiersState) → AreWhole finished → finished ≡ oldest_replaced s m ends.conversion digest → Advances [] old new s finished
       unfolding converted_may_rule
       converted_advances finished is_whole is =

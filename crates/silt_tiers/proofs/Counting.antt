@@ -87,7 +87,7 @@ below_each n (id ∷ ids) all x e =
 pub at_most : (n : ℕ) (ids : List ℕ) → is_distinct ids ≡ true → all_below n ids ≡ true → length ids ≤ n
 at_most n ids distinct all = length-le_from_distinct_below ids n (distinct_ids ids distinct) (below_each n ids all)
 
--- what a well-formed body says of its logs
+-- what holds of the logs of a well-formed record
 pub record HasSoundLogs (logs : ℕ) (b : Body) : Type 0 where
   pub generation : b.generation < 2 ^ 63
   pub fewer : length b.frozen < logs

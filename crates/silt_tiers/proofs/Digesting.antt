@@ -17,7 +17,7 @@ padded_more ds d room =
     ∙ set-append_seam ds no_digest (replicate left no_digest) d
     ∙ sym (append_assoc ds (d ∷ []) (replicate left no_digest))
 
--- how many stand in front
+-- how many come first
 pub in_front : (first : Option Digest) (is : Bool) (newer : ℕ) → newer ≡ from_bool is → is ≡ is_some first → newer ≡ length (option_to_list first)
 in_front None is newer counted same = counted ∙ ap from_bool same
 in_front (Some digest) is newer counted same = counted ∙ ap from_bool same

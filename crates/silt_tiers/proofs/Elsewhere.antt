@@ -120,7 +120,7 @@ frozen_named s are k d inside = (
 )
 
 module _ (content : Content) (s : TiersState) (stands : Stands content s) (honest : IsTrue content.honest) where
-  -- the body that rules is well formed
+  -- the current record is well formed
   pub ruling_sound : is_well_formed s.manifest.shape (s.manifest.ruling.generation % 2) s.manifest.ruling ≡ true
   ruling_sound =
       let whole : IsWhole (shown_stores content s) content.shown = whole_law content.shown (shown_stores content s) (shown_named content s stands honest) in
@@ -215,7 +215,7 @@ log_written_elsewhere old new store conversion at count fits there most frozen c
       hashed = λ h. (stays (subst IsTrue changes.honest h)).hashed h;
     }
 
--- a conversion under way has written what it had after a change outside the frozen logs and its slots
+-- a conversion in progress keeps what it has written if only bytes outside the frozen logs and its slots change
 pub written_all_elsewhere : (old new : Content) (s : TiersState) (at count : ℕ) (o : Option ConversionState) → Stands old s → ChangesWithin at count old new
     → (IsTrue old.honest → (region : ℕ) → Contains s.manifest.ruling.frozen region → LiesOutside (gates_at s.manifest.shape region) (log_len s.manifest.shape) at count)
     → (IsTrue old.honest → IfSome o (λ conversion. LiesOutside (hash_at s.manifest.shape conversion.region) (slots_len s.manifest.shape) at count))
@@ -266,7 +266,8 @@ digested_elsewhere old new s at count stands changes behind honest =
 
 -- ---- the merge
 
--- a merge under way has gathered and written what it had after a change outside its entries, those of the sorted store and the slots of the hash stores
+-- a merge in progress keeps what it has gathered and written if only bytes outside its entries, those of the sorted store and the slots of
+-- the hash stores change
 pub merged_all_elsewhere : (old new : Content) (s : TiersState) (at count : ℕ) (o : Option MergeState) → Stands old s → ChangesWithin at count old new
     → (IsTrue old.honest → (region : ℕ) → Contains s.manifest.ruling.hashed region → LiesOutside (hash_at s.manifest.shape region) (slots_len s.manifest.shape) at count)
     → (IsTrue old.honest → LiesOutside (sorted_at s.manifest.shape s.manifest.ruling.sorted) (entries_len s.manifest.shape) at count)

@@ -1,4 +1,4 @@
--- What the images of a disk mean on which the stores stand.
+-- What the images of a disk on which the stores stand represent.
 use Rattle.std.proofs.Common.{◌≡◌, ◌≤◌, ◌<◌, ℕ, ◌+◌, ◌-◌, IsTrue, List, ◌++◌, length, map, replicate, Ok, inr, refl, ap, sym, ◌∙◌, subst, arith}
 use Rattle.std.proofs.lemmas.List.{length-replicate}
 use Rattle.silt_disk.specs.Disk.{Content, Left, LeavesOnly, Torn, size}
@@ -47,7 +47,8 @@ full_torn content l bounds sized =
     torn_wider (gates_at l.shape l.region) (log_size l.shape) (omega arith) (omega (arith, long, bounds.order, bounds.room, up_least l.shape.log_capacity))
     (torn_splice (gates_at l.shape l.region + l.settled) ones content.shown within)
 
--- with the gates of a log's waiting rows open, the map of the stores that are shown, of which it is the active one, is that after their commands
+-- with the gates of a log's waiting rows open, the map of the stores that are shown, of which it is the active one, is that after their
+-- commands
 pub opened_map : (content : Content) (l : LogState) (t : Stores) → log.IsLog content l → size content ≡ device_size l.shape → t.shape ≡ l.shape → t.body.active ≡ l.region → IsTrue content.honest → image_stores content.shown ≡ Ok t
     → image_map (log.opened_image content l) ≡ map_after (map_of_rows (rows_of t)) (map command_of (waiting_rows content l))
 opened_map content l t is sized same_shape same_region honest named =
@@ -107,11 +108,11 @@ module _ (content : Content) (s : TiersState) (stands : Stands content s) where
   pub full_rows : IsTrue content.honest → log_rows s.manifest.shape s.manifest.ruling.active (full_image content s) ≡ all_rows content s.active.log
   full_rows honest = active_rows (full_image content s) ∙ stands.active.full honest
 
-  -- an image that the record of the manifest rules, with stores of this shape, says its digests
+  -- an image with a current record and stores of this shape has the record's digests
   pub says_held : (image : List ℕ) (t : Stores) → image_stores image ≡ Ok t → t.shape ≡ s.manifest.shape → RulesAsHeld s.manifest image → image_digests image ≡ s.manifest.digests
   says_held image t is same_shape rules = says_ruling s.manifest.shape t (ruling_record s.manifest) image is same_shape rules
 
-  -- in whatever a stop leaves it rules
+  -- it is current in each possible crash image
   pub left_rules : IsTrue content.honest → (image : List ℕ) → Left content image → RulesAsHeld s.manifest image
   left_rules honest image left = (stands.rules.each honest image left).rules
 
@@ -175,7 +176,7 @@ module _ (content : Content) (s : TiersState) (stands : Stands content s) where
   pub shown_map : IsTrue content.honest → image_map content.shown ≡ base_map content s
   shown_map honest = stores_map (shown_stores content s) content.shown (shown_named honest) ∙ sym (base_is content s)
 
-  -- each image stands for the base
+  -- each image represents the base
   pub base_stands : IsTrue content.honest → (image : List ℕ) → image_stores image ≡ Ok (shown_stores content s) → RulesAsHeld s.manifest image → StandsFor s.manifest.shape (base_map content s) image
   base_stands honest image is rules =
       let same_shape = named_shape s.manifest.shape s.manifest.ruling content.shown in

@@ -27,7 +27,7 @@ use Rattle.silt_tiers.proofs.Standing.{Fits, digested_stays, fits_stand, frozen_
 use Rattle.silt_tiers.proofs.Appends.{with_active}
 use Rattle.silt_tiers.proofs.Wholes.{whole_with_active, written_with_active}
 
--- nothing waits where all rows are settled
+-- nothing waits if all rows are settled
 pub quiet : (content : Content) (s : TiersState) → s.active.log.settled ≡ s.active.log.used → IsQuiet content s
 quiet content s settled = record { settled = settled; none_wait = ap (map command_of) (none_waiting content s.active.log settled) }
 
@@ -138,7 +138,7 @@ module _ (old new : Content) (s : TiersState) (after : LogStoreState) (stands : 
   -- ---- some of them
 
   module _ (opens : OpensSomeOfStore old new s.active after) where
-    -- whatever a stop leaves has a beginning of the waiting rows
+    -- each possible crash image has a beginning of the waiting rows
     pub flush_breaks : Breaks old new s
     flush_breaks = record {
       each = λ h image left.
@@ -168,7 +168,7 @@ module _ (old new : Content) (s : TiersState) (after : LogStoreState) (stands : 
         ∙ map_with_rows old s stands h (full_image new s) (waiting_rows old s.active.log) is
         ∙ sym (full_map old s stands h)
 
--- nor where no row waits
+-- nor if no row waits
 pub quiet_when : (content : Content) (s : TiersState) → Stands content s → nat_lt s.active.log.settled s.active.log.used ≡ false → IsQuiet content s
 quiet_when content s stands none =
     let past = ltb-false s.active.log.settled s.active.log.used none in

@@ -47,11 +47,11 @@ pub record IsApart (shape : Shape) (body : Body) (at count : ℕ) : Type 0 where
   pub hashed : (region : ℕ) → Contains body.hashed region → LiesOutside (hash_at shape region) (slots_len shape) at count
   pub sorted : LiesOutside (sorted_at shape body.sorted) (entries_len shape) at count
 
--- outside the slots of a conversion under way
+-- outside the slots of a conversion in progress
 abbrev pub IsOutsideConversion : TiersState → ℕ → ℕ → Type 0
 IsOutsideConversion s at count = IfSome s.converting (λ conversion. LiesOutside (hash_at s.manifest.shape conversion.region) (slots_len s.manifest.shape) at count)
 
--- outside the entries of a merge under way
+-- outside the entries of a merge in progress
 abbrev pub IsOutsideMerge : TiersState → ℕ → ℕ → Type 0
 IsOutsideMerge s at count = IfSome s.merging (λ merge. LiesOutside (sorted_at s.manifest.shape merge.region) (entries_len s.manifest.shape) at count)
 
@@ -73,7 +73,7 @@ module _ (old new : Content) (s : TiersState) (at count : ℕ) (stands : Stands 
   pub kept : KeepsRows old new s.active.log s.active.log
   kept = log_elsewhere old new s.active.log at count stands.active (omega (arith, active_size old s stands)) sizes outside changes
 
-  -- the stores that stand in this state, with rows that wait as they waited
+  -- the stores stand in this state, with the same rows waiting
   module _ (m : ManifestState) (converting : Option ConversionState) (merging : Option MergeState) (same_shape : m.shape ≡ s.manifest.shape) (same_ruling : m.ruling ≡ s.manifest.ruling) (same_digests : m.digests ≡ s.manifest.digests) (idle : m.prepared ≡ None) (rules : Rules m new)
       (named : LeavesOnly new (λ image. image_stores image ≡ Ok (shown_stores old s)))
       (under_way : IfSome converting (IsUnderWay s)) (written : IfSome converting (HasWritten new (oldest_log s))) (is_merging : IfSome merging (IsMerging s)) (merged : IfSome merging (HasGathered new s)) where
@@ -114,7 +114,7 @@ module _ (old new : Content) (s : TiersState) (at count : ℕ) (stands : Stands 
           stands.counted (back h) ∙ ap (λ (rows : List StoredRow). put_count (rows_of (shown_stores old s) ++ rows)) (sym (waiting_kept old new s.active.log s.active.log stands.active (back h) kept));
     }
 
-    -- they stand on
+    -- they still stand
     pub stays_with : Advances [] old new s after
     stays_with = record {
       stands = fits_stand new after (shown_stores old s) fits_on;
@@ -180,7 +180,7 @@ module _ (old new : Content) (s : TiersState) (region : ℕ) (stands : Stands ol
   in_region : ChangesWithin (gates_at s.manifest.shape region) (log_size s.manifest.shape) old new
   in_region = within_wider (gates_at s.manifest.shape region) (log_size s.manifest.shape) (omega arith) (omega (arith, up_least s.manifest.shape.log_capacity)) gates
 
-  -- whatever a stop leaves has the same stores
+  -- each possible crash image has the same stores
   free_named : LeavesOnly new (λ image. image_stores image ≡ Ok (shown_stores old s))
   free_named = record {
     each = λ h image left.
@@ -197,7 +197,7 @@ module _ (old new : Content) (s : TiersState) (region : ℕ) (stands : Stands ol
       subst (λ (sh : Shape). LiesOutside (gates_at sh s.active.log.region) (log_len sh) (gates_at s.manifest.shape region) (log_size s.manifest.shape)) (sym stands.whole.has_shape)
       (subst (λ (n : ℕ). LiesOutside (gates_at s.manifest.shape n) (log_len s.manifest.shape) (gates_at s.manifest.shape region) (log_size s.manifest.shape)) (sym stands.whole.active_region) (region_apart s.manifest.shape s.manifest.ruling region below free).active)
 
-  -- the stores stand on
+  -- the stores still stand
   pub cleared : Advances [] old new s s
   cleared = stays_on old new s (gates_at s.manifest.shape region) (log_size s.manifest.shape) stands sizes in_region (λ h. region_apart s.manifest.shape s.manifest.ruling region below free) outside_active
       (λ h. region_before_conversion s region below) (λ h. region_before_merge s region below) s.manifest refl refl refl stands.idle

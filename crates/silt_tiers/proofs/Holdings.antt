@@ -11,7 +11,7 @@ use Rattle.silt_tiers.specs.NextLog.{AreAllNamed, IsLowestFree, IsNextLog, empty
 use Rattle.silt_tiers.specs.Calls.{HasNoFreeLog}
 use Rattle.silt_tiers.proofs.Counting.{all_in_use, next_sound, one_to_spare, sound_logs}
 
--- the next log's body may follow the one that rules
+-- the record of the next log may follow the current one
 pub may_follow : (s : TiersState) (next : NextLog) → is_well_formed s.manifest.shape (ruling_slot s.manifest) s.manifest.ruling ≡ true → IsNextLog s next → IsNext s.manifest next.body
 may_follow s next sound is = record {
   generation = ap (λ (b : Body). b.generation) is.body;
@@ -22,13 +22,13 @@ may_follow s next sound is = record {
 pub frozen_count : (s : TiersState) → AreWhole s → length s.frozen ≡ length s.manifest.ruling.frozen
 frozen_count s whole = sym (length-map s.frozen region_of) ∙ ap length whole.frozen_regions
 
--- the stores where every region is named
+-- the stores if every region is named
 pub no_room : (s : TiersState) (slot logs : ℕ) → logs ≡ s.manifest.shape.logs → AreWhole s → is_well_formed s.manifest.shape slot s.manifest.ruling ≡ true → AreAllNamed logs s.manifest.ruling → HasNoFreeLog s
 no_room s slot logs is whole sound named =
     let all = all_in_use s.manifest.shape slot s.manifest.ruling sound (subst (λ (n : ℕ). AreAllNamed n s.manifest.ruling) is named) in
     omega (arith, all, frozen_count s whole)
 
--- and where one is free
+-- and if one is free
 pub has_room : (s : TiersState) (slot logs region : ℕ) → logs ≡ s.manifest.shape.logs → AreWhole s → is_well_formed s.manifest.shape slot s.manifest.ruling ≡ true → IsLowestFree logs s.manifest.ruling region
     → length s.frozen + 1 < s.manifest.shape.logs
 has_room s slot logs region is whole sound lowest =

@@ -35,7 +35,7 @@ all_but_last newer oldest =
     let long : length (newer ++ oldest ∷ []) - 1 ≡ length newer = omega (arith, length-append newer (oldest ∷ [])) in
     ap (λ n. take n (newer ++ oldest ∷ [])) long ∙ take-append_seam newer (oldest ∷ [])
 
--- the map of rows of which some stand in place of others that make the same of each map
+-- the map of rows, some of which replace others that make the same of each map
 map_replaced : (front some other rest : List StoredRow) → ((m : Map) → map_after m (map command_of other) ≡ map_after m (map command_of some))
     → map_of_rows (front ++ (other ++ rest)) ≡ map_of_rows (front ++ (some ++ rest))
 map_replaced front some other rest same = by_parts other ∙ ap (λ (m : Map). map_after m (map command_of rest)) (same (map_of_rows front)) ∙ sym (by_parts some)
@@ -63,7 +63,7 @@ module _ (s : Stores) (body : Body) (rows : List StoredRow) (table : Slots) (reg
   abbrev rest : List StoredRow
   rest = oldest_first (map part_rows has.newer)
 
-  -- the oldest log's rows stand between them
+  -- the oldest log's rows are between them
   rows_old : rows_of s ≡ front ++ (rows ++ rest)
   unfolding rows_of
   rows_old =
@@ -75,7 +75,7 @@ module _ (s : Stores) (body : Body) (rows : List StoredRow) (table : Slots) (reg
   pub newer_left : take (length s.logs - 1) s.logs ≡ has.newer
   newer_left = ap (λ (logs : List Part). take (length logs - 1) logs) has.logs ∙ all_but_last has.newer oldest
 
-  -- and the new hash store's rows stand there in place of the log's
+  -- and the new hash store's rows are there in place of the log's
   rows_new : rows_of new ≡ front ++ (known_rows part ++ rest)
   unfolding rows_of with_converted
   rows_new =
@@ -121,7 +121,7 @@ module _ (s : Stores) (body : Body) (rows : List StoredRow) (table : Slots) (reg
         charge = omega (arith, nothing.charge, charge_moves, converted_charge s.shape rows table is);
       })
 
--- the rows that are due may stand in a hash store in place of the oldest log
+-- the rows that are due may be in a hash store in place of the oldest log
 pub converts : ConvertsLaw
 converts s body rows table region has is sound = record {
   map = same_map s body rows table region has is;

@@ -65,7 +65,7 @@ other_key a b differ = elim (cases_Bool (bytes_eq a b)) [
   | inr other ↦ other
 ]
 
--- where no row has the key
+-- if no row has the key
 pub newest_none : (rows : List StoredRow) (key : List ℕ) → HasNoRow rows key → newest_row rows key ≡ None
 newest_none [] key none = refl
 newest_none (row ∷ rows) key none =
@@ -74,7 +74,7 @@ newest_none (row ∷ rows) key none =
     ∙ ap (λ (o : Option StoredRow). option_or o (newest_row (row ∷ []) key)) (newest_none rows key (λ place inside. none (suc place) (omega (arith, inside))))
     ∙ newest_one row key ∙ ap (λ (b : Bool). cond b (Some row) None) (other_key row.key key first)
 
--- where a row is the last one of the key
+-- if a row is the last one of the key
 pub newest_last : (rows : List StoredRow) (key : List ℕ) (place : ℕ) (row : StoredRow) → IsLastRow rows key place row → newest_row rows key ≡ Some row
 newest_last [] key place row is = absurd (let no : None ≡ Some row = is.there in cc)
 newest_last (first ∷ rows) key zero row is =
@@ -91,7 +91,7 @@ newest_last (first ∷ rows) key (suc place) row is =
       last = λ later past inside. is.last (suc later) (omega (arith, past)) (omega (arith, inside));
     }))
 
--- where a row is the only one of the key
+-- if a row is the only one of the key
 newest_only : (rows : List StoredRow) (key : List ℕ) (place : ℕ) (row : StoredRow) → IsOnlyRow rows key place row → newest_row rows key ≡ Some row
 newest_only rows key place row is = newest_last rows key place row (record {
   there = is.there;
@@ -123,7 +123,7 @@ newest_known_this row key is =
     let parts = and_parts (has_known_kind row) (bytes_eq row.key key) is in
     rw parts.0 (newest_one row key ∙ ap (λ (b : Bool). cond b (Some row) None) parts.1)
 
--- where no row of a known kind has the key
+-- if no row of a known kind has the key
 pub newest_known_none : (rows : List StoredRow) (key : List ℕ) → holds_key key rows ≡ false → newest_row (filter has_known_kind rows) key ≡ None
 newest_known_none [] key none = refl
 newest_known_none (row ∷ rows) key none =
@@ -137,7 +137,7 @@ all_other : (rows : List StoredRow) (key : List ℕ) → ((later : ℕ) (other :
 all_other [] key none = refl
 all_other (row ∷ rows) key none = rw (none 0 row refl, all_other rows key (λ later other there. none (suc later) other there)) refl
 
--- where a row of a known kind has the key, and no later one
+-- if a row of a known kind has the key, and no later one
 pub newest_known : (rows : List StoredRow) (key : List ℕ) (place : ℕ) (row : StoredRow) → slice_get rows place ≡ Some row → is_row_of key row ≡ true
     → ((later : ℕ) (other : StoredRow) → place < later → slice_get rows later ≡ Some other → is_row_of key other ≡ false) → newest_row (filter has_known_kind rows) key ≡ Some row
 newest_known [] key place row there is last = absurd (cc)
@@ -158,7 +158,7 @@ known_byte Put byte e = ap (λ n. is_some (kind_of n)) (sym e)
 known_byte Delete byte e = ap (λ n. is_some (kind_of n)) (sym e)
 
 module _ (shape : Shape) (region : ℕ) (image : List ℕ) (key : List ℕ) where
-  -- a row of the region stands in its slot
+  -- a row of the region is in its slot
   hash_there : (slot : ℕ) (row : StoredRow) → slice_get (hash_rows shape region image) slot ≡ Some row → (slot < 4 * shape.buckets) × (row ≡ slot_row shape region image slot)
   hash_there slot row there =
       let before : slice_get (rows_before shape region image (4 * shape.buckets)) slot ≡ Some row = ap (λ (rows : List StoredRow). slice_get rows slot) (sym (all_before shape region image)) ∙ there in
@@ -167,7 +167,7 @@ module _ (shape : Shape) (region : ℕ) (image : List ℕ) (key : List ℕ) wher
       let same : row ≡ slot_row shape region image slot = cc in
       (inside, same)
 
-  -- where nothing is found in a hash region, no slot behind a row of the key has another
+  -- if nothing is found in a hash region, no slot after a row of the key has another
   later_lacks : hash_findings shape (hash_part shape image region) ≡ [] → (slot later : ℕ) (row other : StoredRow) → slice_get (hash_rows shape region image) slot ≡ Some row → is_row_of key row ≡ true
       → slot < later → slice_get (hash_rows shape region image) later ≡ Some other → is_row_of key other ≡ false
   later_lacks nothing slot later row other there is past at = elim (cases_Bool (is_row_of key other)) [
@@ -305,7 +305,7 @@ module _ (content : Content) (s : TiersState) (shows : ShowsStores content s) (h
       ∙ append_assoc (behind ++ frozen) (settled_rows content s.active.log) (waiting_rows content s.active.log)
       ∙ ap (λ (rows : List StoredRow). behind ++ frozen ++ rows) (sym (all_are_settled_and_waiting content s.active.log shows.bounds.order))
 
-  -- the map from which lookups answer
+  -- the map that lookups read
   pub current_is : current_map content s ≡ map_of_rows (rows_behind content s ++ oldest_first (map (rows_in content) s.frozen) ++ all_rows content s.active.log)
   current_is =
       ap (λ (m : Map). map_after m (waiting_commands content s)) (base_is content s)

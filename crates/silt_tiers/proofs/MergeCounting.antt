@@ -31,7 +31,7 @@ merged_sound_body s slot count region written b sound there room unspent =
     let logs : has_sound_logs s.logs (merged_body b count region written) ≡ true = p4.1 in
     and_from _ _ (and_from _ _ (and_from _ _ (and_from _ _ (and_from _ _ generation remainder) logs) hashes) (lt-ltb region 2 there)) (le-leb written s.sorted_capacity room)
 
--- the body that ends a merge may follow the one that rules
+-- the record that ends a merge may follow the current one
 pub may_end_merge : (s : TiersState) (body : Body) (digests : Digests) (store : IndexedState) → is_well_formed s.manifest.shape (ruling_slot s.manifest) s.manifest.ruling ≡ true → AreWhole s → EndsMerge s body digests store → IsNext s.manifest body
 may_end_merge s body digests store sound whole ends =
     let way : IsMerging s ends.merge = subst (λ (o : Option MergeState). IfSome o (IsMerging s)) ends.was whole.merging in

@@ -57,7 +57,7 @@ module _ (old new : Content) (s : TiersState) (region : ℕ) (stands : Stands ol
   not_named : s.manifest.ruling.sorted ≢ region
   not_named same = apart (ap (λ (t : SortedState). t.region) stands.whole.sorted ∙ same)
 
-  -- whatever a stop leaves has the same stores
+  -- each possible crash image has the same stores
   entry_named : LeavesOnly new (λ image. image_stores image ≡ Ok (shown_stores old s))
   entry_named = record {
     each = λ h image left.
@@ -93,7 +93,7 @@ module _ (old new : Content) (s : TiersState) (region : ℕ) (stands : Stands ol
           let is : IsUnderWay s conversion = way in
           behind_hash s.manifest.shape conversion.region region is.there
 
-  -- the stores stand on, with the merge as it is then
+  -- the stores still stand, with the merge as it is then
   pub entry_advances : (merging : Option MergeState) → IfSome merging (IsMerging s) → IfSome merging (HasGathered new s) → Advances [] old new s (record s { merging = merging })
   entry_advances merging is_merging merged = stays_with old new s (sorted_at s.manifest.shape region) (sorted_size s.manifest.shape) stands sizes changes entry_apart outside_active
       s.manifest s.converting merging refl refl refl stands.idle
@@ -105,7 +105,7 @@ module _ (old new : Content) (s : TiersState) (region : ℕ) (stands : Stands ol
   pub entry_map : (merging : Option MergeState) → IfSome merging (IsMerging s) → IfSome merging (HasGathered new s) → Remaps [] old new s (record s { merging = merging })
   entry_map merging is_merging merged = advances_remap [] old new s (record s { merging = merging }) entry_disk stands (entry_advances merging is_merging merged)
 
-  -- also where it was not written
+  -- also if it was not written
   pub entry_breaks : Breaks old new s
   entry_breaks = advances_break old new s (record s { merging = None }) entry_disk (entry_advances None tt tt)
 

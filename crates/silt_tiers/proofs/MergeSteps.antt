@@ -28,15 +28,15 @@ module _ (s : TiersState) where
   abbrev due : Option MergeState → Progress
   due o = merge_progress (length s.hashes) (option_map (λ merge. is_done merge s.sorted) o)
 
-  -- with no merge under way and no hash store
+  -- with no merge in progress and no hash store
   pub idle_turn : s.merging ≡ None → length s.hashes ≡ 0 → merge_turn s ≡ Idle
   idle_turn none empty = ap due none ∙ ap (λ (b : Bool). if b then Idle else Moved) (eq-eqb (length s.hashes) 0 empty)
 
-  -- with no merge under way and some hash stores
+  -- with no merge in progress and some hash stores
   pub first_turn : s.merging ≡ None → 0 < length s.hashes → merge_turn s ≡ Moved
   first_turn none some = ap due none ∙ ap (λ (b : Bool). if b then Idle else Moved) (ne_eqb (length s.hashes) 0 (λ e. absurd (omega (arith, e, some))))
 
-  -- a merge under way is done or not
+  -- a merge in progress is done or not
   pub under_way_turn : (merge : MergeState) (done : Bool) → s.merging ≡ Some merge → done ≡ is_done merge s.sorted → merge_turn s ≡ (if done then Finished else Moved)
   under_way_turn merge done was is = ap due was ∙ ap (λ (b : Bool). if b then Finished else Moved) (sym is)
 
@@ -105,7 +105,7 @@ module _ (old new : Content) (s : TiersState) (before after : MergeState) (stand
 
   module _ (same : IsSameMerge before after) (held : IsHeldMerge after) (gathered : HasGathered old s before)
       (merged : HasMerged old (oldest_stores before.stores s.hashes) s.sorted before → HasMerged new (oldest_stores before.stores s.hashes) s.sorted after) where
-    -- the merge is under way
+    -- the merge is in progress
     pub way_after : IsMerging s after
     way_after = record {
       has_shape = same.shape ∙ way.has_shape;
@@ -168,7 +168,7 @@ module _ (s : TiersState) (region : ℕ) (read : List HashState) (none : s.mergi
         };
       }
 
--- the next step of a merge under way
+-- the next step of a merge in progress
 pub next_merges : (s : TiersState) (before after : MergeState) → s.merging ≡ Some before → merge_turn s ≡ Moved → IsSameMerge before after → steps_of after ≡ steps_of before + 1 → Merges Moved s (record s { merging = Some after })
 next_merges s before after was turn same step = record {
   due = sym turn;
@@ -189,6 +189,6 @@ module _ {D F : Type 0} (facts : Ghosts D F) (old new : D) (before after : Tiers
   step_cause (step_error.Read fault) fails same turn lacks breaks remaps = (same, fails.0, turn, fails.1)
   step_cause (step_error.Write fault) fails same turn lacks breaks remaps = (ap is_work turn, record { counted = fails; breaks = breaks; map = remaps })
 
--- where no merge is under way, any step may lack memory
+-- if no merge is in progress, any step may be out of memory
 pub first_lacks : (content : Content) (s : TiersState) → s.merging ≡ None → MayLackMemory content s
 first_lacks content s none = subst (λ (o : Option MergeState). IfSome o (λ merge. TakesMemory content (oldest_stores merge.stores s.hashes) merge)) (sym none) tt

@@ -78,7 +78,7 @@ pub with_entries : (region : ℕ) (rows : List StoredRow) (t : Stores) → (with
 unfolding with_log_rows
 with_entries region rows t = refl
 
--- where the merge may stand in place of what it took, it may with other rows of a log
+-- if the merge may replace what it took, it may do so with other rows of a log
 pub sound_with : (body : Body) (newer taken : List Part) (entries rows : List StoredRow) (region : ℕ) (t : Stores) → t.hashes ≡ newer ++ taken → IsMergeOf (taken_rows taken t) entries → IsSound (with_log_rows region rows t)
     → IsSound (with_log_rows region rows (with_merged body newer entries t))
 unfolding with_log_rows with_merged

@@ -8,11 +8,11 @@ use Rattle.silt_sorted_store.specs.Index.{IndexedState}
 use Rattle.silt_standing.specs.State.{AreWhole, TiersState}
 use Rattle.silt_tiers.specs.Merge.{MayStandFor, charge_without, puts_in, sorted_replaced}
 
--- a merge that is under way is the one that was
+-- a merge in progress is the one that was
 pub same_merge : (a b : MergeState) (o : Option MergeState) → o ≡ Some a → o ≡ Some b → a ≡ b
 same_merge a b o first second = let e : Some a ≡ Some b = sym first ∙ second in cc
 
--- what stands from a place on, as a slice
+-- what a list has from a place on, as a slice
 pub from_on : (place : ℕ) (stores : List HashState) → take (length stores - place) (drop place stores) ≡ drop place stores
 from_on place stores = take_all (length stores - place) (drop place stores) (omega (arith, length-drop place stores))
 

@@ -1,4 +1,4 @@
--- The end of a merge: the body that names its sorted store, and the stores once it rules.
+-- The end of a merge: the record that names its sorted store, and the stores once it is current.
 use Rattle.std.proofs.Common.{inr, ◌≡◌, ◌≤◌, ◌<◌, ℕ, ◌-◌, ◌*◌, ◌==◌, IsTrue, List, [], ◌++◌, length, map, take, Option, Some, None, refl, ap, sym, ◌∙◌, subst, arith}
 use Rattle.std.specs.Prelude.{All, IfSome}
 use Rattle.std.specs.List.{list_any}
@@ -40,7 +40,7 @@ use Rattle.silt_tiers.proofs.MergeStores.{merged_entries, merged_named, merged_r
 use Rattle.silt_tiers.proofs.Said.{merged_said}
 use Rattle.silt_tiers.proofs.MergeDone.{entries_are, full_is, merged_counted, merged_full_sound, merged_map, merged_sound, merged_stores, way}
 
--- a conversion is under way in stores with fewer hash stores
+-- a conversion is in progress in stores with fewer hash stores
 under_way_fewer : (s t : TiersState) (count : ℕ) (o : Option ConversionState) → t.manifest.shape ≡ s.manifest.shape → t.manifest.ruling.hashed ≡ take count s.manifest.ruling.hashed → t.frozen ≡ s.frozen → IfSome o (IsUnderWay s) → IfSome o (IsUnderWay t)
 under_way_fewer s t count None same_shape fewer same_frozen is = tt
 under_way_fewer s t count (Some conversion) same_shape fewer same_frozen is = record {
@@ -61,7 +61,7 @@ module _ (old : Content) (s : TiersState) (body : Body) (digests : Digests) (sto
   abbrev now_stores : Stores
   now_stores = merged_stores old s ends.merge stands ends.was ends.done body
 
-  -- it names them in whatever a stop leaves, since nothing is pending
+  -- it names them in each possible crash image, since nothing is pending
   names : LeavesOnly old (λ image. stores_named s.manifest.shape body image ≡ now_stores)
   names = record {
     each = λ h image left.
@@ -182,7 +182,7 @@ module _ (old : Content) (s : TiersState) (body : Body) (digests : Digests) (sto
           ∙ ap (λ (rows : List StoredRow). put_count (rows_of now_stores ++ rows)) (sym (waiting_stays old new s stands sizes now.changes (back h)));
     }
 
-    -- and stand on
+    -- and still stand
     goes : Advances [] old new s (sorted_replaced s m ends.merge.stores store)
     unfolding merged_may_rule
     goes = succeeds old new s body digests stands merged_may_rule sizes m now after fits now.has_shape (λ h. ap (map command_of) (waiting_stays old new s stands sizes now.changes h))

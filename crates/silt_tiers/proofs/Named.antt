@@ -64,18 +64,18 @@ pub stores_map : (t : Stores) (image : List ℕ) → image_stores image ≡ Ok t
 unfolding image_map
 stores_map t image is = ap map_of_rows (rows_law image t is)
 
--- an image with sound stores, of which it says these digests, which are theirs
+-- an image with sound stores and with these digests in its record, which are theirs
 pub stands_for : (shape : Shape) (t : Stores) (said : Option Digests) (m : Map) (image : List ℕ) → image_stores image ≡ Ok t → t.shape ≡ shape → IsSound t → AreDigestsOf said t → image_digests image ≡ said → map_of_rows (rows_of t) ≡ m → StandsFor shape m image
 stands_for shape t said m image is same_shape sound are says has_map =
     subst (λ (n : Map). StandsFor shape n image) has_map
     (subst (λ (s : Shape). StandsFor s (map_of_rows (rows_of t)) image) same_shape (stands_law image t is sound (subst (λ (o : Option Digests). AreDigestsOf o t) (sym says) are)))
 
--- a record that rules was found
+-- a current record was found
 pub found_ruling : (r : Result SlotRecord Damage) (found : SlotRecord) → where_found r ≡ Some found → r ≡ Ok found
 found_ruling (Ok other) found e = ap Ok (let same : other ≡ found = let g : Some other ≡ Some found = e in cc in same)
 found_ruling (Err damage) found e = absurd (let no : None ≡ Some found = e in cc)
 
--- an image with stores says the digests of the record that rules
+-- an image with stores has the digests of the current record
 pub says_ruling : (shape : Shape) (t : Stores) (found : SlotRecord) (image : List ℕ) → image_stores image ≡ Ok t → t.shape ≡ shape → ruling_manifest shape image ≡ Some found → image_digests image ≡ found.digests
 says_ruling shape t found image is same_shape rules =
     digests_law image t found is (ap (λ (s : Shape). manifest_found s image) same_shape ∙ found_ruling (manifest_found shape image) found rules)
@@ -100,7 +100,7 @@ module _ (t : Stores) (active : ℕ) (settled waiting : List StoredRow) (is : t.
   pub own_rows : with_log_rows active settled t ≡ t
   own_rows = ap (λ (n : ℕ). with_log_rows n settled t) (sym is) ∙ own_rows_law t settled has
 
-  -- where nothing is found with all rows, nothing is with a beginning of the waiting ones
+  -- if nothing is found with all rows, nothing is with a beginning of the waiting ones
   pub sound_some : (n : ℕ) → IsSound (with_log_rows active (settled ++ waiting) t) → IsSound (with_log_rows active (settled ++ take n waiting) t)
   sound_some n sound = beginning_law t active n settled waiting sound
 

@@ -1,4 +1,4 @@
--- A change of the manifest: whatever a stop leaves has the stores that were, or those that the next record names.
+-- A change of the manifest: each possible crash image has the stores that were, or those that the next record names.
 use Rattle.std.proofs.Common.{◌≡◌, ◌<◌, ◌⊎◌, ℕ, ◌+◌, true, IsTrue, List, [], Option, Some, None, Ok, inl, inr, refl, ap, sym, ◌∙◌, subst, arith}
 use Rattle.std.proofs.lemmas.List.{append-nil}
 use Rattle.silt_disk.specs.Disk.{ChangesWithin, Content, Left, LeavesOnly, Torn, size}
@@ -27,17 +27,17 @@ use Rattle.silt_tiers.proofs.Turns.{begun_none, quiet_remap, ruled_named, same_n
 same_some : (a b : SlotRecord) → Some a ≡ Some b → a ≡ b
 same_some a b e = cc
 
--- in an image this record rules
+-- in an image this record is current
 abbrev RulesNext : TiersState → Body → Digests → List ℕ → Type 0
 RulesNext s body digests image = ruling_manifest s.manifest.shape image ≡ Some (long_record body digests)
 
--- in an image the record that ruled rules, or this one
+-- in an image the old record is current, or this one
 abbrev EitherRules : TiersState → Body → Digests → List ℕ → Type 0
 EitherRules s body digests image = RulesAsHeld s.manifest image ⊎ RulesNext s body digests image
 
 -- ---- the two steps
 
--- before the gate the record rules that ruled
+-- before the gate is opened the old record is current
 pub before_gate : (new : Content) (s : TiersState) (body : Body) (digests : Digests) → LeavesOnly new (RulesAsHeld s.manifest) → LeavesOnly new (EitherRules s body digests)
 before_gate new s body digests each = record { each = λ h image left. inl (each.each h image left) }
 
@@ -53,7 +53,7 @@ module _ (s : TiersState) (body : Body) (digests : Digests) (m : ManifestState) 
       let gate : ChangesWithin (slot_at (spare_slot s.manifest)) 1 middle new = subst (λ (slot : ℕ). ChangesWithin (slot_at slot) 1 middle new) same second in
       within_trans first (within_wider (slot_at (spare_slot s.manifest)) 4096 (omega arith) (omega arith) gate)
 
-  -- after them the next record rules
+  -- after them the next record is current
   pub now_rules : (old middle new : Content) (after : ManifestState) → ChangesWithin (slot_at (spare_slot s.manifest)) 4096 old middle → ChangesWithin (slot_at (spare_slot m)) 1 middle new
       → Rules after new → after.shape ≡ m.shape → Some (ruling_record after) ≡ m.prepared → after.prepared ≡ None → NowRules old new s body digests after
   now_rules old middle new after first second rules same_shape opened idle =
@@ -80,17 +80,17 @@ module _ (old new : Content) (s : TiersState) (body : Body) (digests : Digests) 
   there : IsTrue old.honest → IsTrue new.honest
   there h = subst IsTrue (sym changes.honest) h
 
-  -- an image in which the record rules has the stores that its body names
+  -- an image in which the record is current has the stores that it names
   next_named : (h : IsTrue new.honest) (before image : List ℕ) → Left old before → Torn (slot_at (spare_slot s.manifest)) 4096 before image → RulesNext s body digests image → image_stores image ≡ Ok may.stores
   next_named h before image left torn rules =
       ruled_named old new s (spare_slot s.manifest) slot_below stands sizes changes h before image (long_record body digests) (stands.named.each (back h) before left) torn rules
       ∙ ap Ok (may.names.each (back h) before left)
 
-  -- an image has the stores that were, and the record rules that ruled
+  -- an image has the stores that were, and the old record is current
   abbrev StaysNamed : List ℕ → Type 0
   StaysNamed image = (image_stores image ≡ Ok (shown_stores old s)) × RulesAsHeld s.manifest image
 
-  -- or it has the next ones, and the next record rules
+  -- or it has the next ones, and the next record is current
   abbrev TurnsNamed : List ℕ → Type 0
   TurnsNamed image = (image_stores image ≡ Ok may.stores) × RulesNext s body digests image
 
@@ -110,7 +110,7 @@ module _ (old new : Content) (s : TiersState) (body : Body) (digests : Digests) 
     next_stands h image (is, rules) = stands_for s.manifest.shape may.stores (Some digests) (base_map old s) image is may.has_shape (may.sound h) (may.said h)
         (says_ruling s.manifest.shape may.stores (long_record body digests) image is may.has_shape rules) (may.same_map h)
 
-    -- whatever a stop leaves stands for the base
+    -- each possible crash image represents the base
     pub manifest_breaks : Breaks old new s
     manifest_breaks = record {
       each = λ h image left. elim (old_or_new.each h image left) [
@@ -152,7 +152,7 @@ module _ (old new : Content) (s : TiersState) (body : Body) (digests : Digests) 
         ∙ ap (λ (o : Option Digests). let r : SlotRecord = record { body = body; digests = o } in Some r) now.has_digests);
   }
 
-  -- stores that fit the disk with them, in which the same rows wait, stand
+  -- stores that fit the disk with them, and with the same waiting rows, stand
   pub succeeds : (after : TiersState) → Fits new after may.stores → after.manifest.shape ≡ s.manifest.shape → (IsTrue old.honest → waiting_commands new after ≡ waiting_commands old s) → Advances [] old new s after
   succeeds after fits same_shape waiting = record {
     stands = fits_stand new after may.stores fits;

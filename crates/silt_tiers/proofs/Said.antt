@@ -1,4 +1,4 @@
--- When the digests that are said are those of the stores.
+-- When the digests of a record are those of the stores.
 use Rattle.std.proofs.Common.{◌≡◌, ◌<◌, ℕ, ◌-◌, IsTrue, List, [], ◌∷◌, suc, length, map, take, get_or, replicate, Some, refl, ap, sym, ◌∙◌, arith}
 use Rattle.std.specs.Prelude.{All}
 use Rattle.std.proofs.lemmas.List.{get_or-map, get_or_append_left, length-map, take-map}

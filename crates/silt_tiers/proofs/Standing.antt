@@ -70,7 +70,7 @@ fits_stand content s t fits =
       counted = λ h. fits.counted h ∙ ap (λ (u : Stores). put_count (rows_of u ++ waiting_rows content s.active.log)) (sym (is h));
     }
 
--- what stands before both of two lists can be left out
+-- what comes before both of two lists can be left out
 pub after_same : {A : Type 0} (xs ys zs : List A) → xs ++ ys ≡ xs ++ zs → ys ≡ zs
 after_same [] ys zs e = e
 after_same (x ∷ xs) ys zs e = after_same xs ys zs (cc)
@@ -87,16 +87,16 @@ module _ (old new : Content) (s : TiersState) (stands : Stands old s) (sizes : s
       subst (λ (n : ℕ). ChangesWithin (gates_at s.manifest.shape n) (log_size s.manifest.shape) old new) stands.whole.active_region
       (subst (λ (sh : Shape). ChangesWithin (gates_at sh s.active.log.region) (log_size sh) old new) stands.whole.has_shape changes)
 
-  -- the manifest rules as before
+  -- the same manifest is current
   pub rules_stay : Rules s.manifest new
   rules_stay = rules_elsewhere s.manifest (gates_at s.manifest.shape s.manifest.ruling.active) (log_size s.manifest.shape) old new (omega (arith, stands.has_size)) (inr (omega arith)) changes_active stands.rules
 
-  -- the frozen logs stand as before
+  -- the frozen logs match the disk as before
   pub frozen_stay : All (IsFrozen new) s.frozen
   frozen_stay = all_frozen_elsewhere old new s (gates_at s.manifest.shape s.manifest.ruling.active) (log_size s.manifest.shape) stands changes_active
       (λ h region there. outside_other s.manifest.shape region s.manifest.ruling.active (not_active old s stands h region there))
 
-  -- the hash stores stand as before
+  -- the hash stores match the disk as before
   pub hashed_stay : All (IsHashStore new) s.hashes
   hashed_stay = all_hashed_elsewhere old new s (gates_at s.manifest.shape s.manifest.ruling.active) (log_size s.manifest.shape) stands changes_active
       (λ h region there. slots_behind_log s.manifest.shape s.manifest.ruling.active region (active_below old s stands))

@@ -80,7 +80,7 @@ module _ (s : Stores) (body : Body) (newer taken : List Part) (entries : List St
         charge = omega (arith, nothing.charge, charge_moves, is.charge, is.counted);
       })
 
--- a merge of the entries and the oldest hash stores may stand as the entries in their place
+-- a merge of the entries and the oldest hash stores may replace them as the entries
 pub merges : MergesLaw
 merges s body newer taken entries split sound is = record {
   map = same_map s body newer taken entries split is;

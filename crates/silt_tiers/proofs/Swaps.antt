@@ -17,7 +17,7 @@ pub in_front : {X : Type 0} (xs : List X) (x : X) → insert xs 0 x ≡ x ∷ xs
 in_front [] x = refl
 in_front (y ∷ ys) x = refl
 
--- a conversion that is under way is the one that was
+-- a conversion in progress is the one that was
 pub same_conversion : (a b : ConversionState) (o : Option ConversionState) → o ≡ Some a → o ≡ Some b → a ≡ b
 same_conversion a b o first second = let e : Some a ≡ Some b = sym first ∙ second in cc
 

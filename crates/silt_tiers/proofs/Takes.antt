@@ -27,21 +27,21 @@ use Rattle.silt_tiers.proofs.Appends.{not_appended, with_active}
 use Rattle.silt_tiers.proofs.Chains.{honest_after}
 use Rattle.silt_tiers.proofs.Works.{broke_off}
 
--- what waits where none of it went into the base
+-- what waits if none of it went into the base
 pub waits_behind : (command : Command) (old new : Content) (before after : TiersState) → MovesIntoBase (command ∷ []) old new before after
     → waiting_commands new after ≡ waiting_commands old before ++ command ∷ [] → WaitsBehind command (base_map old before) (base_map new after) (waiting_commands old before) (waiting_commands new after)
 waits_behind command old new before after moves waits =
     let none : moves.moved ≡ [] = append_cancel_right moves.moved [] (waiting_commands new after) (moves.rest ∙ sym waits) in
     record { waiting = waits; base = moves.base ∙ ap (map_after (base_map old before)) none }
 
--- what waits where all that waited went into the base
+-- what waits if all that waited went into the base
 pub waits_alone : (command : Command) (old new : Content) (before after : TiersState) → MovesIntoBase (command ∷ []) old new before after → waiting_commands new after ≡ command ∷ [] → WaitsAlone command (base_map old before) (base_map new after) (waiting_commands old before) (waiting_commands new after)
 waits_alone command old new before after moves waits =
     let all : moves.moved ≡ waiting_commands old before =
     append_cancel_right moves.moved (waiting_commands old before) (command ∷ []) (ap (λ (cs : List Command). moves.moved ++ cs) (sym waits) ∙ moves.rest) in
     record { waiting = waits; base = moves.base ∙ ap (map_after (base_map old before)) all }
 
--- the body that rules after the next log took the row, and what then waits
+-- the record that is current after the next log took the row, and what waits then
 pub turns_for : (command : Command) (old middle_content new : Content) (before middle after : TiersState) (next : NextLog) (key : List ℕ) → SameDisk old middle_content → NeedsNext old before key → (is : IsNextLog before next)
     → HasFrozen next middle_content before middle → after.manifest ≡ middle.manifest → Advances (command ∷ []) old new before after
     → (IsTrue middle_content.honest → waiting_commands new after ≡ waiting_commands middle_content middle ++ command ∷ []) → TurnsFor old new before after key command
@@ -57,7 +57,7 @@ turns_for command old middle_content new before middle after next key disk needs
 pub next_is_empty : (content : Content) (before after : TiersState) (next : NextLog) → IsNextLog before next → HasFrozen next content before after → after.active.log.used ≡ 0
 next_is_empty content before after next is frozen = ap (λ (t : LogStoreState). t.log.used) (frozen.active ∙ is.store)
 
--- the active log cannot take a row where its store is full for the key
+-- the active log cannot take a row if its store is full for the key
 cannot_take : (content : Content) (s : TiersState) (key : List ℕ) → Stands content s → IsFullFor content s.active key → CannotTake s.manifest.shape (all_rows content s.active.log) key
 cannot_take content s key stands full =
     let rows : List StoredRow = all_rows content s.active.log in

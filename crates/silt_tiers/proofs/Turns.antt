@@ -1,4 +1,4 @@
--- A change of a slot of the manifest, in whose images the record that ruled rules or another one.
+-- A change of a slot of the manifest: in each image the old record is current, or another one.
 use Rattle.std.proofs.Common.{◌≡◌, ◌<◌, ℕ, IsTrue, List, [], map, Some, Ok, refl, ap, sym, ◌∙◌, subst}
 use Rattle.silt_disk.specs.Disk.{ChangesWithin, Content, LiesOutside, Torn, size}
 use Rattle.silt_disk.specs.Layout.{Shape, device_size, gates_at, log_len, slot_at}
@@ -24,7 +24,7 @@ use Rattle.silt_tiers.proofs.Facts.{full_map, opened_map}
 use Rattle.silt_tiers.proofs.Elsewhere.{outside_slot}
 use Rattle.silt_tiers.proofs.Freezes.{IsApart, full_quiet, kept, quiet_map, slot_apart}
 
--- an image that stands for the base stands for it after none of what waited
+-- an image that represents the base represents it after none of what waited
 pub begun_none : (content : Content) (s : TiersState) (image : List ℕ) → StandsFor s.manifest.shape (base_map content s) image → HasBegun s.manifest.shape (base_map content s) (waiting_commands content s) image
 begun_none content s image stands = record { kept = []; begins = record { rest = waiting_commands content s; is = refl }; stands = stands }
 
@@ -42,11 +42,11 @@ module _ (old new : Content) (s : TiersState) (slot : ℕ) (below : slot < 2) (s
   apart : IsTrue old.honest → IsApart s.manifest.shape s.manifest.ruling (slot_at slot) 4096
   apart h = slot_apart s.manifest.shape s.manifest.ruling slot below
 
-  -- the active log stands as before
+  -- the active log matches the disk as before
   pub active_kept : KeepsRows old new s.active.log s.active.log
   active_kept = kept old new s (slot_at slot) 4096 stands sizes changes apart (active_outside s slot below)
 
-  -- an image in which this record rules has the stores that its body names in an earlier image
+  -- an image in which this record is current has the stores that it names in an earlier image
   pub ruled_named : (h : IsTrue new.honest) (before image : List ℕ) (found : SlotRecord) → image_stores before ≡ Ok (shown_stores old s) → Torn (slot_at slot) 4096 before image
       → ruling_manifest s.manifest.shape image ≡ Some found → image_stores image ≡ Ok (stores_named s.manifest.shape found.body before)
   ruled_named h before image found named torn rules =
@@ -55,18 +55,18 @@ module _ (old new : Content) (s : TiersState) (slot : ℕ) (below : slot < 2) (s
       manifest_law before image t slot found named below torn (ap (λ (sh : Shape). manifest_found sh image) t_shape ∙ found_ruling (manifest_found s.manifest.shape image) found rules)
       ∙ ap (λ (sh : Shape). Ok (stores_named sh found.body before)) t_shape
 
-  -- where the record rules that ruled, the stores are those that were
+  -- if the old record is current, the stores are the old ones
   pub same_named : (h : IsTrue new.honest) (before image : List ℕ) → image_stores before ≡ Ok (shown_stores old s) → Torn (slot_at slot) 4096 before image
       → RulesAsHeld s.manifest image → image_stores image ≡ Ok (shown_stores old s)
   same_named h before image named torn rules =
       ruled_named h before image (ruling_record s.manifest) named torn rules
       ∙ ap Ok (named_here s.manifest.shape s.manifest.ruling (shown_stores old s) before named (named_shape s.manifest.shape s.manifest.ruling old.shown) (named_body s.manifest.shape s.manifest.ruling old.shown))
 
-  -- the map of the full image, where nothing waited and nothing waits
+  -- the map of the full image, if nothing waited and nothing waits
   pub quiet_remap : IsQuiet old s → (after : TiersState) → after.active.log.settled ≡ after.active.log.used → IsTrue old.honest → image_map new.shown ≡ base_map old s → image_map (full_image new after) ≡ image_map (full_image old s)
   quiet_remap is_quiet after settled h same = ap image_map (full_quiet new after settled) ∙ same ∙ sym (quiet_map old s is_quiet) ∙ sym (full_map old s stands h)
 
-  -- and where the same rows wait in the same log, with stores that have it and the same map
+  -- and if the same rows wait in the same log, with stores that have it and the same map
   pub waiting_remap : (after : TiersState) (t : Stores) → after.active.log ≡ s.active.log → t.shape ≡ s.manifest.shape → t.body.active ≡ s.manifest.ruling.active → IsTrue old.honest
       → image_stores new.shown ≡ Ok t → map_of_rows (rows_of t) ≡ base_map old s → image_map (full_image new after) ≡ image_map (full_image old s)
   waiting_remap after t same_log same_shape same_active h named same_map =

@@ -65,7 +65,7 @@ pub hash_here : (content : Content) (s : TiersState) (items : List HashState) (n
 hash_here content s items number store key o found are inside is stands honest finds some before =
     (before, subst (FindsRow (hash_rows_of content (hash_store_at s number)) key) some (hash_finds content s items number store key o are inside is stands honest finds))
 
--- an answer that is none
+-- a result that is none
 pub none_of : {X : Type 0} (o : Option X) → ((x : X) → o ≡ Some x → ⊥) → o ≡ None
 none_of None not_some = refl
 none_of (Some x) not_some = absurd (not_some x refl)
@@ -206,7 +206,7 @@ module _ (content : Content) (view s : TiersState) (is : view ≡ s) (key : List
   newest : FindsNewest content s key None
   newest = subst (FindsNewest content s key) none (walks stands honest)
 
-  -- what is told of entries in which nothing is found, where the index is theirs
+  -- what is found in entries without a finding, if the index is theirs
   told : (P : List StoredRow → Type 0) → (sorted_findings (entries_of content view.sorted) ≡ [] → IsIndexOf (entries_of content view.sorted) view.index → P (entries_of content view.sorted)) → P (entries_of content s.sorted)
   told P tells =
       subst (λ (v : TiersState). sorted_findings (entries_of content v.sorted) ≡ [] → IsIndexOf (entries_of content v.sorted) v.index → P (entries_of content v.sorted)) is tells

@@ -14,7 +14,7 @@ use Rattle.silt_standing.specs.State.{AreWhole, IsHashOf, IsMerging, IsSettled, 
 
 -- ---- the oldest log
 
--- the oldest of some logs is the same whatever stands for none
+-- the oldest of some logs is the same whatever is given for none
 pub oldest_any : (logs : List LogStoreState) (d e : LogStoreState) → 0 < length logs → get_or logs (length logs - 1) d ≡ get_or logs (length logs - 1) e
 oldest_any logs d e some = get_or_default logs (length logs - 1) d e (omega (arith, some))
 
@@ -26,7 +26,7 @@ oldest_behind newer logs d e some =
 
 -- ---- a conversion
 
--- it is under way in stores with the same shape and hash stores, and with no fewer frozen logs
+-- it is in progress in stores with the same shape and hash stores, and with no fewer frozen logs
 pub under_way_in : (s t : TiersState) (o : Option ConversionState) → t.manifest.shape ≡ s.manifest.shape → t.manifest.ruling.hashed ≡ s.manifest.ruling.hashed → length s.frozen ≤ length t.frozen
     → IfSome o (IsUnderWay s) → IfSome o (IsUnderWay t)
 under_way_in s t None same_shape same_hashed more is = tt
@@ -46,7 +46,7 @@ written_in content s log (Some conversion) same is written = subst (λ (l : LogS
 
 -- ---- a merge
 
--- it is under way in stores with the same shape and sorted region, and with no fewer hash stores
+-- it is in progress in stores with the same shape and sorted region, and with no fewer hash stores
 pub merging_in : (s t : TiersState) (o : Option MergeState) → t.manifest.shape ≡ s.manifest.shape → t.sorted.region ≡ s.sorted.region → length s.hashes ≤ length t.hashes → IfSome o (IsMerging s) → IfSome o (IsMerging t)
 merging_in s t None same_shape same_region more is = tt
 merging_in s t (Some merge) same_shape same_region more is = record {
@@ -81,7 +81,7 @@ pub written_with_active : (content : Content) (s : TiersState) (after : LogStore
     → IfSome s.converting (HasWritten content (oldest_log (record s { active = after; charge = charge })))
 written_with_active content s after charge whole written = written_in content s (oldest_log (record s { active = after; charge = charge })) s.converting (oldest_any s.frozen after s.active) whole.under_way written
 
--- with another manifest of the same shape and the same ruling body, and with this conversion and this merge
+-- with another manifest of the same shape and the same current record, and with this conversion and this merge
 pub whole_with : (s : TiersState) (m : ManifestState) (converting : Option ConversionState) (merging : Option MergeState) → m.shape ≡ s.manifest.shape → m.ruling ≡ s.manifest.ruling
     → IfSome converting (IsUnderWay s) → IfSome merging (IsMerging s) → AreWhole s → AreWhole (record s { manifest = m; converting = converting; merging = merging })
 whole_with s m converting merging same_shape same_ruling under_way is_merging whole = record {

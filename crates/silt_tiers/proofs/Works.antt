@@ -36,7 +36,7 @@ both_went facts one two a b c first second third x y result m n = record {
   map = on_ok result (remaps_trans one two (facts.content a) (facts.content b) (facts.content c) first second third m.same m.map n.map);
 }
 
--- a write or a sync that failed, with which the stores stand on all the same
+-- a write or a sync that failed, and the stores still stand
 pub broke_off : {D F : Type 0} (facts : Ghosts D F) (old new : D) (before after : TiersState) (fault : F) → SameDisk (facts.content old) (facts.content new) → Stands (facts.content old) before
     → CountsFault facts.failures facts.gave old new fault → Advances [] (facts.content old) (facts.content new) before after → BreaksOff facts old new before after fault
 broke_off facts old new before after fault same stands counted goes = record {

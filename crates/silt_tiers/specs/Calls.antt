@@ -11,7 +11,7 @@ use Rattle.silt_frame.specs.Rows.{keys_of, StoredRow}
 use Rattle.silt_standing.specs.State.{TiersState}
 use Rattle.silt_standing.specs.Standing.{SameDisk, Stands, base_map, current_map, full_image, waiting_commands}
 
--- but for the active log and the charge all is as it was in memory
+-- in memory all is as before, but for the active log and the charge
 pub record StaysBehind (before after : TiersState) : Type 0 where
   pub manifest : after.manifest ≡ before.manifest
   pub frozen : after.frozen ≡ before.frozen
@@ -28,47 +28,47 @@ pub record MovesIntoBase (adds : List Command) (old new : Content) (before after
   pub rest : moved ++ waiting_commands new after ≡ waiting_commands old before ++ adds
   pub base : base_map new after ≡ map_after (base_map old before) moved
 
--- the stores stand on, and the commands that waited, and these behind them, wait or are in the base
+-- the stores still stand, and the commands that waited, followed by these, wait or are in the base
 pub record Advances (adds : List Command) (old new : Content) (before after : TiersState) : Type 0 where
   pub stands : Stands new after
   pub shape : after.manifest.shape ≡ before.manifest.shape
   pub moves : IsTrue old.honest → MovesIntoBase adds old new before after
 
--- an image stands for the base after a beginning of the commands that waited
+-- an image represents the base after a beginning of the commands that waited
 pub record HasBegun (shape : Shape) (base : Map) (waiting : List Command) (image : List ℕ) : Type 0 where
   pub kept : List Command
   pub begins : Begins kept waiting
   pub stands : StandsFor shape (map_after base kept) image
 
--- whatever a stop leaves stands for the base after a beginning of what waited
+-- each possible crash image represents the base after a beginning of what waited
 abbrev pub Breaks : Content → Content → TiersState → Type 0
 Breaks old new s = LeavesOnly new (HasBegun s.manifest.shape (base_map old s) (waiting_commands old s))
 
--- with the gates of the waiting rows open, what is shown stands for its map of before, after these commands
+-- with the gates of the waiting rows open, what is shown represents the earlier map after these commands
 abbrev pub Remaps : List Command → Content → Content → TiersState → TiersState → Type 0
 Remaps adds old new before after = IsTrue old.honest → image_map (full_image new after) ≡ map_after (image_map (full_image old before)) adds
 
--- What a call that writes does, which adds these commands: what holds whatever it answers, and what holds after Ok. What an error
--- says stands in a clause of its own.
+-- What a call that writes and adds these commands does: what holds of every result, and what holds after Ok. What holds after an error is
+-- in a clause of its own.
 pub record Works {D F T E : Type 0} (facts : Ghosts D F) (adds : List Command) (old new : D) (before after : TiersState) (result : Result T E) : Type 0 where
-  -- the disk is as long and as honest as before
+  -- the disk keeps its length, and whether it obeys the crash model
   pub same : SameDisk (facts.content old) (facts.content new)
   -- the shape of the stores is kept
   pub shape : after.manifest.shape ≡ before.manifest.shape
   -- after Ok no write and no sync has failed
   pub failures : OnOk result (facts.failures new ≡ facts.failures old)
-  -- after Ok the stores stand on, and the commands that waited, and the added ones behind them, wait or are in the base
+  -- after Ok the stores still stand, and the commands that waited, followed by the added ones, wait or are in the base
   pub advances : OnOk result (Advances adds (facts.content old) (facts.content new) before after)
-  -- after Ok the full image stands for its map of before, after the added commands
+  -- after Ok the full image represents the earlier map after the added commands
   pub map : OnOk result (Remaps adds (facts.content old) (facts.content new) before after)
 
 -- What a call leaves whose write or sync failed with this fault.
 pub record BreaksOff {D F : Type 0} (facts : Ghosts D F) (old new : D) (before after : TiersState) (fault : F) : Type 0 where
   -- one more write or sync has failed, and the disk gave the fault for it
   pub counted : CountsFault facts.failures facts.gave old new fault
-  -- whatever a stop leaves stands for the base after a beginning of what waited
+  -- each possible crash image represents the base after a beginning of what waited
   pub breaks : Breaks (facts.content old) (facts.content new) before
-  -- the full image stands for its map of before
+  -- the full image represents the earlier map
   pub map : Remaps [] (facts.content old) (facts.content new) before after
 
 -- a lookup of a key: its value, or none
@@ -87,6 +87,6 @@ CannotTake shape rows key = (length rows ≡ shape.log_capacity) ⊎ (index_of_k
 abbrev pub HasNoFreeLog : TiersState → Type 0
 HasNoFreeLog s = length s.frozen + 1 ≡ s.manifest.shape.logs
 
--- the last generation rules
+-- the current record has the last generation
 abbrev pub IsLastGeneration : TiersState → Type 0
 IsLastGeneration s = s.manifest.ruling.generation ≡ 2 ^ 63 - 1

@@ -24,8 +24,8 @@ use Rattle.silt_tiers.specs.Calls.{BreaksOff, IsLastGeneration}
 use Rattle.silt_tiers.specs.Digests.{converted_digests}
 use Rattle.silt_standing.specs.Standing.{full_image}
 
--- the next progress, with so many frozen logs, hash stores and hash regions, where so many of all slots are written: none where no
--- conversion is under way
+-- the progress of the next step, given the numbers of frozen logs, hash stores, hash regions and slots, and how many slots are written
+-- (none if no conversion is in progress)
 abbrev pub progress_due : ℕ → ℕ → ℕ → ℕ → Option ℕ → Progress
 progress_due frozen hashes regions slots (Some written) = if written == slots then Finished else Moved
 progress_due frozen hashes regions slots None = if frozen == 0 then Idle else if hashes == regions then Waiting else Moved
@@ -45,13 +45,13 @@ is_work Moved = true
 is_work Finished = true
 is_work progress = false
 
--- the lowest of so many hash regions that the body does not name
+-- the lowest of this many hash regions that the record does not name
 pub record IsLowestFreeHash (hashes : ℕ) (body : Body) (region : ℕ) : Type 0 where
   pub below : region < hashes
   pub free : names_hash body region ≡ false
   pub lowest : (earlier : ℕ) → earlier < region → names_hash body earlier ≡ true
 
--- the body names all of so many hash regions
+-- the record names all of this many hash regions
 abbrev pub AreAllHashesNamed : ℕ → Body → Type 0
 AreAllHashesNamed hashes body = (region : ℕ) → region < hashes → names_hash body region ≡ true
 
@@ -70,7 +70,7 @@ pub record MovesOn (before after : TiersState) : Type 0 where
   pub is : after ≡ record before { converting = Some conversion }
   pub step : IsNextStep before before.converting conversion
 
--- a conversion is finished: the next body rules, without the oldest log and with the hash store in front of the others
+-- a conversion is finished: the next record is current, without the oldest log and with the hash store in front of the others
 pub record Finishes (before after : TiersState) : Type 0 where
   pub conversion : ConversionState
   pub was : before.converting ≡ Some conversion
@@ -91,7 +91,7 @@ StepsOn Waiting before after = after ≡ before
 StepsOn Moved before after = MovesOn before after
 StepsOn Finished before after = Finishes before after
 
--- a step answered its progress, which was due, and did it
+-- a step returned the progress that was due, and made it
 pub record Converts (progress : Progress) (before after : TiersState) : Type 0 where
   pub due : progress ≡ convert_turn before
   pub done : StepsOn progress before after
@@ -100,7 +100,7 @@ pub record Converts (progress : Progress) (before after : TiersState) : Type 0 w
 abbrev pub oldest_rows : Shape → Body → List ℕ → List StoredRow
 oldest_rows shape body image = log_rows shape (get_or body.frozen (length body.frozen - 1) body.active) image
 
--- the slots of a hash store have of each key of a log's rows the last row, where the table of the log's keys has it, and no other
+-- the slots of a hash store have the last row of each key of a log's rows, if the table of the log's keys has it, and no other row
 pub record AreConverted (shape : Shape) (rows slots : List StoredRow) : Type 0 where
   pub table : Slots
   pub indexed : index_of_keys shape.buckets (keys_of rows) ≡ Some table
@@ -112,7 +112,7 @@ HasConvertedRows old new before after =
     IfSome before.converting (λ conversion.
     AreConverted before.manifest.shape (oldest_rows before.manifest.shape before.manifest.ruling (full_image old before)) (hash_rows before.manifest.shape conversion.region (full_image new after)))
 
--- the error that tells why a slot was not written
+-- the error that says why a slot was not written
 abbrev pub refusal_of_step : {F : Type 0} → StepError F → ConvertError F
 refusal_of_step (step_error.Read fault) = Read fault
 refusal_of_step (step_error.Write fault) = Write fault
@@ -143,8 +143,8 @@ pub record EndsConversion (s : TiersState) (body : Body) (digests : Digests) : T
 abbrev pub store_of : ConversionState → List ℕ → HashState
 store_of conversion digest = record { shape = conversion.shape; region = conversion.region; tags = conversion.tags; puts = conversion.puts; digest = digest }
 
--- in memory: under this manifest, the hash store of this conversion stands in front of the others, with this digest, and the oldest log
--- is gone with the puts that the hash store does not have
+-- in memory: under this manifest, the hash store of this conversion is in front of the others, with this digest, and the oldest log is
+-- gone, with the puts that the hash store does not have
 abbrev pub oldest_replaced : TiersState → ManifestState → ConversionState → List ℕ → TiersState
 oldest_replaced s manifest conversion digest = record {
   manifest = manifest;

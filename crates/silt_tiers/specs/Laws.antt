@@ -11,15 +11,15 @@ use Rattle.silt_tiers.specs.Merge.{IsDoneBySteps}
 use Rattle.silt_standing.specs.State.{TiersState}
 use Rattle.silt_standing.specs.Standing.{Stands, base_map, current_map, full_image}
 
--- a good image of this shape, in which this body rules, with so many puts
+-- a good image of this shape, in which this record is current, with this many puts
 pub record IsGoodWith (shape : Shape) (body : Body) (charge : ℕ) (image : List ℕ) : Type 0 where
   pub stores : image_stores image ≡ Ok (stores_named shape body image)
   pub good : IsGood image
   pub charged : image_charge image ≡ charge
 
--- What the images of a disk mean on which the stores stand: whatever a stop leaves stands for the base, and with the gates of the
--- waiting rows open what is shown stands for the map of lookups, and has the numbers of the stores and all rows in the active log. A
--- merge is done after the steps that its stores take.
+-- What the images of a disk represent if the stores stand on it: each possible crash image represents the base. With the gates of the
+-- waiting rows open, what is shown represents the map of lookups, and has the numbers of the stores and all rows in the active log. A merge
+-- is done after the steps that its stores take.
 pub record Means (content : Content) (s : TiersState) : Type 0 where
   pub full : IsTrue content.honest → image_map (full_image content s) ≡ current_map content s
   pub shown : IsTrue content.honest → image_map content.shown ≡ base_map content s
@@ -28,6 +28,6 @@ pub record Means (content : Content) (s : TiersState) : Type 0 where
   pub merging : IsTrue content.honest → IfSome s.merging (IsDoneBySteps content s)
   pub rows : IsTrue content.honest → log_rows s.manifest.shape s.manifest.ruling.active (full_image content s) ≡ all_rows content s.active.log
 
--- so do all images of a disk on which stores stand
+-- all images of a disk on which stores stand are so
 abbrev pub StandingLaw : Type 0
 StandingLaw = (content : Content) (s : TiersState) → Stands content s → Means content s

@@ -1,4 +1,4 @@
--- Where the rows of the stores stand, and what lookups answer.
+-- Which rows the stores have, and what lookups return.
 use Rattle.std.specs.Prelude.{◌≡◌, ◌<◌, ℕ, false, if◌then◌else◌, List, [], length, get_or, Option, Some, None, IfSome}
 use Rattle.std.specs.Option.{option_and_then}
 use Rattle.std.specs.BTreeMap.{BTreeMap}
@@ -45,25 +45,25 @@ row_in content s Active place = row_at s.active.log.shape s.active.log.region co
 row_in content s (Frozen index) place = row_at (frozen_at s index).log.shape (frozen_at s index).log.region content.shown place
 row_in content s (Hashed index) place = slot_row (hash_store_at s index).shape (hash_store_at s index).region content.shown place
 
--- what a row that was found there gives its key: its value where it is a put, none where it is a delete
+-- what a row that was found there gives its key: its value if it is a put, none if it is a delete
 abbrev pub value_found : Content → TiersState → Holder → Found → Option (List ℕ)
 value_found content s holder found = if is_put found.kind then Some (row_in content s holder found.place).value else None
 
--- of the frozen logs this is the newest that has a row of the key, and there its last one; none where none has one
+-- this is the newest of the frozen logs that has a row of the key, and there its last one; none if no log has one
 abbrev pub FindsFrozen : Content → TiersState → List ℕ → Option (ℕ × Found) → Type 0
 FindsFrozen content s key None = (index : ℕ) → index < length s.frozen → HasNoRow (all_rows content (frozen_at s index).log) key
 FindsFrozen content s key (Some (number, found)) =
     ((index : ℕ) → index < number → HasNoRow (all_rows content (frozen_at s index).log) key)
     × FindsLast (all_rows content (frozen_at s number).log) key (Some found)
 
--- of the hash stores this is the newest that has a row of the key, with that row; none where none has one
+-- this is the newest of the hash stores that has a row of the key, with that row; none if no store has one
 abbrev pub FindsHashed : Content → TiersState → List ℕ → Option (ℕ × Found) → Type 0
 FindsHashed content s key None = (index : ℕ) → index < length s.hashes → holds_key key (hash_rows_of content (hash_store_at s index)) ≡ false
 FindsHashed content s key (Some (number, found)) =
     ((index : ℕ) → index < number → holds_key key (hash_rows_of content (hash_store_at s index)) ≡ false)
     × FindsRow (hash_rows_of content (hash_store_at s number)) key (Some found)
 
--- of the logs and the hash stores this is the row that gives the key its value or none; where none of them has a row, the entries do
+-- this is the row of the logs and the hash stores that gives the key its value or none; if none of them has a row, the entries decide
 abbrev pub FindsNewest : Content → TiersState → List ℕ → Option (Holder × Found) → Type 0
 FindsNewest content s key None = get (current_map content s) key ≡ option_and_then value_given (newest_row (entries_of content s.sorted) key)
 FindsNewest content s key (Some (holder, found)) = get (current_map content s) key ≡ value_found content s holder found
@@ -72,11 +72,11 @@ FindsNewest content s key (Some (holder, found)) = get (current_map content s) k
 abbrev pub AreEntriesOf : Map → BTreeMap Key (List ℕ) → Type 0
 AreEntriesOf map entries = (key : Key) → tree.get key_cmp entries key ≡ get map key.0
 
--- why the entries were not read: a fault of a read; want of memory says nothing
+-- why the entries were not read: a fault of a read; missing memory has no cause
 abbrev pub EntriesErrorCause : {F : Type 0} → (F → Type 0) → EntriesError F → Type 0
 EntriesErrorCause WasGiven (Device fault) = WasGiven fault
 EntriesErrorCause WasGiven NoMemory = Unit {0}
 
--- where a put was found in a store, this is the value of its row
+-- if a put was found in a store, this is the value of its row
 abbrev pub IsItsValue : Content → TiersState → Holder → Found → List ℕ → Type 0
 IsItsValue content s holder found value = IfSome (value_found content s holder found) (λ its_value. value ≡ its_value)

@@ -27,7 +27,8 @@ use Rattle.silt_sorted_store.specs.Index.{HasIndex, IndexedState}
 use Rattle.silt_sorted_store.specs.State.{HasDigest}
 use Rattle.silt_standing.specs.State.{AreWhole, TiersState}
 
--- the next progress, with so many hash stores, where a merge under way has decided all keys or not: none where no merge is under way
+-- the progress of the next step, given the number of hash stores, and whether a merge in progress has decided all keys (none if no merge is
+-- in progress)
 abbrev pub merge_progress : ℕ → Option Bool → Progress
 merge_progress hashes (Some done) = if done then Finished else Moved
 merge_progress hashes None = if hashes == 0 then Idle else Moved
@@ -36,7 +37,7 @@ merge_progress hashes None = if hashes == 0 then Idle else Moved
 abbrev pub merge_turn : TiersState → Progress
 merge_turn s = merge_progress (length s.hashes) (option_map (λ merge. is_done merge s.sorted) s.merging)
 
--- the body without so many of the oldest hash stores, and with so many entries in this sorted region
+-- the record without this many of the oldest hash stores, and with this many entries in this sorted region
 abbrev pub merged_body : Body → ℕ → ℕ → ℕ → Body
 merged_body body count region written =
     record body { generation = body.generation + 1; hashed = take (length body.hashed - count) body.hashed; sorted = region; sorted_count = written }
@@ -52,7 +53,7 @@ pub record MergesOn (before after : TiersState) : Type 0 where
   pub is : after ≡ record before { merging = Some merge }
   pub step : IsNextMerge before before.merging merge
 
--- a merge is finished: the next body rules, without the hash stores that were merged and with the new sorted store
+-- a merge is finished: the next record is current, without the hash stores that were merged and with the new sorted store
 pub record EndsMerged (before after : TiersState) : Type 0 where
   pub merge : MergeState
   pub was : before.merging ≡ Some merge
@@ -70,7 +71,7 @@ MergesTo Waiting before after = ⊥
 MergesTo Moved before after = MergesOn before after
 MergesTo Finished before after = EndsMerged before after
 
--- a step answered its progress, which was due, and did it
+-- a step returned the progress that was due, and made it
 pub record Merges (progress : Progress) (before after : TiersState) : Type 0 where
   pub due : progress ≡ merge_turn before
   pub done : MergesTo progress before after
@@ -79,12 +80,11 @@ pub record Merges (progress : Progress) (before after : TiersState) : Type 0 whe
 abbrev pub full_stores : Content → TiersState → Stores
 full_stores content s = stores_named s.manifest.shape s.manifest.ruling (full_image content s)
 
--- the rows that a merge of so many of the oldest hash stores takes, the oldest first
+-- the rows that a merge of this many of the oldest hash stores takes, the oldest first
 abbrev pub merge_sources : ℕ → Stores → List StoredRow
 merge_sources count s = taken_rows (drop (length s.hashes - count) s.hashes) s
 
--- the entries of the new sorted store are the newest rows of the merged stores and the old entries, where they are puts, in the order
--- of their keys
+-- the entries of the new sorted store are the newest rows of the merged stores and the old entries, if they are puts, in key order
 abbrev pub HasMergedEntries : Content → Content → TiersState → TiersState → Type 0
 HasMergedEntries old new before after =
     IfSome before.merging (λ merge. (full_stores new after).entries ≡ merged_rows (merge_sources merge.stores (full_stores old before)))
@@ -99,7 +99,7 @@ IsDoneBySteps content s merge =
 abbrev pub MayLackMemory : Content → TiersState → Type 0
 MayLackMemory content s = IfSome s.merging (λ merge. TakesMemory content (oldest_stores merge.stores s.hashes) merge)
 
--- the error that tells why a step of a merge was not done
+-- the error that says why a step of a merge was not done
 abbrev pub refusal_of_step : {F : Type 0} → StepError F → MergeError F
 refusal_of_step step_error.NoMemory = NoMemory
 refusal_of_step (step_error.Read fault) = Read fault
@@ -116,8 +116,8 @@ module _ {D F : Type 0} (facts : Ghosts D F) (old new : D) (before after : Tiers
 
 -- ---- between the steps
 
--- the entries of this sorted store are those of a merge that has decided all keys, its index and its digest are theirs wherever the
--- stores stand, and this body ends the merge, with the digests of the hash stores that stay and that of the entries
+-- the entries of this sorted store are those of a merge that has decided all keys, its index and its digest are theirs on each disk on
+-- which the stores stand, and this record ends the merge, with the digests of the hash stores that stay and that of the entries
 pub record EndsMerge (s : TiersState) (body : Body) (digests : Digests) (store : IndexedState) : Type 0 where
   pub merge : MergeState
   pub was : s.merging ≡ Some merge
@@ -133,12 +133,12 @@ pub record EndsMerge (s : TiersState) (body : Body) (digests : Digests) (store :
 abbrev pub puts_in : List HashState → ℕ
 puts_in stores = sum_by (λ store. store.puts) stores
 
--- the charge without the puts of so many of the oldest hash stores and without the entries
+-- the charge without the puts of this many of the oldest hash stores and without the entries
 abbrev pub charge_without : TiersState → ℕ → ℕ
 charge_without s count = s.charge - puts_in (oldest_stores count s.hashes) - s.sorted.count
 
--- in memory: under this manifest, this sorted store stands for the one that was and for so many of the oldest hash stores, with its
--- entries in place of their puts
+-- in memory: under this manifest, this sorted store replaces the old one and this many of the oldest hash stores, and its entries count in
+-- place of their puts
 abbrev pub sorted_replaced : TiersState → ManifestState → ℕ → IndexedState → TiersState
 sorted_replaced s manifest count store = record {
   manifest = manifest;
@@ -153,7 +153,7 @@ sorted_replaced s manifest count store = record {
   charge = s.charge - ((s.charge - charge_without s count) - store.sorted.count);
 }
 
--- the sorted store of a merge may stand for what was merged, under this manifest
+-- the sorted store of a merge may replace what was merged, under this manifest
 pub record MayStandFor (s : TiersState) (manifest : ManifestState) (store : IndexedState) : Type 0 where
   pub merge : MergeState
   pub was : s.merging ≡ Some merge

@@ -19,11 +19,11 @@ use Rattle.silt_standing.specs.Standing.{IsQuiet}
 abbrev pub names_region : Body → ℕ → Bool
 names_region body region = list_any (λ id. id == region) (body.active ∷ body.frozen)
 
--- the body names all of so many regions
+-- the record names all of this many regions
 abbrev pub AreAllNamed : ℕ → Body → Type 0
 AreAllNamed logs body = (region : ℕ) → region < logs → names_region body region ≡ true
 
--- the lowest of so many regions that the body does not name
+-- the lowest of this many regions that the record does not name
 pub record IsLowestFree (logs : ℕ) (body : Body) (region : ℕ) : Type 0 where
   pub below : region < logs
   pub free : names_region body region ≡ false
@@ -72,7 +72,7 @@ pub record HasFrozen (next : NextLog) (content : Content) (before after : TiersS
 
 -- ---- between the steps
 
--- in memory: under this manifest, this log is the active one, and the log that was active stands in front of the frozen ones
+-- in memory: under this manifest, this log is the active one, and the log that was active is in front of the frozen ones
 abbrev pub active_replaced : TiersState → ManifestState → LogStoreState → TiersState
 active_replaced s manifest log = record {
   manifest = manifest;
@@ -87,7 +87,7 @@ active_replaced s manifest log = record {
   charge = s.charge;
 }
 
--- the region of a new log has no rows in whatever a stop leaves
+-- the region of a new log has no rows in each possible crash image
 pub record IsEmptied (content : Content) (s : TiersState) (next : NextLog) : Type 0 where
   pub follows : IsNextLog s next
   pub stands : IsLogStore content next.store

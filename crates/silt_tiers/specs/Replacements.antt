@@ -23,15 +23,15 @@ pub record HasOldest (rows : List StoredRow) (s : Stores) : Type 0 where
   pub region : ℕ
   pub logs : s.logs ≡ newer ++ record { region = region; rows = rows } ∷ []
 
--- stores with this hash store in place of a log of these rows stand for the same map, also with rows behind, are sound, and have the
--- puts of the hash store in place of the log's
+-- stores with this hash store in place of a log of these rows represent the same map, also with further rows, are sound, and have the puts
+-- of the hash store in place of the log's
 pub record ReplacesLog (rows : List StoredRow) (part : Part) (old new : Stores) : Type 0 where
   pub map : map_of_rows (rows_of new) ≡ map_of_rows (rows_of old)
   pub behind : (more : List StoredRow) → map_of_rows (rows_of new ++ more) ≡ map_of_rows (rows_of old ++ more)
   pub sound : IsSound new
   pub charge : charge_of new + put_count rows ≡ charge_of old + put_count (known_rows part)
 
--- the rows that are due may stand in a hash store in place of the oldest log
+-- the rows that are due may be in a hash store in place of the oldest log
 abbrev pub ConvertsLaw : Type 0
 ConvertsLaw =
     (s : Stores) (body : Body) (rows : List StoredRow) (table : Slots) (region : ℕ) → HasOldest rows s → IsTableOf s.shape rows table → IsSound s
@@ -48,7 +48,7 @@ taken_rows taken s = s.entries ++ oldest_first (map known_rows taken)
 unfoldable pub with_merged : Body → List Part → List StoredRow → Stores → Stores
 with_merged body newer entries s = record s { body = body; hashes = newer; entries = entries }
 
--- stores with these entries in place of these rows stand for the same map, also with rows behind, are sound, and have the entries as puts
+-- stores with these entries in place of these rows represent the same map, also with further rows, are sound, and have the entries as puts
 -- in place of the rows' puts
 pub record ReplacesStores (rows entries : List StoredRow) (old new : Stores) : Type 0 where
   pub map : map_of_rows (rows_of new) ≡ map_of_rows (rows_of old)
@@ -56,7 +56,7 @@ pub record ReplacesStores (rows entries : List StoredRow) (old new : Stores) : T
   pub sound : IsSound new
   pub charge : charge_of new + put_count rows ≡ charge_of old + length entries
 
--- a merge of the entries and the oldest hash stores may stand as the entries in their place
+-- a merge of the entries and the oldest hash stores may replace them as the entries
 abbrev pub MergesLaw : Type 0
 MergesLaw =
     (s : Stores) (body : Body) (newer taken : List Part) (entries : List StoredRow) → s.hashes ≡ newer ++ taken → IsSound s → IsMergeOf (taken_rows taken s) entries

@@ -27,7 +27,7 @@ pub record StaysFor (old new : Content) (before after : TiersState) (key : List 
   pub ruling : after.manifest.ruling ≡ before.manifest.ruling
   pub waits : IsTrue old.honest → WaitsBehind command (base_map old before) (base_map new after) (waiting_commands old before) (waiting_commands new after)
 
--- the active log was frozen for a row of this key: the body that then rules is the next one, with the lowest free region
+-- the active log was frozen for a row of this key: the next record is current, with the lowest free region
 pub record TurnsFor (old new : Content) (before after : TiersState) (key : List ℕ) (command : Command) : Type 0 where
   pub needs : NeedsNext old before key
   pub region : ℕ

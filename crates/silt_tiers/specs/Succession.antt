@@ -13,8 +13,8 @@ use Rattle.silt_standing.specs.State.{TiersState}
 use Rattle.silt_standing.specs.Standing.{base_map}
 use Rattle.silt_standing.specs.Standing.{IsQuiet}
 
--- The body follows the one that rules, which is well formed. In whatever a stop leaves it names these stores: nothing is found in
--- them, these digests are theirs, and their map is the base. No row waits, or the same log is active.
+-- The record follows the current one, which is well formed. In each possible crash image it names these stores: nothing is found in them,
+-- these digests are theirs, and their map is the base. No row waits, or the same log is active.
 pub record MayRule (content : Content) (s : TiersState) (body : Body) (digests : Digests) : Type 0 where
   pub follows : is_well_formed s.manifest.shape (ruling_slot s.manifest) s.manifest.ruling ≡ true → IsNext s.manifest body
   pub stores : Stores
@@ -26,7 +26,7 @@ pub record MayRule (content : Content) (s : TiersState) (body : Body) (digests :
   pub same_map : IsTrue content.honest → map_of_rows (rows_of stores) ≡ base_map content s
   pub waiting : IsQuiet content s ⊎ (body.active ≡ s.manifest.ruling.active)
 
--- by this manifest the body with these digests rules in whatever a stop leaves, and but for its slot the disk is as it was
+-- by this manifest the record with these digests is current in each possible crash image, and but for its slot the disk is as it was
 pub record NowRules (old new : Content) (s : TiersState) (body : Body) (digests : Digests) (manifest : ManifestState) : Type 0 where
   pub rules : Rules manifest new
   pub has_shape : manifest.shape ≡ s.manifest.shape

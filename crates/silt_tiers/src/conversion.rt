@@ -19,9 +19,9 @@ use std::alloc::Global;
 /// Why a step of conversion was not done.
 #[derive(Debug, Drop)]
 pub enum ConvertError<F> {
-    /// The manifest is to be written, and its last generation rules. Nothing was changed.
+    /// The manifest must be written, and the current record has the last generation. Nothing was changed.
     Spent,
-    /// The tags of the hash store or the bytes of a row find no memory. Nothing was changed.
+    /// Out of memory for the tags of the hash store or the bytes of a row. Nothing was changed.
     NoMemory,
     /// A read failed. Nothing was changed.
     Read(F),
@@ -47,7 +47,7 @@ fn names_hash(body: &Body, region: u32) -> bool
     body.hashed.as_slice().contains(&region)
 }
 
-// The lowest of so many hash regions that the body does not name.
+// The lowest of this many hash regions that the record does not name.
 fn lowest_free_hash(hashes: u32, body: &Body) -> Option<u32>
     ensures none { IfNone result (AreAllHashesNamed hashes body.now) }
     ensures some { IfSome result (IsLowestFreeHash hashes body.now) }
@@ -80,7 +80,7 @@ fn converted_body(body: &Body, region: u32) -> Body
 }
 
 impl Tiers {
-    /// The progress that the next step of conversion makes, where nothing refuses it.
+    /// The progress that the next step of conversion makes, if nothing refuses it.
     pub fn convert_turn(&self) -> Progress
         ensures { result ≡ convert_turn self.now }
     {
@@ -94,7 +94,7 @@ impl Tiers {
         }
     }
 
-    // Takes up the conversion of the oldest frozen log into the lowest hash region that is free, and writes its first slot.
+    // Begins the conversion of the oldest frozen log into the lowest free hash region, and writes its first slot.
     fn begin_conversion<D: Disk>(
         &mut self,
         alloc: Global,
@@ -143,7 +143,7 @@ impl Tiers {
         Ok(Progress::Moved)
     }
 
-    // Syncs what a conversion or a merge has written, so that whatever a stop leaves has it.
+    // Syncs what a conversion or a merge has written, so that each possible crash image has it.
     pub(crate) fn settle_work<D: Disk>(&self, disk: &mut D) -> Result<(), D::Fault>
         requires stands { Stands (D.content disk.old) self.now }
         ensures works { Works D.Disk [] disk.old disk.new self.now self.now result }
@@ -155,8 +155,8 @@ impl Tiers {
         Ok(())
     }
 
-    // Takes a manifest that names the hash store of the conversion, which then stands in front of the others in place of the oldest
-    // log. The puts that went away no longer count.
+    // Takes a manifest that names the hash store of the conversion. The hash store comes in front of the others, and
+    // the oldest log goes. The puts that went away no longer count.
     fn replace_oldest(&mut self, manifest: Manifest)
         requires { MayReplace self.old manifest }
         ensures replaced { IfSome self.old.converting (ReplacesOldest self.old manifest self.new) }
@@ -197,7 +197,7 @@ impl Tiers {
         Ok(())
     }
 
-    // Finishes the conversion, all of whose slots are written, where the manifest has a generation left.
+    // Finishes the conversion, all of whose slots are written, if the manifest has a generation left.
     fn finish_conversion<D: Disk>(
         &mut self,
         disk: &mut D,
@@ -226,14 +226,15 @@ impl Tiers {
         }
     }
 
-    /// One step of conversion: where none is under way, and there are a frozen log and a free hash region, the conversion of the oldest
-    /// log into the lowest such region begins. Each step writes one slot. The step after the last slot syncs the slots and writes the
-    /// manifest's next body, which names the hash store in front of the others and the log no longer.
+    /// One step of conversion. If none is in progress, and there are a frozen log and a free hash region, the
+    /// conversion of the oldest log into the lowest such region begins. Each step writes one slot. The step after the
+    /// last slot syncs the slots and writes the next manifest record. It names the hash store in front of the others,
+    /// and the log no longer.
     ///
     /// # Errors
     ///
-    /// `Spent` before anything else, where the manifest is to be written; then `NoMemory`, where a conversion begins; `Read`, and then
-    /// nothing was changed; `Write` with the fault of a write or of a sync.
+    /// `Spent` before anything else, if the manifest must be written; then `NoMemory`, if a conversion begins; `Read`,
+    /// and then nothing was changed; `Write` with the fault of a write or of a sync.
     pub fn convert<D: Disk>(
         &mut self,
         alloc: Global,

@@ -1,4 +1,4 @@
-// The digests that the next manifest says of the stores in memory.
+// The digests that the next manifest gets, of the stores in memory.
 ghost use Rattle.std.specs.Prelude.{◌≡◌, ◌+◌, ◌≤◌, length};
 ghost use Rattle.std.specs.Option.{option_to_list};
 ghost use Rattle.silt_tiers.specs.Digests.{digests_with, own_digests};
@@ -11,10 +11,11 @@ use silt_manifest::Digests;
 // As many hash stores as a manifest has room for.
 const ROOM: usize = 16;
 
-// What is said where there is no hash store.
+// The digest in an unused place.
 const NO_DIGEST: Digest = Digest([0; 20]);
 
-// The digests of hash stores, the newest first, behind that of a newer one, where there is one; and that of the sorted store.
+// The digests of hash stores, the newest first, after that of a newer one, if there is one; and that of the sorted
+// store.
 pub fn digests_with(first: Option<Digest>, stores: &[HashStore], sorted: Digest) -> Digests
     requires { length (option_to_list first) + length stores.now ≤ 16 }
     ensures { result ≡ digests_with first stores.now sorted }

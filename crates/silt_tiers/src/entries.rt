@@ -27,7 +27,7 @@ const PUT: u8 = 1;
 pub enum EntriesError<F> {
     /// A read failed.
     Device(F),
-    /// The entries find no memory.
+    /// Out of memory for the entries.
     NoMemory,
 }
 
@@ -129,7 +129,7 @@ fn put_slot<D: Disk>(
     Ok(())
 }
 
-// Does the row in a slot of a hash store, where there is one of a known kind.
+// Does the row in a slot of a hash store, if it has one of a known kind.
 fn do_slot<D: Disk>(
     alloc: Global,
     disk: &D,

@@ -2,18 +2,18 @@
 ghost use Rattle.silt_tiers.specs.Laws.{StandingLaw};
 ghost use Rattle.silt_tiers.specs.Replacements.{ConvertsLaw, MergesLaw};
 
-/// Where the stores stand on a disk, whatever a stop leaves stands for the base, and what is shown, with the gates of the waiting
-/// rows open, stands for the map of lookups.
+/// If the stores stand on a disk, each possible crash image represents the base, and what is shown, with the gates of
+/// the waiting rows open, represents the map of lookups.
 pub fn standing_law()
     ensures { StandingLaw }
 {}
 
-/// What a conversion has written may stand in a hash store in place of the oldest log.
+/// What a conversion has written may be a hash store in place of the oldest log.
 pub fn converts_law()
     ensures { ConvertsLaw }
 {}
 
-/// A merge of the entries and the oldest hash stores may stand as the entries in their place.
+/// A merge of the entries and the oldest hash stores may replace them as the entries.
 pub fn merges_law()
     ensures { MergesLaw }
 {}

@@ -27,8 +27,8 @@ pub enum Holder {
 }
 
 impl Tiers {
-    // The last row of a key among the rows of the newest frozen log that has one, with the number of that log. Where the row is a put its
-    // value stands in `out`.
+    // The last row of a key in the newest frozen log that has one, with the number of that log. If the row is a put,
+    // `out` gets its value.
     fn get_frozen<D: Disk>(
         &self,
         disk: &D,
@@ -51,8 +51,8 @@ impl Tiers {
         Ok(None)
     }
 
-    // The row of a key in the newest hash store that has one, with the number of that store. Where the row is a put its value stands in
-    // `out`.
+    // The row of a key in the newest hash store that has one, with the number of that store. If the row is a put, `out`
+    // gets its value.
     fn get_hashed<D: Disk>(
         &self,
         disk: &D,
@@ -75,9 +75,9 @@ impl Tiers {
         Ok(None)
     }
 
-    // The newest row of a key in the logs and the hash stores, with its store: the active log, then the frozen ones and then the hash
-    // stores are gone through, each the newest first. Where the row is a put its value stands in `out`. Where no put is found `out` stays
-    // as it was.
+    // The newest row of a key in the logs and the hash stores, with its store: first the active log, then the frozen
+    // ones, then the hash stores, each the newest first. If the row is a put, `out` gets its value. If no put is found,
+    // `out` stays as it was.
     fn get_newest<D: Disk>(
         &self,
         disk: &D,
@@ -103,14 +103,14 @@ impl Tiers {
         Ok(Some((Holder::Hashed(number), found)))
     }
 
-    /// Writes a key's value over `out`, and answers whether there is one: the active log, then the frozen ones and then the hash stores
-    /// are gone through, each the newest first, and the sorted store last. The first row of the key that is found decides. A delete ends
-    /// the lookup with none. Where there is none `out` stays as it was. A row or an entry of at most 512 bytes is read whole, so that its
-    /// key and its value take one read. It takes no memory.
+    /// Writes a key's value over `out`, and returns whether there is one. It goes through the active log, the frozen
+    /// ones and the hash stores, each the newest first, and the sorted store last. The first row of the key that it
+    /// finds decides: a delete ends the lookup with none. If there is none, `out` stays as it was. A row or an entry of
+    /// at most 512 bytes is read whole, so its key and its value take one read. It takes no memory.
     ///
     /// # Errors
     ///
-    /// The fault of a read. The bytes of `out` are then open.
+    /// The fault of a read. `out` may then have any bytes.
     pub fn get<D: Disk>(&self, disk: &D, key: &Key, out: &mut [u8]) -> Result<bool, D::Fault>
         requires out { length out.old ≡ self.now.manifest.shape.value_len }
         requires size { device_size self.now.manifest.shape ≤ size (D.content disk.now) }

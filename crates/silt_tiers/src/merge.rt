@@ -21,9 +21,10 @@ use std::alloc::Global;
 /// Why a step of merging was not done.
 #[derive(Debug, Drop)]
 pub enum MergeError<F> {
-    /// The manifest is to be written, and its last generation rules. Nothing was changed.
+    /// The manifest must be written, and the current record has the last generation. Nothing was changed.
     Spent,
-    /// A row that is to wait for its key finds no memory, or what the merge or the new sorted store keeps. Nothing was changed.
+    /// Out of memory for a row that waits for its key, or for what the merge or the new sorted store keeps. Nothing was
+    /// changed.
     NoMemory,
     /// A read failed. Nothing was changed.
     Read(F),
@@ -43,7 +44,7 @@ impl<F> From<StepError<F>> for MergeError<F> {
     }
 }
 
-// The body without so many of the oldest hash stores, and with so many entries in this sorted region.
+// The record without this many of the oldest hash stores, and with this many entries in this sorted region.
 fn merged_body(body: &Body, count: usize, region: u32, written: u32) -> Body
     requires count { count ≤ length body.now.hashed }
     requires unspent { body.now.generation < 2 ^ 63 - 1 }
@@ -72,7 +73,7 @@ fn without_puts(charge: u32, stores: &[HashStore]) -> u32
 }
 
 impl Tiers {
-    /// The progress that the next step of merging makes, where nothing refuses it.
+    /// The progress that the next step of merging makes, if nothing refuses it.
     pub fn merge_turn(&self) -> Progress
         ensures { result ≡ merge_turn self.now }
     {
@@ -84,7 +85,7 @@ impl Tiers {
         }
     }
 
-    // Takes up the merge of all hash stores and the sorted store into the other sorted region, and does its first step.
+    // Begins the merge of all hash stores and the sorted store into the other sorted region, and does its first step.
     fn begin_merge<D: Disk>(
         &mut self,
         alloc: Global,
@@ -130,8 +131,8 @@ impl Tiers {
         Ok(Progress::Moved)
     }
 
-    // Takes a manifest that names the sorted store of the merge, which then stands in place of the one that was and of the hash stores
-    // that were merged. Its entries count, and their puts no longer do.
+    // Takes a manifest that names the sorted store of the merge. It replaces the old one and the hash stores that were
+    // merged. Its entries count, and their puts no longer do.
     fn replace_sorted(&mut self, manifest: Manifest, sorted: SortedStore)
         requires { MayStandFor self.old manifest sorted }
         ensures replaced { IfSome self.old.merging (λ merge. self.new ≡ sorted_replaced self.old manifest merge.stores sorted) }
@@ -151,7 +152,7 @@ impl Tiers {
         self.manifest = manifest;
     }
 
-    // The digests of the stores without so many of the oldest hash stores, and with this sorted store.
+    // The digests of the stores without this many of the oldest hash stores, and with this sorted store.
     fn merged_digests(&self, count: usize, sorted: &SortedStore) -> Digests
         requires { count ≤ length self.now.hashes }
         ensures { result ≡ merged_digests self.now count sorted.now }
@@ -184,8 +185,8 @@ impl Tiers {
         Ok(())
     }
 
-    // Finishes the merge, all of whose keys are decided, where the manifest has a generation left: the index of the new entries is made
-    // first, so that want of memory leaves the merge as it was.
+    // Finishes the merge, all of whose keys are decided, if the manifest has a generation left. The index of the new
+    // entries is made first, so if memory runs out the merge is as it was.
     fn finish_merge<D: Disk>(
         &mut self,
         alloc: Global,
@@ -218,15 +219,15 @@ impl Tiers {
         }
     }
 
-    /// One step of merging: where none is under way, and there are hash stores, the merge of all of them and of the sorted store into
-    /// the other sorted region begins. A step gathers one slot of a hash store, or decides one key. The step after the last key syncs
-    /// the entries and writes the manifest's next body, which names the new sorted store, and the merged hash stores no longer. A hash
-    /// store that came meanwhile stays in front.
+    /// One step of merging. If none is in progress, and there are hash stores, the merge of all of them and of the
+    /// sorted store into the other sorted region begins. A step gathers one slot of a hash store, or decides one key.
+    /// The step after the last key syncs the entries and writes the next manifest record. It names the new sorted
+    /// store, and the merged hash stores no longer. A hash store that came meanwhile stays in front.
     ///
     /// # Errors
     ///
-    /// `Spent` before anything else, where the manifest is to be written; `Read` and `NoMemory`, and then nothing was changed; `Write`
-    /// with the fault of a write or of a sync.
+    /// `Spent` before anything else, if the manifest must be written; `Read` and `NoMemory`, and then nothing was
+    /// changed; `Write` with the fault of a write or of a sync.
     pub fn merge<D: Disk>(
         &mut self,
         alloc: Global,

@@ -10,9 +10,9 @@ use silt_manifest::Body;
 pub(crate) enum NoNextLog {
     /// Every log region is in use.
     NoRoom,
-    /// The last generation of the manifest rules.
+    /// The current manifest record has the last generation.
     Spent,
-    /// The new log finds no memory.
+    /// Out of memory for the new log.
     NoMemory,
 }
 
@@ -30,7 +30,7 @@ pub fn names_region(body: &Body, region: u32) -> bool
     body.active == region || body.frozen.as_slice().contains(&region)
 }
 
-// The lowest of so many log regions that the body does not name.
+// The lowest of this many log regions that the record does not name.
 pub fn lowest_free(logs: u32, body: &Body) -> Option<u32>
     ensures none { IfNone result (AreAllNamed logs body.now) }
     ensures some { IfSome result (IsLowestFree logs body.now) }

@@ -1,4 +1,4 @@
-// A put or a delete as a whole: a row in the active log, which is frozen first where it cannot take the row.
+// A put or a delete as a whole: a row in the active log, which is frozen first if it cannot take the row.
 ghost use Rattle.std.specs.Prelude.{◌≡◌, ◌+◌, ◌≤◌, [], ◌∷◌, ◌++◌, length, IsTrue, IfOk, IfErr, OnOk, OnErr};
 ghost use Rattle.silt_event.specs.Rows.{command_of};
 ghost use Rattle.silt_frame.specs.Rows.{stored_row, puts_of};
@@ -28,19 +28,20 @@ pub enum WriteError<F> {
     Write(F),
     /// The active log cannot take the row, and every log region is in use. Nothing was changed.
     NoRoom,
-    /// The active log cannot take the row, and the last generation of the manifest rules. Nothing was changed.
+    /// The active log cannot take the row, and the current manifest record has the last generation. Nothing was
+    /// changed.
     Spent,
-    /// The active log cannot take the row, and a new one finds no memory. Nothing was changed.
+    /// The active log cannot take the row, and memory for a new one ran out. Nothing was changed.
     NoMemory,
 }
 
 impl Tiers {
-    /// Writes a row, which waits for a flush: into the active log, or where that cannot take it, into a new one, behind which the
-    /// active log is frozen.
+    /// Writes a row, which waits for a flush: into the active log, or, if that cannot take it, into a new one. The
+    /// active log is then frozen behind the new one.
     ///
     /// # Errors
     ///
-    /// It is decided in this order: `Read`, and where the active log cannot take the row `NoRoom`, `Spent`, `NoMemory`; then
+    /// The checks are in this order: `Read`; if the active log cannot take the row, `NoRoom`, `Spent`, `NoMemory`; then
     /// `Write` with the fault of a write or of a sync.
     pub fn write<D: Disk>(
         &mut self,
@@ -69,7 +70,8 @@ impl Tiers {
         }
     }
 
-    // Writes a row behind the others of the active log, where it waits for a flush. A log with no rows takes a row of any key.
+    // Writes a row behind the others of the active log, where it waits for a flush. A log with no rows takes a row of
+    // any key.
     fn write_active<D: Disk>(
         &mut self,
         disk: &mut D,

@@ -13,8 +13,8 @@ use std::marker::Model;
 // The generation after which there is none.
 pub(crate) const LAST_GENERATION: u64 = (1 << 63) - 1;
 
-/// The stores of a device: the manifest, the active log, the frozen logs, the hash stores, the sorted store, the conversion and the
-/// merge under way, and how many put rows there are.
+/// The stores of a device: the manifest, the active log, the frozen logs, the hash stores, the sorted store, the
+/// conversion and the merge in progress, and how many put rows there are.
 #[derive(Drop)]
 pub struct Tiers {
     pub(crate) manifest: Manifest,
@@ -71,8 +71,8 @@ impl Tiers {
     ghost use Rattle.silt_tiers.specs.Calls.{BreaksOff, Remaps, StaysBehind, Works};
     ghost use Rattle.silt_tiers.specs.Succession.{MayRule, NowRules};
 
-    /// The stores with these parts, where the frozen logs and the hash stores stand the newest first, in `Vec`s with room for seven
-    /// and for sixteen. No conversion and no merge is under way.
+    /// The stores with these parts. The frozen logs and the hash stores are in order from the newest, in `Vec`s with
+    /// room for seven and for sixteen. No conversion and no merge is in progress.
     pub fn new(
         manifest: Manifest,
         active: LogStore,
@@ -161,8 +161,9 @@ impl Tiers {
         Ok(())
     }
 
-    // Changes the manifest of the disk: writes the next body with these digests behind a closed gate, and opens that gate. In memory
-    // nothing changes until the manifest that it answers is taken, together with the stores that the body names.
+    // Changes the manifest of the disk: writes the next record with these digests behind a closed gate, and opens that
+    // gate. In memory nothing changes until the manifest that it returns is taken, together with the stores that the
+    // record names.
     pub(crate) fn change_manifest<D: Disk>(
         &self,
         disk: &mut D,
