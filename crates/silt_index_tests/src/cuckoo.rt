@@ -6,7 +6,7 @@ ghost use Rattle.silt_cuckoo.specs.Slots.{PlacesBelow, bucket_count};
 use silt_cuckoo::{Candidate, Table, key_buckets};
 use std::test::Fail;
 
-/// Places a new entry, where the rule finds a path for it.
+/// Places a new entry, if the rule finds a path for it.
 #[tactic(auto, using(silt_cuckoo::proofs::Places::above_not_held, silt_cuckoo::proofs::Places::placed_below))]
 fn put(table: &mut Table, first: u32, second: u32, place: u32) -> bool
     requires first_there { first < bucket_count table.old }

@@ -21,7 +21,7 @@ const CODES_AND_GREATEST: [u8; 11] = [
     0b1111_1110,
 ];
 
-/// So many bits were written, and these are their bytes.
+/// This many bits were written, and these are their bytes.
 fn has_written(rt: &impl Abort, bits: &BitWriter, len: usize, bytes: &[u8]) {
     assert_eq!(rt; bits.len(), len);
     assert_eq!(rt; bits.as_bytes(), bytes);
@@ -48,7 +48,7 @@ fn reads_codes(rt: HostRuntime) {
     assert_eq!(rt; (reader.read_gamma(), reader.len()), (None, 0));
 }
 
-/// This is read from the bits of these bytes, so many from this one on, and so many are then left.
+/// This is read from the bits of these bytes, from this bit on and this many, and this many are then left.
 fn reads(
     rt: &impl Abort,
     bytes: &[u8],

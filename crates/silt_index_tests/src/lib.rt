@@ -1,6 +1,6 @@
 //! Tests of the tables and codes that an index is made of: partial-key cuckoo tables, gamma codes and coded tries.
 //!
-//! What no clause says stands here, seen from outside through the public calls.
+//! They show what no clause says, from outside, through the public calls.
 #![tactic(auto)]
 
 #[cfg(test)]

@@ -11,7 +11,7 @@ use std::alloc::{AllocError, Global};
 use std::process::Abort;
 use std::test::Fail;
 
-/// The key that begins with these two bytes and goes on with zeros.
+/// The key that begins with these two bytes, followed by zeros.
 fn key(first: u8, second: u8) -> Key {
     let mut bytes = [0; 20];
     bytes[0] = first;
@@ -53,7 +53,7 @@ fn digits(alloc: Global, trie: &Trie) -> Result<Vec<u8>, AllocError> {
     Ok(text)
 }
 
-/// The place of a key, where there is one.
+/// The place of a key, if there is one.
 fn place(trie: &Trie, key: Key) -> Option<usize> {
     if trie.len() == 0 {
         return None;
@@ -186,7 +186,7 @@ fn random_key(number: u32, firsts: u8) -> Key {
     Key(bytes)
 }
 
-/// So many pseudo-random keys, in their order.
+/// This many pseudo-random keys, in their order.
 fn random_keys(alloc: Global, count: u32, firsts: u8) -> Result<Vec<Key>, AllocError> {
     let mut keys = Vec::new(alloc);
     for number in 0..count {

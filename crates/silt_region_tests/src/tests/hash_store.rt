@@ -1,4 +1,5 @@
-// What no clause says of a hash region: worked regions, that the calls which take memory succeed, and how many reads a look-up and a rebuild make.
+// What no clause says of a hash region: worked regions, that the calls that allocate succeed with ample memory, and how
+// many reads a look-up and a rebuild make.
 ghost use Rattle.std.specs.Prelude.{◌≡◌, ◌+◌, ◌*◌, ◌≤◌, ◌<◌, IfOk, IfSome};
 ghost use Rattle.silt_disk.specs.Disk.{size};
 ghost use Rattle.silt_disk.specs.Layout.{device_size};
@@ -50,7 +51,7 @@ fn log_row<D: Disk>(
     write_row(disk, 16_384 + u64::from(place) * 23, kind, key, value)
 }
 
-// What a rebuild comes to: so many rows, of which so many are puts, or why it was refused.
+// The result of a rebuild: the numbers of rows and of puts, or why it was refused.
 #[derive(Clone, Copy, Debug, PartialEq, Eq)]
 enum Outcome {
     Rebuilt(u32, u32),
@@ -59,7 +60,7 @@ enum Outcome {
     NoMemory,
 }
 
-// What a rebuild of hash region 0 with this geometry comes to.
+// The result of a rebuild of hash region 0 with this geometry.
 fn rebuild_in<D: Disk>(alloc: Global, disk: &D, geometry: Geometry) -> Outcome
     requires region { 0 < geometry.hashes }
     requires size { device_size geometry ≤ size (D.content disk.now) }
@@ -72,7 +73,7 @@ fn rebuild_in<D: Disk>(alloc: Global, disk: &D, geometry: Geometry) -> Outcome
     }
 }
 
-// What a rebuild of that with eight rows a log comes to.
+// The result of a rebuild of that with eight rows a log.
 fn rebuild<D: Disk>(alloc: Global, disk: &D) -> Outcome
     requires { 45056 ≤ size (D.content disk.now) }
 {
@@ -82,7 +83,7 @@ fn rebuild<D: Disk>(alloc: Global, disk: &D) -> Outcome
     }
 }
 
-// The store that stands there.
+// The store on this disk.
 fn rebuilt<D: Disk>(alloc: Global, disk: &D) -> Option<HashStore>
     requires { 45056 ≤ size (D.content disk.now) }
     ensures { IfSome result (λ store. store.shape ≡ record { value_len = 2; buckets = 2; log_capacity = 8; logs = 2; hashes = 2; sorted_capacity = 16 }) }
@@ -101,7 +102,7 @@ const OF_ZEROS: Digest = Digest([
     66, 15, 7, 156, 79, 166, 43, 213, 100, 66, 203, 214, 135, 150, 75, 250, 27, 66, 58, 32,
 ]);
 
-// The digest of the store that stands there.
+// The digest of the store on this disk.
 fn digest<D: Disk>(alloc: Global, disk: &D) -> Option<Digest>
     requires { 45056 ≤ size (D.content disk.now) }
 {
@@ -213,7 +214,7 @@ fn reads_a_slot(rt: HostRuntime) -> Result<(), Fail> {
     Ok(())
 }
 
-// What rebuilds come to after an unknown kind in slot 7, a key twice in slot 6 and a row in no bucket of its key in slot 4.
+// The results of rebuilds after an unknown kind in slot 7, a key twice in slot 6 and a row in no bucket of its key in slot 4.
 fn three_wrong_slots<D: Disk>(alloc: Global, disk: &mut D) -> Result<[Outcome; 3], D::Fault>
     requires { 45056 ≤ size (D.content disk.old) }
 {
@@ -241,7 +242,8 @@ fn the_first_wrong_slot_decides(rt: HostRuntime) -> Result<(), Fail> {
     Ok(())
 }
 
-// What a rebuild of two rows that share their buckets comes to, and whether a look-up of the second one is answered if the read of this number fails.
+// The result of a rebuild of two rows that share their buckets, and whether a look-up of the second one succeeds, if
+// the read of this number fails.
 fn rebuild_with_fault(alloc: Global, number: u64) -> Result<(Outcome, bool), Fail> {
     let mut disk = blank(alloc, LEN)?;
     fill_slot(&mut disk, 0, 1, &paired(1))?;
@@ -294,7 +296,7 @@ fn run_step<D: Disk>(conversion: &mut Conversion, log: &LogStore, disk: &mut D) 
     }
 }
 
-// Runs so many steps: how many reads failed, and how many writes.
+// Runs this many steps, and returns how many reads failed and how many writes.
 fn run_steps<D: Disk>(
     conversion: &mut Conversion,
     log: &LogStore,
@@ -317,7 +319,7 @@ fn run_steps<D: Disk>(
     (reads, writes)
 }
 
-// What a conversion comes to: how many reads and writes failed, how many puts it counted, and what the store then has of two keys.
+// The result of a conversion: how many reads and writes failed, how many puts it counted, and what the store then has of two keys.
 #[derive(Clone, Copy, Debug, PartialEq, Eq)]
 struct Converted {
     failed: (u32, u32),
@@ -376,7 +378,7 @@ fn convert<D: Disk>(alloc: Global, disk: &mut D) -> Option<Converted>
     convert_log(alloc, disk, &log)
 }
 
-// The same where the kind of its last row is changed behind its back.
+// The same, with the kind of its last row changed behind its back.
 fn convert_changed<D: Disk>(alloc: Global, disk: &mut D) -> Option<Converted>
     requires { 45056 ≤ size (D.content disk.old) }
     ensures { size (D.content disk.new) ≡ size (D.content disk.old) }
@@ -411,7 +413,7 @@ fn prepared(alloc: Global) -> Result<MemDisk, Fail>
     Ok(disk)
 }
 
-// Each key's last row stands in the slot that it has in the log's table, and the other slots are empty.
+// Each key's last row is in the slot that it has in the log's table, and the other slots are empty.
 #[test]
 fn converts_a_log(rt: HostRuntime) -> Result<(), Fail> {
     let alloc = rt.alloc();
@@ -490,7 +492,7 @@ fn goes_on_after_a_failed_step(rt: HostRuntime) -> Result<(), Fail> {
     Ok(())
 }
 
-// What a rebuild comes to on a blank disk with this geometry.
+// The result of a rebuild on a blank disk with this geometry.
 fn rebuild_blank(alloc: Global, geometry: Geometry) -> Result<Outcome, Fail>
     requires { 0 < geometry.hashes }
 {
@@ -498,7 +500,7 @@ fn rebuild_blank(alloc: Global, geometry: Geometry) -> Result<Outcome, Fail>
     Ok(rebuild_in(alloc, &disk, geometry))
 }
 
-// Where memory is ample a conversion of a log of any geometry begins, that of the most buckets too.
+// With ample memory a conversion of a log of any geometry begins, that of the most buckets too.
 #[test]
 fn the_largest_conversion_begins(rt: HostRuntime) -> Result<(), Fail> {
     let alloc = rt.alloc();

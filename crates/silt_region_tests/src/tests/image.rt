@@ -32,7 +32,7 @@ fn a_header_is_written_as_it_is_read(rt: HostRuntime) {
     assert!(rt; version_of(&HEADER) == Version::Two);
 }
 
-// A header of version 1 says the same numbers.
+// A header of version 1 has the same numbers.
 #[test]
 fn an_old_header_is_read(rt: HostRuntime) {
     let mut header = HEADER;

@@ -1,5 +1,5 @@
-// What no clause says of a log: the worked bytes, how many device calls an operation makes, and that the calls which take memory
-// succeed.
+// What no clause says of a log: the worked bytes, how many device calls an operation makes, and that the calls that
+// allocate succeed with ample memory.
 ghost use Rattle.std.specs.Prelude.{◌≡◌, ◌≤◌, IfOk};
 ghost use Rattle.silt_disk.specs.Disk.{size};
 ghost use Rattle.silt_disk.specs.Layout.{device_size};
@@ -30,7 +30,7 @@ fn one_stop(alloc: Global, k: u32) -> Result<Vec<Stop>, AllocError> {
     Ok(stops)
 }
 
-// Prepares a log, appends a row and opens its gate. `done` counts the calls that were answered Ok.
+// Prepares a log, appends a row and opens its gate. `done` counts the calls that returned Ok.
 fn write_one<D: Disk>(log: &mut Log, disk: &mut D, done: &mut u32) -> Result<(), D::Fault>
     requires value { log.old.shape.value_len ≡ 2 }
     requires room { 1 ≤ log.old.shape.log_capacity }
@@ -46,8 +46,8 @@ fn write_one<D: Disk>(log: &mut Log, disk: &mut D, done: &mut u32) -> Result<(),
     Ok(())
 }
 
-// Writes a row on a blank disk whose K-th write or sync fails: how many calls were answered Ok, whether all were, and whether the disk
-// shows the open gate and the row.
+// Writes a row on a blank disk whose K-th write or sync fails. Returns how many calls returned Ok, whether all did, and
+// whether the disk shows the open gate and the row.
 fn written(alloc: Global, k: u32) -> Result<(u32, bool, bool), Fail> {
     let mut disk = blank(alloc, LEN)?.arm(one_stop(alloc, k)?);
     let mut log = Log::new(alloc, four_rows()?, 0)?;
@@ -145,7 +145,7 @@ fn a_scan_ends_at_the_first_closed_gate(rt: HostRuntime) -> Result<(), Fail> {
     Ok(())
 }
 
-// Where memory is ample a log of any geometry is made, that of the most rows too.
+// With ample memory a log of any geometry is made, that of the most rows too.
 #[test]
 fn the_longest_log_is_made(rt: HostRuntime) -> Result<(), Fail> {
     let alloc = rt.alloc();
@@ -167,7 +167,7 @@ fn an_unknown_kind_is_damage(rt: HostRuntime) -> Result<(), Fail> {
     Ok(())
 }
 
-// Scans after a sync and seals: whether the seal was answered Ok. None if an earlier call was not.
+// Scans after a sync and seals. Returns whether the seal returned Ok, or None if an earlier call did not.
 fn seal<D: Disk>(alloc: Global, log: &mut Log, disk: &mut D) -> Option<bool>
     requires { device_size log.old.shape ≤ size (D.content disk.old) }
 {

@@ -1,4 +1,5 @@
-// What no clause says of a log with the table of its keys: the worked sets of keys, that the calls which take memory succeed, and how many reads a look-up makes.
+// What no clause says of a log with the table of its keys: the worked sets of keys, that the calls that allocate
+// succeed with ample memory, and how many reads a look-up makes.
 ghost use Rattle.std.specs.Prelude.{◌≡◌, ◌≤◌, ◌<◌, OnOk, IfOk, IfSome, length};
 ghost use Rattle.silt_disk.specs.Disk.{size};
 ghost use Rattle.silt_disk.specs.Layout.{device_size};
@@ -35,7 +36,7 @@ fn write_row<D: Disk>(disk: &mut D, place: u32, kind: u8, key: &Key) -> Result<(
     Ok(())
 }
 
-// Writes so many open puts, of the keys that begin with 1, 2 and so on or of those that share their buckets.
+// Writes this many open puts. Their keys begin with 1, 2 and so on, or share their buckets.
 fn crowd<D: Disk>(disk: &mut D, count: u8, pairs: bool) -> Result<(), D::Fault>
     requires count { count ≤ 8 }
     requires size { 16568 ≤ size (D.content disk.old) }
@@ -52,7 +53,7 @@ fn crowd<D: Disk>(disk: &mut D, count: u8, pairs: bool) -> Result<(), D::Fault>
     Ok(())
 }
 
-// What a rebuild comes to: so many rows, of which so many are puts, or why it was refused.
+// The result of a rebuild: the numbers of rows and of puts, or why it was refused.
 #[derive(Clone, Copy, Debug, PartialEq, Eq)]
 enum Outcome {
     Rebuilt(u32, u32),
@@ -62,7 +63,7 @@ enum Outcome {
     NoMemory,
 }
 
-// What a rebuild of log 0 with this geometry comes to.
+// The result of a rebuild of log 0 with this geometry.
 fn rebuild_in<D: Disk>(alloc: Global, disk: &D, geometry: Geometry) -> Outcome
     requires region { 0 < geometry.logs }
     requires size { device_size geometry ≤ size (D.content disk.now) }
@@ -90,7 +91,7 @@ fn rebuilt<D: Disk>(alloc: Global, disk: &D) -> Option<LogStore>
     }
 }
 
-// What a rebuild of it comes to.
+// The result of a rebuild of it.
 fn rebuild<D: Disk>(alloc: Global, disk: &D) -> Outcome
     requires { 45056 ≤ size (D.content disk.now) }
 {
@@ -125,7 +126,7 @@ fn found(kind: Kind, place: u32) -> Option<Option<Found>> {
     Some(Some(Found { kind, place }))
 }
 
-// A disk with so many open puts.
+// A disk with this many open puts.
 fn crowded(alloc: Global, count: u8, pairs: bool) -> Result<MemDisk, Fail>
     requires { count ≤ 8 }
     ensures { IfOk result (λ disk. size (memory_content disk) ≡ 45056) }
@@ -135,7 +136,7 @@ fn crowded(alloc: Global, count: u8, pairs: bool) -> Result<MemDisk, Fail>
     Ok(disk)
 }
 
-// What a rebuild of so many open puts comes to.
+// The result of a rebuild of this many open puts.
 fn rebuild_crowd(alloc: Global, count: u8, pairs: bool) -> Result<Outcome, Fail>
     requires { count ≤ 8 }
 {
@@ -143,7 +144,7 @@ fn rebuild_crowd(alloc: Global, count: u8, pairs: bool) -> Result<Outcome, Fail>
     Ok(rebuild(alloc, &disk))
 }
 
-// Whether a log of so many open puts can take a key.
+// Whether a log of this many open puts can take a key.
 fn crowd_can_take(alloc: Global, count: u8, pairs: bool, key: &Key) -> Result<Option<bool>, Fail>
     requires { count ≤ 8 }
 {
@@ -182,7 +183,7 @@ fn eight_keys_of_two_buckets_fit(rt: HostRuntime) -> Result<(), Fail> {
     Ok(())
 }
 
-// Five keys of one bucket and a row of an unknown kind behind them; and then one of an unknown kind among them: what rebuilds come to.
+// Five keys of one bucket and a row of an unknown kind behind them; and then one of an unknown kind among them: the results of rebuilds.
 fn two_wrong_rows<D: Disk>(alloc: Global, disk: &mut D) -> Result<(Outcome, Outcome), D::Fault>
     requires { 45056 ≤ size (D.content disk.old) }
 {
@@ -221,7 +222,7 @@ fn a_failed_read_is_told(rt: HostRuntime) -> Result<(), Fail> {
     Ok(())
 }
 
-// What a rebuild of two rows comes to if the read of this number fails.
+// The result of a rebuild of two rows if the read of this number fails.
 fn rebuild_with_fault(alloc: Global, number: u64) -> Result<Outcome, Fail> {
     let disk = with_fault(crowded(alloc, 2, true)?, Call::Read, number);
     Ok(rebuild(alloc, &disk))
@@ -242,7 +243,7 @@ fn a_failed_read_of_a_rebuild_is_told(rt: HostRuntime) -> Result<(), Fail> {
     Ok(())
 }
 
-// What a rebuild comes to on a blank disk with this geometry.
+// The result of a rebuild on a blank disk with this geometry.
 fn rebuild_blank(alloc: Global, geometry: Geometry) -> Result<Outcome, Fail>
     requires { 0 < geometry.logs }
 {
@@ -250,7 +251,7 @@ fn rebuild_blank(alloc: Global, geometry: Geometry) -> Result<Outcome, Fail>
     Ok(rebuild_in(alloc, &disk, geometry))
 }
 
-// Where memory is ample a store of any geometry is made, that of the most rows and buckets too, and rebuilt.
+// With ample memory a store of any geometry is made, that of the most rows and buckets too, and rebuilt.
 #[test]
 fn the_largest_store_is_made(rt: HostRuntime) -> Result<(), Fail> {
     let alloc = rt.alloc();
@@ -305,7 +306,7 @@ fn put_three<D: Disk>(store: &mut LogStore, disk: &mut D) -> Result<(), D::Fault
     Ok(())
 }
 
-// Where the first key is found, and the value there.
+// The place at which the first key is found, and the value there.
 fn find_first<D: Disk>(store: &LogStore, disk: &D) -> Option<(u32, [u8; 2])>
     requires value { store.now.log.shape.value_len ≡ 2 }
     requires size { device_size store.now.log.shape ≤ size (D.content disk.now) }
@@ -319,7 +320,7 @@ fn find_first<D: Disk>(store: &LogStore, disk: &D) -> Option<(u32, [u8; 2])>
 // what is found of the first key.
 type Told = (u32, u32, u32, bool, Option<(u32, [u8; 2])>);
 
-// Prepares log 0 and puts three rows. None if there is no memory.
+// Prepares log 0 and puts three rows. None if memory runs out.
 fn put_on<D: Disk>(alloc: Global, disk: &mut D) -> Result<Option<Told>, D::Fault>
     requires { 45056 ≤ size (D.content disk.old) }
     ensures { size (D.content disk.new) ≡ size (D.content disk.old) }
@@ -356,7 +357,7 @@ fn finds_the_last_row_of_a_key(rt: HostRuntime) -> Result<(), Fail> {
     Ok(())
 }
 
-// Rebuilds log 0 after a sync and seals it: whether the seal was answered Ok. None if an earlier call was not.
+// Rebuilds log 0 after a sync and seals it. Returns whether the seal returned Ok, or None if an earlier call did not.
 fn seal<D: Disk>(alloc: Global, disk: &mut D) -> Option<bool>
     requires { 45056 ≤ size (D.content disk.old) }
 {

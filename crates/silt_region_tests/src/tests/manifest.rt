@@ -1,5 +1,5 @@
-// What no clause says of the manifest: the layout's bytes, the damaged slots, the forms of slots on devices of either version, each stop of a
-// write, and the first call of a write.
+// What no clause says of the manifest: the layout's bytes, the damaged slots, the forms of slots on devices of either
+// version, a crash at each call of a write, and the first call of a write.
 ghost use Rattle.std.specs.Prelude.{◌≡◌, ◌+◌, ◌≤◌, ◌<◌, ◌↔◌, IsTrue, IfSome, OnOk};
 ghost use Rattle.silt_disk.specs.Disk.{Rests, size};
 ghost use Rattle.silt_manifest.specs.Standing.{IsNext, Rules};
@@ -35,7 +35,7 @@ fn large(rt: &impl Abort) -> Geometry {
     Geometry::new(2, 2, 4, 8, 16, 8).expect(rt, "the numbers are within their limits")
 }
 
-// A device of version 1 with these slots, which lives two lives: one that no call stops, and this one.
+// A device of version 1 with these slots, and with two lives: one that no call stops, and this one.
 fn device(alloc: Global, first: &Slot, second: &Slot, stop: Stop) -> Result<MemDisk, AllocError> {
     device_as(alloc, 1, (first, second), stop)
 }
@@ -85,7 +85,7 @@ fn version_on<D: Disk>(disk: &D) -> Option<Version>
     }
 }
 
-// What the slots of a disk of this length hold: the body that rules, or the damage.
+// What the slots of a disk of this length hold: the current record, or the damage.
 fn ruling<D: Disk>(disk: &D, geometry: Geometry) -> Option<Result<Body, Damage>> {
     if disk.len() != LEN as u64 {
         return None;
@@ -98,7 +98,7 @@ fn ruling<D: Disk>(disk: &D, geometry: Geometry) -> Option<Result<Body, Damage>>
     }
 }
 
-// The digests behind the body that rules on a disk of this length, if there are any.
+// The digests of the current record on a disk of this length, if there are any.
 fn said<D: Disk>(disk: &D, geometry: Geometry) -> Option<Digests> {
     if disk.len() != LEN as u64 {
         return None;
@@ -131,7 +131,7 @@ fn some_digests() -> Digests {
     }
 }
 
-// Writes them into a slot, and the bit that says that they are there.
+// Writes them into a slot, and the bit that says that they follow.
 fn put_digests(slot: &mut Slot) {
     slot[1] |= 0x80;
     for k in 0..16usize {
@@ -153,7 +153,7 @@ fn write<D: Disk>(manifest: &mut Manifest, disk: &mut D, next: Body) -> Result<(
     Ok(())
 }
 
-// Reads the manifest and writes the next one. Whether all six calls were answered Ok.
+// Reads the manifest and writes the next one. Returns whether all six calls returned Ok.
 fn write_next<D: Disk>(disk: &mut D, geometry: Geometry, next: Body) -> bool
     requires { Rests (D.content disk.old) }
 {
@@ -172,7 +172,7 @@ fn write_next<D: Disk>(disk: &mut D, geometry: Geometry, next: Body) -> bool
     write(&mut manifest, disk, next).is_ok()
 }
 
-// Reads the manifest and writes the next one, and then the one after it. Whether all twelve calls were answered Ok.
+// Reads the manifest and writes the next one, and then the one after it. Returns whether all twelve calls returned Ok.
 fn write_two<D: Disk>(disk: &mut D, geometry: Geometry, next: Body, last: Body) -> bool
     requires { Rests (D.content disk.old) }
 {
@@ -262,7 +262,7 @@ fn finds_the_damaged_slot(rt: HostRuntime) -> Result<(), Fail> {
     Ok(())
 }
 
-// A slot without digests whose body is well formed, and of which each rule can be broken by one byte.
+// A slot without digests, with a well-formed body. One byte can break each rule of it.
 fn good_slot() -> Slot {
     let mut good = slot_of(0xA7, 0);
     good[12] = 1;
@@ -274,7 +274,7 @@ fn good_slot() -> Slot {
     good
 }
 
-// What it comes to where this byte stands at this place.
+// What is read if this byte is at this place.
 fn ruling_changed(
     alloc: Global,
     geometry: Geometry,
@@ -386,7 +386,7 @@ fn write_greatest(alloc: Global, geometry: Geometry) -> Result<(MemDisk, bool, b
     Ok((disk.restart(), done, is_shown))
 }
 
-// The body that rules and the digests behind it are those that were written.
+// The current body and its digests are those that were written.
 fn reads_back(rt: &impl Abort, disk: &MemDisk, geometry: Geometry) {
     assert_eq!(rt; ruling(disk, geometry), Some(Ok(greatest())));
     assert!(rt; said(disk, geometry) == Some(some_digests()));
@@ -401,8 +401,8 @@ fn writes_the_layouts_bytes(rt: HostRuntime) -> Result<(), Fail> {
     Ok(())
 }
 
-// What rules on a device whose header has this number, and whose first slot, open and of generation 0, has this byte behind its gate; and
-// whether there are digests.
+// What is current on a device whose header has this version, and whose first slot, open and of generation 0, has this
+// byte behind its gate; and whether there are digests.
 fn ruling_as(
     alloc: Global,
     geometry: Geometry,
@@ -430,7 +430,7 @@ fn takes_the_forms_of_its_version(rt: HostRuntime) -> Result<(), Fail> {
     Ok(())
 }
 
-// The two slots where this generation rules and the other slot has this gate, the first slot in front.
+// The two slots, if this generation is current and the other slot has this gate, the first slot in front.
 fn slots_of(old: u8, spare: u8) -> (Slot, Slot) {
     let ruling_slot = slot_of(0xA7, old);
     let spare_slot = slot_of(spare, old.wrapping_sub(1));
@@ -441,7 +441,7 @@ fn slots_of(old: u8, spare: u8) -> (Slot, Slot) {
     }
 }
 
-// Whether the next body was written on a device with these slots before this stop, and what rules after it.
+// Whether the next body was written on a device with these slots before this stop, and what is current after it.
 fn stopped_write(
     alloc: Global,
     geometry: Geometry,
@@ -459,7 +459,8 @@ fn keeps_the_gate(fill: Fill) -> bool {
     fill == Fill::New || fill == Fill::Mix
 }
 
-// From each state of the slots, a stop at each of the six calls, with every fill. The fifth writes the gate, at an even offset.
+// From each state of the slots, a stop at each of the six calls, with every fill. The fifth writes the gate, at an even
+// offset.
 #[test]
 fn each_stop_leaves_the_old_or_the_new_body(rt: HostRuntime) -> Result<(), Fail> {
     let alloc = rt.alloc();
@@ -483,7 +484,7 @@ fn each_stop_leaves_the_old_or_the_new_body(rt: HostRuntime) -> Result<(), Fail>
     Ok(())
 }
 
-// Whether two bodies were written before this stop, and what rules after it.
+// Whether two bodies were written before this stop, and what is current after it.
 fn stopped_writes(
     alloc: Global,
     geometry: Geometry,
@@ -494,7 +495,7 @@ fn stopped_writes(
     Ok((done, ruling(&disk.restart(), geometry)))
 }
 
-// Which body a stop at this call leaves.
+// Which body is current after a stop at this call.
 fn left_of_two(k: u32, fill: Fill) -> Body {
     let is_kept = keeps_the_gate(fill);
     if k == 0 || k > 12 || (k >= 11 && is_kept) {
@@ -506,7 +507,8 @@ fn left_of_two(k: u32, fill: Fill) -> Body {
     Body::first()
 }
 
-// Two writes in one life, the first over a closed slot and the second over an open one, with a stop at each of the twelve calls.
+// Two writes in one life, the first over a closed slot and the second over an open one, with a stop at each of the
+// twelve calls.
 #[test]
 fn each_stop_leaves_one_of_three_bodies(rt: HostRuntime) -> Result<(), Fail> {
     let geometry = small(&rt);
@@ -542,7 +544,8 @@ fn first_ones(disk: &MemDisk) -> (usize, Option<usize>) {
     (shown.len(), shown.iter().position(|byte| *byte == 0xFF))
 }
 
-// Whether the third body was written if the first call is stopped, how many bytes there are then, and the place that the stop changed.
+// Whether the third body was written if the first call is stopped, how many bytes there are then, and the place that
+// the stop changed.
 fn changed_place(
     alloc: Global,
     geometry: Geometry,
@@ -570,7 +573,7 @@ fn the_first_call_spares_a_closed_gate(rt: HostRuntime) -> Result<(), Fail> {
     Ok(())
 }
 
-// A device with these slots, on which the first body was written up to this stop, and whether it was.
+// A device with these slots, on which the first body was written up to this stop, and whether it was written.
 fn first_written(
     alloc: Global,
     first: &Slot,
@@ -585,8 +588,8 @@ fn first_written(
     Ok((disk, done))
 }
 
-// Whether the first body was written over two old ones before this stop, what rules after it, and whether its bytes and the digests' are
-// shown then.
+// Whether the first body was written over two old ones before this stop, what is current after it, and whether its
+// bytes and the digests' are shown then.
 fn stopped_first(
     alloc: Global,
     geometry: Geometry,
@@ -599,7 +602,8 @@ fn stopped_first(
     Ok((done, ruling(&disk, geometry), shows(&disk, 4096, &slot)))
 }
 
-// Over two old bodies, a stop at each of the eight calls, with every fill. The seventh writes the gate, at an even offset.
+// Over two old bodies, a stop at each of the eight calls, with every fill. The seventh writes the gate, at an even
+// offset.
 #[test]
 fn the_first_body_rules_once_it_is_written(rt: HostRuntime) -> Result<(), Fail> {
     let geometry = small(&rt);

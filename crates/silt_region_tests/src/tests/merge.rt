@@ -1,4 +1,5 @@
-// What no clause says of a merge: a worked one, that the calls which take memory succeed, and how many reads and writes the steps make.
+// What no clause says of a merge: a worked one, that the calls that allocate succeed with ample memory, and how many
+// reads and writes the steps make.
 ghost use Rattle.std.specs.Prelude.{◌≡◌, ◌+◌, ◌*◌, ◌≤◌, ◌<◌, length, IfOk};
 ghost use Rattle.std.specs.List.{All};
 ghost use Rattle.silt_disk.specs.Disk.{size};
@@ -156,7 +157,7 @@ fn run_step<D: Disk>(
     }
 }
 
-// Takes the steps of a merge, in so many tries.
+// Takes the steps of a merge, in this many tries.
 fn run_steps<D: Disk>(
     merge: &mut Merge,
     stores: &[HashStore],
@@ -185,8 +186,8 @@ fn run_steps<D: Disk>(
     all
 }
 
-// Merges hash region 0, the newest store, hash region 1, and so many entries of sorted region 0 into sorted region 1, in so many tries: what
-// the steps came to, and the new store, none if they left the merge undone.
+// Merges hash region 0, the newest store, hash region 1, and this many entries of sorted region 0 into sorted region 1,
+// in this many tries. Returns what the steps returned, and the new store, or None if they did not finish the merge.
 fn merge_stores<D: Disk>(
     alloc: Global,
     disk: &mut D,

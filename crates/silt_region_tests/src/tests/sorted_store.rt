@@ -15,7 +15,7 @@ mod faults;
 mod many;
 mod values;
 
-// The key that begins with these two bytes and goes on with zeros.
+// The key that begins with these two bytes, followed by zeros.
 fn key(first: u8, second: u8) -> Key {
     let mut bytes = [0; 20];
     bytes[0] = first;
@@ -35,7 +35,8 @@ fn write_entry<D: Disk>(disk: &mut D, place: u32, key: &Key, value: [u8; 2]) -> 
     Ok(())
 }
 
-// Writes so many entries into sorted region 1: their keys begin with 10, 20 and so on, and each value ends with the place.
+// Writes this many entries into sorted region 1: their keys begin with 10, 20 and so on, and each value ends with the
+// place.
 fn fill<D: Disk>(disk: &mut D, count: u8) -> Result<(), D::Fault>
     requires count { count ≤ 8 }
     requires size { 45056 ≤ size (D.content disk.old) }
@@ -47,7 +48,7 @@ fn fill<D: Disk>(disk: &mut D, count: u8) -> Result<(), D::Fault>
     Ok(())
 }
 
-// What a rebuild comes to: so many entries, or why it was refused.
+// The result of a rebuild: the number of entries, or why it was refused.
 #[derive(Clone, Copy, Debug, PartialEq, Eq)]
 enum Outcome {
     Rebuilt(u32),
@@ -56,7 +57,7 @@ enum Outcome {
     NoMemory,
 }
 
-// What a rebuild of so many entries of a region with this geometry comes to.
+// The result of a rebuild of this many entries of a region with this geometry.
 fn rebuild_in<D: Disk>(
     alloc: Global,
     disk: &D,
@@ -88,7 +89,8 @@ fn rebuild<D: Disk>(alloc: Global, disk: &D, region: u32, count: u32) -> Outcome
     }
 }
 
-// Where the first entries of region 1 have a key, by an index that was rebuilt. None if a read fails, or there is no memory.
+// The place of a key among the first entries of region 1, by an index that was rebuilt. None if a read fails or memory
+// runs out.
 fn find_in<D: Disk>(
     alloc: Global,
     disk: &D,
@@ -116,7 +118,7 @@ fn find<D: Disk>(alloc: Global, disk: &D, count: u32, key: &Key) -> Option<Optio
     }
 }
 
-// A disk with so many entries in sorted region 1.
+// A disk with this many entries in sorted region 1.
 fn filled(alloc: Global, count: u8) -> Result<MemDisk, Fail>
     requires { count ≤ 8 }
     ensures { IfOk result (λ disk. size (memory_content disk) ≡ 45056) }
@@ -156,7 +158,7 @@ fn finds_each_key_and_no_other(rt: HostRuntime) -> Result<(), Fail> {
     Ok(())
 }
 
-// Where the first entries of a disk with two have a key.
+// The place of a key on a disk with two entries.
 fn found_among(alloc: Global, count: u32, first: u8) -> Result<Option<Option<u32>>, Fail>
     requires { count ≤ 8 }
 {
@@ -184,7 +186,8 @@ fn finds_among_few(rt: HostRuntime) -> Result<(), Fail> {
     Ok(())
 }
 
-// Three keys of which the bytes after the first decide: what a rebuild comes to, and where one of them and one that is not there are found.
+// Three keys that differ after the first byte: the result of a rebuild, and the places of one of them and of an absent
+// one.
 fn rising<D: Disk>(
     alloc: Global,
     disk: &mut D,
@@ -201,7 +204,7 @@ fn rising<D: Disk>(
     ))
 }
 
-// The bytes after the first decide where the first are alike.
+// The bytes after the first decide if the first are alike.
 #[test]
 fn keys_rise_by_their_bytes(rt: HostRuntime) -> Result<(), Fail> {
     let mut disk = blank(rt.alloc(), LEN)?;
@@ -211,7 +214,8 @@ fn keys_rise_by_their_bytes(rt: HostRuntime) -> Result<(), Fail> {
     Ok(())
 }
 
-// What rebuilds come to of six entries and of four where the fifth is below the fourth, and of six where the third has the key of the second too.
+// The results of rebuilds of six entries and of four, with the fifth below the fourth, and of six with the key of the
+// second in the third too.
 fn falling<D: Disk>(alloc: Global, disk: &mut D) -> Result<[Outcome; 3], D::Fault>
     requires { 45056 ≤ size (D.content disk.old) }
 {
@@ -238,7 +242,7 @@ fn the_first_entry_that_does_not_rise_decides(rt: HostRuntime) -> Result<(), Fai
     Ok(())
 }
 
-// What a rebuild of so many entries of region 0 comes to where region 1 alone has some, and whether they are none.
+// The result of a rebuild of this many entries of region 0 if only region 1 has some, and whether they are none.
 fn rebuild_other(alloc: Global, count: u32) -> Result<(Outcome, bool), Fail>
     requires { count ≤ 8 }
 {

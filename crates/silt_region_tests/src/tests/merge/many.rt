@@ -45,7 +45,8 @@ fn older_kind(number: u16) -> u8 {
     if number % 2 == 0 { 1 } else { 0 }
 }
 
-// Which value a key has after the merge: 1 from the newest store, 2 from the older one, 3 from the old entries, of which each fifth key has one.
+// Which value a key has after the merge: 1 from the newest store, 2 from the older one, 3 from the old entries, which
+// have each fifth key.
 fn merged_value(number: u16) -> Option<u8> {
     match (newest_kind(number), older_kind(number)) {
         (1, _) => Some(1),

@@ -32,8 +32,8 @@ fn fill_long<D: Disk>(disk: &mut D, geometry: Geometry) -> Result<(), D::Fault>
     Ok(())
 }
 
-// Merges two hash regions and so many entries of sorted region 0 into sorted region 1, in so many tries: what the steps came to, and where the new store
-// finds the last key. None if they left the merge undone.
+// Merges two hash regions and this many entries of sorted region 0 into sorted region 1, in this many tries. Returns
+// what the steps returned, and the place of the last key in the new store, or None if they did not finish the merge.
 fn merge_long<D: Disk>(
     alloc: Global,
     disk: &mut D,

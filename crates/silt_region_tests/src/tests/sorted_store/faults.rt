@@ -10,13 +10,14 @@ use silt_frame::Key;
 use std::alloc::Global;
 use std::test::Fail;
 
-// Where eight entries have a key, with one failing read. None if that is a read of the rebuild or of the look-up.
+// The place of a key among eight entries, with one failing read. None if that is a read of the rebuild or of the
+// look-up.
 fn finds_with_fault(alloc: Global, number: u64, key: &Key) -> Result<Option<Option<u32>>, Fail> {
     let disk = with_fault(filled(alloc, 8)?, Call::Read, number);
     Ok(find(alloc, &disk, 8, key))
 }
 
-// What a rebuild of so many of eight entries comes to if the read of this number fails.
+// The result of a rebuild of this many of eight entries if the read of this number fails.
 fn rebuilds_with_fault(alloc: Global, count: u32, number: u64) -> Result<Outcome, Fail>
     requires { count ≤ 8 }
 {
@@ -97,7 +98,7 @@ fn fill_long<D: Disk>(disk: &mut D) -> Result<(), D::Fault>
     Ok(())
 }
 
-// What a rebuild of so many long entries comes to.
+// The result of a rebuild of this many long entries.
 fn rebuild_long<D: Disk>(alloc: Global, disk: &D, count: u32) -> Outcome
     requires count { count ≤ 20 }
     requires size { 270336 ≤ size (D.content disk.now) }
@@ -108,7 +109,7 @@ fn rebuild_long<D: Disk>(alloc: Global, disk: &D, count: u32) -> Outcome
     }
 }
 
-// Where twenty long entries have a key.
+// The place of a key among twenty long entries.
 fn find_long<D: Disk>(alloc: Global, disk: &D, key: &Key) -> Option<Option<u32>>
     requires { 270336 ≤ size (D.content disk.now) }
 {
@@ -127,7 +128,7 @@ fn filled_long(alloc: Global) -> Result<MemDisk, Fail>
     Ok(disk)
 }
 
-// What a rebuild of so many of them comes to if the read of this number fails.
+// The result of a rebuild of this many of them if the read of this number fails.
 fn rebuilds_long_with_fault(alloc: Global, count: u32, number: u64) -> Result<Outcome, Fail>
     requires { count ≤ 20 }
 {
@@ -154,7 +155,8 @@ fn a_rebuild_reads_in_chunks(rt: HostRuntime) -> Result<(), Fail> {
     Ok(())
 }
 
-// What rebuilds come to of all entries, and of those before this place, where the one at the place has the key that ends with this byte.
+// The results of rebuilds of all entries, and of those before this place, if the entry at the place has the key that
+// ends with this byte.
 fn rebuilds_changed(alloc: Global, place: u32, byte: u8) -> Result<(Outcome, Outcome), Fail>
     requires { place < 20 }
 {

@@ -58,7 +58,7 @@ fn spread(alloc: Global) -> Result<Vec<Key>, AllocError>
     Ok(keys)
 }
 
-// The first of all keys whose look-up does not answer its place, or their number if no store is made.
+// The first of all keys whose look-up does not return its place, or their number if no store is made.
 fn first_missed<D: Disk>(alloc: Global, disk: &D, geometry: Geometry, keys: &[Key]) -> Option<usize>
     requires count { length keys.now ≤ geometry.sorted_capacity }
     requires size { device_size geometry ≤ size (D.content disk.now) }
@@ -85,7 +85,7 @@ fn written(alloc: Global, keys: &[Key]) -> Result<MemDisk, Fail>
     Ok(disk)
 }
 
-// The first of 256 keys whose look-up does not answer its place if the read of this number fails.
+// The first of 256 keys whose look-up does not return its place if the read of this number fails.
 fn missed_with_fault(alloc: Global, number: u64) -> Result<Option<usize>, Fail> {
     let geometry = wide()?;
     let keys = one_a_group(alloc)?;
@@ -112,7 +112,7 @@ fn each_look_up_makes_one_read(rt: HostRuntime) -> Result<(), Fail> {
     Ok(())
 }
 
-// Whether a look-up answers what a plain search among the keys does.
+// Whether a look-up returns what a plain search among the keys does.
 fn agrees<D: Disk>(disk: &D, store: &SortedStore, keys: &[Key], key: &Key) -> bool
     requires size { device_size store.now.sorted.shape ≤ size (D.content disk.now) }
 {

@@ -55,7 +55,8 @@ fn get<D: Disk>(alloc: Global, disk: &D, key: &Key) -> Option<(bool, [u8; 2])>
     Some((found, value))
 }
 
-// The first of eight places whose value is not got by its key, or where a get of one of its neighbours finds something.
+// The first of eight places whose value its key does not get, or at which a get of one of its neighbours finds
+// something.
 fn first_wrong<D: Disk>(alloc: Global, disk: &D) -> Option<u8>
     requires { 45056 ≤ size (D.content disk.now) }
 {
@@ -71,7 +72,7 @@ fn first_wrong<D: Disk>(alloc: Global, disk: &D) -> Option<u8>
     None
 }
 
-// A get of an absent key leaves what is to be filled, whether the index names a place or none.
+// A get of an absent key leaves the buffer as it was, whether the index names a place or none.
 #[test]
 fn gets_the_value_of_each_key(rt: HostRuntime) -> Result<(), Fail> {
     let disk = filled(rt.alloc(), 8)?;
