@@ -8,7 +8,7 @@ use Rattle.std.proofs.lemmas.List.Splits.{slice_split_first, slice_split_none, l
 use Rattle.silt_event.specs.declared.event.Event.{Event}
 use Rattle.silt_wire.specs.declared.line.LineFault.{LineFault}
 use Rattle.silt_wire.specs.declared.line.LineFault.TheVariants.{BadLine}
-use Rattle.silt_wire.specs.Lines.{Parses, words_of, bare_event, key_event, value_event, event_of}
+use Rattle.silt_wire.specs.Lines.{Parses, words_of, bare_event, key_event, value_event, swap_event, event_of}
 
 -- the first word ends at the first space, and the other words come after it
 pub words_of-cut : (text : List ℕ) (at : ℕ) → position (λ b. b == 32) text ≡ Some at → words_of text ≡ take at text ∷ words_of (drop (at + 1) text)
@@ -43,11 +43,21 @@ unfolding event_of
 asked-three len text word key rest value result words more last e =
     subst (λ asked. Parses asked result) (sym (ap (event_of len) (words ∙ ap (λ parts. word ∷ parts) (more ∙ ap (λ parts. key ∷ parts) last)))) e
 
--- a line of four words or more is refused
-event_of-many : (len : ℕ) (word key value : List ℕ) (more : List (List ℕ)) → more ≢ [] → event_of len (word ∷ key ∷ value ∷ more) ≡ Err BadLine
+-- what four words ask for
+pub asked-four : (len : ℕ) (text word key rest old most new : List ℕ) (result : Result Event LineFault) → words_of text ≡ word ∷ words_of rest
+    → words_of rest ≡ key ∷ words_of most → words_of most ≡ old ∷ words_of new → words_of new ≡ new ∷ [] → Parses (swap_event len word key old new) result
+    → Parses (event_of len (words_of text)) result
 unfolding event_of
-event_of-many len word key value [] some = absurd (some refl)
-event_of-many len word key value (next ∷ more) some = refl
+asked-four len text word key rest old most new result words more last end e =
+    let parts : words_of text ≡ word ∷ key ∷ old ∷ new ∷ [] =
+    words ∙ ap (λ ws. word ∷ ws) (more ∙ ap (λ ws. key ∷ ws) (last ∙ ap (λ ws. old ∷ ws) end)) in
+    subst (λ asked. Parses asked result) (sym (ap (event_of len) parts)) e
+
+-- a line of five words or more is refused
+event_of-many : (len : ℕ) (word key old new : List ℕ) (more : List (List ℕ)) → more ≢ [] → event_of len (word ∷ key ∷ old ∷ new ∷ more) ≡ Err BadLine
+unfolding event_of
+event_of-many len word key old new [] some = absurd (some refl)
+event_of-many len word key old new (next ∷ more) some = refl
 
 -- there is at least one word
 pub words_of-some : (text : List ℕ) → words_of text ≢ []
@@ -56,10 +66,13 @@ words_of-some text e =
     let count = length-slice_split (λ b. b == 32) text in
     absurd (omega arith)
 
-pub asked-many : (len : ℕ) (text word key rest value last next : List ℕ) (result : Result Event LineFault) → words_of text ≡ word ∷ words_of rest → words_of rest ≡ key ∷ words_of value
-    → words_of value ≡ last ∷ words_of next → result ≡ Err BadLine → Parses (event_of len (words_of text)) result
-asked-many len text word key rest value last next result words more most e =
-    inl (e ∙ sym (ap (event_of len) (words ∙ ap (λ parts. word ∷ parts) (more ∙ ap (λ parts. key ∷ parts) most)) ∙ event_of-many len word key last (words_of next) (words_of-some next)))
+pub asked-many : (len : ℕ) (text word key rest old most new last next : List ℕ) (result : Result Event LineFault) → words_of text ≡ word ∷ words_of rest
+    → words_of rest ≡ key ∷ words_of most → words_of most ≡ old ∷ words_of last → words_of last ≡ new ∷ words_of next → result ≡ Err BadLine
+    → Parses (event_of len (words_of text)) result
+asked-many len text word key rest old most new last next result words more end four e =
+    let parts : words_of text ≡ word ∷ key ∷ old ∷ new ∷ words_of next =
+    words ∙ ap (λ ws. word ∷ ws) (more ∙ ap (λ ws. key ∷ ws) (end ∙ ap (λ ws. old ∷ ws) four)) in
+    inl (e ∙ sym (ap (event_of len) parts ∙ event_of-many len word key old new (words_of next) (words_of-some next)))
 
 -- no more space was found
 pub last-from_none : {A : Type 0} {P : Type 0} (found : Option A) → is_some found ≡ false → IfNone found P → P

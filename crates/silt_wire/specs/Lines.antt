@@ -9,7 +9,7 @@ use Rattle.hex.specs.Hex.{decode_sized}
 use Rattle.sha1.specs.Sha1.{sha1}
 use Rattle.silt_frame.specs.declared.key.Key.{Key}
 use Rattle.silt_event.specs.declared.event.Event.{Event}
-use Rattle.silt_event.specs.declared.event.Event.TheVariants.{Put, Delete, Flush, Get, Convert, Merge}
+use Rattle.silt_event.specs.declared.event.Event.TheVariants.{Put, Delete, Swap, Flush, Get, Convert, Merge}
 use Rattle.silt_wire.specs.declared.line.LineFault.{LineFault}
 use Rattle.silt_wire.specs.declared.line.LineFault.TheVariants.{BadLine, BadKey, BadValue, LineTooLong, NoMemory}
 use Rattle.silt_frame.specs.Frame.{key_len}
@@ -52,6 +52,12 @@ with_key_and_value None value = Err BadKey
 with_key_and_value (Some key) None = Err BadValue
 with_key_and_value (Some key) (Some value) = Ok (Put key value)
 
+-- a swap: the key is looked at before the values
+abbrev pub with_key_and_values : Option Key → Option (List ℕ) → Option (List ℕ) → Result Event LineFault
+with_key_and_values None old new = Err BadKey
+with_key_and_values (Some key) (Some old) (Some new) = Ok (Swap key old new)
+with_key_and_values (Some key) old new = Err BadValue
+
 -- the request of a line with one word
 abbrev pub bare_event : List ℕ → Result Event LineFault
 bare_event word =
@@ -72,16 +78,22 @@ abbrev pub value_event : ℕ → List ℕ → List ℕ → List ℕ → Result E
 value_event value_len word key value =
     if bytes_eq word (codes "put") then with_key_and_value (key_of key) (value_of value_len value) else Err BadLine
 
+-- what a word, a key and two values ask for
+abbrev pub swap_event : ℕ → List ℕ → List ℕ → List ℕ → List ℕ → Result Event LineFault
+swap_event value_len word key old new =
+    if bytes_eq word (codes "swap") then with_key_and_values (key_of key) (value_of value_len old) (value_of value_len new) else Err BadLine
+
 -- what the words of a line ask for: the first word and the number of words are looked at first
 unfoldable pub event_of : ℕ → List (List ℕ) → Result Event LineFault
 event_of value_len (word ∷ []) = bare_event word
 event_of value_len (word ∷ key ∷ []) = key_event word key
 event_of value_len (word ∷ key ∷ value ∷ []) = value_event value_len word key value
+event_of value_len (word ∷ key ∷ old ∷ new ∷ []) = swap_event value_len word key old new
 event_of value_len words = Err BadLine
 
 -- the most bytes that a line may have, its carriage return counted
 abbrev pub longest_line : ℕ
-longest_line = 8300
+longest_line = 16600
 
 -- the request of a line, or why it has none; the length is checked first
 abbrev pub asked_by : ℕ → List ℕ → Result Event LineFault
@@ -92,9 +104,10 @@ asked_by value_len line =
 abbrev pub is_blank : List ℕ → Bool
 is_blank line = length (strip_carriage_return line) == 0
 
--- only a put needs memory, for its value
+-- only a put and a swap need memory, for their values
 abbrev pub WantsMemory : Result Event LineFault → Type 0
 WantsMemory (Ok (Put key value)) = Unit {0}
+WantsMemory (Ok (Swap key old new)) = Unit {0}
 WantsMemory (Err BadValue) = Unit {0}
 WantsMemory asked = ⊥
 

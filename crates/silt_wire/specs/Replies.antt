@@ -9,7 +9,7 @@ use Rattle.silt_event.specs.declared.progress.Progress.TheVariants.{Idle, Waitin
 use Rattle.silt_event.specs.declared.refusal.Refusal.{Refusal}
 use Rattle.silt_event.specs.declared.refusal.Refusal.TheVariants.{Damaged}
 use Rattle.silt_event.specs.declared.reply.Reply.{Reply}
-use Rattle.silt_event.specs.declared.reply.Reply.TheVariants.{Accepted, Acknowledged, Found, Absent, Progress, Refused, Unsettled, NotServed}
+use Rattle.silt_event.specs.declared.reply.Reply.TheVariants.{Accepted, Acknowledged, Found, Absent, Differs, Progress, Refused, Unsettled, NotServed}
 use Rattle.silt_event.specs.Events.{refusal_label}
 use Rattle.silt_wire.specs.declared.line.LineFault.{LineFault}
 use Rattle.silt_wire.specs.declared.line.LineFault.TheVariants.{BadLine, BadKey, BadValue, LineTooLong, NoMemory}
@@ -60,6 +60,7 @@ reply_text (Accepted n) = codes "accepted " ++ decimal n
 reply_text (Acknowledged n) = codes "acknowledged " ++ decimal n
 reply_text (Found value) = codes "value " ++ encode_lower value
 reply_text Absent = codes "absent"
+reply_text Differs = codes "differs"
 reply_text (Progress progress) = progress_text progress
 reply_text (Refused refusal) = codes "refused " ++ refusal_text refusal
 reply_text (Unsettled n) = codes "unsettled " ++ decimal n

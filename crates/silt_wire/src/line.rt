@@ -2,7 +2,7 @@
 ghost use Rattle.std.specs.Prelude.{◌≡◌, ◌⊎◌, ◌==◌, ◌∷◌, [], length, position, IfSome, IfNone, IfOk, IfErr};
 ghost use Rattle.std.specs.Str.Lines.{strip_carriage_return};
 ghost use Rattle.silt_event.specs.Events.{HasValueOf};
-ghost use Rattle.silt_wire.specs.Lines.{Parses, words_of, value_of, bare_event, key_event, value_event, event_of, asked_by, is_blank};
+ghost use Rattle.silt_wire.specs.Lines.{Parses, words_of, value_of, bare_event, key_event, value_event, swap_event, event_of, asked_by, is_blank};
 
 use crate::keys::key_of;
 use silt_event::Event;
@@ -11,7 +11,7 @@ use std::alloc::{AllocError, Global};
 use thiserror::Error;
 
 /// The most bytes that a line may have, its carriage return counted.
-pub const LONGEST_LINE: usize = 8300;
+pub const LONGEST_LINE: usize = 16_600;
 
 /// Why a line has no valid request.
 #[derive(Clone, Copy, Debug, PartialEq, Eq, Error)]
@@ -29,7 +29,7 @@ pub enum LineFault {
     #[error("the line has more than {LONGEST_LINE} bytes")]
     LineTooLong,
     /// Out of memory.
-    #[error("memory was wanted")]
+    #[error("out of memory")]
     NoMemory,
 }
 
@@ -148,6 +148,27 @@ fn value_event(
     Ok(Event::Put(key, value))
 }
 
+// What a word, a key and two values ask for.
+fn swap_event(
+    alloc: Global,
+    value_len: usize,
+    word: &[u8],
+    key: &[u8],
+    old: &[u8],
+    new: &[u8],
+) -> Result<Event, LineFault>
+    ensures asked { Parses (swap_event value_len word.now key.now old.now new.now) result }
+    ensures fits { IfOk result (HasValueOf value_len) }
+{
+    if word != b"swap".as_slice() {
+        return Err(LineFault::BadLine);
+    }
+    let key = key_of(key).ok_or(LineFault::BadKey)?;
+    let old = value_of(alloc, value_len, old)?;
+    let new = value_of(alloc, value_len, new)?;
+    Ok(Event::Swap(key, old, new))
+}
+
 // What the words of a text ask for.
 #[tactic(auto, using(crate::proofs::Cuts::asked_steps))]
 fn parse_words(alloc: Global, text: &[u8], value_len: usize) -> Result<Event, LineFault>
@@ -160,21 +181,25 @@ fn parse_words(alloc: Global, text: &[u8], value_len: usize) -> Result<Event, Li
     let Some((key, rest)) = cut_word(rest) else {
         return key_event(word, rest);
     };
+    let Some((value, rest)) = cut_word(rest) else {
+        return value_event(alloc, value_len, word, key, rest);
+    };
     if cut_word(rest).is_some() {
         return Err(LineFault::BadLine);
     }
-    value_event(alloc, value_len, word, key, rest)
+    swap_event(alloc, value_len, word, key, value, rest)
 }
 
 /// The request of a line to a store whose values have `value_len` bytes.
 ///
 /// The line comes without its line feed, and one carriage return at its end is not part of a word. Words are in lower
-/// case, with single spaces between them: `put KEY VALUE`, `delete KEY`, `get KEY`, `flush`, `convert` and `merge`.
+/// case, with single spaces between them: `put KEY VALUE`, `delete KEY`, `swap KEY OLD NEW`, `get KEY`, `flush`,
+/// `convert` and `merge`.
 ///
 /// # Errors
 ///
-/// The first of these that is found: `LineTooLong`, for more than 8,300 bytes; `BadLine`, for the first word and the
-/// number of words; `BadKey`; then, only for a put, `NoMemory` and `BadValue`.
+/// The first of these that is found: `LineTooLong`, for more than 16,600 bytes; `BadLine`, for the first word and the
+/// number of words; `BadKey`; then, for each value of a put or a swap in order, `NoMemory` and `BadValue`.
 pub fn parse_line(alloc: Global, line: &[u8], value_len: usize) -> Result<Event, LineFault>
     ensures asked { Parses (asked_by value_len line.now) result }
     ensures fits { IfOk result (HasValueOf value_len) }

@@ -89,6 +89,7 @@ pub fn print_reply<F: Drop>(alloc: Global, reply: &Reply<F>) -> Result<String, A
             format!(in alloc; "value {digits}")
         }
         Reply::Absent => String::from_str(alloc, "absent"),
+        Reply::Differs => String::from_str(alloc, "differs"),
         Reply::Progress(progress) => String::from_str(alloc, progress_text(*progress)),
         Reply::Refused(refusal) => print_refusal(alloc, refusal),
         Reply::Unsettled(count) => format!(in alloc; "unsettled {count}"),

@@ -1,5 +1,5 @@
 use Rattle.std.proofs.Common.{sym, ◌∙◌}
-use Rattle.silt_wire.proofs.Cuts.{asked-two, asked-three, last-from_none}
+use Rattle.silt_wire.proofs.Cuts.{asked-two, asked-three, asked-four, last-from_none}
 use Rattle.silt_wire.proofs.line.parse_words.Goals as goal
 
 pub returns-in_default-cut_word-clause-asked : goal.returns-in_default-cut_word-clause-asked
