@@ -7,8 +7,14 @@ returns-in_default-cut_word-clause-asked c =
     asked-two c.args.value_len c.args.text.now c.in-Some.word.now c.in-Some.rest.now c.key_event.result
     c.in-Some.ensures.more c.in_default-cut_word.ensures.last c.key_event.ensures
 
+pub returns-in_default-cut_word-2-clause-asked : goal.returns-in_default-cut_word-2-clause-asked
+returns-in_default-cut_word-2-clause-asked c =
+    asked-three c.args.value_len c.args.text.now c.in-Some.word.now c.in-Some-cut_word.key.now c.in-Some.rest.now c.in-Some-cut_word.rest.now c.value_event.result
+    c.in-Some.ensures.more c.in-Some-cut_word.ensures.more c.in_default-cut_word-2.ensures.last c.value_event.ensures.asked
+
 pub returns-clause-asked : goal.returns-clause-asked
 returns-clause-asked c =
-    let last = last-from_none c.cut_word-3.result (sym c.is_some.ensures ∙ c.if-is_some.false) c.cut_word-3.ensures.last in
-    asked-three c.args.value_len c.args.text.now c.in-Some.word.now c.in-Some-cut_word.key.now c.in-Some.rest.now c.in-Some-cut_word.rest.now c.value_event.result
-    c.in-Some.ensures.more c.in-Some-cut_word.ensures.more last c.value_event.ensures.asked
+    let last = last-from_none c.cut_word-4.result (sym c.is_some.ensures ∙ c.if-is_some.false) c.cut_word-4.ensures.last in
+    asked-four c.args.value_len c.args.text.now c.in-Some.word.now c.in-Some-cut_word.key.now c.in-Some.rest.now c.in-Some-cut_word-2.value.now
+    c.in-Some-cut_word.rest.now c.in-Some-cut_word-2.rest.now c.swap_event.result
+    c.in-Some.ensures.more c.in-Some-cut_word.ensures.more c.in-Some-cut_word-2.ensures.more last c.swap_event.ensures.asked
