@@ -1,6 +1,6 @@
 //! Tests of lines, replies, sessions and the words of the command line.
 //!
-//! What no clause says stands here, seen from outside through the public calls.
+//! They try what no contract says, through the public calls.
 #![tactic(auto)]
 
 #[cfg(test)]

@@ -1,6 +1,7 @@
 // What no contract says: texts, letter for letter.
 
 mod sessions;
+mod swaps;
 
 use silt_event::{Layout, Place, Progress, Refusal, Reply, Report};
 use silt_wire::{LineFault, print_fault, print_reply, print_report};
@@ -45,6 +46,22 @@ fn prints_replies(rt: HostRuntime) -> Result<(), Fail> {
         (Refusal::Spent, "refused 10 Spent"),
     ] {
         let reply = Reply::Refused(refusal);
+        assert_eq!(rt; print_reply(rt.alloc(), &reply)?.as_str(), text);
+    }
+    Ok(())
+}
+
+#[test]
+fn prints_what_a_store_did(rt: HostRuntime) -> Result<(), Fail> {
+    let replies: [(Reply<()>, &str); 6] = [
+        (Reply::Accepted(7), "accepted 7"),
+        (Reply::Acknowledged(0), "acknowledged 0"),
+        (Reply::Absent, "absent"),
+        (Reply::Differs, "differs"),
+        (Reply::Unsettled(10), "unsettled 10"),
+        (Reply::NotServed, "refused 20 BadLine"),
+    ];
+    for (reply, text) in replies {
         assert_eq!(rt; print_reply(rt.alloc(), &reply)?.as_str(), text);
     }
     Ok(())

@@ -1,5 +1,5 @@
-// Which command lines name which job with which options, and which name none: the definitions that the contract cites are clap's own, so
-// these calls are tried.
+// Which command lines name which job with which options, and which name none. The contract cites clap's own definitions,
+// so these calls are tried.
 
 use silt_words::{Job, PlanRequest, Service, WordsError, read_words};
 use std::process::Abort;
@@ -66,7 +66,7 @@ fn takes_the_greatest_numbers(rt: HostRuntime) -> Result<(), Fail> {
     serves(&rt, call, 65535, Some(4294967295), Some(4294967295))
 }
 
-// Whether a command line names a service that closes connections silent for so long.
+// Whether a command line names a service that closes connections after this time without a byte.
 fn is_idle_after<S: AllocGlobal + Abort>(
     rt: &S,
     call: &str,
@@ -86,7 +86,7 @@ fn reads_how_long_a_connection_may_be_silent(rt: HostRuntime) -> Result<(), Fail
     is_idle_after(&rt, "silt serve disk --sessions 2 0 --idle 60", Some(60))
 }
 
-/// A job on a file, by the first letter of its word, and whether its option without a number is given.
+/// A job on a file, by the first letter of its word, and whether its flag is given.
 #[derive(Clone, Copy)]
 struct OnFile<'a> {
     letter: char,

@@ -1,4 +1,5 @@
-// Sessions over readers and writers that take few bytes at a time, are interrupted and fail, and over long answers.
+// Sessions over readers and writers that take few bytes at a time, are interrupted or fail, and sessions with long
+// replies.
 ghost use Rattle.std.specs.Prelude.{◌≡◌, ℕ};
 ghost use Rattle.silt_event.specs.declared.event.Event.{Event as EventOf};
 ghost use Rattle.silt_event.specs.Events.{PlainReply};
@@ -28,7 +29,8 @@ impl Answerer for Counter {
     }
 }
 
-// A reader that gives a text a few bytes at a time, is interrupted before each read, and then is at its end or fails.
+// A reader that returns a text a few bytes at a time, and is interrupted before each read. At the end of the text it
+// ends or fails.
 #[derive(Drop)]
 struct Pieces<'a> {
     text: &'a [u8],
@@ -53,7 +55,7 @@ impl Read for Pieces<'_> {
     }
 }
 
-// A writer that takes a few bytes at a time, is interrupted before each write, and fails where it is full.
+// A writer that takes a few bytes at a time, and is interrupted before each write. It fails when it is full.
 #[derive(Drop)]
 struct Short {
     taken: Vec<u8>,
@@ -82,12 +84,12 @@ impl Write for Short {
     }
 }
 
-// Four lines that are answered, a blank one, and bytes after the last line feed.
-const LINES: &[u8] = b"get =a\nput =b 0102\r\n\nput =b 01\nflush\nmerge";
+// Five lines with a reply, a blank one, and bytes after the last line feed.
+const LINES: &[u8] = b"get =a\nput =b 0102\r\n\nput =b 01\nswap =b 0102 0304\nflush\nmerge";
 
-const ANSWERS: &[u8] = b"accepted 1\naccepted 2\nrefused 22 BadValue\naccepted 3\n";
+const ANSWERS: &[u8] = b"accepted 1\naccepted 2\nrefused 22 BadValue\naccepted 3\naccepted 4\n";
 
-// How a session over a text ends, and what it writes. Reads and writes are of so many bytes at most.
+// How a session over a text ends, and what it writes. The numbers are the most bytes of a read and of a write.
 fn serve(
     alloc: Global,
     text: &[u8],
@@ -139,21 +141,22 @@ fn answers_whatever_the_writes(rt: HostRuntime) -> Result<(), Fail> {
     Ok(())
 }
 
-// How many bytes of answers the lines have that end within so many bytes.
+// How many bytes the replies have to the lines that end within the first bytes of the text.
 fn answered_within(count: usize) -> usize {
     match count {
         0..7 => 0,
         7..20 => 11,
         20..31 => 22,
-        31..37 => 42,
-        _ => 53,
+        31..49 => 42,
+        49..55 => 53,
+        _ => 64,
     }
 }
 
-// The lines before a read that fails are answered, and the one that it cuts is not, wherever it is cut.
+// The lines before a failed read get their replies, and the line that it cuts gets none, wherever the cut is.
 #[test]
 fn tells_a_failed_read(rt: HostRuntime) -> Result<(), Fail> {
-    for count in 0..43usize {
+    for count in 0..61usize {
         let text = &LINES[..LINES.len().min(count)];
         let (end, taken) = serve(rt.alloc(), text, 5, true, 3, 1000);
         assert_eq!(rt; end, SessionEnd::ReadFault);
@@ -163,7 +166,7 @@ fn tells_a_failed_read(rt: HostRuntime) -> Result<(), Fail> {
     Ok(())
 }
 
-// What went out is a beginning of so many bytes, which may be cut within a text.
+// What was written is a prefix as long as the writer has room. It may be cut within a reply.
 #[test]
 fn tells_a_failed_write(rt: HostRuntime) -> Result<(), Fail> {
     for room in 0..ANSWERS.len() {
@@ -174,7 +177,7 @@ fn tells_a_failed_write(rt: HostRuntime) -> Result<(), Fail> {
     Ok(())
 }
 
-// A writer that keeps what it is given, and how much of that is flushed.
+// A writer that keeps what is written to it, and how much of that is flushed.
 #[derive(Drop)]
 struct Buffered {
     taken: Vec<u8>,
@@ -193,7 +196,7 @@ impl Write for Buffered {
     }
 }
 
-// What a session writes is flushed, whatever the reads were.
+// What a session writes is flushed, however long its reads are.
 #[test]
 fn flushes_what_it_writes(rt: HostRuntime) -> Result<(), Fail> {
     for most in [1usize, 7, 100] {
@@ -216,12 +219,12 @@ fn flushes_what_it_writes(rt: HostRuntime) -> Result<(), Fail> {
     Ok(())
 }
 
-// Accepts each event. Its values have 147 bytes.
+// Accepts each event. Its values have 4,096 bytes, the most of any store.
 #[derive(Drop)]
 struct Wide;
 
 impl Answerer for Wide {
-    ghost value_len = { λ _. 147 };
+    ghost value_len = { λ _. 4096 };
 
     ghost answers = { λ old new event reply. Unit {0} };
 
@@ -230,17 +233,36 @@ impl Answerer for Wide {
     }
 }
 
-// A put under a name of so many letters, with a value of 147 bytes, and what stands between it and the line feed. The line has 300 bytes
-// and that many more. A get is behind it.
-fn long_put(alloc: Global, letters: usize, end: &[u8]) -> Result<Vec<u8>, AllocError> {
+// The digits of a value.
+const DIGITS: [u8; 8192] = [b'0'; 8192];
+
+// A put of a value of 4,096 bytes under a name of this many letters, and a get. The line of the put has 8,198 bytes and
+// its name.
+fn long_put(alloc: Global, letters: usize) -> Result<Vec<u8>, AllocError> {
+    let name = &NAME[..NAME.len().min(letters)];
+    joined(alloc, &[b"put =", name, b" ", &DIGITS, b"\nget =a\n"])
+}
+
+// A swap of values of 4,096 bytes under a name of this many letters, with these bytes before the line feed, and a get.
+// The line of the swap has 16,392 bytes, its name, and the bytes at its end.
+fn long_swap(alloc: Global, letters: usize, end: &[u8]) -> Result<Vec<u8>, AllocError> {
     let name = &NAME[..NAME.len().min(letters)];
     joined(
         alloc,
-        &[b"put =", name, b" ", &[b'0'; 294], end, b"\nget =a\n"],
+        &[
+            b"swap =",
+            name,
+            b" ",
+            &DIGITS,
+            b" ",
+            &DIGITS,
+            end,
+            b"\nget =a\n",
+        ],
     )
 }
 
-// One text of these parts.
+// The parts as one text.
 fn joined(alloc: Global, parts: &[&[u8]]) -> Result<Vec<u8>, AllocError> {
     let mut text = Vec::new(alloc);
     for part in parts {
@@ -252,36 +274,63 @@ fn joined(alloc: Global, parts: &[&[u8]]) -> Result<Vec<u8>, AllocError> {
 // The letters of the longest name, and one more.
 const NAME: [u8; 8001] = [b'x'; 8001];
 
-// A line of 8,300 bytes is answered, its carriage return counted. One of 8,301 is not looked at, and the next one is answered.
+// What a session writes for these lines, if it reads them to the end. Each event is accepted.
+fn wide_answers(alloc: Global, lines: &[u8]) -> Option<Vec<u8>> {
+    let mut out = Vec::new(alloc);
+    let mut reader = Cursor::new(lines);
+    match session(alloc, 4096, &mut reader, &mut out, &mut Wide) {
+        SessionEnd::End => Some(out),
+        _ => None,
+    }
+}
+
+const BOTH_ACCEPTED: &[u8] = b"accepted 1\naccepted 1\n";
+
+const BAD_VALUE: &[u8] = b"refused 22 BadValue\naccepted 1\n";
+
+const TOO_LONG: &[u8] = b"refused 23 LineTooLong\naccepted 1\n";
+
+// A line of 16,600 bytes is read, its carriage return counted. A longer line is refused whatever its bytes are, and the
+// next line gets its reply. So the name of a swap of the longest values has at most 208 bytes, and its key 209.
 #[test]
 fn answers_lines_up_to_the_longest(rt: HostRuntime) -> Result<(), Fail> {
-    let accepted: &[u8] = b"accepted 1\naccepted 1\n";
-    let skipped: &[u8] = b"refused 23 LineTooLong\naccepted 1\n";
-    let cases: [(usize, &[u8], &[u8]); 5] = [
-        (8_000, b"", accepted),
-        (7_999, b"\r", accepted),
-        (8_000, b"\r", skipped),
-        (8_000, b"0", skipped),
-        (8_001, b"", skipped),
+    let cases: [(usize, &[u8], &[u8]); 6] = [
+        (208, b"", BOTH_ACCEPTED),
+        (207, b"\r", BOTH_ACCEPTED),
+        (207, b"0", BAD_VALUE),
+        (208, b"\r", TOO_LONG),
+        (208, b"0", TOO_LONG),
+        (209, b"", TOO_LONG),
     ];
     for (letters, end, due) in cases {
-        let line = long_put(rt.alloc(), letters, end)?;
-        let mut out = Vec::new(rt.alloc());
-        let mut reader = Cursor::new(line.as_slice());
-        let end = session(rt.alloc(), 147, &mut reader, &mut out, &mut Wide);
-        assert_eq!(rt; end, SessionEnd::End);
-        assert_eq!(rt; out.as_slice(), due, "{letters}");
+        let lines = long_swap(rt.alloc(), letters, end)?;
+        let out = wide_answers(rt.alloc(), &lines);
+        assert_eq!(rt; out.as_deref(), Some(due), "{letters}");
     }
     Ok(())
 }
 
-// Whether these bytes are a beginning of the answers that is not cut within a line.
-fn are_whole_answers(taken: &[u8]) -> bool {
-    [0, 11, 22, 42, 53].contains(&taken.len()) && ANSWERS.starts_with(taken)
+// The longest name and the longest value of a put are a line of 16,198 bytes.
+#[test]
+fn answers_a_put_of_the_longest_name_and_value(rt: HostRuntime) -> Result<(), Fail> {
+    let lines = long_put(rt.alloc(), 8_000)?;
+    let out = wide_answers(rt.alloc(), &lines);
+    assert_eq!(rt; out.as_deref(), Some(BOTH_ACCEPTED));
+    let lines = long_put(rt.alloc(), 8_001)?;
+    let out = wide_answers(rt.alloc(), &lines);
+    let bad_key: &[u8] = b"refused 21 BadKey\naccepted 1\n";
+    assert_eq!(rt; out.as_deref(), Some(bad_key));
+    Ok(())
 }
 
-// A session that is refused a request for memory ends with it, or its writer is refused one and fails. What went out are the answers of a
-// beginning of the lines. This passes whichever one request is refused, and where none is.
+// Whether these bytes are the replies to the first lines, each of them whole.
+fn are_whole_answers(taken: &[u8]) -> bool {
+    [0, 11, 22, 42, 53, 64].contains(&taken.len()) && ANSWERS.starts_with(taken)
+}
+
+// A session ends if a request for memory is refused, also the request for either value of the swap. If the writer's own
+// request is refused, the writer fails. What was written are the replies to the first lines. The test passes whichever
+// one request is refused, and if none is.
 #[test]
 fn ends_where_memory_is_refused(rt: HostRuntime) -> Result<(), Fail> {
     let (end, taken) = serve(rt.alloc(), LINES, 9, false, 100, 1000);
@@ -335,7 +384,7 @@ impl Write for Tally {
     }
 }
 
-// 585 lines fit into one read, and each has an answer of 8,199 bytes: what waits to be written is kept short.
+// 585 lines fit into one read, and each has a reply of 8,199 bytes. The session writes the replies in parts.
 #[test]
 fn writes_long_answers_in_parts(rt: HostRuntime) -> Result<(), Fail> {
     let mut lines = Vec::new(rt.alloc());
@@ -354,7 +403,7 @@ fn writes_long_answers_in_parts(rt: HostRuntime) -> Result<(), Fail> {
     Ok(())
 }
 
-// Its values are longer than any memory.
+// A store whose values are longer than any memory.
 #[derive(Drop)]
 struct Vast;
 
@@ -368,13 +417,18 @@ impl Answerer for Vast {
     }
 }
 
-// A line for which memory is wanted ends the session; the lines before it are answered, and those after it are not.
+// If memory runs out for a line, the session ends. The lines before it get their replies, and those after it none. A bad
+// key is found before any memory is needed.
 #[test]
 fn ends_where_memory_is_wanted_for_a_line(rt: HostRuntime) -> Result<(), Fail> {
-    let mut reader = Cursor::new(b"get =a\nno line\nput =b 00\nget =c\n".as_slice());
-    let mut out = Vec::new(rt.alloc());
-    let end = session(rt.alloc(), 1 << 62, &mut reader, &mut out, &mut Vast);
-    assert_eq!(rt; end, SessionEnd::NoMemory);
-    assert_eq!(rt; out.as_slice(), b"absent\nrefused 20 BadLine\n".as_slice());
+    let puts: &[u8] = b"get =a\nput = 00\nput =b 00\nget =c\n";
+    let swaps: &[u8] = b"get =a\nswap = 00 00\nswap =b 00 00\nget =c\n";
+    for lines in [puts, swaps] {
+        let mut reader = Cursor::new(lines);
+        let mut out = Vec::new(rt.alloc());
+        let end = session(rt.alloc(), 1 << 62, &mut reader, &mut out, &mut Vast);
+        assert_eq!(rt; end, SessionEnd::NoMemory);
+        assert_eq!(rt; out.as_slice(), b"absent\nrefused 21 BadKey\n".as_slice());
+    }
     Ok(())
 }
