@@ -8,7 +8,7 @@ use Rattle.silt_disk.specs.declared.disk.Disk.{Ghosts}
 use Rattle.silt_disk.specs.Layout.{Shape}
 use Rattle.silt_event.specs.Events.{HasValueOf, PlainReply, plain}
 use Rattle.silt_event.specs.declared.event.Event.{Event}
-use Rattle.silt_event.specs.declared.event.Event.TheVariants.{Convert, Delete, Flush, Get, Merge, Put}
+use Rattle.silt_event.specs.declared.event.Event.TheVariants.{Convert, Delete, Flush, Get, Merge, Put, Swap}
 use Rattle.silt_event.specs.declared.progress.Progress.{Progress as ProgressOf}
 use Rattle.silt_event.specs.declared.progress.Progress.TheVariants.{Idle, Waiting, Moved, Finished}
 use Rattle.silt_event.specs.declared.reply.Reply.{Reply}
@@ -83,6 +83,7 @@ module _ {D F : Type 0} (facts : Ghosts D F) where
   step_refused mid new Merge told reply step does is none = merge_refused mid new told reply does.cause is none
   step_refused mid new (Put key value) told reply step does is none = absurd (cc)
   step_refused mid new (Delete key) told reply step does is none = absurd (cc)
+  step_refused mid new (Swap key before after) told reply step does is none = absurd (cc)
   step_refused mid new (Get key) told reply step does is none = absurd (cc)
   step_refused mid new Flush told reply step does is none = absurd (cc)
 

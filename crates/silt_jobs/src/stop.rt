@@ -54,7 +54,7 @@ fn stop_of_words(text: &[u8]) -> Option<Stop>
 // The stop in a line, or none if it is no stop line.
 //
 // The line comes without its line feed, and one carriage return at its end is removed: `stop K FILL`. K is one to ten
-// decimal digits and at most 4,294,967,295. FILL is `old`, `new`, `zero`, `ones` or `mix`. A line of more than 8,300
+// decimal digits and at most 4,294,967,295. FILL is `old`, `new`, `zero`, `ones` or `mix`. A line of more than 16,600
 // bytes is no stop line.
 fn stop_of(line: &[u8]) -> Option<Stop>
     ensures { result ≡ stop_of line.now }
