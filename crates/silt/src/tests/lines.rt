@@ -1,4 +1,4 @@
-// What is wrong with a line is told by its number, letter for letter. A key `01..` is these digits and zeros up to forty.
+// Refused lines, each with the number of its fault, letter for letter. A key `01..` is these digits and zeros up to forty.
 
 use crate::tests::{HasErrors, SMALL, answers};
 use std::alloc::AllocError;
@@ -11,8 +11,8 @@ use std::test::Fail;
 use std::thread::Threads;
 use std::time::Clock;
 
-// An unknown word, or a wrong number of words. A stop line with a bad number or fill is one too.
-pub(crate) const BAD_LINES: [&str; 21] = [
+// An unknown word, or a wrong number of words. A stop line with a bad number or fill is such a line too.
+pub(crate) const BAD_LINES: [&str; 25] = [
     "flush ",
     " flush",
     "FLUSH",
@@ -24,6 +24,10 @@ pub(crate) const BAD_LINES: [&str; 21] = [
     "put 01.. 0102 ",
     "put 01.. 01 01",
     "pot 01..",
+    "swap 01.. 0102",
+    "swap 01.. 0102 0304 0506",
+    "swap  01.. 0102 0304",
+    "SWAP 01.. 0102 0304",
     "\r",
     "stop",
     "stop 1",
@@ -36,8 +40,8 @@ pub(crate) const BAD_LINES: [&str; 21] = [
     "STOP 1 old",
 ];
 
-// A key is looked at before a value.
-pub(crate) const BAD_KEYS: [&str; 8] = [
+// The key is looked at before the values.
+pub(crate) const BAD_KEYS: [&str; 10] = [
     "get =",
     "get =a\x7F",
     "get 0",
@@ -46,15 +50,19 @@ pub(crate) const BAD_KEYS: [&str; 8] = [
     "delete 0",
     "put 0 01",
     "put = 0102",
+    "swap = 0102 0304",
+    "swap 0 01 03",
 ];
 
-// Values of two bytes.
-pub(crate) const BAD_VALUES: [&str; 5] = [
+// The values of the store have two bytes.
+pub(crate) const BAD_VALUES: [&str; 7] = [
     "put 01.. 01",
     "put 01.. 010",
     "put 01.. 010203",
     "put 01.. 01g2",
     "put 01.. ",
+    "swap 01.. 01 0304",
+    "swap 01.. 0102 030405",
 ];
 
 // The lines that are refused by each reply.
@@ -64,7 +72,7 @@ pub(crate) const REFUSED: [(&[&str], &str); 3] = [
     (&BAD_VALUES, "refused 22 BadValue\n"),
 ];
 
-// Each line is refused by this reply, and the next one is answered.
+// Each line is refused by this reply, and the next line gets its reply.
 fn refuses<
     S: Files<File = File>
         + AllocGlobal
@@ -92,31 +100,39 @@ fn refuses_bad_lines(rt: HostRuntime) -> Result<(), Fail> {
     Ok(())
 }
 
-// The parts of a text, each so many times.
+// The parts of a text, and how often each is repeated.
 type Parts = &'static [(&'static str, usize)];
 
-// Long lines, with the call and what is answered.
+// Long lines, with the call and the replies.
 const LONG: [(&str, Parts, &str); 3] = [
-    // A name of 8,000 bytes and a line of 8,300 are read, and a byte more is refused, also where it is a carriage return. The length
-    // of a line is looked at before all else.
+    // A name has at most 8,000 bytes, and a put of the longest name and value is read. A line has at most 16,600 bytes, its
+    // carriage return counted: the key of a swap of the longest values has at most 209. The length is looked at first.
     (
-        "silt script 147 2 4 2 2 8",
+        "silt script 4096 2 4 2 2 8",
         &[
             ("put =", 1),
             ("x", 8000),
             (" ", 1),
-            ("0", 294),
-            ("\nput =", 1),
-            ("x", 8000),
+            ("0", 8192),
+            ("\nswap =", 1),
+            ("x", 208),
             (" ", 1),
-            ("0", 294),
+            ("0", 8192),
+            (" ", 1),
+            ("0", 8192),
+            ("\nswap =", 1),
+            ("x", 208),
+            (" ", 1),
+            ("0", 8192),
+            (" ", 1),
+            ("0", 8192),
             ("\r\nget =x", 1),
             ("x", 8000),
             ("\nget =abc\n", 1),
-            ("x", 8301),
+            ("x", 16601),
             ("\nflush\n", 1),
         ],
-        "opened\naccepted 1\nrefused 23 LineTooLong\nrefused 21 BadKey\nabsent\nrefused 23 LineTooLong\nacknowledged 1\n",
+        "opened\naccepted 1\ndiffers\nrefused 23 LineTooLong\nrefused 21 BadKey\nabsent\nrefused 23 LineTooLong\nacknowledged 1\n",
     ),
     // A longer name.
     (
@@ -129,14 +145,14 @@ const LONG: [(&str, Parts, &str); 3] = [
         SMALL,
         &[
             ("put 01.. 010203\nget 0..\npot 01..\n", 1),
-            ("x", 8301),
+            ("x", 16601),
             ("\nflush\n", 1),
         ],
         "opened\nrefused 22 BadValue\nrefused 21 BadKey\nrefused 20 BadLine\nrefused 23 LineTooLong\nacknowledged 0\n",
     ),
 ];
 
-// Puts a part behind a text so many times.
+// Appends a part to a text this many times.
 fn push_times(text: &mut String, part: &str, times: usize) -> Result<(), AllocError> {
     for _ in 0..times {
         text.push_str(part)?;
@@ -144,7 +160,7 @@ fn push_times(text: &mut String, part: &str, times: usize) -> Result<(), AllocEr
     Ok(())
 }
 
-// The text of these parts.
+// The parts as one text.
 fn joined<S: AllocGlobal>(rt: &S, parts: &[(&str, usize)]) -> Result<String, AllocError> {
     let mut text = String::new(rt.alloc());
     for (part, times) in parts {

@@ -277,9 +277,37 @@ const MERGED: [Example; 2] = [
     },
 ];
 
+// Swaps: a key gets a new value only if it has the old one.
+const SWAPS: [Example; 3] = [
+    // A missing key and a key with another value differ. A later get finds the new value.
+    Example {
+        call: SMALL,
+        text: "swap 01.. 0001 0002\nput 01.. 0001\nswap 01.. 0001 0002\nswap 01.. 0001 0003\nget 01..\ndelete 01..\n\
+            swap 01.. 0002 0004\nflush\n",
+        status: 0,
+        output: "opened\ndiffers\naccepted 1\naccepted 2\ndiffers\nvalue 0002\naccepted 3\ndiffers\nacknowledged 3\n",
+    },
+    // In a full store only a swap whose old value is there is refused as full.
+    Example {
+        call: SMALL,
+        text: "put 01.. 0001\nput 01.. 0001\nput 01.. 0001\nput 01.. 0001\nput 01.. 0001\nput 01.. 0001\nput 01.. 0001\n\
+            put 01.. 0001\nswap 01.. 0001 0002\nswap 01.. 0009 0002\nswap 01.. 0001 00\n",
+        status: 0,
+        output: "opened\naccepted 1\naccepted 2\naccepted 3\naccepted 4\naccepted 5\naccepted 6\naccepted 7\naccepted 8\n\
+            refused 7 StoreFull\ndiffers\nrefused 22 BadValue\n",
+    },
+    // A crash may lose a swap that no flush acknowledged.
+    Example {
+        call: SMALL,
+        text: "put 01.. 0001\nflush\nswap 01.. 0001 0002\nstop 0 new\nget 01..\n",
+        status: 0,
+        output: "opened\naccepted 1\nacknowledged 1\naccepted 2\nstopped\nopened\nvalue 0001\n",
+    },
+];
+
 #[test]
 fn answers_scripts(rt: HostRuntime) -> Result<(), Fail> {
-    for scripts in [&FIRST[..], &LIVES, &FROZEN, &CONVERTED, &MERGED] {
+    for scripts in [&FIRST[..], &LIVES, &FROZEN, &CONVERTED, &MERGED, &SWAPS] {
         answers_each(&rt, scripts)?;
     }
     Ok(())
