@@ -1,4 +1,4 @@
-// What no contract says: printed text and statuses, letter for letter, through the program over memory.
+// What no contract says: printed text and statuses, letter for letter, through the program in memory.
 
 mod damage;
 mod examples;
@@ -27,7 +27,7 @@ use std::test::Fail;
 use std::thread::Threads;
 use std::time::Clock;
 
-// A system whose standard error is at hand.
+// A system with a standard error.
 pub(crate) trait HasErrors {
     fn errors(&self) -> Stderr;
 }
@@ -41,7 +41,8 @@ impl HasErrors for HostRuntime {
 // Values of two bytes, two buckets, four rows a log.
 pub(crate) const SMALL: &str = "silt script 2 2 4 2 2 8";
 
-// A reader that gives a text a few bytes at a time, is interrupted before each read, and then is at its end or fails.
+// A reader that returns a text a few bytes at a time, and is interrupted before each read. At the end of the text it
+// ends or fails.
 #[derive(Drop)]
 pub(crate) struct Pieces<'a> {
     text: &'a [u8],
@@ -66,7 +67,7 @@ impl Read for Pieces<'_> {
     }
 }
 
-// A writer that takes so many bytes and then fails.
+// A writer that takes a number of bytes and then fails.
 #[derive(Drop)]
 struct Short {
     taken: Vec<u8>,
@@ -89,7 +90,7 @@ impl Write for Short {
     }
 }
 
-// The words of a call, which stand apart by one space each.
+// The words of a call, which are separated by single spaces.
 fn words<S: AllocGlobal>(rt: &S, call: &str) -> Result<Vec<String>, AllocError> {
     let mut words = Vec::new(rt.alloc());
     for word in call.split(' ') {
@@ -127,8 +128,8 @@ pub(crate) fn status_of_call<
     ))
 }
 
-// A call of the program, the text that it reads, and the status and the text that it answers. In the text that it reads `..` stands
-// for the thirty-eight zeros that end a key of which two digits are written.
+// A call of the program, the text that it reads, its status, and its output. In the text that it reads, `..` means the
+// last thirty-eight digits of a key, all zero.
 pub(crate) struct Example {
     pub call: &'static str,
     pub text: &'static str,
@@ -148,7 +149,7 @@ pub(crate) fn with_keys<S: AllocGlobal>(rt: &S, text: &str) -> Result<Vec<u8>, A
     Ok(bytes)
 }
 
-// Compares the status with which a call ended, if it did, and what it wrote.
+// Compares the status of a call, if it ended, and its output.
 pub(crate) fn compare<S: Abort>(
     rt: &S,
     call: &str,
@@ -161,7 +162,7 @@ pub(crate) fn compare<S: Abort>(
     assert_eq!(rt; code, Some(status), "{call}");
 }
 
-// Runs the program on a text, and compares its status and what it writes.
+// Runs the program on a text, and compares its status and its output.
 pub(crate) fn answers<
     S: Files<File = File>
         + AllocGlobal
@@ -211,7 +212,7 @@ pub(crate) fn answers_each<
     Ok(())
 }
 
-// Runs the program on a flush by each of these calls, all with this status and this answer.
+// Runs each of these calls on a flush. All have this status and this output.
 pub(crate) fn answers_calls<
     S: Files<File = File>
         + AllocGlobal
@@ -244,7 +245,7 @@ fn answers_any_pieces(rt: HostRuntime) -> Result<(), Fail> {
     Ok(())
 }
 
-// Runs the program with a reader of pieces, and compares its status and what it writes.
+// Runs the program with a reader of pieces, and compares its status and its output.
 pub(crate) fn reads<
     S: Files<File = File>
         + AllocGlobal
@@ -280,7 +281,8 @@ fn ends_by_a_reader_that_fails(rt: HostRuntime) -> Result<(), Fail> {
     reads(&rt, SMALL, &mut reader, 1, b"")
 }
 
-// Runs the program with a writer that takes so many bytes, and compares its status, which is 1, and what was taken.
+// Runs the program with a writer that takes as many bytes as this output has. Compares the status, which is 1, and what
+// was written.
 pub(crate) fn writes_short<
     S: Files<File = File>
         + AllocGlobal
@@ -308,7 +310,7 @@ pub(crate) fn writes_short<
     Ok(())
 }
 
-// A writer that fails has the first bytes of the answers.
+// A failed writer has the first bytes of the output.
 #[test]
 fn ends_by_a_writer_that_fails(rt: HostRuntime) -> Result<(), Fail> {
     let output = b"opened\naccepted 1\nvalue 0102\n";
@@ -318,7 +320,7 @@ fn ends_by_a_writer_that_fails(rt: HostRuntime) -> Result<(), Fail> {
     Ok(())
 }
 
-// Want of memory for the words is told, and no file is looked at.
+// Out of memory for the words is reported, and no file is opened.
 #[test]
 fn tells_want_of_memory_for_the_words(rt: HostRuntime) -> Result<(), Fail> {
     let mut out = Vec::new(rt.alloc());
@@ -353,7 +355,7 @@ const BAD_WORDS: [&str; 21] = [
     "silt check bad_words 2",
 ];
 
-// Numbers out of their limits, which are refused before anything else is done.
+// Numbers out of their limits. They are refused before anything else is done.
 const BAD_GEOMETRIES: [&str; 7] = [
     "silt script 0 2 4 2 2 8",
     "silt script 4097 2 4 2 2 8",
@@ -364,7 +366,7 @@ const BAD_GEOMETRIES: [&str; 7] = [
     "silt script 2 2 4 2 2 4294967295",
 ];
 
-// Each number stands where no other could stand.
+// Geometries within the limits. A number may begin with zeros.
 const GEOMETRIES: [&str; 3] = [
     "silt script 3 2 1 2 1 1",
     "silt script 2 2 8 8 16 100",
@@ -378,7 +380,7 @@ fn reads_words(rt: HostRuntime) -> Result<(), Fail> {
     answers_calls(&rt, &GEOMETRIES, 0, "opened\nacknowledged 0\n")
 }
 
-// The words of a test's own process name no job: that is told, and the process would end with 2.
+// The words of a test's own process name no job. This is reported, and the process would end with 2.
 #[test]
 fn hands_on_the_status(rt: HostRuntime) -> Result<(), Fail> {
     let mut errors = Vec::new(rt.alloc());

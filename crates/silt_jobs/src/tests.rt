@@ -1,4 +1,4 @@
-// What no contract says of the jobs: their texts, letter for letter, over memory.
+// What no contract says of the jobs: their texts, letter for letter, in memory.
 
 mod background_work;
 mod damage;
@@ -23,7 +23,7 @@ use std::io::{self, Cursor, ErrorKind};
 use std::process::Abort;
 use std::test::Fail;
 
-// How many notes of each kind were told.
+// How many notes of each kind were reported.
 #[derive(Drop)]
 pub(crate) struct Counted {
     pub errors: u32,
@@ -111,7 +111,7 @@ impl Notes for Counted {
     }
 }
 
-// Disks that keep no failure: where one failed is seen in the replies alone.
+// Disks that keep no failure. Only the replies show that a call failed.
 impl Watched for MemDisk {
     ghost use Rattle.std.specs.Prelude.{⊤, None};
 
@@ -180,7 +180,7 @@ impl<F> FaultNotes<F> for Counted {
     }
 }
 
-// Compares the status with which a call ended, if it did, and what it wrote.
+// Compares the status of a call, if it ended, and its output.
 pub(crate) fn compare<S: Abort>(
     rt: &S,
     call: &str,
@@ -193,7 +193,7 @@ pub(crate) fn compare<S: Abort>(
     assert_eq!(rt; code, Some(status), "{call}");
 }
 
-// A line for which memory is wanted ends the reading: values of this length fit into no memory.
+// If memory runs out for a line, the reading ends. Values of this length fit into no memory.
 #[test]
 fn ends_by_a_line_that_wants_memory(rt: HostRuntime) -> Result<(), Fail> {
     let mut reader = Cursor::new(b"get =a\nno line\nput =b 00\nget =c\n".as_slice());

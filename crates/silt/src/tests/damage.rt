@@ -1,4 +1,4 @@
-// What people are told of a damaged part, and where it begins.
+// The notes about a damaged part, and where it begins.
 
 use crate::tests::steps::{Step, take_in_folder};
 use std::test::Fail;
@@ -32,7 +32,7 @@ fn tells_damage_with_its_offset(rt: HostRuntime) -> Result<(), Fail> {
     take_in_folder(&rt, "damage", &PARTS)
 }
 
-// A file of another length is told with no offset; of one that holds no store people are told how to make one.
+// The note about a file of another length has no offset. The note about a file without a store says how to make one.
 const WHOLE: [Step; 5] = [
     Step::Tells("silt format whole/disk 2 2 4 2 2 8", 0, ""),
     Step::Resize("whole/disk", 45_055),
@@ -54,8 +54,8 @@ fn tells_damage_of_the_whole(rt: HostRuntime) -> Result<(), Fail> {
     take_in_folder(&rt, "whole", &WHOLE)
 }
 
-// A manifest that names the second region as that of the sorted store, and two entries in it, of which the second has the key of the
-// first: it begins behind the 22 bytes of the first one, in that region.
+// A manifest that puts the sorted store into the second region, and two entries in it with the same key. The second
+// entry begins 22 bytes after the first one.
 const REGION: [Step; 4] = [
     Step::Tells("silt format region/disk 2 2 4 2 2 8", 0, ""),
     Step::Overwrite("region/disk", 4212, &[1]),
@@ -72,7 +72,8 @@ fn tells_damage_in_the_named_region(rt: HostRuntime) -> Result<(), Fail> {
     take_in_folder(&rt, "region", &REGION)
 }
 
-// The sorted store, and then a hash store, has another digest than the manifest says: it begins where its region does.
+// The sorted store, and then a hash store, has another digest than the manifest says. Either begins where its region
+// begins.
 const OTHER_DIGESTS: [Step; 5] = [
     Step::Tells("silt format digests/disk 2 2 4 2 2 8", 0, ""),
     Step::Overwrite("digests/disk", 4216, &[1]),
@@ -94,7 +95,8 @@ fn tells_another_digest(rt: HostRuntime) -> Result<(), Fail> {
     take_in_folder(&rt, "digests", &OTHER_DIGESTS)
 }
 
-// Other data stay. A store that is overwritten is told of, whole or not; other data that are overwritten by force are not.
+// Other data stays. A note reports a store that is overwritten, damaged or not. There is none for other data that is
+// overwritten with `--force`.
 const OVERWRITTEN: [Step; 10] = [
     Step::Fill(
         "gone/disk",

@@ -1,5 +1,5 @@
-// The scripts of the folder examples/, with what they answer, letter for letter as the files there have it: who mends a file mends
-// the text here.
+// The scripts of the folder examples/ and their output, letter for letter as in the files there. A change of a file
+// needs the same change here.
 
 use crate::tests::{Example, SMALL, answers_each};
 use std::test::Fail;
@@ -47,7 +47,7 @@ const EXAMPLES: [Example; 5] = [
             moved\nmoved\nmoved\nmoved\nmoved\nmoved\nmoved\nmoved\nfinished\n\
             idle\nvalue 0002\nstopped\nopened\nvalue 0002\nvalue 0005\n",
     },
-    // merging.txt: one hash store with one key, and then two hash stores with a key each over that key: one of them a delete.
+    // merging.txt: one hash store with one key, and then two newer ones with a key each, one of them a delete.
     Example {
         call: "silt script 2 2 1 2 2 4",
         text: "put 01.. 0102\nput 02.. 0304\n\

@@ -1,4 +1,4 @@
-// The jobs on files, letter for letter, through the program. Each test has a folder of its own, in the folder that it runs in.
+// The jobs on files, letter for letter, through the program. Each test has its own folder in the working directory.
 
 use crate::tests::lines::REFUSED;
 use crate::tests::steps::{Step, make_folder, take_in_folder};
@@ -14,7 +14,7 @@ use std::test::Fail;
 use std::thread::Threads;
 use std::time::Clock;
 
-// The length of the device is told, and the file has it.
+// The length of the device is printed, and the file has this length.
 const FORMATTED: [Step; 4] = [
     Step::Answers(
         "silt format formats/large 100 1024 3000 4 4 100000",
@@ -37,7 +37,7 @@ fn formats_files(rt: HostRuntime) -> Result<(), Fail> {
     take_in_folder(&rt, "formats", &FORMATTED)
 }
 
-// A store that was made anew holds nothing, and takes a value.
+// A new store is empty, and accepts a put.
 const NEW_STORE: Step = Step::Answers(
     "silt run again/disk",
     "get =abc\nput =abc 0102\nflush\n",
@@ -45,7 +45,8 @@ const NEW_STORE: Step = Step::Answers(
     "opened\nabsent\naccepted 1\nacknowledged 1\n",
 );
 
-// A file that holds a store is given the length, and what it held is lost; one that holds other data stays as it was unless it is forced.
+// A format of a file with a store sets its length, and its data is lost. A file with other data stays as it is without
+// `--force`.
 const FORMATTED_AGAIN: [Step; 8] = [
     Step::Fill("again/disk", b"short"),
     Step::Answers(
@@ -77,7 +78,7 @@ fn formats_a_file_again(rt: HostRuntime) -> Result<(), Fail> {
     take_in_folder(&rt, "again", &FORMATTED_AGAIN)
 }
 
-// The numbers are looked at before the file: none is made, and one that is there stays as it was.
+// The numbers are checked before the file is opened. So no file is made, and an existing file stays as it is.
 const NOT_FORMATTED: [Step; 6] = [
     Step::Answers(
         "silt format bad/disk 2 3 4 2 2 8",
@@ -107,7 +108,7 @@ fn refuses_to_format(rt: HostRuntime) -> Result<(), Fail> {
     take_in_folder(&rt, "bad", &NOT_FORMATTED)
 }
 
-// A file that cannot be made or opened is a device that failed, and none is made by run or check.
+// A file that cannot be made or opened is a failed device. A run and a check make no file.
 const MISSING: [Step; 7] = [
     Step::Answers(
         "silt check missing/disk",
@@ -138,7 +139,7 @@ fn refuses_missing_files(rt: HostRuntime) -> Result<(), Fail> {
     take_in_folder(&rt, "missing", &MISSING)
 }
 
-// A life on a file, and the next one: what was flushed is there, and nothing is flushed at an end.
+// Two runs on one file. The second finds what was flushed; the end of a run flushes nothing.
 const LIVES: [Step; 5] = [
     Step::Answers(
         "silt format runs/disk 2 2 4 2 2 8",
@@ -172,7 +173,7 @@ fn runs_on_a_file(rt: HostRuntime) -> Result<(), Fail> {
     take_in_folder(&rt, "runs", &LIVES)
 }
 
-// Puts a line behind a text, and its reply behind what is answered.
+// Appends a line to the text, and its reply to the output.
 fn push_line(
     text: &mut String,
     output: &mut String,
@@ -184,7 +185,7 @@ fn push_line(
     output.push_str(reply)
 }
 
-// Puts lines behind a text, and the one reply of all behind what is answered.
+// Appends lines to the text, and their common reply to the output for each of them.
 fn push_lines(
     text: &mut String,
     output: &mut String,
@@ -216,7 +217,7 @@ fn refuses<
     answers(rt, "silt run lines/disk", &text, 0, &output)
 }
 
-// What is wrong with a line is told apart, and a line that would stop a script is a bad one.
+// Each fault of a line has its own reply. A stop line of a script is a bad line here.
 #[test]
 fn refuses_lines_on_a_file(rt: HostRuntime) -> Result<(), Fail> {
     make_folder(&rt, "lines")?;
@@ -235,7 +236,7 @@ fn refuses_lines_on_a_file(rt: HostRuntime) -> Result<(), Fail> {
     Ok(())
 }
 
-// What a store consists of, before and after five puts, of which the last freezes a log.
+// The report of a store before and after five puts. The last put freezes a log.
 const REPORTS: [Step; 4] = [
     Step::Answers(
         "silt format reports/disk 2 2 8 2 2 16",
@@ -268,7 +269,7 @@ fn reports_a_file(rt: HostRuntime) -> Result<(), Fail> {
     take_in_folder(&rt, "reports", &REPORTS)
 }
 
-// Files that hold no store, and one of another length than its header says.
+// Files without a store, and a file of another length than its header says.
 const OTHERS: [Step; 10] = [
     Step::Create("others/zeros", 45_056),
     Step::Fill("others/none", b""),
@@ -322,7 +323,8 @@ fn refuses_other_files(rt: HostRuntime) -> Result<(), Fail> {
     take_in_folder(&rt, "others", &OTHERS)
 }
 
-// A reader that fails ends the life by status 1, after the lines that it gave; a writer that fails has the first bytes.
+// A failed reader ends the run with status 1, after the replies to the lines that it returned. A failed writer has the
+// first bytes of the output.
 #[test]
 fn ends_a_life_by_a_fault(rt: HostRuntime) -> Result<(), Fail> {
     make_folder(&rt, "faults")?;

@@ -1,4 +1,4 @@
-// The library's example, as docs/library.md has it, of the store's crate alone.
+// The example of docs/library.md, with only the store's crate.
 
 use silt_store_set::{Core, Disk, Geometry, Key, MemDisk, format};
 use std::alloc::Global;
@@ -10,7 +10,7 @@ fn make<D: Disk>(alloc: Global, disk: D, geometry: Geometry) -> Option<Core<D>> 
     Core::open(alloc, disk).ok()
 }
 
-// A value that is put, settled and found.
+// A value that is put, flushed and found.
 fn keep_one<D: Disk>(alloc: Global, store: &mut Core<D>) -> Option<Vec<u8>> {
     let key = Key([7; 20]);
     let value = vec![in alloc; 1u8; store.geometry().value_len() as usize].ok()?;

@@ -1,4 +1,4 @@
-// What people are told, on files and by words, and one owner for a file. Each test has a folder of its own.
+// The notes for people about files and words, and the one owner of a file. Each test has its own folder.
 
 use crate::tests::steps::{Step, make_folder, take_in_folder, take_steps};
 use crate::tests::{HasErrors, answers, compare, status_of_call, words};
@@ -19,7 +19,7 @@ use std::test::Fail;
 use std::thread::Threads;
 use std::time::Clock;
 
-// Runs the program, which is to end with this status, and compares what people are told.
+// Runs the program, and compares its status and its notes.
 pub(crate) fn tells<
     S: Files<File = File>
         + AllocGlobal
@@ -43,7 +43,7 @@ pub(crate) fn tells<
 // There is no such file.
 const NONE: &str = "silt: why/disk: No such file or directory (os error 2)\n";
 
-// A file that cannot be made or opened is told with the system's words, and nothing is told of a job that is done.
+// If a file cannot be made or opened, the note has the system's words. A job that succeeds has no note.
 const REASONS: [Step; 10] = [
     Step::Tells("silt run why/disk", 1, NONE),
     Step::Tells("silt check why/disk", 1, NONE),
@@ -103,7 +103,7 @@ const BUSY_JOBS: [Step; 12] = [
     Step::Tells("silt format busy/disk 100 1024 3000 4 4 100000", 1, BUSY),
 ];
 
-// While a file is in use each job on it is refused, before anything in it is read or written.
+// While a file is in use, each job on it is refused before it reads or writes anything.
 #[test]
 fn one_job_has_a_file(rt: HostRuntime) -> Result<(), Fail> {
     make_folder(&rt, "busy")?;
@@ -129,10 +129,10 @@ fn one_job_has_a_file(rt: HostRuntime) -> Result<(), Fail> {
     Ok(())
 }
 
-// What a check says of an empty store beside its report.
+// The note of a check about an empty store.
 const LOOKED: &str = "silt: looked/disk: V 2, B 2, CAP 4, NL 2, NH 2, S 8; charge 0 of 8\n";
 
-// A check shares the file with others that only read it, and keeps those out that write.
+// A check shares the file with other readers, and keeps writers out.
 #[test]
 fn checks_share_a_file(rt: HostRuntime) -> Result<(), Fail> {
     make_folder(&rt, "looked")?;
@@ -157,7 +157,7 @@ fn checks_share_a_file(rt: HostRuntime) -> Result<(), Fail> {
     Ok(())
 }
 
-/// The files of a system, each opened to be read alone, so that each write fails.
+/// The files of a system, each opened only for reading, so that each write fails.
 #[derive(Drop)]
 struct ReadFiles<S> {
     files: FileDisks<S>,
@@ -206,13 +206,13 @@ where
     }
 }
 
-// What is told of a session whose second line could not be done: the refused lines, and the call that failed.
+// The notes of a session whose second line failed: the refused lines, and the failed call.
 const FAILING: &str = "silt: 1 line refused 5 Device, first line 2
 silt: 2 lines refused 9 Failed, first line 3; an earlier write or sync failed, and running again opens the store anew
 silt: failing/disk: a write at 16384: Bad file descriptor (os error 9)
 ";
 
-// Runs a session on a file that cannot be written, and compares what is answered and told.
+// Runs a session on a file that cannot be written, and compares its replies and its notes.
 fn fails_to_write<
     S: Files<File = File>
         + AllocGlobal
@@ -247,7 +247,7 @@ fn fails_to_write<
     compare(rt, "run", Some(0), &notes, 0, FAILING.as_bytes());
 }
 
-// A write that fails within a session is told behind it, once; what is told is the last one that failed.
+// A failed write is reported once, after the session. The note is about the last one.
 #[test]
 fn tells_a_failed_write(rt: HostRuntime) -> Result<(), Fail> {
     make_folder(&rt, "failing")?;
@@ -272,7 +272,7 @@ fn fails_twice<D: Disk>(disk: &mut D) -> bool {
     first && disk.write(0, b"row").is_err()
 }
 
-// Whether two writes fail to a disk that is to tell at once, or not.
+// Whether two writes fail on a disk that reports at once, or on one that does not.
 fn fails_suddenly<D: Watched>(mut disk: D, at_once: bool) -> bool {
     if at_once {
         disk.tell_at_once();
@@ -280,7 +280,7 @@ fn fails_suddenly<D: Watched>(mut disk: D, at_once: bool) -> bool {
     fails_twice(&mut disk)
 }
 
-// The same of the disk of the file `sudden/disk`, which has these notes, if it is opened.
+// The same for the disk in the file `sudden/disk` with these notes, if it can be opened.
 fn fails_on_file<S: Files<File = File> + AllocGlobal>(
     rt: &S,
     notes: &mut Vec<u8>,
@@ -297,14 +297,14 @@ fn fails_on_file<S: Files<File = File> + AllocGlobal>(
     }
 }
 
-// Two writes fail, and this is told.
+// Two writes fail, and this is the note.
 fn tells_suddenly<S: Files<File = File> + AllocGlobal + Abort>(rt: &S, at_once: bool, told: &[u8]) {
     let mut notes = Vec::new(rt.alloc());
     let failed = fails_on_file(rt, &mut notes, at_once);
     compare(rt, "two writes", failed.map(u8::from), &notes, 1, told);
 }
 
-// Where a disk is to tell at once, the first of its writes and syncs that fails is told as it fails, and no other; else none is.
+// A disk that reports at once reports only its first failed write or sync. Other disks report none.
 #[test]
 fn tells_a_failed_store_at_once(rt: HostRuntime) -> Result<(), Fail> {
     make_folder(&rt, "sudden")?;
@@ -323,7 +323,7 @@ fn tells_a_failed_store_at_once(rt: HostRuntime) -> Result<(), Fail> {
     Ok(())
 }
 
-/// The lines of a reader that cuts a file short before it gives them.
+/// The lines of a reader that cuts a file short before it returns them.
 #[derive(Drop)]
 struct CuttingReader<'a> {
     file: File,
@@ -337,7 +337,7 @@ impl Read for CuttingReader<'_> {
     }
 }
 
-// Runs a session on a file that is cut short under it, and compares what is answered and told.
+// Runs a session on a file that is cut short meanwhile, and compares its replies and its notes.
 fn fails_to_read<
     S: Files<File = File>
         + AllocGlobal
@@ -380,7 +380,7 @@ const TWO_ROWS: [Step; 2] = [
     ),
 ];
 
-// A read that fails within a session is told behind it, once; what is told is the first one that failed.
+// A failed read is reported once, after the session. The note is about the first one.
 #[test]
 fn tells_a_failed_read(rt: HostRuntime) -> Result<(), Fail> {
     make_folder(&rt, "cut")?;
@@ -390,7 +390,7 @@ fn tells_a_failed_read(rt: HostRuntime) -> Result<(), Fail> {
     Ok(())
 }
 
-/// A writer that takes so many bytes, and then fails with an error of the system.
+/// A writer that takes a number of bytes, and then fails with an error of the system.
 #[derive(Drop)]
 struct FullWriter {
     room: usize,
@@ -412,7 +412,7 @@ impl Write for FullWriter {
     }
 }
 
-/// A reader that gives a text, and then fails with an error of the system.
+/// A reader that returns a text, and then fails with an error of the system.
 #[derive(Drop)]
 struct BrokenReader<'a> {
     text: &'a [u8],
@@ -428,7 +428,7 @@ impl Read for BrokenReader<'_> {
     }
 }
 
-// A call with this reader and this writer ends with status 1, and this is told.
+// A call with this reader and this writer ends with status 1 and this note.
 fn breaks_off<
     S: Files<File = File>
         + AllocGlobal
@@ -456,7 +456,7 @@ fn breaks_off<
 // The lines of a session that breaks off.
 const LINES: &[u8] = b"get =abc\nflush\n";
 
-// A session whose writer takes so many bytes, and then fails with this error of the system, is told so.
+// The writer takes a number of bytes and then fails with this error of the system. The session has this note.
 fn breaks_at_a_write<
     S: Files<File = File>
         + AllocGlobal
@@ -472,7 +472,7 @@ fn breaks_at_a_write<
     breaks_off(rt, "silt run broken/disk", Cursor::new(LINES), writer, told);
 }
 
-// A session whose reader fails is told so.
+// A failed reader is reported.
 fn breaks_at_a_read<
     S: Files<File = File>
         + AllocGlobal
@@ -498,7 +498,7 @@ fn breaks_at_a_read<
     );
 }
 
-// A session that broke off for want of memory is told so.
+// A session that runs out of memory is reported.
 fn breaks_by_memory<S: AllocGlobal + Abort>(rt: &S) {
     let mut notes = Vec::new(rt.alloc());
     NoteLines::new(&mut notes).tell_end(SessionEnd::NoMemory, None);
@@ -512,7 +512,8 @@ fn breaks_by_memory<S: AllocGlobal + Abort>(rt: &S) {
     );
 }
 
-// A session that breaks off is told with the system's words, but not where the reader of the answers has closed the pipe.
+// The note of a session that breaks off has the system's words. There is none if the reader of the replies closed the
+// pipe.
 #[test]
 fn tells_why_a_session_broke_off(rt: HostRuntime) -> Result<(), Fail> {
     make_folder(&rt, "broken")?;
@@ -537,7 +538,7 @@ fn tells_why_a_session_broke_off(rt: HostRuntime) -> Result<(), Fail> {
     Ok(())
 }
 
-// Answers that cannot be written are told.
+// Replies that cannot be written are reported.
 #[test]
 fn tells_why_answers_are_not_written(rt: HostRuntime) -> Result<(), Fail> {
     let told = format!(in rt.alloc();
@@ -549,7 +550,7 @@ fn tells_why_answers_are_not_written(rt: HostRuntime) -> Result<(), Fail> {
     Ok(())
 }
 
-// A server on the file `port/disk` and this port, which is in use, is refused behind `opened`, and the port is told.
+// This port is in use. A server on it and on the file `port/disk` is refused after `opened`, and a note names the port.
 fn refuses_port<
     S: Files<File = File>
         + AllocGlobal
@@ -569,7 +570,7 @@ fn refuses_port<
     tells(rt, &call, 1, &told)
 }
 
-// A port that is in use is a fault of the network, behind `opened`.
+// A port that is in use is a fault of the network, reported after `opened`.
 #[test]
 fn tells_a_port_that_is_in_use(rt: HostRuntime) -> Result<(), Fail> {
     make_folder(&rt, "port")?;
@@ -679,7 +680,7 @@ const COMPLAINTS: [(&str, &str); 32] = [
     ),
 ];
 
-// The complaint of the words of a call, as a text.
+// The complaint about the words of a call, as a text.
 fn complaint<S: AllocGlobal>(rt: &S, call: &str) -> Result<Option<String>, AllocError> {
     let words = words(rt, call)?;
     match complaint_of(words.as_slice()) {
@@ -708,7 +709,7 @@ fn complains<
     tells(rt, call, 2, &told)
 }
 
-// What is wrong with words that name no job, and nothing where they ask for help.
+// The complaint says what is wrong with words that name no job. A call for help has none.
 #[test]
 fn tells_which_word_is_wrong(rt: HostRuntime) -> Result<(), Fail> {
     for (call, complaint) in COMPLAINTS {

@@ -1,22 +1,22 @@
-// Scripts and what they answer, letter for letter.
+// Scripts and their output, letter for letter.
 
 use crate::tests::{Example, SMALL, answers, answers_each};
 use std::test::Fail;
 
-// Five puts, of which the last finds the log full and freezes it.
+// Five puts. The last one finds the log full and freezes it.
 const FIVE_PUTS: &str =
     "put 01.. 0001\nput 02.. 0002\nput 03.. 0003\nput 04.. 0004\nput 05.. 0005\n";
 
 // Lines, keys and values.
 const FIRST: [Example; 5] = [
-    // A value that is put, settled and found.
+    // A value that is put, flushed and found.
     Example {
         call: SMALL,
         text: "put =abc 0102\nflush\nget =abc\n",
         status: 0,
         output: "opened\naccepted 1\nacknowledged 1\nvalue 0102\n",
     },
-    // A store in which nothing was put.
+    // An empty store.
     Example {
         call: SMALL,
         text: "get 01..\nflush\nconvert\nmerge\n",
@@ -31,14 +31,14 @@ const FIRST: [Example; 5] = [
         status: 0,
         output: "opened\naccepted 1\nvalue abff\naccepted 2\nabsent\n",
     },
-    // Digits in either case, and a carriage return, which is taken off.
+    // Digits in either case, and a carriage return, which is removed.
     Example {
         call: SMALL,
         text: "put =abc 0102\nflush\nget A9993E364706816ABA3E25717850C26C9CD0D89D\r\n\n",
         status: 0,
         output: "opened\naccepted 1\nacknowledged 1\nvalue 0102\n",
     },
-    // One carriage return is taken off, empty lines are not answered, and neither is what comes after the last line feed.
+    // One carriage return is removed. Empty lines get no reply, and bytes after the last line feed get none.
     Example {
         call: SMALL,
         text: "put =abc 0102\r\n\r\n\nflush\r\r\nget =abc\r\nget =abc",
@@ -47,16 +47,16 @@ const FIRST: [Example; 5] = [
     },
 ];
 
-// Lives that stop lines divide.
+// Stop lines divide a script into lives: runs from an opening to a crash.
 const LIVES: [Example; 8] = [
-    // A stop at a life's end leaves what was accepted and not settled, or not.
+    // A crash at the end of a life may keep or lose what was accepted and not flushed.
     Example {
         call: SMALL,
         text: "put 01.. 0102\nstop 0 new\nget 01..\n",
         status: 0,
         output: "opened\naccepted 1\nstopped\nopened\nabsent\n",
     },
-    // A stop within a flush keeps a beginning of the commands, and the next life goes on from it.
+    // A crash within a flush keeps the first commands, and the next life continues from them.
     Example {
         call: SMALL,
         text: "put 01.. 0001\nput 02.. 0002\nput 03.. 0003\nflush\nstop 9 mix\nget 01..\nget 02..\nget 03..\n\
@@ -65,14 +65,15 @@ const LIVES: [Example; 8] = [
         output: "opened\naccepted 1\naccepted 2\naccepted 3\nrefused 5 Device\nstopped\nopened\nvalue 0001\nabsent\n\
             absent\naccepted 1\nacknowledged 1\nstopped\nopened\nabsent\nvalue 0004\n",
     },
-    // A life whose opening is stopped is refused, and its lines are not answered.
+    // If a crash comes within the opening, the life is refused and its lines get no reply.
     Example {
         call: SMALL,
         text: "put 01.. 0001\nflush\nstop 0 old\nget 01..\nno line\nstop 1 old\nget 01..\n",
         status: 0,
         output: "opened\naccepted 1\nacknowledged 1\nstopped\nrefused 5 Device\nstopped\nopened\nvalue 0001\n",
     },
-    // Lives with no lines are opened and stopped too, at a call that never comes, and a carriage return is taken off.
+    // Lives without lines are opened and stopped too. A stop may be at a call that never comes, and a carriage return
+    // is removed.
     Example {
         call: SMALL,
         text: "flush\nno line\nstop 0 old\n\r\nstop 0 old\nflush\nstop 0 old",
@@ -91,7 +92,7 @@ const LIVES: [Example; 8] = [
         status: 0,
         output: "opened\nacknowledged 0\nrefused 20 BadLine\nstopped\nopened\nstopped\nopened\nacknowledged 0\n",
     },
-    // A script that ends with a stop line is followed by a life with no lines, and so is one with no line.
+    // After a stop line at the end of a script comes a life without lines. A script without lines is one such life.
     Example {
         call: SMALL,
         text: "stop 0 old\n",
@@ -106,9 +107,9 @@ const LIVES: [Example; 8] = [
     },
 ];
 
-// Logs that are frozen. The fifth put finds a log of four rows full: it freezes log 0, and log 1 is active.
+// Frozen logs. The fifth put finds a log of four rows full and freezes log 0. Then log 1 is active.
 const FROZEN: [Example; 5] = [
-    // The fifth put freezes log 0, log 1 is active, and both answer.
+    // Lookups find keys in the frozen log 0 and in the active log 1.
     Example {
         call: SMALL,
         text: "put 01.. 0001\nput 02.. 0002\nput 03.. 0003\nput 04.. 0004\nput 05.. 0005\nflush\nget 01..\nget 05..\n",
@@ -125,7 +126,7 @@ const FROZEN: [Example; 5] = [
         output: "opened\naccepted 1\naccepted 2\naccepted 3\naccepted 4\naccepted 5\naccepted 6\naccepted 7\naccepted 8\n\
             refused 8 NoRoom\nacknowledged 8\n",
     },
-    // Eight puts of one key are as many puts as the store may hold.
+    // Eight puts of one key are the most puts of this store, which counts each live row.
     Example {
         call: SMALL,
         text: "put 01.. 0001\nput 01.. 0001\nput 01.. 0001\nput 01.. 0001\nput 01.. 0001\nput 01.. 0001\nput 01.. 0001\n\
@@ -134,7 +135,7 @@ const FROZEN: [Example; 5] = [
         output: "opened\naccepted 1\naccepted 2\naccepted 3\naccepted 4\naccepted 5\naccepted 6\naccepted 7\naccepted 8\n\
             refused 7 StoreFull\n",
     },
-    // The fifth key of one pair of buckets finds no place and freezes a log that has room.
+    // The fifth key of one pair of buckets finds both full, and freezes a log that has room.
     Example {
         call: "silt script 2 2 8 2 2 16",
         text: "put 01.. 0001\nput 02.. 0002\nput 03.. 0003\nput 04.. 0004\nput 05.. 0005\nflush\nget 01..\nget 04..\n\
@@ -154,9 +155,10 @@ const FROZEN: [Example; 5] = [
     },
 ];
 
-// Logs that are converted into hash stores: nine steps where a hash region has eight slots.
+// Logs that are converted into hash stores. A hash region of eight slots takes nine steps.
 const CONVERTED: [Example; 6] = [
-    // The frozen log of the five puts is converted, and the hash store answers. Then there is nothing to convert.
+    // The frozen log of the five puts is converted, and a lookup finds a key in the hash store. Then nothing is left to
+    // convert.
     Example {
         call: SMALL,
         text: "put 01.. 0001\nput 02.. 0002\nput 03.. 0003\nput 04.. 0004\nput 05.. 0005\nflush\nget 01..\nget 05..\n\
@@ -168,7 +170,7 @@ const CONVERTED: [Example; 6] = [
             moved\nmoved\nmoved\nmoved\nmoved\nmoved\nmoved\nmoved\nfinished\n\
             value 0002\nidle\n",
     },
-    // A conversion gives its log's region back.
+    // A conversion frees its log's region.
     Example {
         call: SMALL,
         text: "delete 01..\ndelete 02..\ndelete 03..\ndelete 04..\ndelete 05..\ndelete 06..\ndelete 07..\ndelete 08..\n\
@@ -181,7 +183,7 @@ const CONVERTED: [Example; 6] = [
             moved\nmoved\nmoved\nmoved\nmoved\nmoved\nmoved\nmoved\nfinished\n\
             accepted 9\n",
     },
-    // A conversion keeps the last row of each key, so that fewer puts are counted.
+    // A conversion keeps only the last row of each key, so fewer rows are counted.
     Example {
         call: SMALL,
         text: "put 01.. 0001\nput 01.. 0001\nput 01.. 0001\nput 01.. 0001\nput 01.. 0001\nput 01.. 0001\nput 01.. 0001\nput 01.. 0001\n\
@@ -194,7 +196,7 @@ const CONVERTED: [Example; 6] = [
             moved\nmoved\nmoved\nmoved\nmoved\nmoved\nmoved\nmoved\nfinished\n\
             accepted 9\nvalue 0002\n",
     },
-    // A stop within a conversion loses the work and no answer; the conversion begins anew.
+    // A crash within a conversion loses its work and no value. The conversion begins again.
     Example {
         call: SMALL,
         text: "put 01.. 0001\nput 02.. 0002\nput 03.. 0003\nput 04.. 0004\nput 05.. 0005\nflush\nget 01..\nget 05..\n\
@@ -205,7 +207,7 @@ const CONVERTED: [Example; 6] = [
             value 0005\nmoved\nmoved\nmoved\nstopped\nopened\nvalue 0002\nvalue 0005\n\
             moved\nmoved\nmoved\nmoved\nmoved\nmoved\nmoved\nmoved\nfinished\n",
     },
-    // With one hash region in use a second frozen log waits.
+    // While the one hash region is in use, a second frozen log waits.
     Example {
         call: "silt script 2 2 1 3 1 8",
         text: "put 01.. 0001\nput 02.. 0002\nput 03.. 0003\n\
@@ -215,7 +217,8 @@ const CONVERTED: [Example; 6] = [
             moved\nmoved\nmoved\nmoved\nmoved\nmoved\nmoved\nmoved\nfinished\n\
             waiting\n",
     },
-    // A delete in a newer hash store hides the value that an older one has, while the next log is converted and after a stop too.
+    // A delete in a newer hash store hides the value in an older one, also during the next conversion and after a
+    // crash.
     Example {
         call: "silt script 2 2 1 3 3 8",
         text: "put 01.. 0001\nput 02.. 0002\n\
@@ -238,9 +241,9 @@ const CONVERTED: [Example; 6] = [
     },
 ];
 
-// Hash stores that are merged into a sorted store. One merge and then another stand among the examples.
+// Hash stores that are merged into a sorted store. The examples have two merges in a row.
 const MERGED: [Example; 2] = [
-    // Two conversions are finished while a merge is under way: their hash stores stand in front of what is merged.
+    // Two conversions finish during a merge. Their hash stores are newer than what is merged.
     Example {
         call: "silt script 2 2 1 3 3 8",
         text: "get 01..\nget 02..\nput 01.. 0001\nget 01..\nget 02..\nput 02.. 0002\n\
@@ -261,7 +264,7 @@ const MERGED: [Example; 2] = [
             value 0003\nvalue 0004\nmoved\nmoved\nmoved\nmoved\nmoved\nmoved\nvalue 0003\nvalue 0004\nfinished\n\
             value 0003\nvalue 0004\n",
     },
-    // A merge gives its hash region back, and the conversion that waited for one begins.
+    // A merge frees its hash region, and the conversion that waited for one begins.
     Example {
         call: "silt script 2 2 1 3 1 8",
         text: "put 01.. 0001\nput 02.. 0002\nput 03.. 0003\n\
@@ -313,13 +316,13 @@ fn answers_scripts(rt: HostRuntime) -> Result<(), Fail> {
     Ok(())
 }
 
-// At which of the six calls of the manifest write a script is stopped, and what is kept of that call.
+// The crash is at one of the six calls of a manifest write. The fill says what is kept of that call.
 const STOPS: [&str; 18] = [
     "15 ones", "15 old", "15 new", "16 ones", "16 old", "16 new", "17 ones", "17 old", "17 new",
     "18 ones", "18 old", "18 new", "19 ones", "19 old", "19 new", "20 ones", "20 old", "20 new",
 ];
 
-// The six calls of the manifest write are stopped in turn: the put that freezes is refused, and what was flushed by it stands.
+// A crash at any of the six calls of the manifest write refuses the put that freezes. What this put flushed is kept.
 #[test]
 fn stops_a_manifest_write(rt: HostRuntime) -> Result<(), Fail> {
     let output =

@@ -1,4 +1,4 @@
-// Tests on files as tables of steps: calls of the program, and what is done to its files and seen of them between the calls.
+// Tests on files as tables of steps: calls of the program, changes of its files, and comparisons between the calls.
 
 use crate::tests::notes::tells;
 use crate::tests::{HasErrors, answers};
@@ -16,27 +16,27 @@ use std::time::Clock;
 
 /// A step of a test on files.
 pub(crate) enum Step {
-    /// A call is answered so: its words, the text that it reads, its status, what it writes.
+    /// A call of the program: its words, the text that it reads, its status, and what it writes.
     Answers(&'static str, &'static str, u8, &'static str),
-    /// Of a call that reads no line people are told so: its words, its status, what is told.
+    /// The notes of a call that reads no line: its words, its status, and the notes.
     Tells(&'static str, u8, &'static str),
-    /// A file is made that holds these bytes.
+    /// Makes a file with these bytes.
     Fill(&'static str, &'static [u8]),
-    /// A file is made, or the one that is there is made a disk of so many bytes.
+    /// Makes a file a disk of this many bytes.
     Create(&'static str, u64),
-    /// A file is given this length.
+    /// Sets the length of a file.
     Resize(&'static str, u64),
-    /// Bytes are written into a file, from a place on.
+    /// Writes bytes into a file from this offset on.
     Overwrite(&'static str, u64, &'static [u8]),
-    /// A file is so long.
+    /// A file has this length.
     HasLength(&'static str, u64),
-    /// A file holds these bytes.
+    /// A file has these bytes.
     Holds(&'static str, &'static [u8]),
     /// There is no such file.
     IsMissing(&'static str),
 }
 
-// Makes a folder, without what an earlier run left in it.
+// Makes an empty folder, without the files of an earlier run.
 pub(crate) fn make_folder<S: Files<File = File> + AllocGlobal>(
     rt: &S,
     name: &str,
@@ -132,7 +132,7 @@ pub(crate) fn take_steps<
     Ok(())
 }
 
-// Takes the steps in a folder of this name, which is then removed.
+// Takes the steps in a folder of this name, and then removes the folder.
 pub(crate) fn take_in_folder<
     S: Files<File = File>
         + AllocGlobal

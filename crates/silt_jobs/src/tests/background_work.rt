@@ -8,7 +8,7 @@ use std::io::Cursor;
 use std::process::Abort;
 use std::test::Fail;
 
-// Puts of three keys, five times each: of logs of four rows, two of which there are, and of two hash regions.
+// Puts of three keys, five times each. The store has two logs of four rows and two hash regions.
 const PUTS: &[u8] = b"put =a 0001
 put =b 0002
 put =c 0003
@@ -44,7 +44,7 @@ fn formatted<S: AllocGlobal + Abort>(rt: &S) -> Result<MemDisk, Fail> {
     Ok(disk)
 }
 
-// How many of the puts are accepted, and how many are refused for want of room.
+// How many of the puts are accepted, and how many are refused because there is no room.
 fn replies_of(output: &[u8]) -> (usize, usize) {
     let (mut accepted, mut refused) = (0usize, 0usize);
     for line in output.split(|byte| *byte == b'\n') {
@@ -79,7 +79,7 @@ fn runs<S: AllocGlobal + Abort>(
     disk
 }
 
-// Without background work two logs are full after eight rows; with it each put finds room.
+// Without background work two logs are full after eight rows. With it each put finds room.
 #[test]
 fn tends_between_lines(rt: HostRuntime) -> Result<(), Fail> {
     runs(&rt, formatted(&rt)?, false, (8, 7));
@@ -87,7 +87,7 @@ fn tends_between_lines(rt: HostRuntime) -> Result<(), Fail> {
     Ok(())
 }
 
-// Does all background work on a disk, and compares the status and what is written.
+// Does all background work on a disk, and compares the status and the output.
 fn tends<S: AllocGlobal + Abort>(rt: &S, disk: MemDisk, output: &[u8]) -> MemDisk {
     let mut out = Vec::new(rt.alloc());
     let (disk, code) = tend_on(rt.alloc(), disk, "disk", &mut out, &mut Counted::new());
@@ -95,8 +95,8 @@ fn tends<S: AllocGlobal + Abort>(rt: &S, disk: MemDisk, output: &[u8]) -> MemDis
     disk
 }
 
-// A log is converted in nine steps, and a hash store of three rows merged in twelve. Then a run finds room again, and for the rows that
-// were not flushed, too.
+// A log is converted in nine steps, and a hash store of three rows merged in twelve. Then a run finds room again, also
+// for the rows that were not flushed.
 #[test]
 fn does_all_work(rt: HostRuntime) -> Result<(), Fail> {
     let disk = runs(&rt, formatted(&rt)?, false, (8, 7));

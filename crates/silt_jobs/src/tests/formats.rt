@@ -1,4 +1,4 @@
-// What a format does to a disk that holds something.
+// What a format does to a disk that is not empty.
 
 use crate::files::format_file;
 use crate::note_lines::NoteLines;
@@ -18,14 +18,14 @@ const SMALL: Numbers = Numbers {
     sorted_capacity: 8,
 };
 
-// How a format of a disk ends: its status, what is written, and what is told.
+// How a format of a disk ends: its status, its output, and its notes.
 struct Ending {
     status: u8,
     output: &'static [u8],
     notes: &'static [u8],
 }
 
-// A disk with nothing but zeros and these bytes at its beginning.
+// A disk of zeros, with these bytes at its beginning.
 fn disk_with<S: AllocGlobal>(rt: &S, first: &[u8]) -> Result<MemDisk, Fail> {
     let mut bytes = Vec::new(rt.alloc());
     bytes.extend_from_slice(first)?;
@@ -33,7 +33,7 @@ fn disk_with<S: AllocGlobal>(rt: &S, first: &[u8]) -> Result<MemDisk, Fail> {
     Ok(MemDisk::with_bytes(rt.alloc(), &bytes)?)
 }
 
-// Formats a disk under the name `disk`, compares how that ends, and gives the disk back.
+// Formats a disk under the name `disk`, compares how that ends, and returns the disk.
 fn formats<S: AllocGlobal + Abort>(
     rt: &S,
     disk: MemDisk,
@@ -80,7 +80,8 @@ const DAMAGED: Ending = Ending {
     notes: b"silt: disk holds a store that is damaged or cannot be read; it is overwritten\n",
 };
 
-// Other data stays as it is, to the last byte, unless it is forced away; and then a store is named before it is overwritten.
+// Without force other data stays, to the last byte. After a forced format, a note names the store before the next one
+// overwrites it.
 #[test]
 fn keeps_other_data(rt: HostRuntime) -> Result<(), Fail> {
     let disk = formats(&rt, disk_with(&rt, b"a diary")?, false, &OTHER)?.ok_or("a disk")?;
@@ -92,7 +93,7 @@ fn keeps_other_data(rt: HostRuntime) -> Result<(), Fail> {
     Ok(())
 }
 
-// A store whose header is damaged, or was written in part, is one all the same.
+// A store with a damaged header, or with a header that was written in part, is still a store.
 #[test]
 fn overwrites_a_damaged_store(rt: HostRuntime) -> Result<(), Fail> {
     for first in [

@@ -1,4 +1,4 @@
-// The jobs on a disk in memory, letter for letter, as they are done on files.
+// The jobs on a disk in memory, letter for letter, as on files.
 
 use crate::failure::Watched;
 use crate::files::{check_file, format_file, run_file};
@@ -12,7 +12,7 @@ use std::io::Cursor;
 use std::process::Abort;
 use std::test::Fail;
 
-// Formats a disk, and compares the status and what is written.
+// Formats a disk, and compares the status and the output.
 fn formats<S: AllocGlobal + Abort, D: Disk>(
     rt: &S,
     disk: D,
@@ -33,7 +33,7 @@ fn formats<S: AllocGlobal + Abort, D: Disk>(
     disk
 }
 
-// Runs one life on a disk, and compares the status and what is written.
+// Runs a store on a disk, and compares the status and the output.
 fn runs<S: AllocGlobal + Abort, D: Served + Watched>(
     rt: &S,
     disk: D,
@@ -55,20 +55,20 @@ fn runs<S: AllocGlobal + Abort, D: Served + Watched>(
     disk
 }
 
-// Checks a disk, and compares the status and what is written.
+// Checks a disk, and compares the status and the output.
 fn checks<S: AllocGlobal + Abort, D: Disk>(rt: &S, disk: &D, status: u8, output: &[u8]) {
     let mut out = Vec::new(rt.alloc());
     let code = check_on(rt.alloc(), disk, "disk", &mut out, &mut Counted::new());
     compare(rt, "check", code.ok(), &out, status, output);
 }
 
-// A new disk that was formatted, of 45,056 bytes.
+// A new formatted disk of 45,056 bytes.
 fn formatted<S: AllocGlobal + Abort>(rt: &S, geometry: Geometry) -> Result<MemDisk, Fail> {
     let disk = MemDisk::new(rt.alloc(), 45_056)?;
     Ok(formats(rt, disk, geometry, 0, b"formatted 45056\n"))
 }
 
-// Two lives on one disk, of which the second finds what was flushed.
+// Two runs on one disk. The second finds what was flushed.
 fn runs_twice<S: AllocGlobal + Abort>(rt: &S, disk: MemDisk) {
     let text = b"put =abc 0102\nflush\nget =abc\n";
     let output = b"opened\naccepted 1\nacknowledged 1\nvalue 0102\n";
@@ -84,7 +84,7 @@ fn runs_on_a_disk(rt: HostRuntime) -> Result<(), Fail> {
     Ok(())
 }
 
-// Five puts that are flushed, of which the last finds the log full and freezes it.
+// Five puts and a flush. The last put finds the log full and freezes it.
 const FIVE_PUTS: &[u8] = b"put 0100000000000000000000000000000000000000 0001
 put 0200000000000000000000000000000000000000 0002
 put 0300000000000000000000000000000000000000 0003
@@ -93,7 +93,7 @@ put 0500000000000000000000000000000000000000 0005
 flush
 ";
 
-// Five puts that are flushed, on a disk whose log the last of them freezes, and what the store then consists of.
+// Five puts and a flush, where the last put freezes the log, and then a report of the store.
 fn runs_and_reports<S: AllocGlobal + Abort>(rt: &S, disk: MemDisk, text: &[u8]) {
     let output =
         b"opened\naccepted 1\naccepted 2\naccepted 3\naccepted 4\naccepted 5\nacknowledged 5\n";
@@ -110,7 +110,7 @@ fn reports_a_disk(rt: HostRuntime) -> Result<(), Fail> {
     Ok(())
 }
 
-// A disk that holds no store is refused and stays, and one of another length is not formatted.
+// A disk without a store is refused and does not change. A disk of another length is not formatted.
 fn refuses_disk<S: AllocGlobal + Abort>(rt: &S, disk: MemDisk, geometry: Geometry) {
     let reply = b"refused 1 NotFormatted\n";
     checks(rt, &disk, 1, reply);
@@ -127,7 +127,7 @@ fn refuses_disks(rt: HostRuntime) -> Result<(), Fail> {
     Ok(())
 }
 
-// A disk that fails within a job is told as one: its first call fails, and then it does its work.
+// The first call on the disk fails, and the reply says so. Then the disk works.
 fn runs_after_a_fault<S: AllocGlobal + Abort>(rt: &S, disk: FaultDisk) {
     let disk = runs(rt, disk, b"flush\n", 1, b"refused 5 Device\n");
     runs(rt, disk, b"flush\n", 0, b"opened\nacknowledged 0\n");
@@ -145,7 +145,7 @@ fn named<S: AllocGlobal, D: Disk>(rt: &S, disk: D) -> Result<NamedDisk<D>, Fail>
     Ok(NamedDisk::new(String::from_str(rt.alloc(), "disk")?, disk))
 }
 
-// Formats the disk of a path, and compares the status and what is written.
+// Formats the disk of a path, and compares the status and the output.
 fn formats_path<S: AllocGlobal + Abort>(
     rt: &S,
     path: &str,
@@ -176,7 +176,7 @@ fn formats_path<S: AllocGlobal + Abort>(
     Ok(disk)
 }
 
-// Runs one life on the disk of the path.
+// Runs a store on the disk of the path.
 fn runs_path<S: AllocGlobal + Abort>(rt: &S, source: NamedDisk<MemDisk>) -> Option<MemDisk> {
     let reader = Cursor::new(b"put =abc 0102\nflush\n".as_slice());
     let mut out = Vec::new(rt.alloc());
@@ -209,7 +209,7 @@ fn checks_path<S: AllocGlobal + Abort>(rt: &S, source: NamedDisk<MemDisk>) {
     compare(rt, "check", code.ok(), &out, 0, output);
 }
 
-// The disk that a job gave back, as the only one of its source.
+// The disk that a job returned, as the only one of its source.
 fn given_back<S: AllocGlobal>(rt: &S, disk: Option<MemDisk>) -> Result<NamedDisk<MemDisk>, Fail> {
     match disk {
         Some(disk) => named(rt, disk),
@@ -217,7 +217,7 @@ fn given_back<S: AllocGlobal>(rt: &S, disk: Option<MemDisk>) -> Result<NamedDisk
     }
 }
 
-// The disk of the path is formatted, run and checked, and given back.
+// The disk of the path is formatted, run and checked. Each job returns it.
 #[test]
 fn works_on_the_disk_of_a_path(rt: HostRuntime) -> Result<(), Fail> {
     let made = formats_path(&rt, "disk", 45_056, 0, b"formatted 45056\n")?;
@@ -226,7 +226,7 @@ fn works_on_the_disk_of_a_path(rt: HostRuntime) -> Result<(), Fail> {
     Ok(())
 }
 
-// Where the source has no disk of the path, or one of another length, the job is refused, and gives none back.
+// If the source has no disk of the path, or one of another length, the job is refused and returns none.
 #[test]
 fn refuses_other_paths(rt: HostRuntime) -> Result<(), Fail> {
     let reply = b"refused 5 Device\n";

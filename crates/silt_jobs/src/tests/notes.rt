@@ -1,4 +1,4 @@
-// What people are told, letter for letter.
+// The notes for people, letter for letter.
 
 use crate::geometry::out_of_limits;
 use crate::input_lines::InputLines;
@@ -9,7 +9,7 @@ use silt_words::Numbers;
 use std::process::Abort;
 use std::test::Fail;
 
-// What is told of an input and of the output that answers it.
+// The notes about an input and the replies to it.
 fn told<S: AllocGlobal>(rt: &S, input: &[u8], output: &[u8]) -> Vec<u8> {
     let mut lines = InputLines::new(rt.alloc());
     lines.take(input);
@@ -20,8 +20,8 @@ fn told<S: AllocGlobal>(rt: &S, input: &[u8], output: &[u8]) -> Vec<u8> {
     text
 }
 
-// Refusals are counted by their numbers, and their lines are those of the input, blank ones included. A value that looks like a refusal
-// is none, and the order is that of the numbers.
+// Refusals are counted by their numbers, in the order of the numbers. Lines are those of the input, blank ones
+// included. A value that looks like a refusal is none.
 #[test]
 fn tells_refused_lines(rt: HostRuntime) -> Result<(), Fail> {
     let input = b"get =a\n\nput =b 01\n\r\n\r\nput =c 01\nput =d 01\nnone\n";
@@ -51,7 +51,7 @@ silt: the last line has no line feed, and is not answered
     Ok(())
 }
 
-// Lines that are written in pieces are counted as those that are not.
+// Lines that are written in pieces are counted as whole ones are.
 #[test]
 fn counts_lines_in_pieces(rt: HostRuntime) -> Result<(), Fail> {
     let mut lines = InputLines::new(rt.alloc());
@@ -65,7 +65,7 @@ fn counts_lines_in_pieces(rt: HostRuntime) -> Result<(), Fail> {
     Ok(())
 }
 
-// Behind more blank lines than are kept the number of a line is not known.
+// After more blank lines than are kept, the number of a line is not known.
 #[test]
 fn knows_where_it_lost_count(rt: HostRuntime) -> Result<(), Fail> {
     let mut lines = InputLines::new(rt.alloc());
@@ -90,7 +90,7 @@ fn numbers(of: [u32; 6]) -> Numbers {
     }
 }
 
-// What is told of these numbers.
+// The notes about these numbers.
 fn complaint<S: AllocGlobal>(rt: &S, numbers: &Numbers) -> Vec<u8> {
     let mut text = Vec::new(rt.alloc());
     NoteLines::new(&mut text).tell_numbers(numbers);

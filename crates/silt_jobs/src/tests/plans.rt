@@ -6,7 +6,7 @@ use silt_words::PlanRequest;
 use std::process::Abort;
 use std::test::Fail;
 
-// Plans for so many keys, and compares the status and what is written.
+// Plans for this many keys, and compares the status and the output.
 fn plans<S: AllocGlobal + Abort>(
     rt: &S,
     keys: u32,

@@ -1,10 +1,11 @@
-// When the line of a long opening is shown, and what it says.
+// When the progress line of a long opening is shown, and what it says.
 
 use crate::progress::{Progress, write_end, write_line};
 use std::process::Abort;
 use std::test::Fail;
 
-// The first of reads of so many bytes at which the line is due, and how many bytes were read then.
+// All reads have this length. Returns the number of the first one after which the line is due, and how many bytes were
+// read until then.
 fn first_due(progress: &Progress, count: usize) -> Option<(u32, u64)> {
     for read in 1..100_000 {
         if let Some(bytes) = progress.take(count) {
@@ -14,7 +15,7 @@ fn first_due(progress: &Progress, count: usize) -> Option<(u32, u64)> {
     None
 }
 
-// The line is due first at this read, and not at the next one; once the opening is over it never is.
+// The line is due at this read for the first time, and not at the next one. After the opening it is never due.
 fn is_due_first<S: Abort>(rt: &S, count: usize, read: u32, bytes: u64) {
     let progress = Progress::new(None);
     assert!(rt;
@@ -26,7 +27,7 @@ fn is_due_first<S: Abort>(rt: &S, count: usize, read: u32, bytes: u64) {
     assert!(rt; first_due(&progress, count).is_none());
 }
 
-// The line is due after 16 MiB, or after so many heads of rows.
+// The line is due after 16 MiB, or after 65,536 heads of rows.
 #[test]
 fn shows_long_openings(rt: HostRuntime) -> Result<(), Fail> {
     for (count, read, bytes) in [
@@ -39,7 +40,7 @@ fn shows_long_openings(rt: HostRuntime) -> Result<(), Fail> {
     Ok(())
 }
 
-// The line begins anew where the last one stands, and ends with all that was read.
+// The line overwrites the last one, and ends with all that was read.
 #[test]
 fn writes_the_line_anew(rt: HostRuntime) -> Result<(), Fail> {
     let mut text = Vec::new(rt.alloc());
