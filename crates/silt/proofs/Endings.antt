@@ -11,7 +11,7 @@ use Rattle.silt_words.specs.declared.job.PlanRequest.{PlanRequest}
 use Rattle.silt_jobs.specs.Plans.{TellsPlan}
 use Rattle.silt.specs.Programs.{NamesNoJob, TellsWords}
 
--- a job that ended well or was refused, and what is known of each
+-- a job that was done or refused, and what is known of each
 pub job_ended : {E T D : Type 0} {W : ℕ → Type 0} (result : Result ℕ E) → ((status : ℕ) → ((status ≡ 0) × D) ⊎ ((status ≡ 1) × T) → W status)
     → IfOk result (IsStatus T) → (result ≡ Ok 0 → D) → IfOk result W
 job_ended (Ok status) wrap (inl is) done = wrap status (inl (is, done (ap Ok is)))
@@ -24,7 +24,7 @@ pub unread : (told : List (List ℕ) → Type 0) (words : List (List ℕ)) (erro
 unread told words Usage none noted = (none refl, noted refl)
 unread told words NoMemory none noted = tt
 
--- what holds at a status that is no failure of the reader or the writer
+-- what is true at a status that is no failure of the reader or the writer
 pub at_status : {E : Type 0} (P : ℕ → Type 0) (ended : Result ℕ E) (result status : ℕ) → result ≡ result_unwrap_or ended 1 → (status ≡ 1 → ⊥) → result ≡ status → IfOk ended P → P status
 at_status P (Ok known) result status is other at holds = subst P (sym is ∙ at) holds
 at_status P (Err error) result status is other at holds = absurd (other (sym at ∙ is))
@@ -43,7 +43,7 @@ done_at_0 Named Done Told Unread status before after is (inl (job, named, inr h)
 done_at_0 Named Done Told Unread status before after is (inr (Usage, cause, told)) = absurd (omega (arith, is, told.0))
 done_at_0 Named Done Told Unread status before after is (inr (NoMemory, cause, told)) = absurd (omega (arith, is, told.0))
 
--- with status 2 the words name no job, and people were told why
+-- with status 2 the words name no job, and a note says why
 pub usage_at_2 : {A : Type 0} (Named Done Told : A → Type 0) (told_words : List (List ℕ) → Type 0) (words : List (List ℕ)) (status : ℕ) (before after : Option (List ℕ)) → status ≡ 2
     → ((job : A) × Named job × (((status ≡ 0) × Done job) ⊎ ((status ≡ 1) × Told job))) ⊎ ((error : WordsError) × NamesNoJob told_words words error × TellsWords error status before after)
     → (job_named words ≡ None) × told_words words × Appends before after (codes "usage\n")
@@ -57,12 +57,12 @@ pub if_made : {A P : Type 0} (made : Option A) → IfSome made (λ _. P) → is_
 if_made (Some value) holds is = holds
 if_made None holds is = absurd (true≢false (sym is))
 
--- people were told nothing if a value was made, and else this
+-- there is no note if a value was made, and else this one
 pub may_tell : {A N Told : Type 0} (made : Option A) (old new : N) → IfSome made (λ _. new ≡ old) → (made ≡ None → Told) → (new ≡ old) ⊎ Told
 may_tell (Some value) old new same told = inl same
 may_tell None old new same told = inr (told refl)
 
--- what holds at each status holds at this one
+-- what is true at each status is true at this one
 pub ok_at : {E : Type 0} (P : ℕ → Type 0) (result : Result ℕ E) (status : ℕ) → result ≡ Ok status → IfOk result P → P status
 ok_at {E} P result status is holds = subst (λ (r : Result ℕ E). IfOk r P) is holds
 

@@ -42,7 +42,7 @@ module _ {N D F E : Type 0} (facts : Ghosts D F) (notes : NotesOf N) (told_refus
     (told_error : N → N → List ℕ → E → Type 0) (told_session : List ℕ → SessionEnd → D → Type 0) (told_failures : List ℕ → D → Type 0) (old new : N)
     (Opened : List ℕ → D → Type 0) (NotOpened : List ℕ → E → Type 0) (Shared : List ℕ → D → Type 0) (NotShared : List ℕ → E → Type 0)
     (Found : List ℕ → D → Type 0) (NotFound : List ℕ → E → Type 0) (Resized : D → ℕ → D → Type 0) (NotResized : D → ℕ → E → Type 0) where
-  -- it was written that this job is refused, for its cause, or a life's session or its background work broke off
+  -- the line says that this job is refused, for its cause, or a life's session or its background work broke off
   abbrev pub TellsJob : Job → Option (List ℕ) → Option (List ℕ) → Option (List ℕ) → Option (List ℕ) → Type 0
   TellsJob (Format file numbers force) remaining left before after =
       (given : Option D)
@@ -78,7 +78,7 @@ TellsWords NoMemory status before after = (status ≡ 1) × Appends before after
 abbrev pub NamesJob : List (List ℕ) → Job → Type 0
 NamesJob words job = job_named words ≡ Some (named job)
 
--- no job was read: the words name none, and people were told why, or the program was out of memory
+-- no job was read: the words name none, and a note says why, or the program was out of memory
 abbrev pub NamesNoJob : (List (List ℕ) → Type 0) → List (List ℕ) → WordsError → Type 0
 NamesNoJob told words Usage = (job_named words ≡ None) × told words
 NamesNoJob told words NoMemory = Unit {0}
@@ -87,7 +87,7 @@ module _ {N D F E : Type 0} (facts : Ghosts D F) (notes : NotesOf N) (told_refus
     (told_error : N → N → List ℕ → E → Type 0) (told_session : List ℕ → SessionEnd → D → Type 0) (told_failures : List ℕ → D → Type 0) (old new : N)
     (Opened : List ℕ → D → Type 0) (NotOpened : List ℕ → E → Type 0) (Shared : List ℕ → D → Type 0) (NotShared : List ℕ → E → Type 0)
     (Found : List ℕ → D → Type 0) (NotFound : List ℕ → E → Type 0) (Resized : D → ℕ → D → Type 0) (NotResized : D → ℕ → E → Type 0) where
-  -- the job that the words name was done with status 0 or refused or broke off with status 1, or no job was read of them
+  -- The job that the words name was done with status 0, or it was refused or broke off with status 1; or no job was read from the words.
   abbrev pub Answers : List (List ℕ) → ℕ → Option (List ℕ) → Option (List ℕ) → Option (List ℕ) → Option (List ℕ) → Type 0
   Answers words status remaining left before after =
       ((job : Job) × NamesJob words job

@@ -11,20 +11,20 @@ use Rattle.silt_store_set.specs.CoreState.{CoreState, Opens}
 use Rattle.silt_jobs.specs.Files.{TellsNoDisk}
 use Rattle.silt_jobs.specs.Jobs.{TellsOpening}
 
--- people were told that the server cannot listen on this port, or nothing
+-- a note says that the server cannot listen on this port, or there is none
 abbrev pub MayTellPort : {N : Type 0} → (N → N → ℕ → Type 0) → ℕ → N → N → Type 0
 MayTellPort told_port port old new = (new ≡ old) ⊎ told_port old new port
 
--- people may have been told about the port, and then were told of the disk of a file what the refusal says
+-- There may be a note about the port, and then a note reports what the refusal says about the disk of a file.
 abbrev pub ToldUnserved : {N F : Type 0} → (N → N → ℕ → Type 0) → (N → N → List ℕ → Refusal F → Type 0) → N → N → ℕ → List ℕ → Refusal F → Type 0
 ToldUnserved {N} told_port told old new port file refusal = (mid : N) × MayTellPort told_port port old mid × told mid new file refusal
 
--- the store on a disk was served to the end; if its calls were kept, they are a history of the store that is left
+-- The store on a disk was served to the end. If its calls were kept, they are a history of the store that is left.
 abbrev pub EndsServe : {D F : Type 0} → Ghosts D F → Option ℕ → D → Option (List ℕ) → Option (List ℕ) → Type 0
 EndsServe facts audit new before after = IsServed (facts.content new) before after × IfSome audit (λ most. ServesKept facts (λ port. Unit {0}) new before after)
 
 module _ {D F : Type 0} (facts : Ghosts D F) where
-  -- the line says why the store on a disk was not opened, and people were told; or why the opened store was not served to the end
+  -- the line says why the store on a disk was not opened, and so does a note; or why the opened store was not served to the end
   abbrev pub TellsServe : (Refusal F → Type 0) → D → D → Option (List ℕ) → Option (List ℕ) → Type 0
   TellsServe told old new before after =
       TellsOpening facts told old new before after
@@ -35,13 +35,12 @@ module _ {D F : Type 0} (facts : Ghosts D F) where
   abbrev pub LeavesServed : D → D → Type 0
   LeavesServed old new = LeavesNoOther (facts.content old) (facts.content new) ⊎ ((shape : Shape) × LeavesBegun (facts.content new) shape)
 
-  -- the disk that the source opened was served to the end, and is given back as a server leaves it; people were told which of its calls
-  -- failed
+  -- The disk that the source opened was served to the end, and is returned as a server leaves it. Notes say which of its calls failed.
   abbrev pub ServesFile : (D → Type 0) → (D → Type 0) → Option ℕ → Option D → Option (List ℕ) → Option (List ℕ) → Type 0
   ServesFile told_failures Opened audit given before after =
       (old : D) × Opened old × IsSomeAnd given (λ new. EndsServe facts audit new before after × LeavesServed old new × told_failures new)
 
-  -- the line says that the source opened no disk, or why the opened one, given back as a server leaves it, was not served to the end
+  -- the line says that the source opened no disk, or why the opened one, returned as a server leaves it, was not served to the end
   abbrev pub TellsServeFile : {E : Type 0} → (Refusal F → Type 0) → (D → Type 0) → (E → Type 0) → Option D → Option (List ℕ) → Option (List ℕ) → Type 0
   TellsServeFile told Opened NotOpened given before after =
       TellsNoDisk NotOpened before after

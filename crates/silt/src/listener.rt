@@ -1,4 +1,4 @@
-// The listener of a server. It goes on if the system is briefly out of descriptors.
+// The listener of a server. It continues if the system is briefly out of descriptors.
 
 use silt_server::Listens;
 use std::net::{TcpListener, TcpStream};

@@ -1,20 +1,22 @@
 //! The program silt.
 //!
 //! - `silt plan KEYS V [--memory BYTES]` prints the six numbers of a store for this many keys, and what they cost.
-//! - `silt format FILE V B CAP NL NH S [--force]` makes an empty store of this geometry in a file, and prints the file's length. Data of
-//!   others stay in the file unless it is forced.
-//! - `silt run FILE [--tend]` is one life of the store in a file: it reads lines to the end, and replies to them, one line for each.
-//!   The end of the input flushes nothing. With `--tend` it does the background work that is due between the lines.
+//! - `silt format FILE V B CAP NL NH S [--force]` makes an empty store of this geometry in a file, and prints the file's
+//!   length. Without `--force` a file with other data stays as it is.
+//! - `silt run FILE [--tend]` is one life of the store in a file: it reads lines to the end, and writes one reply line for
+//!   each. The end of the input flushes nothing. With `--tend` it does the background work that is due between the lines.
 //! - `silt tend FILE` does all background work of the store in a file.
-//! - `silt check FILE` prints what the store in a file consists of, in numbers.
-//! - `silt script V B CAP NL NH S` makes an empty store of this geometry on a disk in memory, reads lines to the end, and replies
-//!   to them, one line for each. Lines `stop K FILL` divide them into lives. Such a line stops the store (a chosen crash) at the
-//!   K-th write or sync of the life that ends there, and then opens what the stop leaves.
+//! - `silt check FILE` prints a report of the store in a file, in numbers.
+//! - `silt dump FILE` prints a line for each key with a value, which puts that value.
+//! - `silt script V B CAP NL NH S` makes an empty store of this geometry on a disk in memory, reads lines to the end, and
+//!   writes one reply line for each. Lines `stop K FILL` divide them into lives. Such a line is a crash at the K-th write or
+//!   sync of the life before it. The next life opens what the crash leaves.
 //! - `silt serve FILE PORT [--audit N] [--sessions M] [--idle SECONDS]` serves the store in a file to the
 //!   connections of a port of this machine.
 //!
-//! silt_jobs does the work on a file or in memory, and silt_server serves. Their functions work over any source of disks, and
-//! their contracts say what is written for each content of the path's disk. Of a disk in a file only its length is known.
+//! silt_jobs does the work on a file or in memory, and silt_server serves. Their functions work over any source of disks,
+//! and their contracts say what is written for each content of the path's disk. Of a disk in a file only its length is
+//! known.
 #![tactic(auto)]
 
 mod listener;

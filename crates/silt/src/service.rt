@@ -63,8 +63,8 @@ where
     }
 }
 
-// Serves the store on a disk to the connections of a port of this machine. It binds the port first, so that people
-// learn at once, and not after a long opening, that the port is in use. Gives the disk back, and the status.
+// Serves the store on a disk to the connections of a port of this machine. It binds the port before the opening, which
+// may be long: so a port that is in use is reported at once. Returns the disk and the status.
 fn serve_disk<
     D: Watched,
     H: Net<Listener = TcpListener, Stream = TcpStream> + Clock + Threads + Wait + Sync,
@@ -97,7 +97,7 @@ fn serve_disk<
     }
 }
 
-// A listener on a port of this machine. If there is none, people are told why.
+// A listener on a port of this machine. If there is none, a note says why.
 fn bind<H: Net<Listener = TcpListener, Stream = TcpStream>, N: Notes>(
     rt: &H,
     port: u16,
@@ -115,7 +115,7 @@ fn bind<H: Net<Listener = TcpListener, Stream = TcpStream>, N: Notes>(
     }
 }
 
-// Serves a store to the connections of a listener, if there is one. Gives the store's disk back, and the status.
+// Serves a store to the connections of a listener, if there is one. Returns the store's disk and the status.
 fn serve_store<
     D: Disk,
     H: Net<Listener = TcpListener, Stream = TcpStream> + Clock + Threads + Wait + Sync,
@@ -159,7 +159,7 @@ fn limits_of(service: &Service<'_>) -> Limits
     }
 }
 
-// Reports why the listener of this port failed, if the server did not end well.
+// Reports why the listener of this port failed, if the server failed.
 fn tell_listener<N: Notes>(
     port: u16,
     failure: Option<io::Error>,

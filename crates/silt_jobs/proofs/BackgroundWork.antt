@@ -167,7 +167,7 @@ module _ {D F : Type 0} (facts : Ghosts D F) where
 
   -- ---- all of it
 
-  -- so many steps were taken, and counted
+  -- this many steps were taken, and counted
   pub record Counted (old new : CoreState D) (converted merged turn : ℕ) : Type 0 where
     pub taken : TakesSteps facts old new
     pub converts : converted ≡ count_of is_convert taken.events

@@ -1,4 +1,4 @@
--- What people are told of the disk of a path.
+-- The notes about the disk of a path.
 use Rattle.std.proofs.Common.{◌≡◌, ℕ, List, Option, Result, Ok, Err, inr}
 use Rattle.std.specs.Prelude.{IfOk}
 use Rattle.silt_event.specs.declared.refusal.Refusal.{Refusal}

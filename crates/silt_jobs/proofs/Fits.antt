@@ -1,4 +1,4 @@
--- The lengths of the values that a script puts.
+-- The lengths of the values of a script's puts and swaps.
 use Rattle.std.proofs.Common.{ℕ, Result, Ok, Err, sym, subst}
 use Rattle.std.specs.Prelude.{All, IfOk, OnOk}
 use Rattle.std.proofs.lemmas.List.Elements.{All-push, All-nil}

@@ -17,7 +17,7 @@ use Rattle.silt_jobs.specs.NewStores.{NewStoreCause}
 pub fresh_size : (len : ℕ) (disk : MemDisk) → IsFresh (replicate len 0) disk → size (memory_content disk) ≡ len
 fresh_size len disk fresh = ap length fresh.shown ∙ length-replicate len 0
 
--- what a format of a disk of the right length is refused for
+-- why a format of a disk of the right length is refused
 pub format_cause : (shape : Shape) (old new : MemDisk) (error : FormatError MemFault) → size (memory_content old) ≡ device_size shape
     → SameDisk (memory_content old) (memory_content new) → FormatCause memory_content (GaveAny memory_gave) shape old new error → NewStoreCause shape (refusal_of_formatting error)
 format_cause shape old new BadGeometry fits same cause = cause.0 fits

@@ -58,7 +58,7 @@ module _ {D F : Type 0} (facts : Ghosts D F) (tend : Bool) (told_refusal : Refus
   broken_by_status end status old new remaining left before after is h (inl e) = inl (is ∙ e)
   broken_by_status end status old new remaining left before after is h (inr e) = inr (is ∙ e, inr (end, status_broken end e, h))
 
-  -- the store was opened, and its session ended in some way, which people were told
+  -- the store was opened, and its session ended in some way, which the notes say
   pub ran_told : {E : Type 0} (Heard : SessionEnd → Type 0) (result : Result ℕ E) (old new : D) (first last : CoreState D) (remaining left before after : Option (List ℕ))
       → Opens facts (facts.content old) first → new ≡ last.disk → ((end : SessionEnd) → Heard end → told_session end new)
       → IfOk result (λ status. (end : SessionEnd) × (status ≡ status_of end) × AnswersReader facts tend end first last remaining left before after × Heard end)

@@ -77,7 +77,7 @@ first_none : (r : PlanRequest) → first_planned r [] ≡ None
 unfolding first_planned
 first_none r = refl
 
--- behind the last one there is none
+-- after the last one there is none
 pub none_left : (r : PlanRequest) (whole counts : List ℕ) (at : ℕ) → length counts ≤ at → first_planned r whole ≡ first_planned r (drop at counts)
     → None ≡ option_map (shape_planned r) (first_planned r whole)
 none_left r whole counts at past rest = ap (option_map (shape_planned r)) (sym (rest ∙ ap (first_planned r) (drop_all at counts past) ∙ first_none r))

@@ -9,12 +9,12 @@ pub stop-one : (text : List ℕ) → words_of text ≡ text ∷ [] → stop_of_w
 unfolding stop_of_words
 stop-one text words = ap stop_of_words words
 
--- nor do two
+-- nor are two
 pub stop-two : (text word rest : List ℕ) → words_of text ≡ word ∷ words_of rest → words_of rest ≡ rest ∷ [] → stop_of_words (words_of text) ≡ None
 unfolding stop_of_words
 stop-two text word rest words last = ap stop_of_words (words ∙ ap (λ more. word ∷ more) last)
 
--- three may
+-- three may be one
 pub stop-three : (text word rest k fill : List ℕ) → words_of text ≡ word ∷ words_of rest → words_of rest ≡ k ∷ words_of fill → words_of fill ≡ fill ∷ [] → stop_of_words (words_of text) ≡ told_stop word k fill
 unfolding stop_of_words
 stop-three text word rest k fill words more last = ap stop_of_words (words ∙ ap (λ parts. word ∷ parts) (more ∙ ap (λ parts. k ∷ parts) last))

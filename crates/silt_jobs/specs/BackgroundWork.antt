@@ -48,7 +48,8 @@ pub record TendedState (D : Type 0) : Type 0 where
   pub core : CoreState D
   pub tends : Bool
 
--- What is done before a line: steps until no frozen log is left, or until one is refused; after that none is done any more.
+-- The background work before a line: steps until no frozen log is left, or until one is refused. After a refused step none is done any
+-- more.
 pub record Tends {D F : Type 0} (facts : Ghosts D F) (old new : TendedState D) : Type 0 where
   pub steps : TakesSteps facts old.core new.core
   pub done : new.tends ≡ true → convert_due new.core ≡ Idle
@@ -69,7 +70,7 @@ abbrev pub count_of : (Event → Bool) → List Event → ℕ
 count_of is_kind [] = 0
 count_of is_kind (event ∷ events) = cond (is_kind event) 1 0 + count_of is_kind events
 
--- steps were taken and counted by their kind, and if they are not the most that are taken at once no work is left
+-- Steps were taken and counted by their kind. No work is left, unless they are the most that are taken at once.
 pub record TendsAll {D F : Type 0} (facts : Ghosts D F) (old new : CoreState D) (steps : Steps) : Type 0 where
   pub taken : TakesSteps facts old new
   pub converted : steps.converted ≡ count_of is_convert taken.events

@@ -13,8 +13,9 @@ use Rattle.silt_image.specs.Stores.{shape_found}
 abbrev pub part_at : ℕ → ℕ → ℕ → ℕ → Option ℕ
 part_at region_at len count part = if nat_lt part count then Some (region_at + part * len) else None
 
--- Where a part begins on a disk of this shape with the sorted store in this region: a row at its body, and a store with another digest at
--- its region. The header's numbers come after its commit byte, eight letters and version. The length and the charge are of the whole disk.
+-- The offset of a part of a disk of this shape with the sorted store in this region: a row begins at its body, and a store with another
+-- digest at its region. The header's numbers come after its commit byte, eight letters and version. The length and the charge belong to the
+-- whole disk.
 abbrev pub offset_of : Shape → ℕ → Place → Option ℕ
 offset_of s sorted Header = Some 13
 offset_of s sorted Length = None
@@ -31,7 +32,7 @@ offset_of s sorted Charge = None
 abbrev pub HasShape : Content → Shape → Type 0
 HasShape content shape = IsTrue content.honest → shape_found (size content) (header_of content.shown) ≡ Ok shape
 
--- the header of a device could not be read, or something is wrong with it
+-- the header of a device could not be read, or it is damaged
 abbrev pub LacksShape : {D F : Type 0} → Ghosts D F → D → Type 0
 LacksShape {D} {F} facts disk =
     ((fault : F) × GaveAny facts.gave disk fault)

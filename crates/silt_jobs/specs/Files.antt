@@ -15,12 +15,12 @@ use Rattle.silt_jobs.specs.HeldData.{Looks, MayOverwrite, MustStay}
 use Rattle.silt_jobs.specs.declared.notes.Notes.{Ghosts as NotesOf}
 use Rattle.silt_jobs.specs.declared.held_data.Holding.{Holding}
 
--- it was written that the source gave no disk, and for a cause
+-- the line says that the source gave no disk, and there is a cause
 abbrev pub TellsNoDisk : {E : Type 0} → (E → Type 0) → Option (List ℕ) → Option (List ℕ) → Type 0
 TellsNoDisk {E} IsCause before after = (error : E) × IsCause error × Tells (Device (tt {0})) before after
 
 module _ {D F : Type 0} (facts : Ghosts D F) where
-  -- one life on a disk that the source opened, which is given back as the store left it; people were told which of its calls failed
+  -- One life on a disk that the source opened. The disk is returned as the store left it, and notes say which of its calls failed.
   abbrev pub RunsFile : Bool → (SessionEnd → D → Type 0) → (D → Type 0) → Option D → Option (List ℕ) → Option (List ℕ) → Option (List ℕ) → Option (List ℕ) → Type 0
   RunsFile tend told_session Opened given remaining left before after =
       (old : D) × Opened old × IsSomeAnd given (λ new. EndsRun facts tend told_session End old new remaining left before after)
@@ -32,8 +32,8 @@ module _ {D F : Type 0} (facts : Ghosts D F) where
       TellsNoDisk NotOpened before after ⊎ ((old : D) × Opened old
       × IsSomeAnd given (λ new. TellsRun facts tend told_refusal told_session old new remaining left before after))
 
-  -- all background work was done on a disk that the source opened, which is given back as the store left it; people were told of failed
-  -- calls
+  -- All background work was done on a disk that the source opened. The disk is returned as the store left it, and notes report failed
+  -- calls.
   abbrev pub TendsFile : (D → Type 0) → (D → Type 0) → Option D → Option (List ℕ) → Option (List ℕ) → Type 0
   TendsFile told_failures Opened given before after = (old : D) × Opened old × IsSomeAnd given (λ new. EndsTend facts told_failures old new before after)
 
@@ -44,25 +44,25 @@ module _ {D F : Type 0} (facts : Ghosts D F) where
       × IsSomeAnd given (λ new. TellsTend facts told_refusal told_failures old new before after))
 
 module _ {D F E : Type 0} (facts : Ghosts D F) (told : Refusal F → Type 0) (Opened : D → Type 0) (NotOpened : E → Type 0) where
-  -- the line says that the source opened no disk, or what is wrong with the one that it opened, which is given back
+  -- the line says that the source opened no disk, or what is wrong with the one that it opened, which is returned
   abbrev pub TellsCheckFile : Option D → Option (List ℕ) → Option (List ℕ) → Type 0
   TellsCheckFile given before after =
       TellsNoDisk NotOpened before after ⊎ ((disk : D) × Opened disk × (given ≡ Some disk) × TellsCheck facts told disk before after)
 
--- the report of a disk that the source opened was written, and the disk is given back
+-- the report of a disk that the source opened was written, and the disk is returned
 abbrev pub ChecksFile : {D F : Type 0} → Ghosts D F → (Shape → ℕ → Type 0) → (D → Type 0) → Option D → Option (List ℕ) → Option (List ℕ) → Type 0
 ChecksFile {D} facts told_charge Opened given before after = (disk : D) × Opened disk × (given ≡ Some disk) × EndsCheck facts told_charge disk before after
 
 module _ {N D F : Type 0} (facts : Ghosts D F) (notes : NotesOf N) (told_refusal : N → N → List ℕ → Refusal F → Type 0) (Resized : D → ℕ → D → Type 0)
     (file : List ℕ) (shape : Shape) (force : Bool) (old new : N) (found : D) (look : Result Holding F) where
-  -- What the found disk held may be overwritten. The disk was given the length of this shape, is now an empty store, and is given back.
-  -- People were told of a store that it held.
+  -- The data on the found disk may be overwritten. The disk has the length of this shape, is now an empty store, and is returned. A note
+  -- reports a store that it had before.
   abbrev pub FormatsFound : Option D → Option (List ℕ) → Option (List ℕ) → Type 0
   FormatsFound given before after =
       MayOverwrite notes told_refusal file force look old new × ((sized : D) × Resized found (device_size shape) sized)
       × IsSomeAnd given (λ disk. EndsFormat facts shape disk before after)
 
-  -- it stays and is given back as it was found, it was not given the length, or it was not formatted
+  -- the disk stays and is returned as it was found, its length could not be set, or it was not formatted
   abbrev pub TellsFound : {E : Type 0} → (N → N → List ℕ → E → Type 0) → (D → ℕ → E → Type 0) → Option D → Option (List ℕ) → Option (List ℕ) → Type 0
   TellsFound told_error NotResized given before after =
       ((given ≡ Some found) × MustStay notes told_refusal file force look old new × Tells {F = Unit {0}} (Device tt) before after)
@@ -73,13 +73,13 @@ module _ {N D F : Type 0} (facts : Ghosts D F) (notes : NotesOf N) (told_refusal
 
 module _ {N D F : Type 0} (facts : Ghosts D F) (notes : NotesOf N) (told_refusal : N → N → List ℕ → Refusal F → Type 0) (Resized : D → ℕ → D → Type 0)
     (Found : List ℕ → D → Type 0) (file : List ℕ) (numbers : Numbers) (force : Bool) (old new : N) where
-  -- the disk of this file was found, looked at and formatted
+  -- the disk of this file was found, read and formatted
   abbrev pub FormatsFile : Option D → Option (List ℕ) → Option (List ℕ) → Type 0
   FormatsFile given before after =
       (found : D) × Found file found × (look : Result Holding F) × Looks facts found look
       × FormatsFound facts notes told_refusal Resized file (shape_asked numbers) force old new found look given before after
 
-  -- it was written that a number is out of its limits, that the source has no disk of this file, or what became of the one that was found
+  -- the line says that a number is out of its limits, that the source has no disk of this file, or why the found one was not formatted
   abbrev pub TellsFormatFile : {E : Type 0} → (N → N → List ℕ → E → Type 0) → (List ℕ → E → Type 0) → (D → ℕ → E → Type 0)
       → Option D → Option (List ℕ) → Option (List ℕ) → Type 0
   TellsFormatFile told_error NotFound NotResized given before after =

@@ -31,7 +31,7 @@ use Rattle.silt_jobs.specs.declared.background_work.Steps.{Steps}
 abbrev pub formatted_line : ℕ → List ℕ
 formatted_line bytes = codes "formatted " ++ (decimal bytes ++ codes "\n")
 
--- the line says that the job is refused, and nothing else is written
+-- one line was written, which says that the job is refused
 abbrev pub Tells : {F : Type 0} → Refusal F → Option (List ℕ) → Option (List ℕ) → Type 0
 Tells refusal before after = Appends before after (reply_line (Refused refusal))
 
@@ -45,8 +45,7 @@ abbrev pub tended_line : Steps → List ℕ
 tended_line steps = codes "converted " ++ (decimal steps.converted ++ (codes " steps, merged " ++ (decimal steps.merged ++ codes " steps\n")))
 
 module _ {D F : Type 0} (facts : Ghosts D F) where
-  -- The store's session with the reader and the writer had this end. If it tends, it does the background work that is due before each
-  -- line.
+  -- The store's session with the reader and the writer had this end. A tending store does the background work that is due before each line.
   abbrev pub AnswersLines : Bool → SessionEnd → CoreState D → CoreState D → Option (List ℕ) → Option (List ℕ) → Option (List ℕ) → Option (List ℕ) → Type 0
   AnswersLines false end old new remaining left before after =
       Ends (DoesPlain facts) end old.shape.value_len
@@ -57,13 +56,13 @@ module _ {D F : Type 0} (facts : Ghosts D F) where
       (record { answerer = record { core = old; tends = true }; remaining = remaining; contents = before })
       (record { answerer = record { core = new; tends = tends }; remaining = left; contents = after })
 
-  -- `opened` was written, and then the store's session with the reader and the writer ended so
+  -- `opened` was written, and then the store's session with the reader and the writer had this end
   abbrev pub AnswersReader : Bool → SessionEnd → CoreState D → CoreState D → Option (List ℕ) → Option (List ℕ) → Option (List ℕ) → Option (List ℕ) → Type 0
   AnswersReader tend end old new remaining left before after =
       (opened : Option (List ℕ)) × Appends before opened (codes "opened\n") × AnswersLines tend end old new remaining left opened after
 
 module _ {D F : Type 0} (facts : Ghosts D F) (tend : Bool) (told_session : SessionEnd → D → Type 0) where
-  -- one life on a disk: the store was opened, its session had this end, the disk is as the store left it, and people were told
+  -- one life on a disk: the store was opened, its session had this end, the disk is as the store left it, and the notes say so
   abbrev pub EndsRun : SessionEnd → D → D → Option (List ℕ) → Option (List ℕ) → Option (List ℕ) → Option (List ℕ) → Type 0
   EndsRun end old new remaining left before after =
       (first : CoreState D) × (last : CoreState D) × Opens facts (facts.content old) first
@@ -74,7 +73,7 @@ module _ {D F : Type 0} (facts : Ghosts D F) (tend : Bool) (told_session : Sessi
   BreaksRun old new remaining left before after = (end : SessionEnd) × (end ≢ End) × EndsRun end old new remaining left before after
 
 module _ {D F : Type 0} (facts : Ghosts D F) where
-  -- all background work of a store was done, and how many steps it took was written; or a step was refused, and that was written
+  -- All background work of a store was done, and the number of steps was written; or a step was refused, and that was written.
   abbrev pub EndsTending : CoreState D → CoreState D → ℕ → Option (List ℕ) → Option (List ℕ) → Type 0
   EndsTending old new status before after =
       ((status ≡ 0) × ((steps : Steps) × TendsAll facts old new steps × Appends before after (tended_line steps)))
@@ -89,7 +88,7 @@ module _ {D F : Type 0} (facts : Ghosts D F) (told_failures : D → Type 0) wher
       × ((opened : Option (List ℕ)) × Appends before opened (codes "opened\n") × EndsTending facts first last status opened after)
       × (new ≡ last.disk) × told_failures new
 
-  -- all background work was done, and how many steps it took was written
+  -- all background work was done, and the number of steps was written
   abbrev pub EndsTend : D → D → Option (List ℕ) → Option (List ℕ) → Type 0
   EndsTend = TendsTo 0
 
@@ -97,7 +96,7 @@ module _ {D F : Type 0} (facts : Ghosts D F) (told_failures : D → Type 0) wher
   abbrev pub BreaksTend : D → D → Option (List ℕ) → Option (List ℕ) → Type 0
   BreaksTend = TendsTo 1
 
--- the report of the disk was written, and people were told its six numbers, if they could be read again, and its charge
+-- the report of the disk was written, and a note has its six numbers, if they could be read again, and its charge
 abbrev pub EndsCheck : {D F : Type 0} → Ghosts D F → (Shape → ℕ → Type 0) → D → Option (List ℕ) → Option (List ℕ) → Type 0
 EndsCheck facts told_charge disk before after =
     (report : Report) × (IsTrue (facts.content disk).honest → IsReported (facts.content disk).shown report) × Appends before after (report_text report)
@@ -109,29 +108,29 @@ EndsFormat facts shape new before after =
     (size (facts.content new) ≡ device_size shape) × LeavesOnly (facts.content new) (StandsFor shape empty) × Appends before after (formatted_line (device_size shape))
 
 module _ {D F : Type 0} (facts : Ghosts D F) (told : Refusal F → Type 0) where
-  -- the line says why the store was not opened on the disk, and people were told
+  -- the line says why the store was not opened on the disk, and so does a note
   abbrev pub TellsOpening : D → D → Option (List ℕ) → Option (List ℕ) → Type 0
   TellsOpening old new before after = (refusal : Refusal F) × OpeningCause facts (facts.content old) new refusal × Tells refusal before after × told refusal
 
-  -- the line says what is wrong with the disk, or why it could not be read, and people were told
+  -- the line says what is wrong with the disk, or why it could not be read, and so does a note
   abbrev pub TellsCheck : D → Option (List ℕ) → Option (List ℕ) → Type 0
   TellsCheck disk before after =
       (error : OpenError F) × IsRefusedLook (λ finding. IsTrue (facts.content disk).honest → IsFound (facts.content disk).shown finding) (GaveAny facts.gave disk) error
       × Tells (refusal_of_opening error) before after × told (refusal_of_opening error)
 
-  -- the line says why the disk was not formatted, and people were told
+  -- the line says why the disk was not formatted, and so does a note
   abbrev pub TellsFormat : Shape → D → D → Option (List ℕ) → Option (List ℕ) → Type 0
   TellsFormat shape old new before after =
       (error : FormatError F) × FormatCause facts.content (GaveAny facts.gave) shape old new error × Tells (refusal_of_formatting error) before after
       × told (refusal_of_formatting error)
 
--- the line says that the store was not opened on the disk, or the session on it broke off, and people were told
+-- the line says that the store was not opened on the disk, or the session on it broke off; notes say why
 abbrev pub TellsRun : {D F : Type 0} → Ghosts D F → Bool → (Refusal F → Type 0) → (SessionEnd → D → Type 0)
     → D → D → Option (List ℕ) → Option (List ℕ) → Option (List ℕ) → Option (List ℕ) → Type 0
 TellsRun facts tend told_refusal told_session old new remaining left before after =
     TellsOpening facts told_refusal old new before after ⊎ BreaksRun facts tend told_session old new remaining left before after
 
--- the line says that the store was not opened on the disk, or that a step of its background work was refused, and people were told
+-- the line says that the store was not opened on the disk, or that a step of its background work was refused; notes say why
 abbrev pub TellsTend : {D F : Type 0} → Ghosts D F → (Refusal F → Type 0) → (D → Type 0) → D → D → Option (List ℕ) → Option (List ℕ) → Type 0
 TellsTend facts told_refusal told_failures old new before after =
     TellsOpening facts told_refusal old new before after ⊎ BreaksTend facts told_failures old new before after

@@ -25,7 +25,7 @@ abbrev pub fits_memory : Option ℕ → ℕ → Bool
 fits_memory None bytes = true
 fits_memory (Some most) bytes = nat_le bytes most
 
--- No more buckets than are needed: with half as many, four logs have fewer rows than a ninth of the keys.
+-- There are no more buckets than needed: with half as many, four logs have fewer rows than a ninth of the keys.
 abbrev pub is_needed : PlanRequest → ℕ → Bool
 is_needed r buckets = buckets == 2 || nat_lt (63 * buckets) r.keys
 
@@ -42,7 +42,7 @@ unfoldable pub first_planned : PlanRequest → List ℕ → Option ℕ
 first_planned r [] = None
 first_planned r (buckets ∷ more) = if is_planned r buckets then Some buckets else first_planned r more
 
--- a number behind a word
+-- a word and a number
 unfoldable pub number_after : List ℕ → ℕ → List ℕ
 number_after word number = word ++ decimal number
 

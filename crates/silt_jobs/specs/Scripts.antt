@@ -1,4 +1,4 @@
--- What a script's lines are, and what is written for them.
+-- The lines of a script, and its output.
 use Rattle.std.specs.Prelude.{Vec, ◌≡◌, ◌+◌, ℕ, List, [], ◌∷◌, ◌++◌, All, Option, Some, None, Result, Ok, Err, MatchBool, codes}
 use Rattle.std.specs.FinMap.{empty}
 use Rattle.std.specs.List.{slice_get}
@@ -94,7 +94,7 @@ pub record EndsReading (reading : Reading) (script : Script) : Type 0 where
 abbrev pub Reads : ℕ → List (List ℕ) → Script → Type 0
 Reads value_len lines script = (first : Reading) × (reading : Reading) × IsUnread first × TakesLines value_len lines first reading × EndsReading reading script
 
--- each value that is put has this length
+-- each value of a put or a swap has this length
 pub record Fits (value_len : ℕ) (reading : Reading) : Type 0 where
   pub lives : All (λ life. All (HasValueOf value_len) life.items) reading.lives.items
   pub life : All (HasValueOf value_len) reading.life.items
@@ -105,7 +105,7 @@ pub record Fits (value_len : ℕ) (reading : Reading) : Type 0 where
 abbrev pub reply_line : {F : Type 0} → Reply F → List ℕ
 reply_line reply = reply_text reply ++ 10 ∷ []
 
--- how a life begins: it is opened, or refused
+-- the text at the beginning of a life: it is opened, or refused
 abbrev pub opening_text : {F : Type 0} → Option (LifeReply F) → List ℕ
 opening_text None = []
 opening_text (Some (NotOpened refusal)) = reply_line (RefusedReply refusal)
@@ -128,7 +128,7 @@ fault_told None fault = []
 fault_told (Some (NotOpened refusal)) fault = []
 fault_told (Some (Opened replies)) fault = fault_line fault
 
--- a line in its place: `stopped` for a stop line, and then the next life begins
+-- the text for a line in its place: for a stop line `stopped`, and the beginning of the next life
 abbrev pub mark_text : {F : Type 0} → List (LifeReply F) → LinePlace → Mark → List ℕ
 mark_text lives place Event = event_text (slice_get lives place.life) place.reply
 mark_text lives place (Refused fault) = fault_told (slice_get lives place.life) fault
@@ -154,7 +154,7 @@ marks_text lives place (mark ∷ marks) = mark_text lives place mark ++ marks_te
 abbrev pub start : LinePlace
 start = record { life = 0; reply = 0 }
 
--- the text of a script: its first life begins, and then come its lines
+-- the output of a script: the beginning of its first life, and then the texts of its lines
 abbrev pub script_text : {F : Type 0} → List (LifeReply F) → List Mark → List ℕ
 script_text lives marks = opening_text (slice_get lives 0) ++ marks_text lives start marks
 
@@ -164,14 +164,14 @@ script_text lives marks = opening_text (slice_get lives 0) ++ marks_text lives s
 abbrev pub memory_facts : Ghosts MemDisk MemFault
 memory_facts = record { content = memory_content; failures = λ disk. disk.failures; gave = memory_gave }
 
--- lives with these replies are a history from the empty map, and ran on a new store of this shape, armed with these stops
+-- The lives and their replies are a history from the empty map. They ran on a new store of this shape, armed with these stops.
 abbrev pub RunsLives : Shape → List StopOf → List (Vec EventOf Global) → List (LifeReply MemFault) → Type 0
 RunsLives shape stops lives replies =
     ((to : Map) × LivesHistory empty lives replies to)
     × ((disk : MemDisk) × IsNewStore shape stops disk × LivesRun memory_facts shape.value_len lives replies disk)
 
--- A script that ended well: all that the reader had was read; the lives of its lines were run, from the empty map, on a new store of
--- this shape; and what was written is the text of their replies at the script's lines, and nothing else.
+-- A script that succeeded. The reader was read to its end. The lives of its lines ran on a new store of this shape, from the empty map.
+-- Exactly the output of the script was written, with the replies of these lives.
 abbrev pub EndsScript : Shape → Option (List ℕ) → Option (List ℕ) → Option (List ℕ) → Option (List ℕ) → Type 0
 EndsScript shape remaining left before after =
     (read : List ℕ) × Consumes remaining left read × IsAtEnd left
@@ -179,11 +179,11 @@ EndsScript shape remaining left before after =
     × (replies : List (LifeReply MemFault)) × RunsLives shape script.stops.items script.lives.items replies
     × Appends before after (script_text replies script.marks.items)
 
--- why the whole script is refused: a number is out of its limits, or no new store was made, or out of memory
+-- why the whole script is refused: a number is out of its limits, or no new store was made
 abbrev pub ScriptCause : Shape → Refusal MemFault → Type 0
 ScriptCause shape BadGeometry = ¬ InLimits shape
 ScriptCause shape refusal = NewStoreCause shape refusal
 
--- the line says why the whole script is refused, and nothing else is written
+-- one line was written, which says why the whole script is refused
 abbrev pub TellsRefusal : Shape → Option (List ℕ) → Option (List ℕ) → Type 0
 TellsRefusal shape before after = (refusal : Refusal MemFault) × ScriptCause shape refusal × Appends before after (reply_line (RefusedReply refusal))

@@ -36,7 +36,7 @@ line_ended t =
     let ended = (t.ended + 1) % 2 ^ 64 in
     record { ended = ended; begun = []; refused = counted_in t.refused (refusal_in t.begun) ended }
 
--- after one more byte: of a line that goes on the first ten bytes are kept
+-- after one more byte: the first ten bytes of a line in progress are kept
 abbrev pub tally_after : Tally → ℕ → Tally
 tally_after t byte = cond (byte == 10) (line_ended t) (record t { begun = cond (nat_lt (length t.begun) 10) (t.begun ++ byte ∷ []) t.begun })
 

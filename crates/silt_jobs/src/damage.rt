@@ -11,10 +11,10 @@ use silt_event::{Finding, Place, Refusal};
 use silt_image::read_header;
 use silt_manifest::read_current;
 
-/// Where the six numbers of a header begin.
+/// The offset of the six numbers of a header.
 const NUMBERS_AT: u64 = 13;
 
-/// Where the damaged part begins that a refusal tells of, on the disk that was refused, as far as that disk says.
+/// The offset of the damaged part that a refusal reports, if the refused disk can still say it.
 pub fn damage_at<D: Disk, F: Drop>(disk: &D, refusal: &Refusal<F>) -> Option<u64> {
     match refusal {
         Refusal::Damaged(Place::Header) => Some(NUMBERS_AT),
@@ -26,14 +26,14 @@ pub fn damage_at<D: Disk, F: Drop>(disk: &D, refusal: &Refusal<F>) -> Option<u64
     }
 }
 
-// What the header of a disk says: the six numbers, and the version of the layout.
+// The contents of a disk's header: the six numbers, and the version of the layout.
 #[derive(Clone, Copy)]
 struct Header {
     geometry: Geometry,
     version: Version,
 }
 
-// What the header of a disk says, or what is found in it. None where it cannot be read.
+// The contents of a disk's header, or the fault in it. None if it cannot be read.
 fn header_on<D: Disk>(disk: &D) -> Option<Result<Header, Finding>>
     ensures found { IsTrue (D.content disk.now).honest → IfSome result (λ found. MatchResult found
         (λ header. shape_found (size (D.content disk.now)) (header_of (D.content disk.now).shown) ≡ Ok header.geometry)
@@ -52,7 +52,7 @@ fn header_on<D: Disk>(disk: &D) -> Option<Result<Header, Finding>>
     }
 }
 
-// What these bytes of a header say of a disk of this length, or what is found in them.
+// The contents of these bytes of a header on a disk of this length, or the fault in them.
 fn parse_header(len: u64, bytes: &[u8; HEADER_LEN]) -> Result<Header, Finding>
     ensures found { MatchResult result (λ header. shape_found len bytes.now ≡ Ok header.geometry) (λ finding. shape_found len bytes.now ≡ Err finding) }
     ensures version { IfOk result (λ header. header.version ≡ version_of bytes.now) }
@@ -63,7 +63,7 @@ fn parse_header(len: u64, bytes: &[u8; HEADER_LEN]) -> Result<Header, Finding>
     Ok(Header { geometry, version })
 }
 
-// What the header of a disk says, if it is whole and can be read.
+// The contents of a disk's header, if it is whole and can be read.
 fn whole_header_on<D: Disk>(disk: &D) -> Option<Header>
     ensures version { IsTrue (D.content disk.now).honest → IfSome result (λ header. header.version ≡ version_of (header_of (D.content disk.now).shown)) }
     ensures size { IfSome result (λ header. size (D.content disk.now) ≡ device_size header.geometry) }
@@ -86,7 +86,7 @@ pub fn geometry_on<D: Disk>(disk: &D) -> Option<Geometry>
     Some(header.geometry)
 }
 
-// The region in which the sorted store of a disk lies, by its manifest, if that can be read.
+// The region of the sorted store of a disk, by its manifest, if that can be read.
 fn sorted_on<D: Disk>(disk: &D, header: &Header) -> u32
     requires size { size (D.content disk.now) ≡ device_size header.now.geometry }
     requires version { IsTrue (D.content disk.now).honest → header.now.version ≡ version_of (header_of (D.content disk.now).shown) }
@@ -98,7 +98,7 @@ fn sorted_on<D: Disk>(disk: &D, header: &Header) -> u32
     }
 }
 
-// Where a part of a disk begins, of this geometry, whose sorted store lies in this region.
+// The offset of a part of a disk with this geometry, and with the sorted store in this region.
 pub(crate) fn offset_of(geometry: &Geometry, sorted: u32, place: Place) -> Option<u64>
     requires { sorted < 2 }
     ensures { result ≡ offset_of geometry.now sorted place }
@@ -136,7 +136,7 @@ pub(crate) fn offset_of(geometry: &Geometry, sorted: u32, place: Place) -> Optio
     }
 }
 
-// Where a row, a slot or an entry begins in a region of so many of them, each of this length.
+// The offset of a row, a slot or an entry of this length in a region of this many of them.
 fn part_at(region_at: u64, len: u64, count: u32, part: u32) -> Option<u64>
     requires { region_at + count * len ≤ 2 ^ 40 }
     ensures { result ≡ part_at region_at len count part }

@@ -93,8 +93,8 @@ pub fn dump_on<D: Disk, W: Write, N: FaultNotes<D::Fault>>(
 }
 
 /// Writes the lines that put all entries of the store on the disk of a path, in the order of their keys. The disk is
-/// opened to be read beside other readers. Returns the disk and the status: 0 after the lines, 1 if the disk is not
-/// opened or is refused.
+/// opened only for reading, and others may read it too. Returns the disk and the status: 0 after the lines, 1 if the
+/// disk is not opened or is refused.
 ///
 /// # Errors
 ///

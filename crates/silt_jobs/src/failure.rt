@@ -5,7 +5,7 @@ ghost use Rattle.silt_jobs.specs.declared.failure.Failure.{Failure as FailureOf}
 use silt_disk::{CallAt, Disk};
 use std::{fmt, io};
 
-/// A call of a disk that failed, and the system's error.
+/// A failed call of a disk, and the system's error.
 #[derive(Clone, Copy, Debug)]
 pub struct Failure {
     pub call: CallAt,
@@ -20,23 +20,23 @@ impl fmt::Display for Failure {
     }
 }
 
-/// A disk that keeps which of its reads failed first, and which of its writes and syncs failed last.
+/// A disk that keeps its first failed read, and its last failed write or sync.
 pub trait Watched: Disk {
     /// The last write or sync that failed, if one did.
     ghost last_failure: { Self → Option FailureOf };
 
-    /// The disk said that this read failed first, or that none did.
+    /// The disk reported this read as the first failed one, or that none failed.
     ghost kept_read: { Self → Option FailureOf → Type 0 };
 
     /// The last write or sync that failed, if one did.
     fn last_failure(&self) -> Option<Failure>
         ensures { result ≡ last_failure self.now };
 
-    /// The first read that failed, if one did.
+    /// The first failed read, if there is one.
     fn failed_read(&self) -> Option<Failure>
         ensures { kept_read self.now result };
 
-    /// From now on people are told of the first failed write or sync at once.
+    /// From now on the first failed write or sync is reported at once.
     fn tell_at_once(&mut self)
         ensures disk { Self.content self.new ≡ Self.content self.old }
         ensures last { last_failure self.new ≡ last_failure self.old };

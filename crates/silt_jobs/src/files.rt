@@ -23,11 +23,11 @@ use silt_words::Numbers;
 use std::alloc::Global;
 use std::io::{self, Read, Write};
 
-/// Opens or makes the disk of a path, gives it the length of the geometry of these numbers, and formats it. Returns the
-/// disk and the status: 0 after the length was written, 1 if it is refused. Numbers out of their limits are refused
-/// before the source opens a disk. What the disk holds is read before its length changes. Without `force` only a store
-/// of this program or an empty disk is overwritten; a disk with other data is refused and given back as it was found.
-/// People are told of a store before it is overwritten.
+/// Opens or makes the disk of a path, sets its length to that of the geometry of these numbers, and formats it. Returns
+/// the disk and the status: 0 after the length was written, 1 if it is refused. Numbers out of their limits are refused
+/// before the source opens a disk. The data on the disk is read before its length changes. Without `force` only a store
+/// of this program or an empty disk is overwritten. A disk with other data is refused and returned as it was found. A
+/// note reports a store before it is overwritten.
 ///
 /// # Errors
 ///
@@ -66,7 +66,7 @@ pub fn format_file<
     }
 }
 
-// Formats a disk that was found, if what it holds may be overwritten.
+// Formats a disk that was found, if its data may be overwritten.
 fn format_found<
     S: DiskSource,
     W: Write,
@@ -103,7 +103,7 @@ fn format_found<
 }
 
 /// One life of the store on the disk of a path, from the reader's lines. Returns the disk and the status: 0 at the end
-/// of the lines, 1 if the disk or the store is not opened, or the session ends before. With `tend` it does the
+/// of the lines, 1 if the disk or the store is not opened, or the session ends before that. With `tend` it does the
 /// background work that is due before each line.
 ///
 /// # Errors
@@ -188,8 +188,8 @@ where
     }
 }
 
-/// Writes what the store on the disk of a path consists of, in numbers. The disk is opened to be read beside other
-/// readers. Returns the disk and the status: 0 after the report, 1 if the disk is not opened or is refused.
+/// Writes the report of the store on the disk of a path, in numbers. The disk is opened only for reading, and others
+/// may read it too. Returns the disk and the status: 0 after the report, 1 if the disk is not opened or is refused.
 ///
 /// # Errors
 ///

@@ -71,7 +71,7 @@ pub fn out_of_limits(numbers: &Numbers) -> Option<OutOfLimits> {
     None
 }
 
-/// The six numbers of a geometry, each behind its name on the command line.
+/// The six numbers of a geometry, each after its name on the command line.
 #[derive(Clone, Copy)]
 pub struct NumbersText {
     geometry: Geometry,

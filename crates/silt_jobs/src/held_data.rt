@@ -1,4 +1,4 @@
-// What a disk holds before it is formatted, and whether that may be overwritten.
+// The data on a disk before a format, and whether it may be overwritten.
 ghost use Rattle.std.specs.Prelude.{◌≡◌, IsTrue, IfSome, MatchBool, Result as ResultOf};
 ghost use Rattle.silt_event.specs.declared.report.Report.{Report as ReportOf};
 ghost use Rattle.silt_recovery.specs.Opening.{IsReported};
@@ -14,16 +14,17 @@ use silt_recovery::check;
 use std::alloc::Global;
 use std::fmt;
 
-/// What is known of a store that a disk holds.
+/// The known facts of a store on a disk.
 #[derive(Clone, Copy, Debug, PartialEq, Eq)]
 pub struct HeldStore {
     /// Its six numbers, if its header is whole and can be read.
     pub geometry: Option<Geometry>,
-    /// How many put rows and sorted entries it has, if nothing of it is damaged and all of it can be read: no fewer than its keys.
+    /// How many put rows and sorted entries it has, at least as many as its keys. None if it is damaged or cannot be
+    /// read.
     pub charge: Option<u32>,
 }
 
-// Its numbers in brackets, and how many keys it has at most, or that something is wrong with it.
+// Its numbers in brackets, and how many keys it has at most, or that it is damaged or cannot be read.
 impl fmt::Display for HeldStore {
     fn fmt<W: fmt::Write>(&self, f: &mut fmt::Formatter<W>) -> fmt::Result {
         if let Some(geometry) = &self.geometry {
@@ -37,7 +38,7 @@ impl fmt::Display for HeldStore {
     }
 }
 
-/// What a disk holds.
+/// The data on a disk.
 #[derive(Clone, Copy, Debug, PartialEq, Eq)]
 pub enum Holding {
     /// It has no bytes.
@@ -48,8 +49,8 @@ pub enum Holding {
     Other,
 }
 
-/// Reads what a disk holds before it is formatted. Returns whether it may be overwritten: without force only a store of
-/// this program, which people are told of, or an empty disk. Else people are told why the data stays.
+/// Reads the data on a disk before a format. Returns whether it may be overwritten: without force only an empty disk or
+/// a store of this program, which a note reports. Else a note says why the data stays.
 pub fn may_overwrite<D: Disk, N: Notes + FaultNotes<D::Fault>>(
     alloc: Global,
     disk: &D,
@@ -79,7 +80,7 @@ pub fn may_overwrite<D: Disk, N: Notes + FaultNotes<D::Fault>>(
     }
 }
 
-// What a disk holds, or the fault of the read that would say it.
+// The data on a disk, or the fault of the read.
 fn look<D: Disk>(alloc: Global, disk: &D) -> Result<Holding, D::Fault>
     ensures { Looks D.Disk disk.now result }
 {
@@ -97,14 +98,14 @@ fn look<D: Disk>(alloc: Global, disk: &D) -> Result<Holding, D::Fault>
     Ok(Holding::Store(held_store(alloc, disk)))
 }
 
-// Whether the bytes behind the commit byte of a header are those of a store of this program.
+// Whether the bytes after the commit byte of a header belong to a store of this program.
 fn has_magic(header: &[u8; HEADER_LEN]) -> bool
     ensures { result ≡ has_magic header.now }
 {
     &header[1..9] == b"SILTFLSH".as_slice()
 }
 
-// What is known of the store that a disk holds.
+// The known facts of the store on a disk.
 fn held_store<D: Disk>(alloc: Global, disk: &D) -> HeldStore
     ensures { IsTrue (D.content disk.now).honest → IsFoundStore (D.content disk.now) result }
 {
@@ -114,7 +115,7 @@ fn held_store<D: Disk>(alloc: Global, disk: &D) -> HeldStore
     }
 }
 
-// The charge of the store that a disk holds, if nothing of it is damaged and all of it can be read.
+// The charge of the store on a disk, if no part of it is damaged and all of it can be read.
 fn charge_on<D: Disk>(alloc: Global, disk: &D) -> Option<u32>
     ensures { IsTrue (D.content disk.now).honest → IfSome result (λ charge. (report : ReportOf) × IsReported (D.content disk.now).shown report × (charge ≡ report.charge)) }
 {

@@ -4,7 +4,7 @@ use std::alloc::Global;
 /// How many blank lines are kept at most, by their numbers.
 const MOST_BLANK: usize = 65_536;
 
-/// What a line that has not ended has.
+/// The bytes of a line that has not ended.
 #[derive(Clone, Copy, Debug, PartialEq, Eq)]
 pub enum Begun {
     Nothing,
@@ -69,7 +69,7 @@ impl InputLines {
         }
     }
 
-    /// Whether bytes came behind the last line feed.
+    /// Whether bytes came after the last line feed.
     pub fn has_rest(&self) -> bool {
         self.begun != Begun::Nothing
     }

@@ -24,11 +24,11 @@ use silt_wire::{SessionEnd, session, write_report};
 use std::alloc::Global;
 use std::io::{self, Read, Write};
 
-/// One life of the store on the disk of a file: it opens the store and replies to the reader's lines to their end. The
-/// end flushes nothing. Gives the disk back, and the status: 0 at the end of the lines, 1 if the store is not opened or
-/// its session ends before: a read or write fails, or it is out of memory for a line or for the text of a reply. With
-/// `tend` it does the background work that is due before each line. People are told why the session ended before, which
-/// lines were refused, and which calls of the disk failed in it.
+/// One life of the store on the disk of a file, a run from its opening to the end of the lines: it opens the store and
+/// replies to the reader's lines to their end. The end flushes nothing. Returns the disk and the status: 0 at the end
+/// of the lines, 1 if the store is not opened or the session breaks off. It breaks off if a read or write fails, or if
+/// it is out of memory for a line or for the text of a reply. With `tend` it does the background work that is due
+/// before each line. Notes say why the session broke off, which lines were refused, and which calls of the disk failed.
 ///
 /// # Errors
 ///
@@ -68,7 +68,7 @@ pub fn run_on<
     }
 }
 
-/// Writes why the store on the disk of a file was not opened. Gives the disk back, and the status.
+/// Writes why the store on the disk of a file was not opened. Returns the disk and the status.
 ///
 /// # Errors
 ///
@@ -90,8 +90,8 @@ pub fn refuse_opening<D: Disk, W: Write, N: FaultNotes<D::Fault>>(
     (fault.disk, status)
 }
 
-// Writes that the store is opened, replies to the reader's lines to their end, tells people why they ended before and
-// which were refused, and gives the store back with the status.
+// Writes that the store is opened, and replies to the reader's lines to their end. Reports why the session broke off,
+// if it did, and which lines were refused. Returns the store and the status.
 fn answer_reader<
     D: Served,
     R: Read + KeepsError + KeepsLines,
@@ -121,7 +121,7 @@ fn answer_reader<
     }
 }
 
-// Replies to the reader's lines to their end, or until a call fails or memory runs out.
+// Replies to the reader's lines to their end, or until a read or write fails or memory runs out.
 fn answer_lines<D: Served, R: Read, W: Write>(
     alloc: Global,
     mut core: Core<D>,
@@ -152,8 +152,8 @@ fn status_of(end: SessionEnd) -> u8
     }
 }
 
-/// Writes what the store on the disk of a file consists of, in numbers. Returns the status: 0 after the report, 1 if
-/// the device is refused.
+/// Writes the report of the store on the disk of a file, in numbers. Returns the status: 0 after the report, 1 if the
+/// device is refused.
 ///
 /// # Errors
 ///
@@ -193,9 +193,8 @@ fn tell_charge<D: Disk, N: Notes>(file: &str, disk: &D, charge: u32, notes: &mut
     }
 }
 
-/// Does all background work of the store on the disk of a file. Gives the disk back, and the status: 0 after the line
-/// with the number of steps, 1 if the store is not opened or a step is refused. People are told which calls of the disk
-/// failed.
+/// Does all background work of the store on the disk of a file. Returns the disk and the status: 0 after the line with
+/// the number of steps, 1 if the store is not opened or a step is refused. Notes say which calls of the disk failed.
 ///
 /// # Errors
 ///
@@ -249,8 +248,8 @@ fn write_steps<W: Write>(alloc: Global, steps: Steps, writer: &mut W) -> io::Res
     Ok(0)
 }
 
-/// Makes an empty store of this geometry on the disk of a file, and writes the disk's length. Gives the disk back, and
-/// the status: 0 after the length, 1 if the disk is not formatted.
+/// Makes an empty store of this geometry on the disk of a file, and writes the disk's length. Returns the disk and the
+/// status: 0 after the length, 1 if the disk is not formatted.
 ///
 /// # Errors
 ///

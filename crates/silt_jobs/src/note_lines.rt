@@ -1,4 +1,4 @@
-// The program's messages to people, as lines of a writer.
+// The program's notes as lines of a writer.
 ghost use Rattle.std.specs.Prelude.{◌≡◌, ⊤};
 
 use crate::failure::Failure;
@@ -122,7 +122,7 @@ impl<W: Write> Notes for NoteLines<W> {
         }
     }
 
-    // A pipe that the reader of the replies has closed needs no words.
+    // If the reader of the replies closed the pipe, there is no note.
     fn tell_broken(&mut self, error: &io::Error) {
         if error.kind() != ErrorKind::BrokenPipe {
             let _ = writeln!(self.writer, "silt: {error}");
@@ -175,7 +175,8 @@ impl<W: Write, F: Display> FaultNotes<F> for NoteLines<W> {
     }
 }
 
-// Writes how many lines of an input were refused with this number, which is the first, and what helps. The first reply is to no line.
+// Writes how many lines of an input were refused with this number, which is the first, and what helps. The first reply,
+// `opened`, belongs to no line.
 fn write_refusals<W: Write>(
     writer: &mut W,
     kind: usize,
@@ -210,7 +211,7 @@ fn name_of(kind: usize) -> &'static str {
     }
 }
 
-// What helps against a refusal, behind its name.
+// What helps against a refusal. The text comes after the refusal's name.
 fn help_for(kind: usize) -> &'static str {
     match kind {
         7 => {

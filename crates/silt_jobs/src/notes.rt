@@ -1,4 +1,4 @@
-// The program's messages to people, beside what it writes for programs.
+// The program's notes: messages to people, beside its output for programs.
 ghost use Rattle.std.specs.Prelude.{◌≡◌, ℕ, IsErr, IsOk, List, Option, map, string_bytes};
 ghost use Rattle.silt_event.specs.declared.place.Place.{Place as PlaceOf};
 ghost use Rattle.silt_wire.specs.declared.sessions.SessionEnd.{SessionEnd as SessionEndOf};
@@ -22,50 +22,49 @@ use silt_wire::SessionEnd;
 use silt_words::Numbers;
 use std::io;
 
-/// Takes messages to people that are not about one disk or its source. Nothing that is written for programs depends on
-/// a note.
+/// Takes the notes that are not about one disk or its source. No output for programs depends on a note.
 pub trait Notes {
-    /// People were told why the server cannot listen on this port of this machine.
+    /// A note says why the server cannot listen on this port of this machine.
     ghost told_port: { Self → Self → ℕ → Type 0 };
 
-    /// People were told that the file of this name holds this store, which will be overwritten.
+    /// A note says that the file of this name has this store, which will be overwritten.
     ghost told_store: { Self → Self → List ℕ → HeldStoreOf → Type 0 };
 
-    /// People were told that the file of this name holds other data, which stays.
+    /// A note says that the file of this name has other data, which stays.
     ghost told_other: { Self → Self → List ℕ → Type 0 };
 
-    /// People were told which of these numbers is out of its limits.
+    /// A note says which of these numbers is out of its limits.
     ghost told_numbers: { Self → Self → NumbersOf → Type 0 };
 
-    /// People were told the six numbers of the store in the file of this name, and its charge.
+    /// A note has the six numbers of the store in the file of this name, and its charge: the number of live rows.
     ghost told_charge: { Self → Self → List ℕ → Shape → ℕ → Type 0 };
 
-    /// People were told which lines of this input were refused, by these replies.
+    /// A note says which lines of this input were refused, by these replies.
     ghost told_tally: { Self → Self → InputLinesOf → TallyOf → Type 0 };
 
-    /// People were told that this call failed on the disk of the file of this name.
+    /// A note says that this call failed on the disk of the file of this name.
     ghost told_failure: { Self → Self → List ℕ → FailureOf → Type 0 };
 
-    /// People were told that this call failed, and with it the store.
+    /// A note says that this call failed, and with it the store.
     ghost told_failed_store: { Self → Self → FailureOf → Type 0 };
 
-    /// People were told why a session broke off, with the error of its reader or its writer, if that is why.
+    /// A note says why a session broke off, with the error of its reader or its writer, if that is why.
     ghost told_end: { Self → Self → SessionEndOf → Option StreamErrorOf → Type 0 };
 
-    /// People were told why the reader or the writer failed.
+    /// A note says why the reader or the writer failed.
     ghost told_broken: { Self → Self → Type 0 };
 
-    /// People were told why these words name no job.
+    /// A note says why these words name no job.
     ghost told_words: { Self → Self → List (List ℕ) → Type 0 };
 
     /// Reports why the server cannot listen on this port.
     fn tell_port(&mut self, port: u16, error: &io::Error)
         ensures { told_port self.old self.new port };
 
-    /// Reports that the file of this name holds this store, which will be overwritten.
+    /// Reports that the file of this name has this store, which will be overwritten.
     fn tell_store(&mut self, file: &str, store: &HeldStore)
         ensures { told_store self.old self.new file.now store.now };
-    /// Reports that the file of this name holds other data, which stays.
+    /// Reports that the file of this name has other data, which stays.
     fn tell_other(&mut self, file: &str)
         ensures { told_other self.old self.new file.now };
 
@@ -94,7 +93,7 @@ pub trait Notes {
     fn tell_broken(&mut self, error: &io::Error)
         ensures { told_broken self.old self.new };
 
-    /// Reports which words would name a job, and what is wrong with these.
+    /// Reports which words would name a job, and what is wrong with these words.
     fn tell_words(&mut self, words: &[String])
         ensures { told_words self.old self.new (map string_bytes words.now) };
 }
@@ -117,7 +116,7 @@ fn tell_call<N: Notes>(file: &str, failure: Option<Failure>, notes: &mut N)
     }
 }
 
-/// Reports why a session with this reader and this writer broke off, if it did not come to the end of its lines.
+/// Reports why a session with this reader and this writer broke off, if it did not reach the end of its lines.
 pub fn tell_end<R: KeepsError, W: KeepsError, N: Notes>(
     end: SessionEnd,
     reader: &R,
@@ -144,9 +143,9 @@ pub fn tell_error_of<N: Notes>(ended: &io::Result<u8>, notes: &mut N)
     }
 }
 
-/// Takes messages on why there is no disk. `E` is the error of the disks' source.
+/// Takes the notes about a missing disk. `E` is the error of the disks' source.
 pub trait SourceNotes<E> {
-    /// People were told that the disk of the file of this name could not be opened, with this error.
+    /// A note says that the disk of the file of this name could not be opened, with this error.
     ghost told_error: { Self → Self → List ℕ → E → Type 0 };
 
     /// Reports why there is no disk of the file of this name.
@@ -154,16 +153,16 @@ pub trait SourceNotes<E> {
         ensures { told_error self.old self.new file.now error.now };
 }
 
-/// Takes messages on why a call of a disk failed, and which part of a disk is damaged. `F` is the disk's fault.
+/// Takes the notes about failed calls and damaged parts of a disk. `F` is the disk's fault.
 pub trait FaultNotes<F> {
-    /// People were told of this fault on the disk of the file of this name.
+    /// A note reports this fault of the disk of the file of this name.
     ghost told_fault: { Self → Self → List ℕ → F → Type 0 };
 
-    /// People were told that this part of the disk of the file of this name is damaged, and where it begins, if that is
+    /// A note says that this part of the disk of the file of this name is damaged, and where it begins, if that is
     /// known.
     ghost told_damage: { Self → Self → List ℕ → PlaceOf → Option ℕ → Type 0 };
 
-    /// People were told that the disk of the file of this name holds no store.
+    /// A note says that the disk of the file of this name has no store.
     ghost told_no_store: { Self → Self → List ℕ → Type 0 };
 
     /// Reports why a call of the disk of the file of this name failed.
@@ -174,12 +173,13 @@ pub trait FaultNotes<F> {
     fn tell_damage(&mut self, file: &str, place: Place, at: Option<u64>)
         ensures { told_damage self.old self.new file.now place at };
 
-    /// Reports that the disk of the file of this name holds no store.
+    /// Reports that the disk of the file of this name has no store.
     fn tell_no_store(&mut self, file: &str)
         ensures { told_no_store self.old self.new file.now };
 }
 
-/// Reports the fault of a disk, the damage that begins there, or that there is no store, if the refusal is one of these.
+/// Reports the fault of a disk, the damage that begins at this offset, or that there is no store, if the refusal is one
+/// of these.
 pub fn tell_refusal<F, N: FaultNotes<F>>(
     file: &str,
     refusal: &Refusal<F>,

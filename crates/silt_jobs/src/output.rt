@@ -1,4 +1,4 @@
-// Texts that go out at once.
+// Texts that are written at once.
 ghost use Rattle.std.specs.Prelude.{OnOk};
 ghost use Rattle.std.specs.Io.KnownBytes.{Appends};
 

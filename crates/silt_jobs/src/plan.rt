@@ -53,7 +53,7 @@ fn plan(request: &PlanRequest) -> Option<Geometry>
     None
 }
 
-// Whether half as many buckets were too few.
+// Whether half as many buckets would be too few.
 fn is_needed(request: &PlanRequest, buckets: u32) -> bool
     requires { buckets ≤ 32768 }
     ensures { result ≡ is_needed request.now buckets }
@@ -91,7 +91,7 @@ fn fits_memory(memory: Option<u32>, bytes: u64) -> bool
     }
 }
 
-// A number behind a word.
+// A word and a number.
 #[tactic(auto, unfolding(crate::specs::Plans::number_after))]
 fn number_after(alloc: Global, word: &str, number: u64) -> Result<String, AllocError>
     ensures { IfOk result (λ text. string_bytes text ≡ number_after word.now number) }

@@ -1,4 +1,4 @@
-// How far the opening of a store is, for people.
+// The progress of the opening of a store, for people.
 ghost use Rattle.std.specs.Prelude.{◌≡◌, ◌-◌, ◌%◌, nat_le};
 ghost use Rattle.std.specs.Io.KnownBytes.{Keeps, WriteAppends};
 ghost use Rattle.std.specs.Io.{WritesAtMost};
@@ -6,21 +6,21 @@ ghost use Rattle.std.specs.Io.{WritesAtMost};
 use std::io::{self, Stderr, Write};
 use std::sync::atomic::{AtomicBool, AtomicU64, Ordering};
 
-/// The cost of reads after which the line is written anew: 16 MiB, or 65,536 heads of rows.
+/// The line is written again after reads of this cost: 16 MiB, or 65,536 heads of rows.
 const STEP: u64 = 16_777_216;
 
-/// What a read costs at least.
+/// The least cost of a read.
 const LEAST: usize = 256;
 
-/// The progress of an opening, as one line of a terminal. It is written anew after much more was read, and ended before
-/// any other note or reply. A short opening shows none. The disk that is opened reports its reads; contracts see
-/// nothing of it.
+/// The progress of an opening, as one line of a terminal. The line is written again when much more was read, and ends
+/// before any other note or reply. A short opening shows none. The disk reports its reads here; no contract speaks of
+/// it.
 #[derive(Drop)]
 pub struct Progress {
     terminal: Option<Stderr>,
     bytes: AtomicU64,
     cost: AtomicU64,
-    // The length of the file, as far as it was shown.
+    // The length of the file in the last line.
     len: AtomicU64,
     is_shown: AtomicBool,
     is_over: AtomicBool,
@@ -60,7 +60,7 @@ impl Progress {
         None
     }
 
-    // Writes the line anew.
+    // Writes the line again.
     fn show(&self, bytes: u64, len: u64) {
         if let Some(mut terminal) = self.terminal {
             let _ = write_line(&mut terminal, bytes, len);
@@ -69,7 +69,7 @@ impl Progress {
         }
     }
 
-    /// The opening is over. A line on the terminal is written anew and ended, and none is shown from now on.
+    /// The opening is over. A line on the terminal is written again and ended, and no more are shown.
     pub fn end(&self) {
         if self.is_over.load(Ordering::SeqCst) {
             return;
@@ -82,7 +82,7 @@ impl Progress {
     }
 }
 
-// Whether a read of this cost passes the next step, or comes to it.
+// Whether a read of this cost reaches the next step.
 pub(crate) fn is_due(before: u64, cost: u64) -> bool
     ensures { result ≡ nat_le (16777216 - before % 16777216) cost }
 {
@@ -104,7 +104,7 @@ pub(crate) fn write_end<W: Write>(to: &mut W, bytes: u64, len: u64) -> io::Resul
     to.write_all(b", 100 percent of what it needs\n")
 }
 
-/// A writer before whose first bytes the line of an opening is ended.
+/// A writer that ends the line of an opening before it writes its first bytes.
 #[derive(Drop)]
 pub struct AfterProgress<'a, W> {
     writer: W,
@@ -112,7 +112,7 @@ pub struct AfterProgress<'a, W> {
 }
 
 impl<'a, W> AfterProgress<'a, W> {
-    /// This writer, behind the opening whose progress this is.
+    /// This writer, which ends the line of this progress.
     pub fn new(writer: W, progress: &'a Progress) -> AfterProgress<'a, W>
         ensures { result.writer ≡ writer }
     {

@@ -26,8 +26,8 @@ use std::alloc::Global;
 use std::io::{self, ErrorKind, Read, Write};
 
 /// Reads a script to its end, runs its lives over a new store of these numbers on a disk in memory, and then writes the
-/// replies. Returns the status: 0 at the end of the replies, 1 if the script or the store is refused. People are told
-/// of numbers out of their limits.
+/// replies. Returns the status: 0 at the end of the replies, 1 if the script or the store is refused. A note says which
+/// number is out of its limits.
 ///
 /// # Errors
 ///
@@ -64,8 +64,8 @@ pub fn run_script<R: Read, W: Write, N: Notes>(
     }
 }
 
-// Runs lives over a new store, each stopped by its stop and the last one at its end. They are refused as a new store
-// is, or if out of memory.
+// Runs lives over a new store. A stop ends each of them, and the last one ends with its events. They are refused as a
+// new store is, or if out of memory.
 fn run_lives(
     alloc: Global,
     geometry: Geometry,

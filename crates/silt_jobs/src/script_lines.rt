@@ -15,7 +15,7 @@ use std::alloc::{AllocError, Global};
 use std::io::{self, ErrorKind, Read};
 use std::mem;
 
-/// What a line of a script is, in its place.
+/// The kind of a line of a script.
 #[derive(Clone, Copy, Debug, PartialEq, Eq)]
 pub enum Mark {
     /// It asks for an event, the next of its life.
@@ -195,8 +195,8 @@ impl Reading {
     }
 }
 
-/// Reads a script to the reader's end, for a store whose values have `value_len` bytes. Bytes after the last line feed are no
-/// line, and blank lines are nothing.
+/// Reads a script to the reader's end, for a store whose values have `value_len` bytes. Bytes after the last line feed
+/// are no line, and blank lines are skipped.
 ///
 /// # Errors
 ///

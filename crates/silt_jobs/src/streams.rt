@@ -1,4 +1,4 @@
-// Readers and writers that keep the error of their last call, and what notes need of the lines that pass.
+// Readers and writers that keep the error of their last call, and what the notes need about their lines.
 ghost use Rattle.std.specs.Prelude.{◌≡◌, Option, Some, None, IfErr, IfOk, take};
 ghost use Rattle.std.specs.Io.KnownBytes.{Keeps, ReadConsumes, WriteAppends};
 ghost use Rattle.std.specs.Io.{ReadsAtMost, WritesAtMost};
@@ -28,7 +28,7 @@ pub trait KeepsError {
         ensures { result ≡ kept_error self.now };
 }
 
-/// A reader that keeps what is known of its lines.
+/// A reader that keeps facts about its lines.
 pub trait KeepsLines {
     /// The lines that were read.
     ghost kept_lines: { Self → InputLinesOf };
@@ -48,7 +48,7 @@ pub trait KeepsTally {
         ensures { result.now ≡ kept_tally self.now };
 }
 
-/// A reader that keeps the error of its last read, and passes on what it reads as it is.
+/// A reader that keeps the error of its last read, and passes on what it reads unchanged.
 #[derive(Drop)]
 pub struct WatchedReader<R> {
     reader: R,
@@ -107,7 +107,7 @@ impl<R> KeepsLines for WatchedReader<R> {
     }
 }
 
-/// A writer that keeps the error of its last write or flush, and passes on what it is given as it is.
+/// A writer that keeps the error of its last write or flush, and passes on its bytes unchanged.
 #[derive(Drop)]
 pub struct WatchedWriter<W> {
     writer: W,

@@ -70,7 +70,7 @@ pub struct Tally {
 }
 
 impl Tally {
-    /// Of an output with nothing in it.
+    /// The tally of an empty output.
     pub fn new() -> Self
         ensures { result ≡ untold }
     {
@@ -101,7 +101,7 @@ impl Tally {
         }
     }
 
-    // Ends a line. What is no refusal is counted under the number 0.
+    // Ends a line. A line that is no refusal is counted under the number 0.
     fn end_line(&mut self)
         ensures { self.new ≡ line_ended self.old }
     {
@@ -146,7 +146,7 @@ fn refusal_in(begun: &[u8]) -> usize
     refusal_number(begun[8], begun[9])
 }
 
-// The number of one digit before a space, or of two.
+// The number of one digit before a space, or of two digits.
 fn refusal_number(first: u8, second: u8) -> usize
     ensures { result ≡ refusal_number first second }
 {

@@ -1,4 +1,4 @@
-// The replies of a script's lives, each in the place of its line.
+// The output of a script: the replies of its lives in the order of its lines.
 ghost use Rattle.std.specs.Prelude.{◌≡◌, ◌<◌, ◌+◌, ◌^◌, length, OnOk};
 ghost use Rattle.std.specs.Io.KnownBytes.{Appends};
 ghost use Rattle.std.specs.List.{slice_get};
@@ -18,7 +18,7 @@ pub struct LinePlace {
 }
 
 impl LinePlace {
-    // Before the first line.
+    // The place of the first line.
     fn start() -> Self
         ensures { result ≡ start }
     {
@@ -95,7 +95,7 @@ fn write_fault<F: Drop, W: Write>(
     }
 }
 
-// Writes what a line in its place has.
+// Writes the text for a line in its place.
 fn write_mark<F: Drop, W: Write>(
     alloc: Global,
     lives: &[LifeReply<F>],
@@ -116,11 +116,12 @@ fn write_mark<F: Drop, W: Write>(
     }
 }
 
-/// Writes the text of a script: how each life begins, the reply to each line that has one, and `stopped` for each stop line.
+/// Writes the output of a script: how each life begins, the reply to each line that has one, and `stopped` for each
+/// stop line.
 ///
 /// # Errors
 ///
-/// The writer's, and out of memory for the text of a reply.
+/// An error of the writer, or out of memory for the text of a reply.
 pub fn write_script<F: Drop, W: Write>(
     alloc: Global,
     marks: &[Mark],

@@ -18,9 +18,9 @@ use std::sync::OnceLock;
 // The fault of a disk in a file.
 type FileFault = <FileDisk as Disk>::Fault;
 
-/// A disk in a file that keeps which of its reads failed first, and which of its writes and syncs failed last. Reads share the disk, so the
-/// one that failed is kept where it can be written once. Where it is to tell at once, its notes say which write or sync failed first. While it is
-/// opened its reads are shown.
+/// A disk in a file that keeps its first failed read, and its last failed write or sync. Reads share the disk, so a
+/// cell that can be written once keeps the failed one. A disk that reports at once has a note for its first failed
+/// write or sync. The progress line shows the reads of an opening.
 #[derive(Drop)]
 pub struct WatchedFile<'a, N> {
     disk: FileDisk,
@@ -93,7 +93,7 @@ impl<N: Notes + Send + Sync + Drop> Disk for WatchedFile<'_, N> {
 }
 
 impl<N: Notes> WatchedFile<'_, N> {
-    // Keeps which call on the file failed with this fault, and gives the fault back.
+    // Keeps which call on the file failed with this fault, and returns the fault.
     fn keep(&mut self, fault: FileFault) -> FileFault
         ensures fault { result ≡ fault }
         ensures disk { self.new.disk ≡ self.old.disk }
@@ -109,7 +109,7 @@ impl<N: Notes> WatchedFile<'_, N> {
     }
 }
 
-// The call on the file that failed with this fault: it may be the write of bytes that were buffered before.
+// The call on the file that failed with this fault. It may be a write of bytes that were buffered before.
 fn failure_of(fault: &FileFault) -> Failure
     ensures { result ≡ record { call = record { call = fault.now.inner.call; at = fault.now.inner.at }; error = fault.now.inner.error } }
 {
@@ -139,7 +139,7 @@ impl<N: Notes + Send + Sync + Drop> Watched for WatchedFile<'_, N> {
     }
 }
 
-// For these notes alone: where it is for any, what the checker knows of threads rests on a bound of theirs.
+// Only for these notes: for a generic type of notes the checker would need one of its bounds in other threads.
 impl Served for WatchedFile<'_, NoteLines<Stderr>> {
     fn answer_on(core: &mut Core<Self>, alloc: Global, event: &Event) -> Reply<()> {
         core.answer(alloc, event).plain()
@@ -155,7 +155,8 @@ pub struct WatchedFiles<'a, S, N> {
 }
 
 impl<'a, S, N> WatchedFiles<'a, S, N> {
-    /// The files of this source. Where a disk is to tell at once, these notes take it, and how far its opening is goes to this progress.
+    /// The files of this source. A disk that reports at once uses these notes, and this progress shows how far its
+    /// opening is.
     pub fn new(files: S, notes: N, progress: &'a Progress) -> WatchedFiles<'a, S, N>
         ensures { result.files ≡ files }
     {
@@ -167,7 +168,7 @@ impl<'a, S, N> WatchedFiles<'a, S, N> {
     }
 }
 
-// The disk in a file on which no call has failed.
+// The disk in a file, with no failed call.
 fn watched<N>(disk: FileDisk, notes: N, progress: &Progress) -> WatchedFile<'_, N>
     ensures { (result.disk ≡ disk) × (result.last ≡ None) }
 {

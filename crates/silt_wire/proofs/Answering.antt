@@ -244,7 +244,7 @@ pub on-ok-both : {T E : Type 0} (P Q : Type 0) (r : Result T E) → OnOk r P →
 on-ok-both P Q (Ok x) p q = (p, q)
 on-ok-both P Q (Err e) p q = tt
 
--- what follows both from what holds on Ok and from what holds on Err
+-- what follows both from what is true on Ok and from what is true on Err
 pub if-either : {T E Q : Type 0} {P : T → Type 0} (r : Result T E) → ((x : T) → P x → Q) → IfOk r P → OnErr r Q → Q
 if-either (Ok x) f p q = f x p
 if-either (Err e) f p q = q

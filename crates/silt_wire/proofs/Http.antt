@@ -1,4 +1,4 @@
--- What a guard hands on, and that a session does nothing for an HTTP request.
+-- What a guard passes on, and that a session does nothing for an HTTP request.
 use Rattle.std.proofs.Common.{◌≡◌, ◌⊎◌, ◌==◌, ◌&&◌, ◌+◌, ◌<◌, ◌≤◌, inl, inr, ℕ, suc, zero, Bool, true, false, cond, List, [], ◌∷◌, ◌++◌, length, take, drop, get_or, Option, Some, None, option_map, refl, sym, ap, subst, ◌∙◌, append_assoc, arith, take-append-drop}
 use Rattle.std.specs.Prelude.{IfSome, nat_lt}
 use Rattle.std.proofs.lemmas.Grind.{common_steps}
@@ -15,12 +15,12 @@ use Rattle.silt_wire.specs.declared.sessions.SessionEnd.TheVariants.{End, ReadFa
 
 -- ---- byte by byte
 
--- behind a first line without the mark all is handed on
+-- after a first line without the mark all is passed on
 pub passed_all : (bytes : List ℕ) → handed_on Passed bytes ≡ bytes
 passed_all [] = refl
 passed_all (b ∷ bytes) = ap (λ l. b ∷ l) (passed_all bytes)
 
--- nothing is handed on after the mark
+-- nothing is passed on after the mark
 pub refused_none : (bytes : List ℕ) → handed_on Refused bytes ≡ []
 refused_none [] = refl
 refused_none (b ∷ bytes) = refl
@@ -35,7 +35,7 @@ refused_is (Open n) e = absurd (cc)
 refused_is Passed e = absurd (cc)
 refused_is Refused e = refl
 
--- of these bytes and any that follow, this many are handed on, and then what is handed on of the rest
+-- of these bytes and any that follow, this many are passed on, and then what is passed on of the rest
 abbrev pub HandsOn : FirstLine → List ℕ → FirstLine → ℕ → Type 0
 HandsOn line bytes after at = (rest : List ℕ) → handed_on line (bytes ++ rest) ≡ take at bytes ++ handed_on after (drop at bytes ++ rest)
 
@@ -61,7 +61,7 @@ hands_passed line bytes is = λ rest.
 
 -- ---- reads
 
--- of what one read gave so much is handed on
+-- of the bytes of one read this many are passed on
 pub hands_read : (line after : FirstLine) (old new : Option (List ℕ)) (buf : List ℕ) (count given : ℕ) → given ≤ count → Consumes old new (take count buf)
     → ((rest : List ℕ) → handed_on line (take count buf ++ rest) ≡ take given (take count buf) ++ handed_on after rest)
     → Consumes (option_map (handed_on line) old) (option_map (handed_on after) new) (take given buf)
@@ -78,13 +78,13 @@ pub ended_end : (line : FirstLine) (known : Option (List ℕ)) → IsAtEnd known
 ended_end line None is = tt
 ended_end line (Some xs) is = ap (handed_on line) is
 
--- once it is refused, the reader gives nothing more
+-- after the refusal the reader returns no more bytes
 pub refused_reads : (line : FirstLine) (known : Option (List ℕ)) → is_turned_away line ≡ true
     → Consumes (option_map (handed_on line) known) (option_map (handed_on line) known) []
 refused_reads line None is = tt
 refused_reads line (Some xs) is = refl
 
--- the reader gives nothing only at the end
+-- the reader returns no bytes only at the end
 pub given_end : (line : FirstLine) (new : Option (List ℕ)) (buf : List ℕ) (count given : ℕ) → count ≤ length buf
     → (count ≡ 0 → 0 < length buf → IsAtEnd new) → (given ≡ 0 → 0 < length (take count buf) → is_turned_away line ≡ true)
     → given ≡ 0 → 0 < length buf → IsAtEnd (option_map (handed_on line) new)
@@ -119,8 +119,8 @@ ends_line-front (x ∷ xs) ys h =
 ends_line-take : (n : ℕ) (xs : List ℕ) → ends_line xs ≡ false → ends_line (take n xs) ≡ false
 ends_line-take n xs h = ends_line-front (take n xs) (drop n xs) (ap ends_line (take-append-drop n xs) ∙ h)
 
--- one byte more of a first line: a line feed passes it; or it completes the mark; or its last bytes are this many of the mark,
--- behind others that end no line
+-- one byte more of a first line: a line feed ends it without the mark; or it completes the mark; or its last bytes are the first ones of
+-- the mark, this many, after others that end no line
 data Step (n b : ℕ) (line : FirstLine) : Type 0 where
   passes : b ≡ 10 → line ≡ Passed → Step n b line
   refuses : take n http_mark ++ b ∷ [] ≡ http_mark → line ≡ Refused → Step n b line
@@ -132,7 +132,7 @@ is_equal x y e = grind (arith, common_steps)
 is_marked : (n b : ℕ) → (nat_lt n 6 && (b == get_or http_mark n 0)) ≡ true → (n < 6) × (b ≡ get_or http_mark n 0)
 is_marked n b e = grind (arith, common_steps)
 
--- so much of the mark, and its next byte
+-- this many bytes of the mark, and its next byte
 mark_more : (n b : ℕ) → n < 6 → b ≡ get_or http_mark n 0 → take n http_mark ++ b ∷ [] ≡ take (n + 1) http_mark
 mark_more n b inside is = ap (λ x. take n http_mark ++ x ∷ []) is ∙ sym (take_more http_mark n 0 inside)
 
@@ -161,7 +161,7 @@ step_by n b false e = step_behind n b (b == 32) e refl
 step : (n b : ℕ) → Step n b (open_after n b)
 step n b = step_by n b (b == 10) refl
 
--- of a first line with the mark no line end is handed on
+-- no line end of a first line with the mark is passed on
 http_given : (n : ℕ) (front back : List ℕ) → ends_line front ≡ false → ends_line (handed_on (Open n) (front ++ (http_mark ++ back))) ≡ false
 http_given n [] back none = refl
 http_given n (x ∷ front) back none =
@@ -179,7 +179,7 @@ http_given n (x ∷ front) back none =
 abbrev HasMark : ℕ → List ℕ → Type 0
 HasMark n bytes = (front : List ℕ) × (back : List ℕ) × (ends_line front ≡ false) × (take n http_mark ++ bytes ≡ front ++ (http_mark ++ back))
 
--- the mark is found behind one byte more
+-- the mark is found after one byte more
 mark_behind : (n m x : ℕ) (bytes before : List ℕ) → take n http_mark ++ x ∷ [] ≡ before ++ take m http_mark → ends_line before ≡ false
     → HasMark m bytes → HasMark n (x ∷ bytes)
 mark_behind n m x bytes before mark clear has = (
@@ -193,7 +193,7 @@ mark_behind n m x bytes before mark clear has = (
       ∙ sym (append_assoc before has.0 (http_mark ++ has.1)),
 )
 
--- all bytes are handed on, or the first line has the mark
+-- all bytes are passed on, or the first line has the mark
 given_or_http : (n : ℕ) (bytes : List ℕ) → (handed_on (Open n) bytes ≡ bytes) ⊎ HasMark n bytes
 given_or_http n [] = inl refl
 given_or_http n (x ∷ bytes) =

@@ -67,7 +67,7 @@ Consumes-keeps (Some a) (Some b) (Some c) xs h k = h ∙ ap (λ z. xs ++ z) (sym
 abbrev EndNone : List ℕ → Type 0
 EndNone bytes = (k : ℕ) → k < length bytes → (get_or bytes k 0 == 10) ≡ false
 
--- nor is one of those behind the first
+-- nor is one of those after the first
 EndNone-rest : (x : ℕ) (xs : List ℕ) → EndNone (x ∷ xs) → EndNone xs
 EndNone-rest x xs h = λ k lt. h (suc k) (omega arith)
 
@@ -128,7 +128,7 @@ rest_after-unended p bytes e = rest_after-none p bytes (EndNone-position bytes e
 
 -- ---- what a line buffer took
 
--- the first line feed ended the line, and the buffer holds it
+-- the first line feed ended the line, and the buffer has it
 pub taken-line : (begun bytes : List ℕ) (at : ℕ) (front : List ℕ) (pending : LineBuffer) → position (λ b. b == 10) bytes ≡ Some at → front ≡ take at bytes → HoldsBytes pending (begun ++ front)
     → TakesPiece begun bytes (record { count = at + 1; ends_line = true }) pending
 taken-line begun bytes at front pending e is h = record {
@@ -162,7 +162,7 @@ pub piece-over : (begun bytes : List ℕ) (taken : Taken) (pending : LineBuffer)
 piece-over begun bytes taken pending e h =
     subst (λ b. MatchBool b (rest_after begun (take taken.count bytes) ≡ []) (taken.count ≡ length bytes)) e h.rest
 
--- if no line was ended there was no line feed, and the buffer holds all bytes
+-- if no line was ended there was no line feed, and the buffer has all bytes
 pub piece-open : (begun bytes : List ℕ) (taken : Taken) (pending : LineBuffer) → taken.ends_line ≡ false → TakesPiece begun bytes taken pending
     → HoldsBytes pending (rest_after begun (take taken.count bytes)) × (lines_after begun (take taken.count bytes) ≡ [])
 piece-open begun bytes taken pending e h =

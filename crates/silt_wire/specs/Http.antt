@@ -4,7 +4,7 @@ use Rattle.silt_wire.specs.declared.http_guard.FirstLine.{FirstLine}
 use Rattle.silt_wire.specs.declared.http_guard.FirstLine.TheVariants.{Open, Passed, Refused}
 use Rattle.silt_wire.specs.declared.http_guard.HttpGuard.{HttpGuard}
 
--- the first line of an HTTP request has these bytes, and no line that asks for something has them
+-- the first line of an HTTP request has these bytes, and no line with a valid request has them
 abbrev pub http_mark : List ℕ
 http_mark = codes " HTTP/"
 
@@ -17,7 +17,7 @@ ends_line (b ∷ bytes) = if b == 10 then true else ends_line bytes
 abbrev pub IsHttp : List ℕ → Type 0
 IsHttp bytes = (front : List ℕ) × (back : List ℕ) × (ends_line front ≡ false) × (bytes ≡ front ++ (http_mark ++ back))
 
--- what the guard hands on to a session: of an HTTP request no whole line, and else all bytes
+-- what the guard passes on to a session: no whole line of an HTTP request, and else all bytes
 abbrev pub Guards : Option (List ℕ) → Option (List ℕ) → Type 0
 Guards None given = Unit {0}
 Guards (Some bytes) None = ⊥
@@ -25,7 +25,7 @@ Guards (Some bytes) (Some given) = (IsHttp bytes → ends_line given ≡ false) 
 
 -- ---- byte by byte
 
--- a first line whose last bytes are this many of the mark, after one more byte
+-- a first line after one more byte, if its last bytes were the first ones of the mark, this many
 abbrev pub open_after : ℕ → ℕ → FirstLine
 open_after matched b =
     if b == 10 then Passed
@@ -47,7 +47,7 @@ abbrev pub is_passed : FirstLine → Bool
 is_passed Passed = true
 is_passed line = false
 
--- what is handed on of bytes: all before the one that completes the mark in the first line
+-- the bytes that are passed on: all before the one that completes the mark in the first line
 abbrev pub handed_on : FirstLine → List ℕ → List ℕ
 handed_on line [] = []
 handed_on line (b ∷ bytes) = if is_turned_away (line_after line b) then [] else b ∷ handed_on (line_after line b) bytes

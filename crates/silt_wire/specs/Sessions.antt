@@ -58,7 +58,7 @@ pub record SessionState (A : Type 0) : Type 0 where
 -- ---- what an answerer does
 
 module _ {A : Type 0} (answers : A → A → Event → PlainReply → Type 0) where
-  -- each event is given its reply, one after the other
+  -- each event gets its reply, one after the other
   abbrev pub AnswersEach : A → List Event → List PlainReply → A → Type 0
   AnswersEach old [] [] new = new ≡ old
   AnswersEach old (event ∷ events) (reply ∷ replies) new = (mid : A) × answers old mid event reply × AnswersEach mid events replies new
@@ -75,7 +75,7 @@ module _ {A : Type 0} (answers : A → A → Event → PlainReply → Type 0) wh
       (events : List Event) × (replies : List PlainReply) × (out : List ℕ) × IsBeginning events (events_of asked) × AnswersEach old events replies new
       × IsBeginning out (texts_of asked replies) × Appends before after out
 
-  -- the answerer replied to all lines that these bytes end, behind those of a line in progress, and exactly the replies were written
+  -- the answerer replied to all lines that these bytes end, after those of a line in progress, and exactly the replies were written
   abbrev pub ServesAll : ℕ → List ℕ → List ℕ → A → A → Option (List ℕ) → Option (List ℕ) → Type 0
   ServesAll value_len begun bytes old new before after = AnswersAll (asks value_len (lines_after begun bytes)) old new before after
 

@@ -10,13 +10,14 @@ use silt_event::Answerer;
 use std::alloc::Global;
 use std::io::{self, Read, Write};
 
-/// The first line of an HTTP request has these bytes. No line that asks for something has them, as no key and no value begins so.
+/// The first line of an HTTP request has these bytes. No line with a valid request has them, since no key and no value
+/// begins with them.
 const MARK: [u8; 6] = *b" HTTP/";
 
 /// What is known of the first line of a client.
 #[derive(Clone, Copy)]
 pub enum FirstLine {
-    /// It goes on, and its last bytes are this many of the mark.
+    /// It is in progress, and its last bytes are the first ones of the mark, this many.
     Open(usize),
     /// It has ended without the mark.
     Passed,
@@ -49,7 +50,7 @@ impl FirstLine {
     }
 }
 
-// The state of a first line whose last bytes are this many of the mark, after one more byte.
+// The state of a first line after one more byte, if its last bytes were the first ones of the mark, this many.
 fn open_after(matched: usize, byte: u8) -> FirstLine
     ensures { result ≡ open_after matched byte }
 {
@@ -69,7 +70,7 @@ fn open_after(matched: usize, byte: u8) -> FirstLine
     }
 }
 
-// What is known after these bytes, and how many of them are handed on.
+// What is known after these bytes, and how many of them are passed on.
 fn look_through(line: FirstLine, bytes: &[u8]) -> (FirstLine, usize)
     ensures given { (rest : List ℕ) → handed_on line (bytes.now ++ rest) ≡ take result.1 bytes.now ++ handed_on result.0 rest }
     ensures count { result.1 ≤ length bytes.now }
@@ -88,7 +89,7 @@ fn look_through(line: FirstLine, bytes: &[u8]) -> (FirstLine, usize)
     (line, bytes.len())
 }
 
-/// Hands on what a reader gives, but ends at an HTTP request, before any line of it has ended.
+/// Passes on the bytes of a reader, but ends at an HTTP request, before any line of the request has ended.
 #[derive(Drop)]
 pub(crate) struct HttpGuard<R> {
     inner: R,
@@ -98,7 +99,7 @@ pub(crate) struct HttpGuard<R> {
 impl<R: Read> HttpGuard<R> {
     ghost use Rattle.silt_wire.specs.Http.{Guards, guard_remaining};
 
-    // A guard of a reader that has given nothing yet.
+    // A guard of a reader that has not been read yet.
     fn new(inner: R) -> HttpGuard<R>
         ensures { Guards (R.remaining inner) (guard_remaining R.remaining result) }
     {
@@ -125,8 +126,8 @@ impl<R: Read> Read for HttpGuard<R> {
     }
 }
 
-/// Replies to the lines of a client as `session` does. To an HTTP request it replies with nothing, and ends at the
-/// first line.
+/// Replies to the lines of a client as `session` does. It writes no reply to an HTTP request, and ends at its first
+/// line.
 pub fn client_session<A: Answerer, R: Read + Drop, W: Write>(
     alloc: Global,
     value_len: usize,

@@ -1,4 +1,4 @@
-// What is kept of a line that has not ended.
+// The bytes of a line in progress.
 ghost use Rattle.std.specs.Prelude.{◌≡◌, ◌==◌, ◌++◌, ◌<◌, ◌≤◌, [], ℕ, List, length, position, OnOk, IfOk};
 ghost use Rattle.silt_event.specs.Events.{HasValueOf};
 ghost use Rattle.silt_wire.specs.Lines.{Parses, asked_by, is_blank};
@@ -40,8 +40,8 @@ impl LineBuffer {
         })
     }
 
-    /// Takes bytes up to the first line feed, or all if there is none. It holds a line that has ended, without its line
-    /// feed, until the line is forgotten.
+    /// Takes bytes up to the first line feed, or all if there is none. A line that has ended is kept, without its line
+    /// feed, until the line is cleared.
     pub fn take(&mut self, bytes: &[u8]) -> Result<Taken, AllocError>
         ensures takes { IfOk result (λ taken. (begun : List ℕ) → HoldsBytes self.old begun → TakesPiece begun bytes.now taken self.new) }
         ensures count { IfOk result (λ taken. (0 < length bytes.now → 0 < taken.count) × (taken.count ≤ length bytes.now)) }

@@ -18,11 +18,11 @@ pub struct Service<'a> {
     pub file: &'a str,
     /// The port to listen on. For 0 the system chooses one.
     pub port: u16,
-    /// If a record is kept, the most calls that it keeps.
+    /// The most calls of the record, if one is kept.
     pub audit: Option<u32>,
-    /// If the server ends, after how many sessions (at least one).
+    /// After how many sessions, at least one, the server ends. None if it never does.
     pub sessions: Option<u32>,
-    /// After how many seconds a silent connection is closed, at least one, if it ever is.
+    /// After how many seconds, at least one, a silent connection is closed. None if it never is.
     pub idle: Option<u32>,
 }
 
@@ -46,9 +46,9 @@ pub enum Job<'a> {
         numbers: Numbers,
         force: bool,
     },
-    /// Replies to lines over a new store in memory.
+    /// Replies to lines with a new store in memory.
     Script(Numbers),
-    /// Replies to lines over the store in a file. With `tend` it does background work between them.
+    /// Replies to lines with the store in a file. With `tend` it does background work between them.
     Run {
         file: &'a str,
         tend: bool,
@@ -67,7 +67,7 @@ pub enum Job<'a> {
     },
     /// Prints the numbers of a store for this many keys.
     Plan(PlanRequest),
-    /// Serves the sessions of a port over the store in a file.
+    /// Serves the sessions of a port with the store in a file.
     Serve(Service<'a>),
 }
 

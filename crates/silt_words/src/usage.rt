@@ -42,11 +42,11 @@ pub enum Complaint<'a> {
     UnknownJob(&'a str),
     /// There is no word for this value.
     Missing(&'a str),
-    /// This word is behind the last value.
+    /// This word comes after the last value.
     TooMany(&'a str),
     /// There is no such option, or no option is allowed here.
     UnknownOption(&'a str),
-    /// No number comes behind this option.
+    /// No number comes after this option.
     LacksNumber(&'a str),
     /// This option is given a second time.
     Twice(&'a str),
@@ -100,8 +100,8 @@ pub fn asks_version(words: &[String]) -> bool {
     matches!(word, Some("--version" | "-V"))
 }
 
-/// What is wrong with the words, as far as it is found. The first word is the program's own. Nothing is wrong if they
-/// ask for help or for the version.
+/// The first fault of the words. The first word is the program's own. There is no fault if they ask for help or for the
+/// version.
 pub fn complaint_of(words: &[String]) -> Option<Complaint<'_>> {
     let Some(job) = words.get(1) else {
         return Some(Complaint::NoJob);
@@ -185,7 +185,7 @@ fn form_of(job: &str) -> Option<Form> {
     Some(Form { values, options })
 }
 
-// What is wrong with the words behind the job's, which must have this form.
+// What is wrong with the words after the job's, which must have this form.
 fn form_complaint(form: Form, words: &[String]) -> Option<Complaint<'_>> {
     let mut walk = Walk::new(form);
     for word in words.iter().skip(2) {
@@ -196,7 +196,7 @@ fn form_complaint(form: Form, words: &[String]) -> Option<Complaint<'_>> {
     walk.missing()
 }
 
-/// A walk over the words behind a job's.
+/// A walk over the words after a job's.
 #[derive(Drop)]
 struct Walk {
     form: Form,
@@ -206,7 +206,7 @@ struct Walk {
     awaited: Option<&'static str>,
     /// Which options of the form were met.
     met: [bool; 3],
-    /// Whether the word `--` was met, behind which every word is a value.
+    /// Whether the word `--` was met. After it every word is a value.
     is_past_options: bool,
 }
 
@@ -269,7 +269,7 @@ impl Walk {
         Some(Complaint::UnknownOption(word))
     }
 
-    // What is missing behind the last word.
+    // What is missing after the last word.
     fn missing(&self) -> Option<Complaint<'static>> {
         match self.awaited {
             Some(name) => Some(Complaint::LacksNumber(name)),
