@@ -274,17 +274,17 @@ fn joined(alloc: Global, parts: &[&[u8]]) -> Result<Vec<u8>, AllocError> {
 // The letters of the longest name, and one more.
 const NAME: [u8; 8001] = [b'x'; 8001];
 
-// What a session writes for these lines, if it reads them to the end. Each event is accepted.
-fn wide_answers(alloc: Global, lines: &[u8]) -> Option<Vec<u8>> {
+// How a session over these lines ends, and what it writes. Each event is accepted.
+fn wide_answers(alloc: Global, lines: &[u8]) -> (SessionEnd, Vec<u8>) {
     let mut out = Vec::new(alloc);
     let mut reader = Cursor::new(lines);
-    match session(alloc, 4096, &mut reader, &mut out, &mut Wide) {
-        SessionEnd::End => Some(out),
-        _ => None,
-    }
+    let end = session(alloc, 4096, &mut reader, &mut out, &mut Wide);
+    (end, out)
 }
 
 const BOTH_ACCEPTED: &[u8] = b"accepted 1\naccepted 1\n";
+
+const BAD_KEY: &[u8] = b"refused 21 BadKey\naccepted 1\n";
 
 const BAD_VALUE: &[u8] = b"refused 22 BadValue\naccepted 1\n";
 
@@ -304,8 +304,9 @@ fn answers_lines_up_to_the_longest(rt: HostRuntime) -> Result<(), Fail> {
     ];
     for (letters, end, due) in cases {
         let lines = long_swap(rt.alloc(), letters, end)?;
-        let out = wide_answers(rt.alloc(), &lines);
-        assert_eq!(rt; out.as_deref(), Some(due), "{letters}");
+        let (end, out) = wide_answers(rt.alloc(), &lines);
+        assert_eq!(rt; end, SessionEnd::End);
+        assert_eq!(rt; out.as_slice(), due, "{letters}");
     }
     Ok(())
 }
@@ -313,13 +314,12 @@ fn answers_lines_up_to_the_longest(rt: HostRuntime) -> Result<(), Fail> {
 // The longest name and the longest value of a put are a line of 16,198 bytes.
 #[test]
 fn answers_a_put_of_the_longest_name_and_value(rt: HostRuntime) -> Result<(), Fail> {
-    let lines = long_put(rt.alloc(), 8_000)?;
-    let out = wide_answers(rt.alloc(), &lines);
-    assert_eq!(rt; out.as_deref(), Some(BOTH_ACCEPTED));
-    let lines = long_put(rt.alloc(), 8_001)?;
-    let out = wide_answers(rt.alloc(), &lines);
-    let bad_key: &[u8] = b"refused 21 BadKey\naccepted 1\n";
-    assert_eq!(rt; out.as_deref(), Some(bad_key));
+    for (letters, due) in [(8_000, BOTH_ACCEPTED), (8_001, BAD_KEY)] {
+        let lines = long_put(rt.alloc(), letters)?;
+        let (end, out) = wide_answers(rt.alloc(), &lines);
+        assert_eq!(rt; end, SessionEnd::End);
+        assert_eq!(rt; out.as_slice(), due, "{letters}");
+    }
     Ok(())
 }
 

@@ -119,7 +119,7 @@ fn reads_the_key_and_both_values(rt: HostRuntime) -> Result<(), Fail> {
         let Some(swap) = swap_of(parse_line(rt.alloc(), line.as_bytes(), 2)) else {
             return Err(Fail::new(line));
         };
-        assert_eq!(rt; swap.key, ABC);
+        assert_eq!(rt; swap.key.as_slice(), ABC.as_slice());
         assert_eq!(rt; swap.old.as_slice(), [1u8, 2].as_slice());
         assert_eq!(rt; swap.new.as_slice(), [0xABu8, 0xFF].as_slice());
     }
