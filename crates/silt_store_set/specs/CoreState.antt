@@ -443,6 +443,11 @@ pub record Does {D F : Type 0} (facts : Ghosts D F) (old new : CoreState D) (eve
   -- a store that fails keeps its base and its waiting commands
   pub keeps_basis : old.failed ≡ false → new.failed ≡ true → (new.base ≡ old.base) × (new.waiting ≡ old.waiting)
 
+-- a store that is not failed cannot read a value: a read failed and gave this fault, and nothing changes
+abbrev pub IsRefusedRead : {D F : Type 0} → Ghosts D F → CoreState D → Refusal F → Type 0
+IsRefusedRead facts core (Device fault) = FailsRead facts core core fault
+IsRefusedRead facts core refusal = ⊥
+
 -- why the entries are refused
 abbrev pub EntriesCause : {D F : Type 0} → Ghosts D F → CoreState D → Refusal F → Type 0
 EntriesCause facts core Failed = core.failed ≡ true

@@ -35,7 +35,7 @@ pub use answerer::Served;
 pub use device_entries::read_entries;
 pub use laws::failed_law;
 pub use life::lives;
-pub use replies::{accepted, progressed};
+pub use replies::{accepted, progressed, swapped};
 pub use silt_device::{FileDisk, MemDisk};
 pub use silt_disk::{BadGeometry, Disk, Geometry};
 pub use silt_event::{Answerer, Event, LifeReply, Place, Progress, Refusal, Reply, Report};
