@@ -5,7 +5,7 @@ use crate::kept::{after, goes_on, is_kept};
 use crate::life_lines::Line;
 use crate::lines::{
     ASKED_BEHIND, CONVERTED, CONVERTED_MEANWHILE, CONVERTED_MEANWHILE_TOLD, CONVERTED_TOLD,
-    of_three_hash_stores,
+    SWAP_CONVERTED, SWAP_MEANWHILE, of_three_hash_stores,
 };
 use crate::script::{Told, ask, repeated, replies_of};
 use crate::support::{entries_of, values_of};
@@ -38,17 +38,19 @@ fn each_fails(rt: &impl Abort, alloc: Global, life: &Life, fails: Fails) -> Resu
     }
 }
 
-// The lines of a conversion, with a get and a step behind it.
+// The lines of a conversion, with a get, a step and a swap behind it.
 fn converted_lines(alloc: Global) -> Result<Vec<Line>, AllocError> {
     let mut lines = repeated(alloc, &CONVERTED)?;
     lines.extend_from_slice(&ASKED_BEHIND)?;
+    lines.push(SWAP_CONVERTED)?;
     Ok(lines)
 }
 
-// A conversion, with a get and a step behind it.
+// A conversion, with a get, a step and a swap behind it.
 fn conversion_fails(rt: &impl Abort, alloc: Global, fails: Fails) -> Result<(), Fail> {
     let geometry = small()?;
-    let told = repeated(alloc, &CONVERTED_TOLD)?;
+    let mut told = repeated(alloc, &CONVERTED_TOLD)?;
+    told.push(Told::Accepted(6))?;
     let lines = converted_lines(alloc)?;
     let life = Life {
         geometry,
@@ -58,11 +60,13 @@ fn conversion_fails(rt: &impl Abort, alloc: Global, fails: Fails) -> Result<(), 
     each_fails(rt, alloc, &life, fails)
 }
 
-// A merge beside two conversions.
+// A merge beside two conversions, with a swap behind them that freezes a log.
 fn merge_fails(rt: &impl Abort, alloc: Global, fails: Fails) -> Result<(), Fail> {
     let geometry = of_three_hash_stores()?;
-    let told = repeated(alloc, &CONVERTED_MEANWHILE_TOLD)?;
-    let lines = repeated(alloc, &CONVERTED_MEANWHILE)?;
+    let mut told = repeated(alloc, &CONVERTED_MEANWHILE_TOLD)?;
+    told.push(Told::Accepted(5))?;
+    let mut lines = repeated(alloc, &CONVERTED_MEANWHILE)?;
+    lines.push(SWAP_MEANWHILE)?;
     let life = Life {
         geometry,
         lines: &lines,
@@ -165,19 +169,20 @@ fn each_read_fails(rt: &impl Abort, alloc: Global, life: &Life, reads: u64) -> R
     Err("reads without end".into())
 }
 
-// An opening makes four reads. All keys have one bucket, so the four puts that the first log takes read the heads of all rows before them, and
-// the fifth finds the log full. Each slot that is not empty is written from one row. The get reads a row of the active log and two slots; the list
-// that row, eight slots and four values.
+// An opening makes four reads. All keys have one bucket, so the four puts that the first log takes read the heads of all rows before
+// them, and the fifth finds the log full. Each slot that is not empty is written from one row. The get reads a row of the active log
+// and two slots. So does the swap, and then the head of that row. The list reads two rows, eight slots and four values.
 #[test]
 fn each_read_of_a_conversion_fails(rt: HostRuntime) -> Result<(), Fail> {
-    conversion_fails(&rt, rt.alloc(), Fails::Reads(4 + 6 + 4 + 3 + 13))
+    conversion_fails(&rt, rt.alloc(), Fails::Reads(4 + 6 + 4 + 3 + 4 + 14))
 }
 
-// Each log has one row, so no put reads. Three conversions read one row each, the merge the slots together and one value. The gets read the active
-// log's row, and then the newest hash store's; the list the entry, sixteen slots and two values, and the active log's row.
+// Each log has one row, so no put reads. Three conversions read one row each, the merge the slots together and one value. The gets read
+// the active log's row, and then the newest hash store's. So does the swap, whose log is full. The list reads the entry, sixteen slots
+// and two values, and the rows of two logs.
 #[test]
 fn each_read_of_a_merge_fails(rt: HostRuntime) -> Result<(), Fail> {
-    merge_fails(&rt, rt.alloc(), Fails::Reads(4 + 3 + 2 + 3 + 20))
+    merge_fails(&rt, rt.alloc(), Fails::Reads(4 + 3 + 2 + 3 + 2 + 21))
 }
 
 // Which of a kind of call fails, and what a stop behind the life leaves, if there is one.
@@ -343,14 +348,15 @@ fn each_change_fails(
     Ok(())
 }
 
-// Of the forty calls of the conversion five puts make ten writes; the flush before the freeze makes one and two syncs, the clearing of the
-// next log one of each, the manifest three of each; the last flush makes one write and two syncs; eight slots are a write each, and the
-// last step makes a sync and a manifest. The opening makes a sync.
-const OF_A_CONVERSION: (u64, u64) = (10 + 1 + 1 + 3 + 1 + 8 + 3, 1 + 2 + 1 + 3 + 2 + 1 + 3);
+// Of the 42 calls of the conversion five puts and the swap make twelve writes. The flush before the freeze makes one and two syncs, the
+// clearing of the next log one of each, the manifest three of each. The last flush makes one write and two syncs. Eight slots are a
+// write each, and the last step makes a sync and a manifest. The opening makes a sync.
+const OF_A_CONVERSION: (u64, u64) = (12 + 1 + 1 + 3 + 1 + 8 + 3, 1 + 2 + 1 + 3 + 2 + 1 + 3);
 
-// Of the 95 calls of the merge the opening makes a sync, four puts make eight writes, each of three freezes makes five writes and six
-// syncs, each of three conversions eleven writes and four syncs; one key is an entry, and the last step makes three writes and four syncs.
-const OF_A_MERGE: (u64, u64) = (8 + 3 * 5 + 3 * 11 + 1 + 3, 1 + 3 * 6 + 3 * 4 + 4);
+// Of the 108 calls of the merge the opening makes a sync, four puts and the swap make ten writes, each of four freezes makes five writes
+// and six syncs, each of three conversions eleven writes and four syncs. One key is an entry, and the last step makes
+// three writes and four syncs.
+const OF_A_MERGE: (u64, u64) = (10 + 4 * 5 + 3 * 11 + 1 + 3, 1 + 4 * 6 + 3 * 4 + 4);
 
 // So many calls are these writes and syncs.
 fn are_calls(rt: &impl Abort, (writes, syncs): (u64, u64), calls: u64) -> Fails {
@@ -360,12 +366,12 @@ fn are_calls(rt: &impl Abort, (writes, syncs): (u64, u64), calls: u64) -> Fails 
 
 #[test]
 fn each_change_of_a_conversion_fails(rt: HostRuntime) -> Result<(), Fail> {
-    let fails = are_calls(&rt, OF_A_CONVERSION, 40);
+    let fails = are_calls(&rt, OF_A_CONVERSION, 42);
     conversion_fails(&rt, rt.alloc(), fails)
 }
 
 #[test]
 fn each_change_of_a_merge_fails(rt: HostRuntime) -> Result<(), Fail> {
-    let fails = are_calls(&rt, OF_A_MERGE, 95);
+    let fails = are_calls(&rt, OF_A_MERGE, 108);
     merge_fails(&rt, rt.alloc(), fails)
 }

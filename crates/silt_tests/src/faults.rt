@@ -3,7 +3,7 @@
 use crate::support::{entries_of, values_of};
 use silt_device::{Call, Disk, FaultDisk, MemDisk, MemFault};
 use silt_fixtures::{
-    blank_of_version_1, changed, formatted, formatted_with, key, of_regions, small,
+    blank_of_version_1, changed, formatted, formatted_with, key, of_regions, opened_on, small,
 };
 use silt_store_set::{Core, Refusal};
 use std::alloc::Global;
@@ -59,12 +59,14 @@ pub(crate) fn is_failed(rt: &impl Abort, alloc: Global, core: &mut Core<FaultDis
         refused(core.get(&key(1), &mut out)),
         refused(core.put(alloc, &key(1), &[0, 2])),
         refused(core.delete(alloc, &key(1))),
+        refused(core.swap(alloc, &key(1), &[0, 5], &[0, 6])),
+        refused(core.swap(alloc, &key(1), &[0, 9], &[0, 6])),
         refused(core.flush()),
         refused(core.convert(alloc)),
         refused(core.merge(alloc)),
         refused(core.entries(alloc)),
     ];
-    assert_eq!(rt; told, [9; 7]);
+    assert_eq!(rt; told, [9; 9]);
 }
 
 // The values of the keys 0 to 7 on a disk whose store is given up.
@@ -222,23 +224,17 @@ fn takes_four_puts(rt: &impl Abort, alloc: Global, core: &mut Core<MemDisk>) {
     assert_eq!(rt; answer(core.flush()), Ok(4));
 }
 
-// A store on a disk of these bytes.
-fn opened_from(alloc: Global, bytes: &[u8]) -> Result<Core<MemDisk>, Fail> {
-    let disk = MemDisk::with_bytes(alloc, bytes)?;
-    Ok(Core::open(alloc, disk).ok().ok_or("opens")?)
-}
-
-// A small store without digests, with these bytes changed.
-fn with_changes(alloc: Global, changes: &[(usize, u8)]) -> Result<Core<MemDisk>, Fail> {
+/// A small disk without digests whose manifest has the last generation.
+pub(crate) fn of_last_generation(alloc: Global) -> Result<MemDisk, Fail> {
     let whole = blank_of_version_1(alloc, small()?)?;
-    let bytes = changed(alloc, &whole, changes)?;
-    opened_from(alloc, &bytes)
+    let bytes = changed(alloc, &whole, &LAST_GENERATION)?;
+    Ok(MemDisk::with_bytes(alloc, &bytes)?)
 }
 
 // A store whose manifest has the last generation freezes no log: slot 1 is open with that generation, and else zeros.
 #[test]
 fn spends_its_generations(rt: HostRuntime) -> Result<(), Fail> {
-    let mut core = with_changes(rt.alloc(), &LAST_GENERATION)?;
+    let mut core = opened_on(rt.alloc(), of_last_generation(rt.alloc())?)?;
     takes_four_puts(&rt, rt.alloc(), &mut core);
     let (_, found) = entries_of(rt.alloc(), core.close())?;
     assert_eq!(rt; found, [0, 1, 2, 3, 4, 0, 0, 0]);

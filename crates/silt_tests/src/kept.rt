@@ -10,20 +10,31 @@ use std::alloc::{AllocError, Global};
 use std::process::Abort;
 use std::test::Fail;
 
-/// The values of the keys 0 to 7 after a beginning of the commands, 0 for none.
+// The key and the value, 0 for none, that a line writes over these values. A swap of another value than the key's writes nothing.
+fn change_by(line: Line, values: [u16; 8]) -> Option<(usize, u16)> {
+    match line {
+        Line::Put(first, last) => Some((first as usize, last)),
+        Line::Delete(first) => Some((first as usize, 0)),
+        Line::Swap(first, old, new) => {
+            let is_old = values.get(first as usize) == Some(&old);
+            is_old.then_some((first as usize, new))
+        }
+        _ => None,
+    }
+}
+
+/// The values of the keys 0 to 7 after a beginning of the commands, 0 for none. No swap here has the old value 0.
 pub(crate) fn after(lines: &[Line], mut commands: u64) -> [u16; 8] {
     let mut values = [0; 8];
     for line in lines {
-        let (first, last) = match line {
-            Line::Put(first, last) => (*first, *last),
-            Line::Delete(first) => (*first, 0),
-            _ => continue,
+        let Some((place, last)) = change_by(*line, values) else {
+            continue;
         };
         if commands == 0 {
             break;
         }
         commands -= 1;
-        if let Some(value) = values.get_mut(first as usize) {
+        if let Some(value) = values.get_mut(place) {
             *value = last;
         }
     }

@@ -39,6 +39,8 @@ mod stops;
 #[cfg(test)]
 mod support;
 #[cfg(test)]
+mod swaps;
+#[cfg(test)]
 mod versions;
 
 pub use life_lines::{Line, event, events};

@@ -12,6 +12,7 @@ use std::alloc::{AllocError, Global};
 pub enum Line {
     Put(u8, u16),
     Delete(u8),
+    Swap(u8, u16, u16),
     Get(u8),
     Flush,
     Convert,
@@ -28,6 +29,11 @@ pub fn event(alloc: Global, line: Line) -> Result<Event, AllocError>
             Ok(Event::Put(key(first), Value::new(value)))
         }
         Line::Delete(first) => Ok(Event::Delete(key(first))),
+        Line::Swap(first, old, new) => {
+            let old = old.to_be_bytes().to_vec(alloc)?;
+            let new = new.to_be_bytes().to_vec(alloc)?;
+            Ok(Event::Swap(key(first), Value::new(old), Value::new(new)))
+        }
         Line::Get(first) => Ok(Event::Get(key(first))),
         Line::Flush => Ok(Event::Flush),
         Line::Convert => Ok(Event::Convert),

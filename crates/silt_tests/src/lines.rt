@@ -123,6 +123,17 @@ pub(crate) const CONVERTED_MEANWHILE_TOLD: [(Told, u8); 15] = [
     (Told::Value(0, 4), 1),
 ];
 
+/// A swap behind that conversion, of the value in the hash store: the active log takes its row, by two calls.
+pub(crate) const SWAP_CONVERTED: Line = Line::Swap(2, 2, 6);
+
+/// A swap behind the two merges, of the value in the sorted store. The active log is full and no row waits: two calls for the gates of the
+/// next log, six for the manifest, and two for the row.
+pub(crate) const SWAP_MERGED: Line = Line::Swap(2, 0x0304, 0x0607);
+
+/// A swap behind the merge beside conversions, of the value in a hash store. The active log is full, and its row waits: three calls for the
+/// flush, two for the gates of the next log, six for the manifest, and two for the row.
+pub(crate) const SWAP_MEANWHILE: Line = Line::Swap(1, 3, 5);
+
 /// Logs of one row, and two hash regions.
 pub(crate) fn of_two_hash_stores() -> Result<Geometry, Fail> {
     of_regions(1, 2, 2, 4)

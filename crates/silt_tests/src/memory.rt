@@ -5,7 +5,9 @@ ghost use Rattle.silt_event.specs.Events.{HasValueOf};
 
 use crate::kept::after;
 use crate::life_lines::Line;
-use crate::lines::{CONVERTED_MEANWHILE, CONVERTED_MEANWHILE_TOLD, of_three_hash_stores};
+use crate::lines::{
+    CONVERTED_MEANWHILE, CONVERTED_MEANWHILE_TOLD, SWAP_MEANWHILE, of_three_hash_stores,
+};
 use crate::script::{Told, all_events_twice, ask, events_twice, repeated, run, tell_reply};
 use crate::support::values_of;
 use silt_device::{Geometry, MemDisk, MemFault};
@@ -22,6 +24,14 @@ fn repeated_twice<T: Copy>(alloc: Global, parts: &[(T, u8)]) -> Result<Vec<T>, F
     match repeated(alloc, parts) {
         Ok(lines) => Ok(lines),
         Err(_) => Ok(repeated(alloc, parts)?),
+    }
+}
+
+// Adds a line or a reply.
+fn push_twice<T: Copy>(lines: &mut Vec<T>, line: T) -> Result<(), Fail> {
+    match lines.push(line) {
+        Ok(()) => Ok(()),
+        Err(_) => Ok(lines.push(line)?),
     }
 }
 
@@ -109,7 +119,7 @@ fn made(rt: &impl Abort, alloc: Global, geometry: Geometry) -> Result<Core<MemDi
     opened(alloc, disk)
 }
 
-// A life in which logs are frozen, converted and merged: format, opening, each call, check, and the list of the entries.
+// A life in which logs are frozen, converted and merged, and a swap freezes one more: format, opening, each call, check, and the list of the entries.
 #[test]
 fn each_call_lacks_memory(rt: HostRuntime) -> Result<(), Fail> {
     let alloc = rt.alloc();
@@ -120,22 +130,24 @@ fn each_call_lacks_memory(rt: HostRuntime) -> Result<(), Fail> {
 
 // Does all lines of that life, and gives the values behind them.
 fn all_done(rt: &impl Abort, alloc: Global, core: &mut Core<MemDisk>) -> Result<[u16; 8], Fail> {
-    let lines = repeated_twice(alloc, &CONVERTED_MEANWHILE)?;
-    let replies = repeated_twice(alloc, &CONVERTED_MEANWHILE_TOLD)?;
+    let mut lines = repeated_twice(alloc, &CONVERTED_MEANWHILE)?;
+    let mut replies = repeated_twice(alloc, &CONVERTED_MEANWHILE_TOLD)?;
+    push_twice(&mut lines, SWAP_MEANWHILE)?;
+    push_twice(&mut replies, Told::Accepted(5))?;
     all_asked(rt, alloc, core, &lines, &replies)?;
     let values = after(&lines, u64::MAX);
     has_flushed(rt, alloc, core, values)?;
     Ok(values)
 }
 
-// The four commands of that life are acknowledged, and these are the values.
+// The five commands of that life are acknowledged, and these are the values.
 fn has_flushed(
     rt: &impl Abort,
     alloc: Global,
     core: &mut Core<MemDisk>,
     values: [u16; 8],
 ) -> Result<(), Fail> {
-    assert_eq!(rt; core.flush().ok(), Some(4));
+    assert_eq!(rt; core.flush().ok(), Some(5));
     lists(rt, alloc, core, values)
 }
 

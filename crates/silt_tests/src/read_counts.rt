@@ -60,8 +60,17 @@ fn reads_of(alloc: Global, bytes: &[u8], asked: Asked) -> Result<(u32, u32), Fai
     Err("reads without end".into())
 }
 
-// A device of this geometry after these lines.
-fn after_lines(alloc: Global, geometry: Geometry, lines: &[(Line, u8)]) -> Result<MemDisk, Fail> {
+/// How many reads an opening of these bytes makes.
+pub(crate) fn openings_reads(alloc: Global, bytes: &[u8]) -> Result<u32, Fail> {
+    Ok(reads_of(alloc, bytes, Asked::Line(Line::Flush))?.0)
+}
+
+/// A device of this geometry after these lines.
+pub(crate) fn after_lines(
+    alloc: Global,
+    geometry: Geometry,
+    lines: &[(Line, u8)],
+) -> Result<MemDisk, Fail> {
     let lines = repeated(alloc, lines)?;
     let (disk, _) = live(alloc, formatted_with(alloc, geometry)?, &lines)?;
     Ok(disk)

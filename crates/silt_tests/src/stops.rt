@@ -3,12 +3,12 @@
 use crate::kept::{goes_on, is_kept};
 use crate::life_lines::Line;
 use crate::lines::{
-    CONVERTED, CONVERTED_MEANWHILE, MERGED_TWICE, THREE_PUTS, of_three_hash_stores,
-    of_two_hash_stores,
+    CONVERTED, CONVERTED_MEANWHILE, MERGED_TWICE, SWAP_CONVERTED, SWAP_MEANWHILE, SWAP_MERGED,
+    THREE_PUTS, of_three_hash_stores, of_two_hash_stores,
 };
 use crate::script::{Told, live, repeated};
 use crate::support::entries_of;
-use silt_device::{Geometry, MemDisk, Stop, Stoppable};
+use silt_device::{Fill, Geometry, MemDisk, Stop, Stoppable};
 use silt_disk::Version;
 use silt_fixtures::{FILLS, VERSIONS, as_version, blank, small, stopping};
 use std::alloc::Global;
@@ -25,6 +25,17 @@ const TWO_UNFLUSHED: [Line; 5] = [
     Line::Put(1, 2),
     Line::Get(1),
     Line::Put(2, 3),
+];
+
+// A put, swaps of a value that waits, of one that is flushed, of another value and of a deleted one: twelve calls.
+const SWAPS: [Line; 7] = [
+    Line::Put(1, 1),
+    Line::Swap(1, 1, 2),
+    Line::Flush,
+    Line::Swap(1, 1, 3),
+    Line::Swap(1, 2, 4),
+    Line::Delete(1),
+    Line::Swap(1, 4, 5),
 ];
 
 fn was_stopped(told: &[Told]) -> bool {
@@ -153,9 +164,53 @@ fn five_puts_stopped_anywhere(rt: HostRuntime) -> Result<(), Fail> {
     sweep(&rt, rt.alloc(), small()?, &lines, 25)
 }
 
+#[test]
+fn swaps_stopped_anywhere(rt: HostRuntime) -> Result<(), Fail> {
+    sweep(&rt, rt.alloc(), small()?, &SWAPS, 12)
+}
+
+// A long life with a swap behind it: on which geometry, and how many calls it makes without the swap, and how many the swap makes.
+type Swapped<'a> = (Geometry, &'a [(Line, u8)], u32, Line, u32);
+
+// Whether this life on a new disk of this version is stopped at this call.
+fn stops_at(
+    alloc: Global,
+    (geometry, version): (Geometry, Version),
+    lines: &[Line],
+    k: u32,
+) -> Result<bool, Fail> {
+    let new = as_version(alloc, &blank(alloc, geometry)?, version)?;
+    let stop = Stop { k, fill: Fill::New };
+    let (_, told) = lived(alloc, &new, lines, stop)?;
+    Ok(was_stopped(&told))
+}
+
+// Stops this life at each of its calls, with a swap behind it. Without the swap it makes its own calls alone.
+fn sweep_swapped(
+    rt: &impl Abort,
+    alloc: Global,
+    (geometry, parts, calls, swap, more): Swapped,
+    version: Version,
+) -> Result<(), Fail> {
+    let mut lines = repeated(alloc, parts)?;
+    let own = [calls, calls.saturating_add(1)];
+    for k in own {
+        let stopped = stops_at(alloc, (geometry, version), &lines, k)?;
+        assert_eq!(rt; stopped, k == calls, "call {k}");
+    }
+    lines.push(swap)?;
+    sweep_as(
+        rt,
+        alloc,
+        (geometry, version),
+        &lines,
+        calls.saturating_add(more),
+    )
+}
+
 fn sweep_conversion(rt: &impl Abort, alloc: Global, version: Version) -> Result<(), Fail> {
-    let lines = repeated(alloc, &CONVERTED)?;
-    sweep_as(rt, alloc, (small()?, version), &lines, 40)
+    let life = (small()?, &CONVERTED[..], 40, SWAP_CONVERTED, 2);
+    sweep_swapped(rt, alloc, life, version)
 }
 
 #[test]
@@ -169,8 +224,14 @@ fn old_conversion_stopped_anywhere(rt: HostRuntime) -> Result<(), Fail> {
 }
 
 fn sweep_merges(rt: &impl Abort, alloc: Global, version: Version) -> Result<(), Fail> {
-    let lines = repeated(alloc, &MERGED_TWICE)?;
-    sweep_as(rt, alloc, (of_two_hash_stores()?, version), &lines, 106)
+    let life = (
+        of_two_hash_stores()?,
+        &MERGED_TWICE[..],
+        106,
+        SWAP_MERGED,
+        10,
+    );
+    sweep_swapped(rt, alloc, life, version)
 }
 
 #[test]
@@ -184,8 +245,14 @@ fn two_old_merges_stopped_anywhere(rt: HostRuntime) -> Result<(), Fail> {
 }
 
 fn sweep_conversions(rt: &impl Abort, alloc: Global, version: Version) -> Result<(), Fail> {
-    let lines = repeated(alloc, &CONVERTED_MEANWHILE)?;
-    sweep_as(rt, alloc, (of_three_hash_stores()?, version), &lines, 95)
+    let life = (
+        of_three_hash_stores()?,
+        &CONVERTED_MEANWHILE[..],
+        95,
+        SWAP_MEANWHILE,
+        13,
+    );
+    sweep_swapped(rt, alloc, life, version)
 }
 
 #[test]

@@ -1,0 +1,410 @@
+// Compare and swap: in which store the old value may be, how many reads it takes, what decides first, and reads that fail.
+
+use crate::faults::of_last_generation;
+use crate::life_lines::Line;
+use crate::read_counts::{after_lines, openings_reads};
+use crate::script::{Told, ask, live, lived, repeated, told_lives, told_of_life};
+use crate::support::entries_of;
+use silt_device::{Call, FaultDisk, Fill, Geometry, MemDisk, MemFault, Stoppable};
+use silt_fixtures::{formatted, key, of_regions, of_values, opened_on, small, stopping};
+use silt_frame::Key;
+use silt_store_set::{Core, Refusal};
+use std::alloc::Global;
+use std::process::Abort;
+use std::test::Fail;
+
+// Swaps of a key that has no value, of one that waits, of another value, and of one that was deleted.
+const PLAIN: [Line; 8] = [
+    Line::Swap(1, 1, 2),
+    Line::Put(1, 1),
+    Line::Swap(1, 1, 2),
+    Line::Swap(1, 1, 3),
+    Line::Get(1),
+    Line::Delete(1),
+    Line::Swap(1, 2, 4),
+    Line::Flush,
+];
+
+const PLAIN_TOLD: [Told; 9] = [
+    Told::Opened,
+    Told::Differs,
+    Told::Accepted(1),
+    Told::Accepted(2),
+    Told::Differs,
+    Told::Value(0, 2),
+    Told::Accepted(3),
+    Told::Differs,
+    Told::Acknowledged(3),
+];
+
+#[test]
+fn compares_with_what_is_accepted(rt: HostRuntime) -> Result<(), Fail> {
+    let told = told_of_life(rt.alloc(), small()?, &PLAIN)?;
+    assert_eq!(rt; told.as_slice(), PLAIN_TOLD.as_slice());
+    Ok(())
+}
+
+// Values that have only a part in common with the key's.
+const IN_PART: [Line; 5] = [
+    Line::Put(1, 0x0102),
+    Line::Swap(1, 0x0103, 9),
+    Line::Swap(1, 0x0202, 9),
+    Line::Swap(1, 0x0201, 9),
+    Line::Swap(1, 0x0102, 9),
+];
+
+const IN_PART_TOLD: [Told; 6] = [
+    Told::Opened,
+    Told::Accepted(1),
+    Told::Differs,
+    Told::Differs,
+    Told::Differs,
+    Told::Accepted(2),
+];
+
+#[test]
+fn compares_each_byte(rt: HostRuntime) -> Result<(), Fail> {
+    let told = told_of_life(rt.alloc(), small()?, &IN_PART)?;
+    assert_eq!(rt; told.as_slice(), IN_PART_TOLD.as_slice());
+    Ok(())
+}
+
+// The number of the accepted command, none if the value differs, or else the number of the refusal.
+fn swapped(answer: Result<Option<u64>, Refusal<MemFault>>) -> Result<Option<u64>, u32> {
+    match answer {
+        Ok(accepted) => Ok(accepted),
+        Err(refusal) => Err(refusal.label().0),
+    }
+}
+
+// A value of sevens differs from one whose last byte is 8, and its swap for that one is accepted once.
+fn swaps_the_last_byte(
+    rt: &impl Abort,
+    alloc: Global,
+    core: &mut Core<MemDisk>,
+    last: &[u8],
+    sevens: &[u8],
+) {
+    assert_eq!(rt; core.geometry().value_len() as usize, sevens.len());
+    assert_eq!(rt; last.len(), sevens.len());
+    assert!(rt; core.put(alloc, &key(1), sevens).is_ok());
+    assert_eq!(rt; swapped(core.swap(alloc, &key(1), last, sevens)), Ok(None));
+    assert_eq!(rt;
+        swapped(core.swap(alloc, &key(1), sevens, last)),
+        Ok(Some(2))
+    );
+    assert_eq!(rt; swapped(core.swap(alloc, &key(1), sevens, last)), Ok(None));
+}
+
+// Of this length: one byte, the longest value that one read takes, the first that takes two, and the longest.
+fn swaps_values_of(rt: &impl Abort, alloc: Global, value_len: usize) -> Result<(), Fail> {
+    let mut bytes = [7; 4096];
+    let sevens = [7; 4096];
+    bytes[value_len.saturating_sub(1).min(4095)] = 8;
+    let value_len = value_len.min(4096);
+    let mut core = opened_on(alloc, of_values(alloc, value_len as u32)?)?;
+    swaps_the_last_byte(
+        rt,
+        alloc,
+        &mut core,
+        &bytes[..value_len],
+        &sevens[..value_len],
+    );
+    Ok(())
+}
+
+#[test]
+fn compares_values_of_each_length(rt: HostRuntime) -> Result<(), Fail> {
+    for value_len in [1, 491, 492, 4096] {
+        swaps_values_of(&rt, rt.alloc(), value_len)?;
+    }
+    Ok(())
+}
+
+// A swap that no flush acknowledged is lost, and the value before it is there again.
+#[test]
+fn loses_a_swap_without_a_flush(rt: HostRuntime) -> Result<(), Fail> {
+    let alloc = rt.alloc();
+    let first = [Line::Put(1, 1), Line::Flush, Line::Swap(1, 1, 2)];
+    let stops = stopping(alloc, &[(0, Fill::New)])?;
+    let told = told_lives(
+        alloc,
+        formatted(alloc)?.arm(stops),
+        &[&first, &[Line::Get(1)]],
+    )?;
+    let expected = [
+        Told::Opened,
+        Told::Accepted(1),
+        Told::Acknowledged(1),
+        Told::Accepted(2),
+        Told::Opened,
+        Told::Value(0, 1),
+    ];
+    assert_eq!(rt; told.as_slice(), expected.as_slice());
+    Ok(())
+}
+
+// ---- the stores
+
+// Four keys in the sorted store; 5, 6, 7 and the delete of 4 in the hash store; 0 twice, 6 and the delete of 7 in the frozen log; and 1 in
+// the active log.
+const SPREAD: [(Line, u8); 17] = [
+    (Line::Put(1, 1), 1),
+    (Line::Put(2, 2), 1),
+    (Line::Put(3, 3), 1),
+    (Line::Put(4, 4), 1),
+    (Line::Put(5, 5), 1),
+    (Line::Convert, 9),
+    (Line::Merge, 13),
+    (Line::Put(6, 6), 1),
+    (Line::Put(7, 7), 1),
+    (Line::Delete(4), 1),
+    (Line::Put(0, 8), 1),
+    (Line::Convert, 9),
+    (Line::Put(6, 9), 1),
+    (Line::Delete(7), 1),
+    (Line::Put(0, 10), 1),
+    (Line::Put(1, 11), 1),
+    (Line::Flush, 1),
+];
+
+fn of_three_logs() -> Result<Geometry, Fail> {
+    of_regions(4, 3, 2, 16)
+}
+
+// The device after those lines.
+fn spread(alloc: Global) -> Result<MemDisk, Fail> {
+    after_lines(alloc, of_three_logs()?, &SPREAD)
+}
+
+// The swaps of a life on that device, the fourth of which freezes the active log, and their replies.
+const SWAPPED: [(Line, Told); 12] = [
+    (Line::Swap(1, 11, 21), Told::Accepted(1)),
+    (Line::Swap(0, 8, 30), Told::Differs),
+    (Line::Swap(0, 10, 20), Told::Accepted(2)),
+    (Line::Swap(6, 6, 30), Told::Differs),
+    (Line::Swap(5, 5, 15), Told::Accepted(3)),
+    (Line::Swap(7, 7, 30), Told::Differs),
+    (Line::Swap(3, 3, 13), Told::Accepted(4)),
+    (Line::Swap(4, 4, 30), Told::Differs),
+    (Line::Swap(1, 1, 30), Told::Differs),
+    (Line::Swap(1, 21, 31), Told::Accepted(5)),
+    (Line::Swap(3, 3, 30), Told::Differs),
+    (Line::Flush, Told::Acknowledged(5)),
+];
+
+// The lines and the replies of those swaps.
+fn swaps_and_replies(alloc: Global) -> Result<(Vec<Line>, Vec<Told>), Fail> {
+    let mut lines = Vec::new(alloc);
+    let mut told = repeated(alloc, &[(Told::Opened, 1)])?;
+    for (line, reply) in SWAPPED {
+        lines.push(line)?;
+        told.push(reply)?;
+    }
+    Ok((lines, told))
+}
+
+#[test]
+fn finds_the_old_value_in_each_store(rt: HostRuntime) -> Result<(), Fail> {
+    let alloc = rt.alloc();
+    let (lines, told) = swaps_and_replies(alloc)?;
+    let disk = lived(&rt, alloc, spread(alloc)?, &lines, &told)?;
+    let (_, found) = entries_of(alloc, disk)?;
+    assert_eq!(rt; found, [20, 31, 2, 13, 0, 15, 9, 0]);
+    Ok(())
+}
+
+// ---- reads
+
+// A swap alone behind an opening, its reply, and how many reads it makes.
+type Read = (Line, Told, u32);
+
+// On that device all keys have one bucket, so each row of a store is a candidate, by its slot: 1 in the active log; 0, 6, 7 in the frozen
+// one; 5, 6, 7, 4 in the hash store. A candidate takes one read, up to the key's own. The sorted store takes one if an entry begins with
+// the key's first byte. An accepted swap reads one head more, as the row of 1 is a candidate for the place of its own row.
+const READS: [Read; 11] = [
+    (Line::Swap(1, 11, 21), Told::Accepted(1), 1 + 1),
+    (Line::Swap(1, 1, 21), Told::Differs, 1),
+    (Line::Swap(0, 10, 20), Told::Accepted(1), 1 + 1 + 1),
+    (Line::Swap(0, 8, 20), Told::Differs, 1 + 1),
+    (Line::Swap(6, 9, 20), Told::Accepted(1), 1 + 2 + 1),
+    (Line::Swap(7, 7, 20), Told::Differs, 1 + 3),
+    (Line::Swap(5, 5, 20), Told::Accepted(1), 1 + 3 + 1 + 1),
+    (Line::Swap(4, 4, 20), Told::Differs, 1 + 3 + 4),
+    (Line::Swap(2, 2, 20), Told::Accepted(1), 1 + 3 + 4 + 1 + 1),
+    (Line::Swap(2, 3, 20), Told::Differs, 1 + 3 + 4 + 1),
+    (Line::Swap(8, 8, 20), Told::Differs, 1 + 3 + 4),
+];
+
+// A key alone in the active log: its row, and then the head of that row. A key that is nowhere reads that one candidate.
+const ALONE: [(Line, u8); 2] = [(Line::Put(1, 1), 1), (Line::Flush, 1)];
+
+const READS_ALONE: [Read; 3] = [
+    (Line::Swap(1, 1, 2), Told::Accepted(1), 2),
+    (Line::Swap(1, 3, 2), Told::Differs, 1),
+    (Line::Swap(2, 3, 2), Told::Differs, 1),
+];
+
+// In an empty store there is nothing to read.
+const READS_OF_NOTHING: [Read; 1] = [(Line::Swap(1, 1, 2), Told::Differs, 0)];
+
+// The replies to this line of a store on a disk of these bytes where this read fails, asked twice.
+fn asked_twice(alloc: Global, bytes: &[u8], line: Line, number: u64) -> Result<(Told, Told), Fail> {
+    let disk = FaultDisk::new(MemDisk::with_bytes(alloc, bytes)?, Call::Read, number);
+    let mut core = opened_on(alloc, disk)?;
+    Ok((ask(alloc, &mut core, line)?, ask(alloc, &mut core, line)?))
+}
+
+// Each read of the swap fails in turn: it is refused with the fault, and asked again it has its own reply. The read after its last one is
+// not made: the first reply is then its own.
+fn makes_reads(
+    rt: &impl Abort,
+    alloc: Global,
+    bytes: &[u8],
+    opening: u32,
+    (line, reply, reads): Read,
+) -> Result<(), Fail> {
+    for number in 1..reads.saturating_add(1) {
+        let told = asked_twice(alloc, bytes, line, opening.saturating_add(number) as u64)?;
+        assert_eq!(rt; told, (Told::Refused(5), reply), "{line:?} read {number}");
+    }
+    let behind = opening.saturating_add(reads).saturating_add(1) as u64;
+    let (told, _) = asked_twice(alloc, bytes, line, behind)?;
+    assert_eq!(rt; told, reply, "{line:?}");
+    Ok(())
+}
+
+// Each of these swaps makes so many reads behind an opening of this device.
+fn each_makes_reads(
+    rt: &impl Abort,
+    alloc: Global,
+    disk: &MemDisk,
+    all: &[Read],
+) -> Result<(), Fail> {
+    let opening = openings_reads(alloc, disk.shown())?;
+    for read in all {
+        makes_reads(rt, alloc, disk.shown(), opening, *read)?;
+    }
+    Ok(())
+}
+
+#[test]
+fn each_read_of_a_swap_fails(rt: HostRuntime) -> Result<(), Fail> {
+    let alloc = rt.alloc();
+    each_makes_reads(&rt, alloc, &spread(alloc)?, &READS)?;
+    let alone = after_lines(alloc, small()?, &ALONE)?;
+    each_makes_reads(&rt, alloc, &alone, &READS_ALONE)?;
+    each_makes_reads(&rt, alloc, &formatted(alloc)?, &READS_OF_NOTHING)
+}
+
+// A key that has no value, and another bucket than all keys there. The entry of key 2 begins with its first byte.
+fn absent_key() -> Key {
+    let mut bytes = [0; 20];
+    bytes[0] = 2;
+    bytes[1] = 1;
+    Key(bytes)
+}
+
+// The answer to a swap of that key on a disk of these bytes where this read fails.
+fn swap_absent(
+    rt: &impl Abort,
+    alloc: Global,
+    bytes: &[u8],
+    number: u32,
+) -> Result<Result<Option<u64>, u32>, Fail> {
+    let disk = FaultDisk::new(
+        MemDisk::with_bytes(alloc, bytes)?,
+        Call::Read,
+        number as u64,
+    );
+    let mut core = opened_on(alloc, disk)?;
+    assert_eq!(rt; core.geometry().value_len(), 2);
+    Ok(swapped(core.swap(alloc, &absent_key(), &[0, 2], &[0, 3])))
+}
+
+// It makes that one read: no other store has a candidate.
+#[test]
+fn an_absent_key_reads_one_entry(rt: HostRuntime) -> Result<(), Fail> {
+    let alloc = rt.alloc();
+    let disk = spread(alloc)?;
+    let opening = openings_reads(alloc, disk.shown())?;
+    let first = swap_absent(&rt, alloc, disk.shown(), opening.saturating_add(1))?;
+    let second = swap_absent(&rt, alloc, disk.shown(), opening.saturating_add(2))?;
+    assert_eq!(rt; (first, second), (Err(5), Ok(None)));
+    Ok(())
+}
+
+// ---- what decides first
+
+// A life on a new disk of this geometry whose last lines get these replies.
+fn ends_with(
+    rt: &impl Abort,
+    alloc: Global,
+    geometry: Geometry,
+    parts: &[(Line, u8)],
+    expected: &[Told],
+) -> Result<(), Fail> {
+    let lines = repeated(alloc, parts)?;
+    let told = told_of_life(alloc, geometry, &lines)?;
+    assert_eq!(rt; told.len(), lines.len().saturating_add(1));
+    assert!(rt; told.ends_with(expected), "{told:?}");
+    Ok(())
+}
+
+// Of a full store the comparison comes first: a swap of the right value is refused StoreFull, and one of another value differs.
+#[test]
+fn a_full_store_compares_first(rt: HostRuntime) -> Result<(), Fail> {
+    let lines = [
+        (Line::Put(1, 1), 8),
+        (Line::Swap(1, 1, 2), 1),
+        (Line::Swap(1, 9, 2), 1),
+        (Line::Swap(2, 1, 2), 1),
+        (Line::Get(1), 1),
+    ];
+    let expected = [
+        Told::Accepted(8),
+        Told::Refused(7),
+        Told::Differs,
+        Told::Differs,
+        Told::Value(0, 1),
+    ];
+    ends_with(&rt, rt.alloc(), small()?, &lines, &expected)
+}
+
+// So it is if the logs are full and the store is not: the refusal is NoRoom.
+#[test]
+fn full_logs_compare_first(rt: HostRuntime) -> Result<(), Fail> {
+    let lines = [
+        (Line::Put(1, 1), 8),
+        (Line::Swap(1, 1, 2), 1),
+        (Line::Swap(1, 9, 2), 1),
+        (Line::Flush, 1),
+    ];
+    let expected = [
+        Told::Accepted(8),
+        Told::Refused(8),
+        Told::Differs,
+        Told::Acknowledged(8),
+    ];
+    ends_with(&rt, rt.alloc(), of_regions(4, 2, 2, 9)?, &lines, &expected)
+}
+
+// So it is if the next log has no generation left: the refusal is Spent.
+#[test]
+fn a_last_generation_compares_first(rt: HostRuntime) -> Result<(), Fail> {
+    let alloc = rt.alloc();
+    let lines = repeated(
+        alloc,
+        &[
+            (Line::Put(1, 1), 4),
+            (Line::Swap(1, 1, 2), 1),
+            (Line::Swap(1, 9, 2), 1),
+        ],
+    )?;
+    let (_, told) = live(alloc, of_last_generation(alloc)?, &lines)?;
+    assert!(rt;
+        told.ends_with(&[Told::Accepted(4), Told::Refused(10), Told::Differs]),
+        "{told:?}"
+    );
+    Ok(())
+}
