@@ -33,6 +33,37 @@ fn put<D: Disk>(
     }
 }
 
+// The value that a swap compares with: the key's own if it has one, or else this one.
+fn compared(map: &BTreeMap<Key, [u8; 2]>, key: &Key, own: bool, other: [u8; 2]) -> [u8; 2] {
+    match map.get(key) {
+        Some(value) if own => *value,
+        _ => other,
+    }
+}
+
+// Swaps a value. One that finds all logs in use changes nothing, but only where the key has the value that it compares with.
+fn swap<D: Disk>(
+    rt: &impl Abort,
+    alloc: Global,
+    core: &mut Core<D>,
+    map: &mut BTreeMap<Key, [u8; 2]>,
+    key: Key,
+    (old, new): ([u8; 2], [u8; 2]),
+) -> Result<(), Fail> {
+    assert_eq!(rt; core.geometry().value_len(), 2);
+    let stands = map.get(&key) == Some(&old);
+    match core.swap(alloc, &key, &old, &new) {
+        Ok(Some(_)) => {
+            assert!(rt; stands);
+            let _older = map.insert(key, new)?;
+        }
+        Ok(None) => assert!(rt; !stands),
+        Err(Refusal::NoRoom) => assert!(rt; stands),
+        Err(_) => return Err("a swap".into()),
+    }
+    Ok(())
+}
+
 // Takes a value away. A delete that finds all logs in use changes nothing.
 fn delete<D: Disk>(
     alloc: Global,
@@ -64,8 +95,8 @@ fn get<D: Disk>(
     Ok(())
 }
 
-// Does the event of this number: three of sixteen are puts, one is a delete, one a get, one a flush, five are steps of conversion and
-// five of merging.
+// Does the event of this number: three of sixteen are puts, one is a delete, one a get, one a flush, one a swap, four are steps of
+// conversion and five of merging. Half of the swaps are of the key's own value.
 fn step<D: Disk>(
     rt: &impl Abort,
     alloc: Global,
@@ -81,7 +112,11 @@ fn step<D: Disk>(
         3 => delete(alloc, core, map, &key)?,
         4 => get(rt, core, map, &key)?,
         5 => assert!(rt; core.flush().is_ok()),
-        6..=10 => assert!(rt; core.convert(alloc).is_ok()),
+        6 => {
+            let old = compared(map, &key, kind % 2 == 0, [last, first]);
+            swap(rt, alloc, core, map, key, (old, value))?;
+        }
+        7..=10 => assert!(rt; core.convert(alloc).is_ok()),
         _ => assert!(rt; core.merge(alloc).is_ok()),
     }
     Ok(())

@@ -102,6 +102,40 @@ fn put<D: Disk>(
     }
 }
 
+// A swap that changes nothing has this reply only where it is due. The life goes on.
+fn goes_on(rt: &impl Abort, is_due: bool) -> bool {
+    assert!(rt; is_due);
+    true
+}
+
+// Swaps this value for a key's own if `own` is true and it has one, or else for one that no key has. Says whether the life goes on.
+fn swap<D: Disk>(
+    rt: &impl Abort,
+    alloc: Global,
+    core: &mut Core<D>,
+    kept: &mut Kept,
+    (place, value): (u8, u16),
+    own: bool,
+) -> Result<bool, Fail> {
+    assert_eq!(rt; core.geometry().value_len(), 2);
+    let there = now(kept).get(place as usize).copied().unwrap_or(0);
+    let stands = own & (there != 0);
+    let old: [u8; 2] = if stands { there } else { 2 }.to_be_bytes();
+    let new: [u8; 2] = value.to_be_bytes();
+    match core.swap(alloc, &key_of(place), &old, &new) {
+        Ok(Some(_)) => {
+            assert!(rt; stands);
+            accept(kept, place, value)?;
+            Ok(true)
+        }
+        Ok(None) => Ok(goes_on(rt, !stands)),
+        Err(Refusal::NoRoom) => Ok(goes_on(rt, stands)),
+        Err(Refusal::StoreFull) => Ok(goes_on(rt, stands)),
+        Err(Refusal::Device(_)) => Ok(false),
+        Err(_) => Err("a swap".into()),
+    }
+}
+
 fn delete<D: Disk>(
     alloc: Global,
     core: &mut Core<D>,
@@ -151,8 +185,8 @@ fn work<T: Drop, F: Drop>(done: Result<T, Refusal<F>>) -> Result<bool, Fail> {
     }
 }
 
-// Does the event of this number: five of sixteen are puts, one is a delete, one a get, one a flush, four are steps of conversion and
-// four of merging.
+// Does the event of this number: five of sixteen are puts, one is a delete, one a get, one a flush, one a swap, three are steps of
+// conversion and four of merging. Most of the swaps are of the key's own value.
 fn step<D: Disk>(
     rt: &impl Abort,
     alloc: Global,
@@ -168,7 +202,8 @@ fn step<D: Disk>(
         5 => delete(alloc, core, kept, place),
         6 => get(rt, core, kept, place),
         7 => flush(core, kept),
-        8..=11 => work(core.convert(alloc)),
+        8 => swap(rt, alloc, core, kept, (place, value), kind % 4 != 0),
+        9..=11 => work(core.convert(alloc)),
         _ => work(core.merge(alloc)),
     }
 }
